@@ -1,0 +1,1 @@
+// Specifications only: general laws that every crate above cites. No function.

@@ -1,0 +1,4 @@
+pub mod Outline
+pub mod Queries
+pub mod Search
+pub mod Table

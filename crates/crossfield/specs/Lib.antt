@@ -1,0 +1,5 @@
+pub mod Grid
+pub mod Seeds
+pub mod Sweeps
+pub mod Field
+pub mod Direction

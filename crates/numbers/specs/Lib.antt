@@ -1,0 +1,4 @@
+pub mod Root
+pub mod Float
+pub mod Whole
+pub mod Table

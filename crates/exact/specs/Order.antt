@@ -6,13 +6,13 @@ use mathlib.Core.Bool.{Bool, true, false, not, _&&_, _||_, Bool·beq}
 use Prim.Native.Nat.{ℕ, zero, suc, _+_, _-_, _*_, _≤_, _<_}
 use native.Mathlib.Nat.{le-trans, zero-mul, mul-comm, mul-assoc, mul-right-comm, add-mul, mul-sub, mul-pos, mul-lt-mul-of-pos-right, lt-of-mul-lt-mul-right, eq-of-mul-eq-mul-right}
 use native.Mathlib.Omega.{arith}
-use lib.Dec.{T, ltb, eqb, ltb→lt, lt→ltb, eqb→eq, not-T, T-not}
+use lib.Dec.{T, ltb, eqb, ltb→lt, lt→ltb, leb→le, eqb→eq, not-T, T-not}
 use lib.IntN.{ℤ, pos, negsuc, negℤ, natAbs, _+ℤ_, _*ℤ_, _-ℤ_}
 use lib.Signed.{_≤ℤ_, _<ℤ_, ltZ, ltZ-no, ≤ℤ-refl, clashℤ}
 use lib.Ieee.{Float, nan, inf, fin, binary64, up, down, fits, lt, eq, le, below, level}
 use lib.Ieee.Fits.{down-pos, and-i, and-l, and-r, eq→eqb}
 use Rattle.laws.specs.Ring.{Expr, var, num, con, _+ᵉ_, _*ᵉ_, _-ᵉ_, neg, eval, same}
-use Rattle.laws.specs.Certificate.{Nonneg, nonneg, nonneg-is, not-nonneg, of-le, to-le, of-≤ℤ, to-≤ℤ, of-<ℤ, to-<ℤ, hyp, nat, _⊞_, prove}
+use Rattle.laws.specs.Certificate.{Nonneg, nonneg, nonneg-is, not-nonneg, of-le, to-le, of-≤ℤ, to-≤ℤ, of-<ℤ, to-<ℤ, <ℤ-weaken, ≤ℤ-antisym, hyp, nat, _⊞_, prove}
 use Rattle.numbers.specs.Float.{isFinite}
 use Rattle.exact.specs.Units.{W, W-pos, Val, signed, signOf, sizeOf, units, val-of, Within, within, whole-val}
 
@@ -157,6 +157,25 @@ level-eq true false a b = (
 level-eq true true a b =
     (λ u. ap (λ (n : ℕ). negℤ (pos n)) (eqb→eq a b (and-l (eqb a b) true u)), λ e. and-i (eqb a b) true (eq→eqb (ap natAbs (sym (lib.IntN.negℤ-negℤ (pos a)) ∙ ap negℤ e ∙ lib.IntN.negℤ-negℤ (pos b)))) tt)
 
+or-split : (p q : Bool) → T (p || q) → T p ⊎ T q
+or-split true q t = inl tt
+or-split false q t = inr t
+
+or-left : (p q : Bool) → T p → T (p || q)
+or-left true q t = tt
+or-left false q t = absurd t
+
+or-right : (p q : Bool) → T q → T (p || q)
+or-right true q t = tt
+or-right false q t = t
+
+split-ltZ : (a b : ℤ) → (a <ℤ b) ⊎ (b ≤ℤ a)
+split-ltZ a b = go (ltZ a b) refl
+  where
+    go : (t : Bool) → ltZ a b ≡ t → (a <ℤ b) ⊎ (b ≤ℤ a)
+    go true e = inl (record { lt = subst T (sym e) tt })
+    go false e = inr (ltZ-no (subst (λ (t : Bool). T (not t)) (sym e) tt))
+
 -- ---- floats whose units are known
 
 module _ (x y : Float) (s t : Bool) (a b : ℕ) (p : Val x s a) (q : Val y t b) where
@@ -171,3 +190,70 @@ module _ (x y : Float) (s t : Bool) (a b : ℕ) (p : Val x s a) (q : Val y t b) 
       let e = eq-is x y s t a b p q in
       let i = level-eq s t a b in
       (λ u. i .0 (subst T e u), λ h. subst T (sym e) (i .1 h))
+
+  pub le-val : T (le x y) ↔ (signed s a ≤ℤ signed t b)
+  unfolding le
+  le-val = (
+    λ u. elim (or-split (lt x y) (eq x y) u) [ inl h ↦ <ℤ-weaken (lt-val .0 h) | inr h ↦ subst (λ (z : ℤ). signed s a ≤ℤ z) (eq-val .0 h) (≤ℤ-refl (signed s a)) ],
+    λ h. elim (split-ltZ (signed s a) (signed t b)) [ inl k ↦ or-left (lt x y) (eq x y) (lt-val .1 k) | inr k ↦ or-right (lt x y) (eq x y) (eq-val .1 (≤ℤ-antisym h k)) ],
+  )
+
+  -- where a test fails, the opposite one holds
+  pub not-lt-val : T (not (lt x y)) ↔ (signed t b ≤ℤ signed s a)
+  not-lt-val = (
+    λ u. elim (split-ltZ (signed s a) (signed t b)) [ inl k ↦ absurd (T-not (lt x y) u (lt-val .1 k)) | inr k ↦ k ],
+    λ h. not-T (lt x y) (λ u. clashℤ (lt-val .0 u) h),
+  )
+
+  pub not-le-val : T (not (le x y)) ↔ (signed t b <ℤ signed s a)
+  not-le-val = (
+    λ u. elim (split-ltZ (signed t b) (signed s a)) [ inl k ↦ k | inr k ↦ absurd (T-not (le x y) u (le-val .1 k)) ],
+    λ h. not-T (le x y) (λ u. clashℤ h (le-val .0 u)),
+  )
+
+-- ---- doubles
+
+module _ (x y : Float) (fx : T (isFinite x)) (hx : T (fits binary64 x)) (fy : T (isFinite y)) (hy : T (fits binary64 y)) where
+  pub lt-units : T (lt x y) ↔ (units x <ℤ units y)
+  lt-units = lt-val x y (signOf x) (signOf y) (sizeOf x) (sizeOf y) (val-of x fx hx) (val-of y fy hy)
+
+  pub le-units : T (le x y) ↔ (units x ≤ℤ units y)
+  le-units = le-val x y (signOf x) (signOf y) (sizeOf x) (sizeOf y) (val-of x fx hx) (val-of y fy hy)
+
+  pub eq-units : T (eq x y) ↔ (units x ≡ units y)
+  eq-units = eq-val x y (signOf x) (signOf y) (sizeOf x) (sizeOf y) (val-of x fx hx) (val-of y fy hy)
+
+-- ---- bounds
+
+-- above a size, with no minus sign
+pub above-pos : (s : Bool) (a b : ℕ) → pos b <ℤ signed s a → (s ≡ false) × (b < a)
+above-pos false a b h = (refl, ltb→lt b a (h .lt))
+above-pos true zero b h = absurd (none (ltb→lt b 0 (h .lt)))
+  where
+    none : b < 0 → ⊥
+    none h = omega arith
+above-pos true (suc a) b h = absurd (h .lt)
+
+-- what fails `x <= y`, for a y that is not negative, is above it
+pub above-of-not-le : (x y : Float) (s : Bool) (a b : ℕ) → Val x s a → Val y false b → T (not (le x y)) → (s ≡ false) × (b < a)
+above-of-not-le x y s a b p q t = above-pos s a b (not-le-val x y s false a b p q .0 t)
+
+finite-of-le : (x : Float) (K : ℕ) → T (le x (fin false K (pos 0))) → T (le (fin true K (pos 0)) x) → T (isFinite x)
+unfolding le lt eq isFinite
+finite-of-le nan K p q = p
+finite-of-le (inf true) K p q = q
+finite-of-le (inf false) K p q = p
+finite-of-le (fin s m e) K p q = tt
+
+size-le : (s : Bool) (a b : ℕ) → signed s a ≤ℤ pos b → signed true b ≤ℤ signed s a → a ≤ b
+size-le false a b h k = leb→le a b (h .le)
+size-le true a b h k = to-le a b (prove (pos a ∷ pos b ∷ []) ((neg (var 0) -ᵉ neg (var 1)) ∷ []) (of-≤ℤ k, tt) [] tt 0 (var 1 -ᵉ var 0) (hyp 0) tt)
+
+-- -K ≤ x ≤ K, as the code tests it
+pub within-le : (K : ℕ) (x : Float) → T (fits binary64 x) → T (le x (fin false K (pos 0))) → T (le (fin true K (pos 0)) x) → Within K x
+within-le K x t p q =
+    let f = finite-of-le x K p q in
+    let v = val-of x f t in
+    within K x t f
+    (size-le (signOf x) (sizeOf x) (K * W) (le-val x (fin false K (pos 0)) (signOf x) false (sizeOf x) (K * W) v (whole-val false K) .0 p)
+    (le-val (fin true K (pos 0)) x true (signOf x) (K * W) (sizeOf x) (whole-val true K) v .0 q))

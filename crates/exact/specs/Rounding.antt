@@ -2,17 +2,15 @@
 -- `Close x n m` says that x is within m / 2 ^ 53 of n. A result in the normal range is off by at most one part in 2 ^ 53, and below it by at most half a unit. Assumes nothing.
 use mathlib.Core.Path.{_≡_, refl, sym, ap, _∙_, subst}
 use mathlib.Core.Logic.{_⊎_, inl, inr}
-use mathlib.Core.Bool.{Bool, true, false, not}
 use Prim.Native.Nat.{ℕ, zero, suc, _+_, _-_, _*_, _/_, _%_, _^_, _≤_, _<_, compare, Ordering, Ordering·lt, Ordering·eq, Ordering·gt}
 use native.Mathlib.Nat.{le-trans, le-of-eq, lt-irrefl, zero-mul, one-mul, mul-one, mul-comm, mul-assoc, add-mul, suc-mul, mul-pos, mul-le-mul-right, le-of-mul-le-mul-right, div-add-mod', mod-lt, mul-div-cancel, mul-mod-left, le-div-iff-mul-le}
 use native.Mathlib.Omega.{arith}
-use lib.Dec.{T, leb, eqb, isLe, isEq, leb→le, nleb→lt, eqb→eq, eqb-refl}
-use lib.Arith.{lt-of-le-ne}
 use lib.Pow.{pow-add, pow-pos}
 use lib.Ieee.{size, nearest}
 use lib.Ieee.Digits.{size-reaches}
 use lib.Ieee.Nearest.{closest}
 use lib.Ieee.Order.{drop, kept}
+use Rattle.numbers.specs.Isqrt.{Compared, compared}
 
 -- x is within m / 2 ^ 53 of n
 abbrev pub Close : ℕ → ℕ → ℕ → Type 0
@@ -23,20 +21,6 @@ abbrev pub rounded : ℕ → ℕ → ℕ
 rounded n c = kept 53 n c * 2 ^ drop 53 n c
 
 -- ---- `closest a b` is within half of a / b
-
--- what `compare` says
-abbrev Compared : Ordering → ℕ → ℕ → Type 0
-Compared Ordering·lt a b = a < b
-Compared Ordering·eq a b = a ≡ b
-Compared Ordering·gt a b = b < a
-
-compared : (a b : ℕ) → Compared (compare a b) a b
-compared a b = go (compare a b) (leb→le a b) (nleb→lt a b) (eqb→eq a b) (λ (e : a ≡ b). subst (λ (x : ℕ). T (eqb a x)) e (eqb-refl a))
-  where
-    go : (o : Ordering) → (T (isLe o) → a ≤ b) → (T (not (isLe o)) → b < a) → (T (isEq o) → a ≡ b) → (a ≡ b → T (isEq o)) → Compared o a b
-    go Ordering·lt h k e n = lt-of-le-ne (h tt) n
-    go Ordering·eq h k e n = e tt
-    go Ordering·gt h k e n = k tt
 
 -- x is within half of b from a
 abbrev Half : ℕ → ℕ → ℕ → Type 0

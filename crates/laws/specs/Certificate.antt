@@ -11,6 +11,7 @@ use native.Mathlib.Omega.{arith}
 use lib.Dec.{T, ltb, ltb→lt, nltb→le, leb→le, le→leb}
 use lib.IntN.{ℤ, pos, negsuc, negℤ, subℕ, _+ℤ_, _*ℤ_, _-ℤ_, *ℤ-zero, +ℤ-idr, +ℤ-invr}
 use lib.Signed.{_≤ℤ_, _<ℤ_, ltZ, ltZ-no, clashℤ}
+use Rattle.laws.specs.Integer.{eq-of-sub}
 use Rattle.laws.specs.Ring.{Expr, var, con, num, _+ᵉ_, _*ᵉ_, _-ᵉ_, neg, eval, ring, same}
 
 pub data Nonneg : ℤ → Type 0 where
@@ -189,3 +190,15 @@ to-<ℤ {a} {b} n = go (ltZ a b) refl
         absurd
         (not-nonneg {n = 0}
         (prove (a ∷ b ∷ []) ((var 1 -ᵉ var 0 -ᵉ num 1) ∷ (var 0 -ᵉ var 1) ∷ []) (n, (h, tt)) [] tt 0 (neg (num 1)) (hyp 0 ⊞ hyp 1) tt))
+
+pub <ℤ-weaken : {a b : ℤ} → a <ℤ b → a ≤ℤ b
+<ℤ-weaken {a} {b} h = to-≤ℤ (prove (a ∷ b ∷ []) ((var 1 -ᵉ var 0 -ᵉ num 1) ∷ []) (of-<ℤ h, tt) [] tt 0 (var 1 -ᵉ var 0) (hyp 0 ⊞ nat 1) tt)
+
+pub ≤ℤ-antisym : {a b : ℤ} → a ≤ℤ b → b ≤ℤ a → a ≡ b
+≤ℤ-antisym {a} {b} h k = go (nonneg-is (of-≤ℤ h) .0) (nonneg-is (of-≤ℤ h) .1)
+  where
+    opposite : a -ℤ b ≡ negℤ (b -ℤ a)
+    opposite = ring (a ∷ b ∷ []) (var 0 -ᵉ var 1) (neg (var 1 -ᵉ var 0)) tt
+    go : (n : ℕ) → b -ℤ a ≡ pos n → a ≡ b
+    go zero e = sym (eq-of-sub b a e)
+    go (suc n) e = absurd (not-nonneg (subst Nonneg (opposite ∙ ap negℤ e) (of-≤ℤ {a = b} {b = a} k)))

@@ -1,0 +1,4 @@
+pub mod Operations
+pub mod Order
+pub mod Rounding
+pub mod Units

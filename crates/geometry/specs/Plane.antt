@@ -70,3 +70,24 @@ segmentsCross a b c d =
 unfoldable pub centroid : Corners → Point
 centroid p =
     point ((p .a .x ⊕ p .b .x ⊕ p .d .x ⊕ p .c .x) ⊘ fourF) ((p .a .y ⊕ p .b .y ⊕ p .d .y ⊕ p .c .y) ⊘ fourF)
+
+-- sin 20°: the float nearest 0.3420201433256687
+abbrev pub sin20 : Float
+sin20 = bits 0x3fd5_e3a8_748a_0bf5
+
+-- one corner of `convex_ccw`: both sides above 1e-12, and the sine of the turn from a to b to c above sin 20°
+unfoldable pub cornerOk : Point → Point → Point → Bool
+cornerOk a b c =
+    let ux = b .x ⊖ a .x in
+    let uy = b .y ⊖ a .y in
+    let vx = c .x ⊖ b .x in
+    let vy = c .y ⊖ b .y in
+    let lu = norm ux uy in
+    let lv = norm vx vy in
+    not (le lu tolerance) && (not (le lv tolerance) && not (le ((ux ⊗ vy ⊖ uy ⊗ vx) ⊘ (lu ⊗ lv)) sin20))
+
+-- `convex_ccw` at 20 degrees
+unfoldable pub convexCcw : Corners → Bool
+convexCcw p =
+    not (le (doubledArea p) tolerance) && (cornerOk (p .c) (p .a) (p .b) && (cornerOk (p .a) (p .b) (p .d)
+    && (cornerOk (p .b) (p .d) (p .c) && cornerOk (p .d) (p .c) (p .a))))

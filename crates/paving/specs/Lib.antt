@@ -1,0 +1,5 @@
+pub mod Checks
+pub mod Attempt
+pub mod Advance
+pub mod Loops
+pub mod Run

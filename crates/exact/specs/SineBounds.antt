@@ -44,6 +44,7 @@ rel-and x n u h = (over (h .0), under (h .1))
     -- apart: with both in reach `omega` meets numbers of more than 38 digits
     over : 2 ^ 53 * x ≤ 2 ^ 53 * n + (n + 2 ^ 52 * u) → 10000 * x ≤ 10001 * n + 10000 * u
     over h = omega arith
+
     under : 2 ^ 53 * n ≤ 2 ^ 53 * x + (n + 2 ^ 52 * u) → 9999 * n ≤ 10000 * x + 10000 * u
     under h = omega arith
 
@@ -66,17 +67,37 @@ square-rel g w r = go (w * w) (g * g) (mul-le w g w g 9999 10000 9999 10000 (r .
     go : (y z : ℕ) → 99980001 * y ≤ 100000000 * z → 9997 * y ≤ 10000 * z
     go y z h = omega arith
 
+scaled-sum : (s p₀ p₁ : ℕ) → Close s (p₀ + p₁) (p₀ + p₁) → Close (s * W) (p₀ * W + p₁ * W) (p₀ * W + p₁ * W)
+scaled-sum s p₀ p₁ h = subst (λ (z : ℕ). Close (s * W) z z) (add-mul p₀ p₁ W) (close-scale s (p₀ + p₁) (p₀ + p₁) W h)
+
 pub length-law : (w₀ w₁ g₀ g₁ p₀ p₁ s L : ℕ) → Rel g₀ w₀ → Rel g₁ w₁ → RelAnd (p₀ * W) (g₀ * g₀) W → RelAnd (p₁ * W) (g₁ * g₁) W
     → Close s (p₀ + p₁) (p₀ + p₁) → 9999 * (s * W) ≤ 10000 * (L * L) → Long L → 9985 * (w₀ * w₀ + w₁ * w₁) ≤ 10000 * (L * L)
 length-law w₀ w₁ g₀ g₁ p₀ p₁ s L r₀ r₁ c₀ c₁ cs q l =
     last (w₀ * w₀) (w₁ * w₁) (g₀ * g₀) (g₁ * g₁) (L * L) (square-rel g₀ w₀ r₀) (square-rel g₁ w₁ r₁)
     (rounded (g₀ * g₀) (g₁ * g₁) (p₀ * W) (p₁ * W) (s * W) (L * L) c₀ c₁
-    (rel (s * W) _ (subst (λ (z : ℕ). Close (s * W) z z) (add-mul p₀ p₁ W) (close-scale s (p₀ + p₁) (p₀ + p₁) W cs))) q (unit-below L L l l))
+    (rel (s * W) (p₀ * W + p₁ * W) (scaled-sum s p₀ p₁ cs)) q (unit-below L L l l))
   where
     rounded : (A₀ A₁ P₀ P₁ S Q : ℕ) → RelAnd P₀ A₀ W → RelAnd P₁ A₁ W → Rel S (P₀ + P₁) → 9999 * S ≤ 10000 * Q → 10 ^ 10 * W ≤ Q → 9990 * (A₀ + A₁) ≤ 10000 * Q
     rounded A₀ A₁ P₀ P₁ S Q a b c d e = omega arith
+
     last : (a b c d q : ℕ) → 9997 * a ≤ 10000 * c → 9997 * b ≤ 10000 * d → 9990 * (c + d) ≤ 10000 * q → 9985 * (a + b) ≤ 10000 * q
     last a b c d q h k l = omega arith
+
+-- and a side whose computed length passes the test is not short
+pub side-law : (w₀ w₁ g₀ g₁ p₀ p₁ s L : ℕ) → Rel g₀ w₀ → Rel g₁ w₁ → RelAnd (p₀ * W) (g₀ * g₀) W → RelAnd (p₁ * W) (g₁ * g₁) W
+    → Close s (p₀ + p₁) (p₀ + p₁) → L * L ≤ 2 * (s * W) → Long L → W * W ≤ 10 ^ 28 * (w₀ * w₀ + w₁ * w₁)
+side-law w₀ w₁ g₀ g₁ p₀ p₁ s L r₀ r₁ c₀ c₁ cs q l =
+    last (W * W) (L * L) (w₀ * w₀ + w₁ * w₁) (le-trans (mul-le-mul l l) (le-of-eq (mul-mul-mul-comm (10 ^ 13) L (10 ^ 13) L)))
+    (rounded (w₀ * w₀) (w₁ * w₁) (g₀ * g₀) (g₁ * g₁) (p₀ * W) (p₁ * W) (s * W) (L * L) (mul-le g₀ w₀ g₀ w₀ 10000 10001 10000 10001 (r₀ .0) (r₀ .0)) (mul-le g₁ w₁ g₁ w₁ 10000 10001 10000 10001 (r₁ .0) (r₁ .0))
+    (c₀ .0) (c₁ .0) (rel (s * W) (p₀ * W + p₁ * W) (scaled-sum s p₀ p₁ cs) .0) q)
+    (mul-le-mul-right W W-big)
+  where
+    rounded : (B₀ B₁ A₀ A₁ P₀ P₁ S Q : ℕ) → 100000000 * A₀ ≤ 100020001 * B₀ → 100000000 * A₁ ≤ 100020001 * B₁ → 10000 * P₀ ≤ 10001 * A₀ + 10000 * W → 10000 * P₁ ≤ 10001 * A₁ + 10000 * W
+        → 10000 * S ≤ 10001 * (P₀ + P₁) → Q ≤ 2 * S → Q ≤ 4 * (B₀ + B₁) + 8 * W
+    rounded B₀ B₁ A₀ A₁ P₀ P₁ S Q a b c d e f = omega arith
+
+    last : (X Q Z : ℕ) → X ≤ 10 ^ 26 * Q → Q ≤ 4 * Z + 8 * W → 10 ^ 36 * W ≤ X → X ≤ 10 ^ 28 * Z
+    last X Q Z a b c = omega arith
 
 -- ---- the quotient. y is the rounded product of the lengths L and M, d the rounded cross product, r the rounded quotient, K the bound that it exceeds
 
@@ -117,14 +138,19 @@ signed-near s x c h = go s
   where
     ρ : List ℤ
     ρ = pos x ∷ pos c ∷ pos W ∷ []
+
     hs : List Expr
     hs = (num 10004 *ᵉ var 0 +ᵉ num 10000 *ᵉ var 2 -ᵉ num 10000 *ᵉ (var 1 *ᵉ var 2)) ∷ (num 10000 *ᵉ (var 1 *ᵉ var 2) +ᵉ num 10000 *ᵉ var 2 -ᵉ num 9996 *ᵉ var 0) ∷ []
+
     by : (goal : Expr) (c : Certificate) → T (same (con (pos 1) *ᵉ goal) (exprOf hs [] c)) → Nonneg (eval ρ goal)
     by goal c t = prove ρ hs (of-le (h .0), (of-le (h .1), tt)) [] tt 0 goal c t
+
     over : Expr → Expr → Expr
     over X Z = num 4 *ᵉ var 0 +ᵉ num 10000 *ᵉ var 2 +ᵉ num 10000 *ᵉ (X -ᵉ Z *ᵉ var 2)
+
     under : Expr → Expr → Expr
     under X Z = num 4 *ᵉ var 0 +ᵉ num 10000 *ᵉ var 2 +ᵉ num 10000 *ᵉ (Z *ᵉ var 2 -ᵉ X)
+
     go : (s : Bool) → Nonneg (pos 4 *ℤ pos x +ℤ pos 10000 *ℤ pos W +ℤ pos 10000 *ℤ (signed s x -ℤ signed s c *ℤ pos W))
         × Nonneg (pos 4 *ℤ pos x +ℤ pos 10000 *ℤ pos W +ℤ pos 10000 *ℤ (signed s c *ℤ pos W -ℤ signed s x))
     go false = (by (over (var 0) (var 1)) (hyp 0) tt, by (under (var 0) (var 1)) (hyp 1) tt)
@@ -153,11 +179,14 @@ cross-law X Y c₁ c₂ x y w d N h₀ h₁ h₂ h₃ h₄ h₅ e =
 
 pub sine-law : (p L M Q R : ℕ) → 0 < L * M → 340 * (L * M) ≤ 1000 * p → 9985 * Q ≤ 10000 * (L * L) → 9985 * R ≤ 10000 * (M * M) → (0 < p) × (Q * R < 9 * (p * p))
 sine-law p L M Q R some h q r =
-    let P = positive p (L * M) some h in
-    (P, go (Q * R) (L * L * (M * M)) (L * M * (L * M)) (p * p) (mul-mul-mul-comm L L M M) (mul-le Q (L * L) R (M * M) 9985 10000 9985 10000 q r)
-    (mul-le (L * M) p (L * M) p 340 1000 340 1000 h h) (mul-pos P P))
+    let P = positive p (L * M) some h in (
+      P,
+      go (Q * R) (L * L * (M * M)) (L * M * (L * M)) (p * p) (mul-mul-mul-comm L L M M) (mul-le Q (L * L) R (M * M) 9985 10000 9985 10000 q r)
+          (mul-le (L * M) p (L * M) p 340 1000 340 1000 h h) (mul-pos P P),
+    )
   where
     positive : (p x : ℕ) → 0 < x → 340 * x ≤ 1000 * p → 0 < p
     positive p x a b = omega arith
+
     go : (a b c d : ℕ) → b ≡ c → 99700225 * a ≤ 100000000 * b → 115600 * c ≤ 1000000 * d → 0 < d → a < 9 * d
     go a b c d e h k l = omega arith

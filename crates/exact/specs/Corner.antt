@@ -1,4 +1,5 @@
--- One corner of a quad, from a to b to c: the reference's f64 test of it, and in whole numbers what document 01 claims of it. Definitions only; Sine.antt proves that the one gives the other.
+-- One corner of a quad, from a to b to c: the reference's f64 test of it, and in whole numbers what document 01 claims of it.
+-- Definitions only; Sine.antt proves that the one gives the other.
 use mathlib.Core.Bool.{Bool, not, _&&_}
 use Prim.Native.Nat.{ℕ, _*_, _^_}
 use lib.IntN.{ℤ, pos, _+ℤ_, _*ℤ_, _-ℤ_}
@@ -17,7 +18,8 @@ sin20 = bits 0x3fd5_e3a8_748a_0bf5
 unfoldable pub norm : Float → Float → Float
 norm x y = sqrt (x ⊗ x ⊕ y ⊗ y)
 
--- One corner's turn of the loop in `convex_ccw` at 20 degrees: the step in u and the step out v are longer than 1e-12, and the sine between them is above sin 20 degrees.
+-- One turn of the loop over corners in `convex_ccw`, at 20 degrees: the step in u and the step out v are longer than 1e-12, and the sine
+-- between them is above sin 20 degrees.
 unfoldable pub cornerOk : (ax ay bx by cx cy : Float) → Bool
 cornerOk ax ay bx by cx cy =
     let ux = bx ⊖ ax in
@@ -45,7 +47,8 @@ cross u v = u .x *ℤ v .y -ℤ u .y *ℤ v .x
 unfoldable pub squaredLength : Vector → ℤ
 squaredLength u = u .x *ℤ u .x +ℤ u .y *ℤ u .y
 
--- the sine between the step in u and the step out v is above 1/3: their cross product p is above 0, and 9·p·p above the product of their squared lengths
+-- the sine between the step in u and the step out v is above 1/3: their cross product p is above 0, and 9·p·p above the product of
+-- their squared lengths
 unfoldable pub sineAboveThird : Vector → Vector → Bool
 sineAboveThird u v =
     let p = cross u v in

@@ -1,4 +1,5 @@
--- Small cases that the check computes: units of doubles, corners that pass the test and corners that fail it, and the sine theorem at a corner of the unit square. Assumes nothing.
+-- Small cases that the check computes: units of doubles, corners that pass the test and corners that fail it; and the sine theorem at a
+-- corner of the unit square. Assumes nothing.
 use mathlib.Core.Path.{_≡_, refl, subst, sym}
 use mathlib.Core.Bool.{Bool, true, false}
 use Prim.Native.Nat.{ℕ, _^_}
@@ -54,4 +55,6 @@ unfolding ofBits fits le lt eq
 within-one = within-le 1001 oneF tt tt tt
 
 square-sine : T (sineAboveThird (step zeroF zeroF oneF zeroF) (step oneF zeroF oneF oneF))
-square-sine = sine-theorem zeroF zeroF oneF zeroF oneF oneF within-zero within-zero within-one within-zero within-one within-one (subst T (sym corner-square) tt)
+square-sine =
+    sine-theorem zeroF zeroF oneF zeroF oneF oneF within-zero within-zero within-one within-zero within-one within-one
+    (subst T (sym corner-square) tt)

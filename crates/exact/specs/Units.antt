@@ -139,7 +139,7 @@ pub record Within (K : ℕ) (x : Float) : Type 0 where
   pub val : Val x sign size
   pub small : size ≤ K * W
 
-pub within : (K : ℕ) (x : Float) → T (fits binary64 x) → T (isFinite x) → sizeOf x ≤ K * W → Within K x
+abbrev pub within : (K : ℕ) (x : Float) → T (fits binary64 x) → T (isFinite x) → sizeOf x ≤ K * W → Within K x
 within K x t f h = record { sign = signOf x; size = sizeOf x; val = val-of x f t; small = h }
 
 pub within-size : {K : ℕ} {x : Float} → Within K x → sizeOf x ≤ K * W
@@ -150,7 +150,7 @@ pub within-units : {K : ℕ} {x : Float} (p : Within K x) → units x ≡ signed
 within-units {K} {x} p = units-val x (p .sign) (p .size) (p .val)
 
 -- a larger bound, by a test of two numerals
-pub widen : {K : ℕ} {x : Float} (L : ℕ) → T (leb K L) → Within K x → Within L x
+abbrev pub widen : {K : ℕ} {x : Float} (L : ℕ) → T (leb K L) → Within K x → Within L x
 widen {K} L t p = record { sign = p .sign; size = p .size; val = p .val; small = le-trans (p .small) (mul-le-mul-right W (leb→le K L t)) }
 
 -- the whole number K, as a double or not

@@ -10,9 +10,12 @@ use lib.Ieee.{Float, nan}
 use Rattle.laws.specs.Loop.{forUp}
 use Rattle.numbers.specs.Float.{zeroF}
 use Rattle.domain.specs.Outline.{Outline}
-use Rattle.front.specs.State.{State, off, counted, nodeIn}
+use Rattle.exact.specs.Units.{units}
+use Rattle.exact.specs.Corner.{Vector, cross}
+use Rattle.topology.specs.Links.{off}
+use Rattle.topology.specs.Front.{headOr}
+use Rattle.front.specs.State.{State, counted}
 use Rattle.front.specs.Sampling.{sampledCount, fromBoundary, boundaryLoops}
-use Rattle.books.specs.Whole.{Whole, placeOf, cross}
 
 -- a front edge
 pub record Edge : Type 0 where
@@ -50,11 +53,6 @@ roomFor n =
       edges = filled (2 * n) 0;
       counts = counted 0 0 0 0;
     }
-
--- the first of a list, or z
-abbrev pub headOr : ℕ → List ℕ → ℕ
-headOr z [] = z
-headOr z (u ∷ us) = u
 
 -- an edge from each of a list to the next, and from the last to z
 unfoldable pub edgesTo : List ℕ → ℕ → List Edge
@@ -137,12 +135,19 @@ bookAfter o size s k = forUp k (bookTurn s) (some (startBook o size))
 
 -- ---- areas, doubled
 
-abbrev pub whereIs : Book → ℕ → Whole
-whereIs b id = placeOf (nodeIn (b .xs) (b .ys) id)
+abbrev pub xOf : Book → ℕ → Float
+xOf b id = getD (b .xs) id nan
+
+abbrev pub yOf : Book → ℕ → Float
+yOf b id = getD (b .ys) id nan
+
+-- where node id is, in units
+abbrev pub placeOf : Book → ℕ → Vector
+placeOf b id = record { x = units (xOf b id); y = units (yOf b id) }
 
 -- x(u)·y(v) − x(v)·y(u) of the edge u to v
 abbrev pub areaOf : Book → ℕ → ℕ → ℤ
-areaOf b u v = cross (whereIs b u) (whereIs b v)
+areaOf b u v = cross (placeOf b u) (placeOf b v)
 
 unfoldable pub edgesArea : Book → List Edge → ℤ
 edgesArea b [] = pos 0

@@ -1,23 +1,30 @@
 -- Demand 3: what holds of a run's books before the first quad, after each one, and where the run stops. Statements only.
 use mathlib.Core.Path.{_≡_}
-use mathlib.Core.Bool.{cond}
+use mathlib.Core.Bool.{cond, not}
 use mathlib.Core.Option.{Option, some}
 use mathlib.Core.List.{List, [], _∷_}
-use Prim.Native.Nat.{ℕ, _+_, _*_, _%_, _<_, _≤_}
+use Prim.Native.Nat.{ℕ, _+_, _*_, _<_, _≤_}
 use lib.IntN.{ℤ, _+ℤ_}
+use lib.Dec.{T}
 use lib.ListN.{length, take}
 use lib.Ieee.{Float}
 use Rattle.domain.specs.Outline.{Outline}
 use Rattle.front.specs.State.{State, nextOf}
 use Rattle.front.specs.Sampling.{loopCount, sampledCount}
-use Rattle.paving.specs.Loops.{listing, frontLoops}
-use Rattle.books.specs.Whole.{step, SineAbove, NotShort}
-use Rattle.books.specs.Book.{Edge, edge, Book, Quad, startBook, quadAt, bookAfter, whereIs, loopEdges, frontArea, quadsArea, follow, isEdge}
+use Rattle.topology.specs.Sums.{All, Even}
+use Rattle.topology.specs.Listing.{walks}
+use Rattle.paving.specs.Loops.{frontLoops}
+use Rattle.exact.specs.Corner.{Vector, step, sineAboveThird, isShort}
+use Rattle.books.specs.Book.{Edge, edge, Book, Quad, startBook, quadAt, bookAfter, xOf, yOf, loopEdges, frontArea, quadsArea, follow, isEdge}
 
--- the turn from u over v to w: its sine is above 1/3, and the side it comes by is not short
+-- the exact step from node u to node v
+abbrev pub stepOf : Book → ℕ → ℕ → Vector
+stepOf b u v = step (xOf b u) (yOf b u) (xOf b v) (yOf b v)
+
+-- the corner at v between u and w: its sine is above 1/3, and the side from u is not shorter than 1e-150
 pub record CornerHolds (b : Book) (u v w : ℕ) : Type 0 where
-  pub sine : SineAbove (step (whereIs b u) (whereIs b v)) (step (whereIs b v) (whereIs b w))
-  pub side : NotShort (step (whereIs b u) (whereIs b v))
+  pub sine : T (sineAboveThird (stepOf b u v) (stepOf b v w))
+  pub side : T (not (isShort (stepOf b u v)))
 
 -- the quad a, b, d, c turns left at all four corners
 pub record QuadHolds (book : Book) (q : Quad) : Type 0 where
@@ -25,11 +32,6 @@ pub record QuadHolds (book : Book) (q : Quad) : Type 0 where
   pub at-b : CornerHolds book (q .a) (q .b) (q .d)
   pub at-d : CornerHolds book (q .b) (q .d) (q .c)
   pub at-c : CornerHolds book (q .d) (q .c) (q .a)
-
--- loops of two nodes or more, each of an even number of edges
-abbrev pub AllEven : List (List ℕ) → Type 0
-AllEven [] = Unit {0}
-AllEven (l ∷ ls) = ((2 ≤ length l) × (length l % 2 ≡ 0)) × AllEven ls
 
 -- how often the edge from u to v stands in a list
 unfoldable pub countEdge : ℕ → ℕ → List Edge → ℕ
@@ -40,7 +42,7 @@ countEdge u v (e ∷ es) = cond (isEdge (edge u v) e) 1 0 + countEdge u v es
 pub record LoopsHold (o : Outline) (b : Book) : Type 0 where
   pub loops : List (List ℕ)
   pub number : length loops ≡ loopCount o
-  pub even : AllEven loops
+  pub even : All Even loops
   pub edges : (u v : ℕ) → countEdge u v (loopEdges loops) ≡ countEdge u v (b .front)
   pub once : (u v : ℕ) → countEdge u v (b .front) ≤ 1
   pub single : (u v w : ℕ) → 0 < countEdge u v (b .front) → 0 < countEdge u w (b .front) → v ≡ w
@@ -64,7 +66,7 @@ pub record Closes (s : State) (b : Book) : Type 0 where
   pub front : (u : ℕ) → nextOf s u ≡ follow (b .front) u
   pub nodes : s .counts .nodes ≡ length (b .xs)
   pub edges : s .counts .front ≡ length (b .front)
-  pub loops : frontLoops s ≡ listing (follow (b .front)) (length (b .xs)) (length (b .front)) 3
+  pub loops : frontLoops s ≡ walks 3 (length (b .xs)) (length (b .front)) (follow (b .front))
 
 -- demand 3 of a run that left the state s: before the first quad and after each one, and at the end
 pub record BooksHold (o : Outline) (size : Float) (s : State) : Type 0 where

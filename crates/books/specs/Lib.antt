@@ -1,3 +1,2 @@
-pub mod Whole
 pub mod Book
 pub mod Holds

@@ -2,10 +2,11 @@
 use mathlib.Core.Bool.{Bool, true, false, _&&_, cond}
 use mathlib.Core.List.{List}
 use Prim.Native.Nat.{ℕ, _+_, _-_, _*_, _/_, min, max}
-use lib.Dec.{ltb, eqb}
+use lib.Dec.{eqb}
 use lib.ListN.{length, getD, set}
 use lib.Ieee.{Float, nan}
 use Rattle.laws.specs.Loop.{anyUp}
+use Rattle.topology.specs.Links.{off, linkOf}
 use Rattle.domain.specs.declared.Point.{Point}
 use Rattle.domain.specs.Outline.{point}
 use Rattle.front.specs.declared.Counts.{Counts}
@@ -24,10 +25,6 @@ pub record State : Type 0 where
 
 abbrev pub counted : ℕ → ℕ → ℕ → ℕ → Counts
 counted nodes quads edges front = record { nodes = nodes; quads = quads; edges = edges; front = front }
-
--- the mark of a node off the front
-abbrev pub off : ℕ
-off = 4294967295
 
 -- ---- the places lent: of several lists the one with the fewest counts
 
@@ -49,10 +46,6 @@ nodeIn xs ys id = point (getD xs id nan) (getD ys id nan)
 
 abbrev pub node : State → ℕ → Point
 node s id = nodeIn (s .xs) (s .ys) id
-
--- a link of node u among the first n; a node past them has none
-unfoldable pub linkOf : ℕ → List ℕ → ℕ → ℕ
-linkOf n links u = cond (ltb u n) (getD links u off) off
 
 -- `next.get(&u)` and `prev.get(&v)`, with `off` for None
 abbrev pub nextOf : State → ℕ → ℕ

@@ -11,7 +11,8 @@ use Rattle.crossfield.specs.Field.{FieldRecord}
 use Rattle.crossfield.specs.Direction.{nearestDirection}
 use Rattle.front.specs.declared.Corner.{Corner}
 use Rattle.front.specs.declared.Corner.the-variants.{Reused, Fresh}
-use Rattle.front.specs.State.{State, off, node, nextOf, prevOf}
+use Rattle.topology.specs.Links.{off}
+use Rattle.front.specs.State.{State, node, nextOf, prevOf}
 use Rattle.paving.specs.declared.Attempt.{Attempt}
 use Rattle.paving.specs.declared.Attempt.the-variants.{Nothing, Quad}
 use Rattle.paving.specs.Checks.{quadFits}

@@ -112,7 +112,7 @@ reshaped fresh fresh a b c d R E cd hc hd =
 reshaped reused fresh a b c d R E cd hc hd =
     let M = hc .0 in
     let long : length (M ++ c ∷ d ∷ []) ≡ suc (length R) =
-        omega (arith, ap length (hc .1), length-append M (c ∷ []), length-append M (c ∷ d ∷ [])) in
+    omega (arith, ap length (hc .1), length-append M (c ∷ []), length-append M (c ∷ d ∷ [])) in
     record {
       loop = b ∷ (M ++ c ∷ d ∷ []);
       even = record { even = omega (arith, E .even, long); two = omega (arith, long) };
@@ -261,7 +261,7 @@ placed kc kd n next prev ls a b c d F hn hp p =
     let r = reshaped kc kd a b c d (s .rest) (s .evens .0) (p .apart) (C .place) (D .place) in
     let ms = r .loop ∷ s .others in
     let sums : (w : ℕ → ℕ → ℕ) → frontSum w ms + removed w (placing kc kd a b c d) ≡ frontSum w ls + added w (placing kc kd a b c d) =
-        λ w. omega (arith, s .same w, r .sums w) in
+    λ w. omega (arith, s .same w, r .sums w) in
     let within = ids-within kc kd n a b c d an bn (C .node) (D .node) in
     let steps = valid-next a b c d ab (C .other-a) (D .other-a) (C .other-b) (D .other-b) (p .apart) kc kd f (p .edge) (C .next) (D .next) in
     let back = valid-prev a b c d ab (C .other-a) (D .other-a) (C .other-b) (D .other-b) (p .apart) kc kd g gb (C .prev) (D .prev) in

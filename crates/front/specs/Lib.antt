@@ -1,3 +1,4 @@
 pub mod State
 pub mod Sampling
 pub mod Place
+pub mod Sound

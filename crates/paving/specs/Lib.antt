@@ -2,4 +2,5 @@ pub mod Checks
 pub mod Attempt
 pub mod Advance
 pub mod Loops
+pub mod Reach
 pub mod Run

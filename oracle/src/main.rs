@@ -54,11 +54,11 @@ fn command(words: &[&str], plain: bool) -> io::Result<bool> {
         ["gen", seed, count, kind] => return generate(seed, count, kind, "0", &mut output),
         ["gen", seed, count, kind, first] => return generate(seed, count, kind, first, &mut output),
         ["compare", seed, count, kind] => match cases(seed, count, kind, "0") {
-            Some(cases) => write!(output, "{}", compare::builds(cases))?,
+            Some(cases) => write!(output, "{}", compare::builds(&cases))?,
             None => return Ok(false),
         },
         ["steps", seed, count, kind] => match cases(seed, count, kind, "0") {
-            Some(cases) => writeln!(output, "{} runs, pass by pass as in one call", compare::steps(cases)?)?,
+            Some(cases) => writeln!(output, "{} runs, pass by pass as in one call", compare::steps(&cases)?)?,
             None => return Ok(false),
         },
         _ => return Ok(false),

@@ -79,7 +79,10 @@ impl fmt::Display for Differences {
         writeln!(f, "cases {}: refused by both alike {}, apart {}", self.cases, self.refused, self.refused_apart)?;
         writeln!(f, "same listing {}", self.same)?;
         writeln!(f, "last bits of nodes differ {}, by at most {:e}", self.last_bits, self.farthest)?;
-        writeln!(f, "apart {apart}: for a branch {branch}, the field {field}, a bound {bound}; as many quads {as_many}")?;
+        writeln!(
+            f,
+            "apart {apart}: for a branch {branch}, the field {field}, a bound {bound}; as many quads {as_many}"
+        )?;
         writeln!(f, "quads: patched {quads}, plain {plain_quads}; whole: patched {whole}, plain {plain_whole}")?;
         if !self.apart.is_empty() {
             writeln!(f, "apart at places {:?}", self.apart)?;

@@ -282,6 +282,19 @@ fn with_holes(rng: &mut Rng) -> Loops {
     loops
 }
 
+/// For size 1: a rectangle, and scribbled holes that leave few of the program's node places for the paving.
+fn crowded(rng: &mut Rng) -> Loops {
+    let (w, t) = (rng.whole(12, 17) as f64, rng.whole(12, 17) as f64);
+    let mut loops = vec![vec![[0.0, 0.0], [w, 0.0], [w, t], [0.0, t]]];
+    for _ in 0..3 {
+        let (n, reach) = (rng.whole(60, 80), rng.float(2.0, 6.0));
+        let corner = [rng.float(0.0, w - reach), rng.float(0.0, t - reach)];
+        let point = |_| [corner[0] + rng.float(0.0, reach), corner[1] + rng.float(0.0, reach)];
+        loops.push((0..n).map(point).collect());
+    }
+    loops
+}
+
 fn any_shape(rng: &mut Rng) -> Loops {
     let shape = rng.pick::<fn(&mut Rng) -> Loops>(&[visual_field, lattice, concave, crossing, with_holes]);
     shape(rng)
@@ -509,15 +522,10 @@ fn tight(rng: &mut Rng) -> Case {
 
 // --- files ---
 
-/// A file in good order, of a shape that may be spoilt.
+/// A file in good order, of a shape that may be spoilt; some fill the program's places.
 fn whole_file(rng: &mut Rng) -> Vec<u8> {
     loop {
-        let loops = any_shape(rng);
-        let mut loops = moved(rng, loops);
-        if rng.once_in(4) {
-            spoil(rng, &mut loops);
-        }
-        let size = if rng.once_in(20) { edge_float(rng) } else { size_for(rng, &loops) };
+        let (loops, size) = if rng.once_in(8) { (crowded(rng), 1.0) } else { file_shape(rng) };
         let mut settings = usual_settings(rng, size);
         if rng.once_in(10) {
             settings.sweeps = rng.pick(&[1_000, 1_001, 65_535]);
@@ -527,6 +535,16 @@ fn whole_file(rng: &mut Rng) -> Vec<u8> {
             return bytes;
         }
     }
+}
+
+fn file_shape(rng: &mut Rng) -> (Loops, f64) {
+    let loops = any_shape(rng);
+    let mut loops = moved(rng, loops);
+    if rng.once_in(4) {
+        spoil(rng, &mut loops);
+    }
+    let size = if rng.once_in(20) { edge_float(rng) } else { size_for(rng, &loops) };
+    (loops, size)
 }
 
 /// A file with one or two things wrong; half of the changed blocks get their check made anew.

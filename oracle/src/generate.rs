@@ -56,7 +56,7 @@ impl Case {
         KINDS.iter().find(|(name, _)| *name == kind).map(|(_, make)| make(&mut rng))
     }
 
-    /// The case in the form of a session's lines.
+    /// The case as questions, line by line.
     pub fn lines(&self) -> String {
         match self {
             Case::Pave { drawing, settings: s, lent: l } => format!(

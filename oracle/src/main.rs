@@ -82,9 +82,9 @@ fn listing(answer: Result<Run, Refusal>) -> String {
 fn run(plain: bool, echo: bool, output: &mut impl Write) -> io::Result<()> {
     let input = io::stdin().lock();
     if plain {
-        plain::session::run(input, output, echo)
+        plain::questions::run(input, output, echo)
     } else {
-        patched::session::run(input, output, echo)
+        patched::questions::run(input, output, echo)
     }
 }
 

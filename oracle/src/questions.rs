@@ -6,7 +6,7 @@ use super::driver::{front, pave, pave_file, Field, Region};
 use crate::terms::{Drawing, FieldRecord, Lent, Refusal, Run, Settings};
 
 /// What the lines so far have set.
-struct Session {
+struct Setting {
     drawing: Drawing,
     region: Result<Region, Refusal>,
     settings: Settings,
@@ -16,9 +16,10 @@ struct Session {
 
 /// Answers every line of the input; with `echo`, each answer follows its question. A line that isn't one is an error.
 pub fn run(input: impl BufRead, mut output: impl Write, echo: bool) -> io::Result<()> {
-    let mut session = Session {
-        drawing: Drawing::default(),
-        region: Err(Refusal(2)),
+    let drawing = Drawing::default();
+    let mut setting = Setting {
+        region: Region::new(drawing.outline()),
+        drawing,
         settings: Settings { size: 1.0, sweeps: 400, passes: 600 },
         lent: Lent::PROGRAM,
         field: Err(Refusal(11)),
@@ -28,7 +29,7 @@ pub fn run(input: impl BufRead, mut output: impl Write, echo: bool) -> io::Resul
         if echo {
             writeln!(output, "{line}")?;
         }
-        let answer = session
+        let answer = setting
             .answer(&line)
             .ok_or_else(|| io::Error::other(format!("line {}: not a question: {line}", number + 1)))?;
         output.write_all(answer.as_bytes())?;
@@ -36,7 +37,7 @@ pub fn run(input: impl BufRead, mut output: impl Write, echo: bool) -> io::Resul
     output.flush()
 }
 
-impl Session {
+impl Setting {
     /// The answer to a line, empty where it only sets something; none if the line isn't well formed.
     fn answer(&mut self, line: &str) -> Option<String> {
         let (word, rest) = line.split_once(' ').unwrap_or((line, ""));

@@ -1,7 +1,7 @@
 //! Generated cases, the same for a kind, seed and place on every machine: no angle function and no library beyond std is used.
 
 use crate::file;
-use crate::terms::{Drawing, FieldRecord, Lent, Settings};
+use crate::terms::{hex, Drawing, FieldRecord, Lent, Settings};
 
 /// The kinds of cases, with what each draws. `mixed` takes one of the others for each case.
 pub const KINDS: [(&str, fn(&mut Rng) -> Case); 14] = [
@@ -89,11 +89,6 @@ impl Case {
 fn outline_line(drawing: &Drawing) -> String {
     let lengths: Vec<String> = drawing.hole_lengths.iter().map(|n| n.to_string()).collect();
     format!("outline {} / {} / {}\n", hex(&drawing.outer), hex(&drawing.holes), lengths.join(" "))
-}
-
-fn hex(floats: &[f64]) -> String {
-    let words: Vec<String> = floats.iter().map(|x| format!("{:016x}", x.to_bits())).collect();
-    words.join(" ")
 }
 
 /// SplitMix64.

@@ -3,7 +3,7 @@
 use std::io::{self, BufRead, Write};
 
 use super::driver::{front, pave, pave_file, Field, Region};
-use crate::terms::{Drawing, FieldRecord, Lent, Refusal, Run, Settings};
+use crate::terms::{hex, Drawing, FieldRecord, Lent, Refusal, Run, Settings};
 
 /// What the lines so far have set.
 struct Setting {
@@ -92,12 +92,6 @@ impl Setting {
         };
         Some(line(answer.map(|floats| hex(&floats))))
     }
-}
-
-/// A float as its bits, 16 hexadecimal digits; several with a space between.
-fn hex(floats: &[f64]) -> String {
-    let words: Vec<String> = floats.iter().map(|x| format!("{:016x}", x.to_bits())).collect();
-    words.join(" ")
 }
 
 fn line(answer: Result<String, Refusal>) -> String {

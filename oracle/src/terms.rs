@@ -165,6 +165,12 @@ impl FieldRecord {
     }
 }
 
+/// Floats as their bits, 16 lower-case hexadecimal digits each, with a space between.
+pub fn hex(floats: &[f64]) -> String {
+    let words: Vec<String> = floats.iter().map(|x| format!("{:016x}", x.to_bits())).collect();
+    words.join(" ")
+}
+
 /// How a paving ended.
 #[derive(Clone, Copy, Debug, PartialEq, Eq)]
 pub enum End {
@@ -209,8 +215,8 @@ impl fmt::Display for Run {
         let word = if self.whole() { "whole" } else { "open" };
         let (nodes, quads, front) = (self.nodes.len(), self.quads.len(), self.front.len());
         writeln!(f, "mesh {nodes} {quads} {front} {} {word}", self.end.name())?;
-        for [x, y] in &self.nodes {
-            writeln!(f, "n {:016x} {:016x}", x.to_bits(), y.to_bits())?;
+        for node in &self.nodes {
+            writeln!(f, "n {}", hex(node))?;
         }
         for [a, b, d, c] in &self.quads {
             writeln!(f, "q {a} {b} {d} {c}")?;

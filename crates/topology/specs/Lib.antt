@@ -1,0 +1,4 @@
+pub mod Sums
+pub mod Links
+pub mod Front
+pub mod Changes

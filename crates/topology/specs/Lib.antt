@@ -2,3 +2,5 @@ pub mod Sums
 pub mod Links
 pub mod Front
 pub mod Changes
+pub mod Placing
+pub mod Balance

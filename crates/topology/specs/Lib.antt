@@ -4,3 +4,5 @@ pub mod Front
 pub mod Changes
 pub mod Placing
 pub mod Balance
+pub mod Walk
+pub mod Listing

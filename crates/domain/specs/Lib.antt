@@ -1,5 +1,6 @@
 pub mod Outline
 pub mod OutlineLaws
+pub mod RefusalLaws
 pub mod Queries
 pub mod Search
 pub mod Table

@@ -15,6 +15,10 @@ use Rattle.domain.specs.Queries.{squaredDistance, footOf, near, nowhere}
 abbrev pub search : Near → Float → Search
 search found squared = record { near = found; squared = squared }
 
+-- what the search starts with
+abbrev pub searchStart : Search
+searchStart = search nowhere infinityF
+
 -- one segment: its root is compared only where its square is below the best one's
 unfoldable pub searched : Point → Point → Point → Search → Search
 searched p a b best =
@@ -32,4 +36,4 @@ abbrev pub searchHole : Outline → Point → ℕ → Search → Search
 searchHole o p k best = searchLoop p (holeAt o k) best
 
 unfoldable pub searchAll : Outline → Point → Search
-searchAll o p = forUp (length (o .lens)) (searchHole o p) (searchLoop p (o .outer) (search nowhere infinityF))
+searchAll o p = forUp (length (o .lens)) (searchHole o p) (searchLoop p (o .outer) searchStart)

@@ -5,10 +5,9 @@ ghost use Prim.Native.Nat.{suc, _+_, _*_, _/_, _≤_, _<_};
 ghost use lib.Dec.{eqb};
 ghost use lib.ListN.{length, getD};
 ghost use Rattle.laws.specs.Loop.{anyUp};
-ghost use Rattle.numbers.specs.Float.{infinityF};
 ghost use Rattle.domain.specs.Outline.{outline, holeLength, holeStart, holeAt, loopAt, pointAt, pointAfter, anyFloat, notFinite, beyond, misshapen, LoopPlace, loopRefusal, loopsRefusal, outlineRefusal, pointRefusal, queryRefusal};
-ghost use Rattle.domain.specs.Queries.{rayCrosses, pointInPolygon, inHole, contains, squaredDistance, footOf, nowhere, nearestSegment, containsAnswer, nearestAnswer, distanceAnswer};
-ghost use Rattle.domain.specs.Search.{search, searched, searchLoop, searchAll};
+ghost use Rattle.domain.specs.Queries.{rayCrosses, pointInPolygon, inHole, contains, squaredDistance, footOf, nearestSegment, containsAnswer, nearestAnswer, distanceAnswer};
+ghost use Rattle.domain.specs.Search.{searchStart, searched, searchLoop, searchAll};
 
 // `[f64; 2]`
 pub struct Point {
@@ -360,7 +359,7 @@ fn search_loop(p: Point, s: &[f64], best: Search) -> Search
 }
 
 fn search_start() -> Search
-    ensures { λ r. ⌜ r ≡ search nowhere infinityF ⌝ }
+    ensures { λ r. ⌜ r ≡ searchStart ⌝ }
 {
     let origin = Point { x: 0.0, y: 0.0 };
     let infinity = 1.0 / 0.0;

@@ -1,15 +1,20 @@
--- Laws of refusals 2 and 3, loop by loop: the first number that is not 0 is the answer. Assumes nothing.
+-- Laws of the refusals: the first number that is not 0 is the answer, and a query that is not refused has an outline that refusal 1 lets through. Assumes nothing.
+use mathlib.Core.Bool.{Bool, true, false, cond}
 use mathlib.Core.Path.{_≡_, refl, sym, ap, _∙_, subst}
 use Prim.Native.Nat.{ℕ, zero, suc, _+_, _≤_, _<_}
 use native.Mathlib.Omega.{arith}
 use lib.ListN.{length}
 use Rattle.laws.specs.Loop.{forUp, Loop, loop-start, loop-next, loop-end, forUp-stays}
-use Rattle.domain.specs.Outline.{Outline, holeAt, firstOf, loopRefusal, holeRefusal, loopsRefusal}
+use Rattle.domain.specs.declared.Point.{Point}
+use Rattle.domain.specs.Outline.{Outline, holeAt, firstOf, misshapen, loopRefusal, holeRefusal, loopsRefusal, farRefusal, outlineRefusal, pointRefusal, queryRefusal}
+use Rattle.domain.specs.Queries.{answerBy}
 
 -- a refusal stays whatever follows
 pub first-stays : (r next : ℕ) → (r ≡ 0 → ⊥) → firstOf r next ≡ r
 first-stays zero next h = absurd (h refl)
 first-stays (suc n) next h = refl
+
+-- ---- refusals 2 and 3, loop by loop
 
 module _ (o : Outline) where
   -- the invariant of a loop over the holes that has found no refusal
@@ -39,3 +44,18 @@ module _ (o : Outline) where
       sym
       (forUp-stays (length (o .lens)) (k + 1) (holeRefusal o) (loopRefusal (o .outer)) r (next .within) (sym (next .same) ∙ e)
       (λ j. first-stays r (loopRefusal (holeAt o j)) h))
+
+-- ---- a query
+
+pub query-shaped : (o : Outline) (p : Point) → queryRefusal o p ≡ 0 → misshapen o ≡ false
+unfolding queryRefusal outlineRefusal
+query-shaped o p e = decide (misshapen o) refl
+  where
+    decide : (b : Bool) → misshapen o ≡ b → b ≡ false
+    decide true m = let z : _≡_ {A = ℕ} 1 0 = sym (ap (λ (t : Bool). firstOf (cond t 1 (firstOf (loopsRefusal o) (farRefusal o))) (pointRefusal p)) m) ∙ e in absurd (omega arith)
+    decide false m = refl
+
+module _ {A : Type 0} (refused : ℕ → A) (answer : A) where
+  pub answer-refused : (r : ℕ) → (r ≡ 0 → ⊥) → answerBy refused answer r ≡ refused r
+  answer-refused zero h = absurd (h refl)
+  answer-refused (suc n) h = refl

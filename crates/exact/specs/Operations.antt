@@ -38,7 +38,7 @@ mul-is (fin u m e) (inf v) s t a b p q = absurd q
 mul-is (fin u m e) (fin v n d) s t a b p q =
     ap₂ (λ (y z : Bool). round binary64 (unlike y z) (m * up e * (n * up d)) (down e * down d)) (p .0) (q .0)
     ∙ round-same binary64 (unlike s t) (m * up e * (n * up d)) (down e * down d) (a * b) (W * W) (mul-pos (down-pos e) (down-pos d)) (mul-pos W-pos W-pos)
-      (mul-mul-mul-comm (m * up e) (n * up d) W W ∙ ap₂ (λ (y z : ℕ). y * z) (p .1) (q .1) ∙ mul-mul-mul-comm a (down e) b (down d))
+    (mul-mul-mul-comm (m * up e) (n * up d) W W ∙ ap₂ (λ (y z : ℕ). y * z) (p .1) (q .1) ∙ mul-mul-mul-comm a (down e) b (down d))
 
 sub-same : (A B a b w c : ℕ) → A * w ≡ a * c → B * w ≡ b * c → (A - B) * w ≡ (a - b) * c
 sub-same A B a b w c p q =
@@ -50,7 +50,7 @@ unfolding sum
 sum-same s A t B a b w c p q Wp Cp =
     ap₂ (λ (x y : Float). cond (Bool·beq s t) x y) (r s (A + B) (a + b) (add-same A B a b w c p q Wp Cp))
     (ap₂ (λ (x y : Float). cond (ltb A B) x y) (r t (B - A) (b - a) (sub-same B A b a w c q p))
-      (r (s && ltb B A) (A - B) (a - b) (sub-same A B a b w c p q) ∙ ap (λ (z : Bool). round binary64 (s && z) (a - b) w) (ltb-same B A b a w c q p Wp Cp))
+    (r (s && ltb B A) (A - B) (a - b) (sub-same A B a b w c p q) ∙ ap (λ (z : Bool). round binary64 (s && z) (a - b) w) (ltb-same B A b a w c q p Wp Cp))
     ∙ ap (λ (z : Bool). cond z (round binary64 t (b - a) w) (round binary64 (s && ltb b a) (a - b) w)) (ltb-same A B a b w c p q Wp Cp))
   where
     r : (s : Bool) (X x : ℕ) → X * w ≡ x * c → round binary64 s X c ≡ round binary64 s x w
@@ -65,8 +65,8 @@ add-is (fin u m e) (inf v) s t a b p q = absurd q
 add-is (fin u m e) (fin v n d) s t a b p q =
     ap₂ (λ (y z : Bool). sum binary64 y (m * up e * down d) z (n * up d * down e) (down e * down d)) (p .0) (q .0)
     ∙ sum-same s (m * up e * down d) t (n * up d * down e) a b W (down e * down d)
-      (widen-left (m * up e) a (down e) (down d) W (p .1)) (widen-right (n * up d) b (down e) (down d) W (q .1))
-      W-pos (mul-pos (down-pos e) (down-pos d))
+    (widen-left (m * up e) a (down e) (down d) W (p .1)) (widen-right (n * up d) b (down e) (down d) W (q .1))
+    W-pos (mul-pos (down-pos e) (down-pos d))
 
 div-same : (X Y a b De Dd w : ℕ) → 0 < w → X * w ≡ a * De → Y * w ≡ b * Dd → X * Dd * b ≡ a * (Y * De)
 div-same X Y a b De Dd w Wp p q =
@@ -88,18 +88,21 @@ div-is (fin u m e) (fin v n d) s t a b p q B =
     else (eqb n 0) _ _ (not-zero n N)
     ∙ ap₂ (λ (y z : Bool). round binary64 (unlike y z) (m * up e * down d) (n * up d * down e)) (p .0) (q .0)
     ∙ round-same binary64 (unlike s t) (m * up e * down d) (n * up d * down e) a b (mul-pos (mul-pos N (up-pos d)) (down-pos e)) B
-      (div-same (m * up e) (n * up d) a b (down e) (down d) W W-pos (p .1) (q .1))
+    (div-same (m * up e) (n * up d) a b (down e) (down d) W W-pos (p .1) (q .1))
   where
     nonzero : (n : ℕ) → n * up d * W ≡ b * down d → 0 < n
     nonzero zero e = lt-of-lt-of-le (mul-pos B (down-pos d)) (le-of-eq (sym e ∙ ap (λ (z : ℕ). z * W) (zero-mul (up d)) ∙ zero-mul W))
     nonzero (suc n) e = zero-lt-suc n
+
     N : 0 < n
     N = nonzero n (q .1)
+
     not-zero : (n : ℕ) → 0 < n → T (eqb n 0) → ⊥
     not-zero n h t = no (eqb→eq n 0 t)
       where
         no : n ≡ 0 → ⊥
         no e = omega arith
+
     else : (c : Bool) (x y : Float) → (T c → ⊥) → cond c x y ≡ y
     else true x y f = absurd (f tt)
     else false x y f = refl
@@ -202,6 +205,7 @@ exact-sum true a false b = go (ltb a b) (ltb→lt a b) (nltb→le a b) (ltb b a)
   where
     is-zero : (a b : ℕ) → a ≤ b → b ≤ a → a - b ≡ 0
     is-zero a b h k = omega arith
+
     go : (c : Bool) → (T c → a < b) → (T (not c) → b ≤ a) → (e : Bool) → (T (not e) → a ≤ b)
         → Exact (negℤ (pos a) +ℤ pos b) (a + b) (cond c (round binary64 false (b - a) W) (round binary64 e (a - b) W))
     go true h k e l = let m = h tt in record { sign = false; size = b - a; same = refl; is = less a b (omega arith); small = omega arith }

@@ -49,8 +49,10 @@ roots-mono x y n k fx fy vx vy P h = not-T (lt (root y) (root x)) (λ t. clash (
   where
     X : N.Nearest n (root x)
     X = N.nearest-root x n fx vx P
+
     Y : N.Nearest k (root y)
     Y = N.nearest-root y k fy vy (lt-of-lt-of-le P h)
+
     -- the exact root of y would be below the middle of the two roots, and that of x above it
     below-both : Y .r < X .r → 4 * (k * W) < 4 * (n * W)
     below-both l =
@@ -61,6 +63,7 @@ roots-mono x y n k fx fy vx vy P h = not-T (lt (root y) (root x)) (λ t. clash (
       where
         between : (p q u v : ℕ) → p < u → u ≡ v → v < q → p < q
         between p q u v a e b = omega arith
+
     clash : 4 * (k * W) < 4 * (n * W) → ⊥
     clash l = lt-irrefl (4 * (k * W)) (lt-of-lt-of-le l (mul-le-mul-left 4 (mul-le-mul-right W h)))
 
@@ -92,6 +95,7 @@ not-below-zero t d m e f h =
   where
     none : (n : ℕ) → n ≤ 0 → 0 < n → ⊥
     none n h k = omega arith
+
     go : (t : Bool) {n : ℕ} → pos n ≤ℤ signed t 0 → 0 < n → ⊥
     go true {n} l k = none n (leb→le n 0 (l .le)) k
     go false {n} l k = none n (leb→le n 0 (l .le)) k

@@ -199,6 +199,7 @@ pub ≤ℤ-antisym : {a b : ℤ} → a ≤ℤ b → b ≤ℤ a → a ≡ b
   where
     opposite : a -ℤ b ≡ negℤ (b -ℤ a)
     opposite = ring (a ∷ b ∷ []) (var 0 -ᵉ var 1) (neg (var 1 -ᵉ var 0)) tt
+
     go : (n : ℕ) → b -ℤ a ≡ pos n → a ≡ b
     go zero e = sym (eq-of-sub b a e)
     go (suc n) e = absurd (not-nonneg (subst Nonneg (opposite ∙ ap negℤ e) (of-≤ℤ {a = b} {b = a} k)))

@@ -26,9 +26,10 @@ returns : tie.Need-returns Inv-loop μ-loop
 returns c = outer-refused _ _ (sym (of-outer _ loopRefusal (c .before .before .loop-points .ensures) (c .before .loop-refusal .ensures))) (c .if1 .taken)
 
 loop-holds : tie.Need-loop-holds Inv-loop μ-loop
-loop-holds c =
-    (passed-none (c .before .before .before .before .before .before .pre),
-    unrefused-start _ (sym (of-outer _ loopRefusal (c .before .before .loop-points .ensures) (c .before .loop-refusal .ensures)) ∙ c .if1 .left))
+loop-holds c = (
+  passed-none (c .before .before .before .before .before .before .pre),
+  unrefused-start _ (sym (of-outer _ loopRefusal (c .before .before .loop-points .ensures) (c .before .loop-refusal .ensures)) ∙ c .if1 .left),
+)
 
 add-loop-points : tie.Need-add-loop-points Inv-loop μ-loop
 add-loop-points c = omega arith
@@ -62,9 +63,10 @@ loop-less c = omega arith
 loop-again : tie.Need-loop-again Inv-loop μ-loop
 loop-again c =
     let inv = c .before .before .before .before .before .loop .inv in
-    let in-loop = c .before .before .before .before .loop-test .taken in
-    (passed-next (inv .0) in-loop,
-    unrefused-next _ (inv .1) in-loop (sym (of-hole _ loopRefusal _ (c .before .before .before .loop-points2 .ensures) (c .before .before .loop-refusal2 .ensures)) ∙ c .before .if2 .left))
+    let in-loop = c .before .before .before .before .loop-test .taken in (
+      passed-next (inv .0) in-loop,
+      unrefused-next _ (inv .1) in-loop (sym (of-hole _ loopRefusal _ (c .before .before .before .loop-points2 .ensures) (c .before .before .loop-refusal2 .ensures)) ∙ c .before .if2 .left),
+    )
 
 returns-3 : tie.Need-returns-3 Inv-loop μ-loop
 returns-3 c = unrefused-end _ (c .before .loop .inv .1) (c .loop-test .left)

@@ -1,47 +1,48 @@
+-- `domain::outline_refusal` meets its contract: each answer is the definition's at the tests that led to it.
+use mathlib.Core.Path.{refl, sym, _∙_}
 use borrow.Author.Needs.{needs}
+use Rattle.domain.specs.Outline.{outlineRefusal, farRefusal}
+use Rattle.domain.specs.RefusalLaws.{first-stays}
 use Rattle.domain.proofs.outline_refusal.Statement.{statement}
 use Rattle.domain.proofs.outline_refusal.Tie as tie
-use Rattle.domain.proofs.outline_refusal.Reads as reads
-use Rattle.domain.proofs.outline_refusal.Lts as lts
-use Rattle.domain.proofs.any_beyond.Reads as any-beyond-reads
-use Rattle.domain.proofs.is_misshapen.Reads as is-misshapen-reads
-use Rattle.domain.proofs.loops_refusal.Reads as loops-refusal-reads
 
--- src/lib.rt:187:8
 is-misshapen-requires : tie.Need-is-misshapen-requires
 is-misshapen-requires c κs = search needs
 
--- src/lib.rt:188:9
 returns : tie.Need-returns
-returns c = ?
+unfolding outlineRefusal
+returns c = rw (sym (c .before .is-misshapen .ensures) ∙ c .if1 .taken) refl
 
--- src/lib.rt:190:9
 loops-refusal-requires : tie.Need-loops-refusal-requires
-loops-refusal-requires c κs = ?
+loops-refusal-requires c κs = sym (c .before .is-misshapen .ensures) ∙ c .if1 .left
 
--- src/lib.rt:192:9
 returns-2 : tie.Need-returns-2
-returns-2 c = ?
+unfolding outlineRefusal
+returns-2 c = rw (sym (c .before .before .before .is-misshapen .ensures) ∙ c .before .before .if1 .left, ← c .before .loops-refusal .ensures) (sym (first-stays _ _ (c .if2 .taken)))
 
--- src/lib.rt:194:8
 any-beyond-requires : tie.Need-any-beyond-requires
 any-beyond-requires c κs = search needs
 
--- src/lib.rt:195:9
 returns-3 : tie.Need-returns-3
-returns-3 c = ?
+unfolding outlineRefusal farRefusal
+returns-3 c =
+    rw (sym (c .before .before .before .before .before .is-misshapen .ensures) ∙ c .before .before .before .before .if1 .left, sym (c .before .before .before .loops-refusal .ensures) ∙ c .before .before .if2 .left, sym (c .before .any-beyond .ensures) ∙ c .if3 .taken)
+    refl
 
--- src/lib.rt:197:8
 any-beyond-requires-2 : tie.Need-any-beyond-requires-2
 any-beyond-requires-2 c κs = search needs
 
--- src/lib.rt:184:1
 returns-4 : tie.Need-returns-4
-returns-4 c = ?
+unfolding outlineRefusal farRefusal
+returns-4 c =
+    rw (sym (c .before .before .before .before .before .before .before .is-misshapen .ensures) ∙ c .before .before .before .before .before .before .if1 .left, sym (c .before .before .before .before .before .loops-refusal .ensures) ∙ c .before .before .before .before .if2 .left, sym (c .before .before .before .any-beyond .ensures) ∙ c .before .before .if3 .left, sym (c .before .any-beyond2 .ensures) ∙ c .if4 .taken)
+    refl
 
--- src/lib.rt:184:1
 returns-5 : tie.Need-returns-5
-returns-5 c = ?
+unfolding outlineRefusal farRefusal
+returns-5 c =
+    rw (sym (c .before .before .before .before .before .before .before .is-misshapen .ensures) ∙ c .before .before .before .before .before .before .if1 .left, sym (c .before .before .before .before .before .loops-refusal .ensures) ∙ c .before .before .before .before .if2 .left, sym (c .before .before .before .any-beyond .ensures) ∙ c .before .before .if3 .left, sym (c .before .any-beyond2 .ensures) ∙ c .if4 .left)
+    refl
 
 pub outline-refusal-spec : {M : Type 1} → statement M
 outline-refusal-spec =

@@ -1,26 +1,25 @@
+-- `domain::query_contains` meets its contract: refused with its number, or answered by `contains_point`.
+use mathlib.Core.Path.{sym, ap, _∙_}
 use borrow.Author.Needs.{needs}
+use Rattle.domain.specs.declared.Contains.the-variants.{Inside}
+use Rattle.domain.specs.Queries.{containsAnswer}
+use Rattle.domain.specs.RefusalLaws.{query-shaped, answer-refused}
 use Rattle.domain.proofs.query_contains.Statement.{statement}
 use Rattle.domain.proofs.query_contains.Tie as tie
-use Rattle.domain.proofs.query_contains.Reads as reads
-use Rattle.domain.proofs.query_contains.Lts as lts
-use Rattle.domain.proofs.contains_point.Reads as contains-point-reads
-use Rattle.domain.proofs.query_refusal.Reads as query-refusal-reads
 
--- src/lib.rt:405:9
 query-refusal-requires : tie.Need-query-refusal-requires
 query-refusal-requires c κs = search needs
 
--- src/lib.rt:407:9
 returns : tie.Need-returns
-returns c = ?
+unfolding containsAnswer
+returns c = rw (← c .before .query-refusal .ensures) (sym (answer-refused _ _ _ (c .if1 .taken)))
 
--- src/lib.rt:409:22
 contains-point-requires : tie.Need-contains-point-requires
-contains-point-requires c κs = ?
+contains-point-requires c κs = query-shaped _ _ (sym (c .before .query-refusal .ensures) ∙ c .if1 .left)
 
--- src/lib.rt:402:1
 returns-2 : tie.Need-returns-2
-returns-2 c = ?
+unfolding containsAnswer
+returns-2 c = rw (sym (c .before .before .query-refusal .ensures) ∙ c .before .if1 .left) (ap Inside (c .contains-point .ensures))
 
 pub query-contains-spec : {M : Type 1} → statement M
 query-contains-spec =

@@ -1,26 +1,25 @@
+-- `domain::query_nearest` meets its contract: refused with its number, or answered by `nearest_segment`.
+use mathlib.Core.Path.{sym, ap, _∙_}
 use borrow.Author.Needs.{needs}
+use Rattle.domain.specs.declared.Nearest.the-variants.{Segment}
+use Rattle.domain.specs.Queries.{nearestAnswer}
+use Rattle.domain.specs.RefusalLaws.{query-shaped, answer-refused}
 use Rattle.domain.proofs.query_nearest.Statement.{statement}
 use Rattle.domain.proofs.query_nearest.Tie as tie
-use Rattle.domain.proofs.query_nearest.Reads as reads
-use Rattle.domain.proofs.query_nearest.Lts as lts
-use Rattle.domain.proofs.nearest_segment.Reads as nearest-segment-reads
-use Rattle.domain.proofs.query_refusal.Reads as query-refusal-reads
 
--- src/lib.rt:415:9
 query-refusal-requires : tie.Need-query-refusal-requires
 query-refusal-requires c κs = search needs
 
--- src/lib.rt:417:9
 returns : tie.Need-returns
-returns c = ?
+unfolding nearestAnswer
+returns c = rw (← c .before .query-refusal .ensures) (sym (answer-refused _ _ _ (c .if1 .taken)))
 
--- src/lib.rt:419:22
 nearest-segment-requires : tie.Need-nearest-segment-requires
-nearest-segment-requires c κs = ?
+nearest-segment-requires c κs = query-shaped _ _ (sym (c .before .query-refusal .ensures) ∙ c .if1 .left)
 
--- src/lib.rt:412:1
 returns-2 : tie.Need-returns-2
-returns-2 c = ?
+unfolding nearestAnswer
+returns-2 c = rw (sym (c .before .before .query-refusal .ensures) ∙ c .before .if1 .left) (ap Segment (c .nearest-segment .ensures))
 
 pub query-nearest-spec : {M : Type 1} → statement M
 query-nearest-spec =

@@ -1,26 +1,24 @@
+-- `domain::query_refusal` meets its contract: the outline's refusal goes before the point's.
+use mathlib.Core.Path.{sym, _∙_}
 use borrow.Author.Needs.{needs}
+use Rattle.domain.specs.Outline.{queryRefusal}
+use Rattle.domain.specs.RefusalLaws.{first-stays}
 use Rattle.domain.proofs.query_refusal.Statement.{statement}
 use Rattle.domain.proofs.query_refusal.Tie as tie
-use Rattle.domain.proofs.query_refusal.Reads as reads
-use Rattle.domain.proofs.query_refusal.Lts as lts
-use Rattle.domain.proofs.outline_refusal.Reads as outline-refusal-reads
-use Rattle.domain.proofs.point_refusal.Reads as point-refusal-reads
 
--- src/lib.rt:219:9
 outline-refusal-requires : tie.Need-outline-refusal-requires
 outline-refusal-requires c κs = search needs
 
--- src/lib.rt:221:9
 returns : tie.Need-returns
-returns c = ?
+unfolding queryRefusal
+returns c = rw (← c .before .outline-refusal .ensures) (sym (first-stays _ _ (c .if1 .taken)))
 
--- src/lib.rt:223:5
 point-refusal-requires : tie.Need-point-refusal-requires
 point-refusal-requires c κs = search needs
 
--- src/lib.rt:216:1
 returns-2 : tie.Need-returns-2
-returns-2 c = ?
+unfolding queryRefusal
+returns-2 c = rw (sym (c .before .before .outline-refusal .ensures) ∙ c .before .if1 .left) (c .point-refusal .ensures)
 
 pub query-refusal-spec : {M : Type 1} → statement M
 query-refusal-spec =

@@ -29,10 +29,11 @@ search-loop-requires : tie.Need-search-loop-requires Inv-loop μ-loop
 search-loop-requires c κs = search needs
 
 loop-holds : tie.Need-loop-holds Inv-loop μ-loop
-loop-holds c =
-    (passed-none (c .before .before .before .before .before .before .pre),
-    subst (Loop _ _ _ 0) (sym (of-outer _ (λ s. searchLoop (c .before .before .before .before .before .before .args .p) s searchStart) (c .before .before .loop-points .ensures) (rw (← c .before .search-start .ensures) (c .search-loop .ensures))))
-    (loop-start _ _ _))
+loop-holds c = (
+  passed-none (c .before .before .before .before .before .before .pre),
+  subst (Loop _ _ _ 0) (sym (of-outer _ (λ s. searchLoop (c .before .before .before .before .before .before .args .p) s searchStart) (c .before .before .loop-points .ensures) (rw (← c .before .search-start .ensures) (c .search-loop .ensures))))
+      (loop-start _ _ _),
+)
 
 add-loop-points : tie.Need-add-loop-points Inv-loop μ-loop
 add-loop-points c = omega arith
@@ -61,10 +62,11 @@ loop-less c = omega arith
 loop-again : tie.Need-loop-again Inv-loop μ-loop
 loop-again c =
     let inv = c .before .before .before .before .loop .inv in
-    let in-loop = c .before .before .before .loop-test .taken in
-    (passed-next (inv .0) in-loop,
-    rw (of-hole _ (λ s. searchLoop (c .before .before .before .before .before .before .before .before .before .before .before .args .p) s (c .before .before .before .before .loop .best)) _ (c .before .before .loop-points2 .ensures) (c .before .search-loop2 .ensures))
-    (loop-next _ _ (inv .1) in-loop))
+    let in-loop = c .before .before .before .loop-test .taken in (
+      passed-next (inv .0) in-loop,
+      rw (of-hole _ (λ s. searchLoop (c .before .before .before .before .before .before .before .before .before .before .before .args .p) s (c .before .before .before .before .loop .best)) _ (c .before .before .loop-points2 .ensures) (c .before .search-loop2 .ensures))
+          (loop-next _ _ (inv .1) in-loop),
+    )
 
 returns : tie.Need-returns Inv-loop μ-loop
 unfolding searchAll

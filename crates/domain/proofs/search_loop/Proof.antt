@@ -35,10 +35,11 @@ loop-less c = omega arith
 
 loop-again : tie.Need-loop-again Inv-loop μ-loop
 loop-again c =
-    let inv = c .before .before .before .before .loop .inv in
-    (inv .0,
-    rw (c .search-segment .ensures, c .before .before .point-at .ensures, c .before .point-after .ensures)
-    (loop-next _ _ (inv .1) (c .before .before .before .loop-test .taken)))
+    let inv = c .before .before .before .before .loop .inv in (
+      inv .0,
+      rw (c .search-segment .ensures, c .before .before .point-at .ensures, c .before .point-after .ensures)
+          (loop-next _ _ (inv .1) (c .before .before .before .loop-test .taken)),
+    )
 
 returns : tie.Need-returns Inv-loop μ-loop
 unfolding searchLoop

@@ -1,5 +1,5 @@
 -- `contains`, `nearest_segment` and `distance_to_boundary`: each float operation as it stands in src/two_d.rs. Definitions only.
-use mathlib.Core.Bool.{Bool, true, false, not, _&&_, cond}
+use mathlib.Core.Bool.{Bool, false, not, _&&_, cond}
 use mathlib.Core.List.{List}
 use Prim.Native.Nat.{ℕ, zero, suc}
 use lib.ListN.{length}

@@ -1,4 +1,4 @@
--- Laws of the refusals: the first number that is not 0 is the answer, and a query that is not refused has an outline that refusal 1 lets through. Assumes nothing.
+-- Laws of the refusals: the first number that is not 0 is the answer, and the outline of a query that isn't refused has the shape asked for. Assumes nothing.
 use mathlib.Core.Bool.{Bool, true, false, cond}
 use mathlib.Core.Path.{_≡_, refl, sym, ap, _∙_, subst}
 use Prim.Native.Nat.{ℕ, zero, suc, _+_, _≤_, _<_}
@@ -6,7 +6,8 @@ use native.Mathlib.Omega.{arith}
 use lib.ListN.{length}
 use Rattle.laws.specs.Loop.{forUp, Loop, loop-start, loop-next, loop-end, forUp-stays}
 use Rattle.domain.specs.declared.Point.{Point}
-use Rattle.domain.specs.Outline.{Outline, holeAt, firstOf, misshapen, loopRefusal, holeRefusal, loopsRefusal, farRefusal, outlineRefusal, pointRefusal, queryRefusal}
+use Rattle.domain.specs.Outline.{Outline, holeAt, firstOf, misshapen, loopRefusal, holeRefusal, loopsRefusal}
+use Rattle.domain.specs.Outline.{farRefusal, outlineRefusal, pointRefusal, queryRefusal}
 use Rattle.domain.specs.Queries.{answerBy}
 
 -- a refusal stays whatever follows
@@ -22,10 +23,12 @@ module _ (o : Outline) where
   Unrefused k = Loop (holeRefusal o) (loopRefusal (o .outer)) (length (o .lens)) k 0
 
   pub unrefused-start : loopRefusal (o .outer) ≡ 0 → Unrefused 0
-  unrefused-start e = subst (Loop (holeRefusal o) (loopRefusal (o .outer)) (length (o .lens)) 0) e (loop-start (holeRefusal o) (loopRefusal (o .outer)) (length (o .lens)))
+  unrefused-start e =
+      subst (Loop (holeRefusal o) (loopRefusal (o .outer)) (length (o .lens)) 0) e (loop-start (holeRefusal o) (loopRefusal (o .outer)) (length (o .lens)))
 
   pub unrefused-next : {k : ℕ} → Unrefused k → k < length (o .lens) → loopRefusal (holeAt o k) ≡ 0 → Unrefused (k + 1)
-  unrefused-next {k} l h e = subst (Loop (holeRefusal o) (loopRefusal (o .outer)) (length (o .lens)) (k + 1)) e (loop-next (holeRefusal o) (loopRefusal (o .outer)) l h)
+  unrefused-next {k} l h e =
+      subst (Loop (holeRefusal o) (loopRefusal (o .outer)) (length (o .lens)) (k + 1)) e (loop-next (holeRefusal o) (loopRefusal (o .outer)) l h)
 
   pub unrefused-end : {k : ℕ} → Unrefused k → length (o .lens) ≤ k → 0 ≡ loopsRefusal o
   unfolding loopsRefusal
@@ -51,8 +54,11 @@ pub query-shaped : (o : Outline) (p : Point) → queryRefusal o p ≡ 0 → miss
 unfolding queryRefusal outlineRefusal
 query-shaped o p e = decide (misshapen o) refl
   where
+    by : Bool → ℕ
+    by t = firstOf (cond t 1 (firstOf (loopsRefusal o) (farRefusal o))) (pointRefusal p)
+
     decide : (b : Bool) → misshapen o ≡ b → b ≡ false
-    decide true m = let z : _≡_ {A = ℕ} 1 0 = sym (ap (λ (t : Bool). firstOf (cond t 1 (firstOf (loopsRefusal o) (farRefusal o))) (pointRefusal p)) m) ∙ e in absurd (omega arith)
+    decide true m = let z : _≡_ {A = ℕ} 1 0 = sym (ap by m) ∙ e in absurd (omega arith)
     decide false m = refl
 
 module _ {A : Type 0} (refused : ℕ → A) (answer : A) where

@@ -1,5 +1,6 @@
--- The search for the nearest segment as the code runs it: a root is taken only where the squared distance beats the best so far. Definitions only; that it finds the same is a law.
-use mathlib.Core.Bool.{Bool, _&&_, cond}
+-- The search for the nearest segment as the code runs it: a root is taken only where the squared distance beats the best so far. Definitions only;
+-- that it finds the same is a law (SearchLaws).
+use mathlib.Core.Bool.{_&&_, cond}
 use mathlib.Core.List.{List}
 use Prim.Native.Nat.{ℕ}
 use lib.ListN.{length}

@@ -1,9 +1,8 @@
--- The search that spares roots finds the segment that the plain one finds: `search-same`, at the end. A square that is not below the best one's has a root that is not below the best distance, since
--- the rounded root keeps the order (crate exact).
+-- The search that spares roots finds the segment that the plain one finds: `search-same`, at the end. A square that is not below the best one's
+-- has a root that is not below the best distance, since the rounded root keeps the order (crate exact).
 use mathlib.Core.Bool.{Bool, true, false, not, _&&_, cond, true≢false}
 use mathlib.Core.List.{List}
 use mathlib.Core.Path.{_≡_, refl, sym, ap, _∙_, subst}
-use Prim.Native.Nat.{ℕ}
 use lib.Dec.{T}
 use lib.ListN.{length}
 use lib.Ieee.{Float, binary64, fits, lt}

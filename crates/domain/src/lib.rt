@@ -1,11 +1,11 @@
 // The outline as lent, its refusals 1 to 4, and the queries of src/two_d.rs's `Domain`.
 ghost use mathlib.Core.Path.{_≡_};
-ghost use mathlib.Core.Bool.{true, false};
-ghost use Prim.Native.Nat.{suc, _+_, _*_, _/_, _≤_, _<_};
+ghost use mathlib.Core.Bool.{false};
+ghost use Prim.Native.Nat.{_+_, _*_, _<_};
 ghost use lib.Dec.{eqb};
-ghost use lib.ListN.{length, getD};
+ghost use lib.ListN.{length};
 ghost use Rattle.laws.specs.Loop.{anyUp};
-ghost use Rattle.domain.specs.Outline.{outline, holeLength, holeStart, holeAt, loopAt, pointAt, pointAfter, anyFloat, notFinite, beyond, misshapen, LoopPlace, loopRefusal, loopsRefusal, outlineRefusal, pointRefusal, queryRefusal};
+ghost use Rattle.domain.specs.Outline.{outline, holeStart, loopAt, pointAt, pointAfter, anyFloat, notFinite, beyond, misshapen, LoopPlace, loopRefusal, loopsRefusal, outlineRefusal, pointRefusal, queryRefusal};
 ghost use Rattle.domain.specs.Queries.{rayCrosses, pointInPolygon, inHole, contains, squaredDistance, footOf, nearestSegment, containsAnswer, nearestAnswer, distanceAnswer};
 ghost use Rattle.domain.specs.Search.{searchStart, searched, searchLoop, searchAll};
 

@@ -18,7 +18,9 @@ loops-refusal-requires c κs = sym (c .before .is-misshapen .ensures) ∙ c .if1
 
 returns-2 : tie.Need-returns-2
 unfolding outlineRefusal
-returns-2 c = rw (sym (c .before .before .before .is-misshapen .ensures) ∙ c .before .before .if1 .left, ← c .before .loops-refusal .ensures) (sym (first-stays _ _ (c .if2 .taken)))
+returns-2 c =
+    rw (sym (c .before .before .before .is-misshapen .ensures) ∙ c .before .before .if1 .left, ← c .before .loops-refusal .ensures)
+    (sym (first-stays _ _ (c .if2 .taken)))
 
 any-beyond-requires : tie.Need-any-beyond-requires
 any-beyond-requires c κs = search needs
@@ -26,8 +28,10 @@ any-beyond-requires c κs = search needs
 returns-3 : tie.Need-returns-3
 unfolding outlineRefusal farRefusal
 returns-3 c =
-    rw (sym (c .before .before .before .before .before .is-misshapen .ensures) ∙ c .before .before .before .before .if1 .left, sym (c .before .before .before .loops-refusal .ensures) ∙ c .before .before .if2 .left, sym (c .before .any-beyond .ensures) ∙ c .if3 .taken)
-    refl
+    let loops = c .before .before in
+    let shape = c .before .before .before .before in
+    rw (sym (shape .before .is-misshapen .ensures) ∙ shape .if1 .left, sym (loops .before .loops-refusal .ensures) ∙ loops .if2 .left)
+    (rw (sym (c .before .any-beyond .ensures) ∙ c .if3 .taken) refl)
 
 any-beyond-requires-2 : tie.Need-any-beyond-requires-2
 any-beyond-requires-2 c κs = search needs
@@ -35,14 +39,18 @@ any-beyond-requires-2 c κs = search needs
 returns-4 : tie.Need-returns-4
 unfolding outlineRefusal farRefusal
 returns-4 c =
-    rw (sym (c .before .before .before .before .before .before .before .is-misshapen .ensures) ∙ c .before .before .before .before .before .before .if1 .left, sym (c .before .before .before .before .before .loops-refusal .ensures) ∙ c .before .before .before .before .if2 .left, sym (c .before .before .before .any-beyond .ensures) ∙ c .before .before .if3 .left, sym (c .before .any-beyond2 .ensures) ∙ c .if4 .taken)
-    refl
+    let loops = c .before .before .before .before in
+    let shape = c .before .before .before .before .before .before in
+    rw (sym (shape .before .is-misshapen .ensures) ∙ shape .if1 .left, sym (loops .before .loops-refusal .ensures) ∙ loops .if2 .left)
+    (rw (sym (c .before .before .before .any-beyond .ensures) ∙ c .before .before .if3 .left, sym (c .before .any-beyond2 .ensures) ∙ c .if4 .taken) refl)
 
 returns-5 : tie.Need-returns-5
 unfolding outlineRefusal farRefusal
 returns-5 c =
-    rw (sym (c .before .before .before .before .before .before .before .is-misshapen .ensures) ∙ c .before .before .before .before .before .before .if1 .left, sym (c .before .before .before .before .before .loops-refusal .ensures) ∙ c .before .before .before .before .if2 .left, sym (c .before .before .before .any-beyond .ensures) ∙ c .before .before .if3 .left, sym (c .before .any-beyond2 .ensures) ∙ c .if4 .left)
-    refl
+    let loops = c .before .before .before .before in
+    let shape = c .before .before .before .before .before .before in
+    rw (sym (shape .before .is-misshapen .ensures) ∙ shape .if1 .left, sym (loops .before .loops-refusal .ensures) ∙ loops .if2 .left)
+    (rw (sym (c .before .before .before .any-beyond .ensures) ∙ c .before .before .if3 .left, sym (c .before .any-beyond2 .ensures) ∙ c .if4 .left) refl)
 
 pub outline-refusal-spec : {M : Type 1} → statement M
 outline-refusal-spec =

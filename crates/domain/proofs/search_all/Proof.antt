@@ -1,12 +1,11 @@
 -- `domain::search_all` meets its contract: the loop's invariant is `Loop` of the definition's turn over the holes, and where the next hole's points begin.
-use mathlib.Core.Path.{_≡_, refl, sym, ap, _∙_, subst}
 use Prim.Native.Nat.{_-_}
 use native.Mathlib.Omega.{arith}
 use borrow.Author.Needs.{needs}
 use lib.ListN.{length}
 use Rattle.laws.specs.Loop.{Loop, loop-start, loop-next, loop-end}
 use Rattle.domain.specs.Outline.{outline}
-use Rattle.domain.specs.OutlineLaws.{of-outer, of-hole, outer-place, Passed, passed-none, passed-next, passed-place, passed-few}
+use Rattle.domain.specs.OutlineLaws.{outer-points, hole-points, outer-place, Passed, passed-none, passed-next, passed-place, passed-few}
 use Rattle.domain.specs.Search.{searchStart, searchLoop, searchHole, searchAll}
 use Rattle.domain.proofs.search_all.Statement.{statement}
 use Rattle.domain.proofs.search_all.Tie as tie
@@ -29,11 +28,9 @@ search-loop-requires : tie.Need-search-loop-requires Inv-loop μ-loop
 search-loop-requires c κs = search needs
 
 loop-holds : tie.Need-loop-holds Inv-loop μ-loop
-loop-holds c = (
-  passed-none (c .before .before .before .before .before .before .pre),
-  subst (Loop _ _ _ 0) (sym (of-outer _ (λ s. searchLoop (c .before .before .before .before .before .before .args .p) s searchStart) (c .before .before .loop-points .ensures) (rw (← c .before .search-start .ensures) (c .search-loop .ensures))))
-      (loop-start _ _ _),
-)
+loop-holds c =
+    let points = outer-points _ (c .before .before .loop-points .ensures) in
+    (passed-none (c .before .before .before .before .before .before .pre), rw (c .search-loop .ensures, c .before .search-start .ensures, points) (loop-start _ _ _))
 
 add-loop-points : tie.Need-add-loop-points Inv-loop μ-loop
 add-loop-points c = omega arith
@@ -51,10 +48,14 @@ shared-slice-read-start : tie.Need-shared-slice-read-start Inv-loop μ-loop
 shared-slice-read-start c = omega arith
 
 add-start : tie.Need-add-start Inv-loop μ-loop
-add-start c = omega (arith, passed-few (c .before .before .before .before .loop .inv .0) (c .before .before .before .loop-test .taken))
+add-start c =
+    let few = passed-few (c .before .before .before .before .loop .inv .0) (c .before .before .before .loop-test .taken) in
+    omega arith
 
 add-k : tie.Need-add-k Inv-loop μ-loop
-add-k c = omega (arith, c .before .before .before .loop-test .taken, c .before .before .before .before .before .before .before .before .before .before .before .good .1 .1 .0)
+add-k c =
+    let in-loop = c .before .before .before .loop-test .taken in
+    omega (arith, c .before .before .before .before .before .before .before .before .before .before .before .good .1 .1 .0)
 
 loop-less : tie.Need-loop-less Inv-loop μ-loop
 loop-less c = omega arith
@@ -62,11 +63,9 @@ loop-less c = omega arith
 loop-again : tie.Need-loop-again Inv-loop μ-loop
 loop-again c =
     let inv = c .before .before .before .before .loop .inv in
-    let in-loop = c .before .before .before .loop-test .taken in (
-      passed-next (inv .0) in-loop,
-      rw (of-hole _ (λ s. searchLoop (c .before .before .before .before .before .before .before .before .before .before .before .args .p) s (c .before .before .before .before .loop .best)) _ (c .before .before .loop-points2 .ensures) (c .before .search-loop2 .ensures))
-          (loop-next _ _ (inv .1) in-loop),
-    )
+    let in-loop = c .before .before .before .loop-test .taken in
+    let points = hole-points _ _ (c .before .before .loop-points2 .ensures) in
+    (passed-next (inv .0) in-loop, rw (c .before .search-loop2 .ensures, points) (loop-next _ _ (inv .1) in-loop))
 
 returns : tie.Need-returns Inv-loop μ-loop
 unfolding searchAll

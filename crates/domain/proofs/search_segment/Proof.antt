@@ -16,11 +16,19 @@ sqrt-f64-requires c κs = search needs
 
 returns : tie.Need-returns
 unfolding searched
-returns c = rw (← c .before .before .before .before .before .before .before .foot-of .ensures, ← c .before .before .before .before .before .before .squared-distance .ensures, ← c .before .before .before .sqrt-f64 .ensures, c .before .before .before .before .if1 .taken, c .if2 .taken) refl
+returns c =
+    let square = c .before .before .before .before .before .before in
+    let root = c .before .before .before in
+    rw (← square .before .foot-of .ensures, ← square .squared-distance .ensures, ← root .sqrt-f64 .ensures, root .before .if1 .taken, c .if2 .taken)
+    refl
 
 returns-2 : tie.Need-returns-2
 unfolding searched
-returns-2 c = rw (← c .before .before .before .before .before .before .before .foot-of .ensures, ← c .before .before .before .before .before .before .squared-distance .ensures, ← c .before .before .before .sqrt-f64 .ensures, c .before .before .before .before .if1 .taken, c .if2 .left) refl
+returns-2 c =
+    let square = c .before .before .before .before .before .before in
+    let root = c .before .before .before in
+    rw (← square .before .foot-of .ensures, ← square .squared-distance .ensures, ← root .sqrt-f64 .ensures, root .before .if1 .taken, c .if2 .left)
+    refl
 
 returns-3 : tie.Need-returns-3
 unfolding searched

@@ -1,0 +1,40 @@
+-- The search for the nearest segment as the code runs it: a root is taken only where the squared distance beats the best so far. Definitions only;
+-- that it finds the same is a law (SearchLaws).
+use mathlib.Core.Bool.{_&&_, cond}
+use mathlib.Core.List.{List}
+use Prim.Native.Nat.{ℕ}
+use lib.ListN.{length}
+use lib.Ieee.{Float, lt}
+use Rattle.laws.specs.Loop.{forUp}
+use Rattle.numbers.specs.Float.{sqrt, infinityF}
+use Rattle.domain.specs.declared.Point.{Point}
+use Rattle.domain.specs.declared.Near.{Near}
+use Rattle.domain.specs.declared.Search.{Search}
+use Rattle.domain.specs.Outline.{Outline, holeAt, points, pointAt, pointAfter}
+use Rattle.domain.specs.Queries.{squaredDistance, footOf, near, nowhere}
+
+abbrev pub search : Near → Float → Search
+search found squared = record { near = found; squared = squared }
+
+-- what the search starts with
+abbrev pub searchStart : Search
+searchStart = search nowhere infinityF
+
+-- one segment: its root is compared only where its square is below the best one's
+unfoldable pub searched : Point → Point → Point → Search → Search
+searched p a b best =
+    let squared = squaredDistance p (footOf p a b) in
+    let d = sqrt squared in
+    cond (lt squared (best .squared) && lt d (best .near .distance)) (search (near a b d) squared) best
+
+abbrev pub searchTurn : Point → List Float → ℕ → Search → Search
+searchTurn p s i best = searched p (pointAt s i) (pointAfter s i) best
+
+unfoldable pub searchLoop : Point → List Float → Search → Search
+searchLoop p s best = forUp (points s) (searchTurn p s) best
+
+abbrev pub searchHole : Outline → Point → ℕ → Search → Search
+searchHole o p k best = searchLoop p (holeAt o k) best
+
+unfoldable pub searchAll : Outline → Point → Search
+searchAll o p = forUp (length (o .lens)) (searchHole o p) (searchLoop p (o .outer) searchStart)

@@ -18,7 +18,7 @@ use Rattle.exact.specs.Rounding.{Close}
 use Rattle.exact.specs.Units.{W, W-pos, Val, signed, units, Within, within-units}
 use Rattle.exact.specs.Order.{above-of-not-le}
 use Rattle.exact.specs.Operations.{Product, mul-law, product-within, Sum, sub-law, sum-small, sum-within, PosSum, add-law-pos, Quotient, div-law}
-use Rattle.exact.specs.Root.{Root, root-law}
+use Rattle.exact.specs.Root.{RootOf, root-law}
 use Rattle.exact.specs.SineBounds.{Rel, RelAnd, rel, rel-and, le-of-sq, Long, unit-below, length-law, side-law, quotient-law, product-law, products-below, signed-near, cross-law, sine-law}
 use Rattle.exact.specs.Corner.{sin20, norm, cornerOk, Vector, step, cross, squaredLength, sineAboveThird, isShort}
 

@@ -155,17 +155,19 @@ module _ (ρ : List ℤ) where
   insertM-ok x [] = refl
   insertM-ok x (y ∷ ys) = step (leb x y) (insertM-ok x ys)
     where
-      step : (b : Bool) → evalM (insertM x ys) ≡ valueAt ρ x *ℤ evalM ys → evalM (elim b [ true ↦ x ∷ y ∷ ys | false ↦ y ∷ insertM x ys ]) ≡ valueAt ρ x *ℤ (valueAt ρ y *ℤ evalM ys)
+      step : (b : Bool) → evalM (insertM x ys) ≡ valueAt ρ x *ℤ evalM ys
+          → evalM (elim b [ true ↦ x ∷ y ∷ ys | false ↦ y ∷ insertM x ys ]) ≡ valueAt ρ x *ℤ (valueAt ρ y *ℤ evalM ys)
       step true h = refl
       step false h =
-          ap (λ (z : ℤ). valueAt ρ y *ℤ z) h ∙ sym (*ℤ-assoc (valueAt ρ y) (valueAt ρ x) (evalM ys)) ∙ ap (λ (z : ℤ). z *ℤ evalM ys) (*ℤ-comm (valueAt ρ y) (valueAt ρ x))
-          ∙ *ℤ-assoc (valueAt ρ x) (valueAt ρ y) (evalM ys)
+          ap (λ (z : ℤ). valueAt ρ y *ℤ z) h ∙ sym (*ℤ-assoc (valueAt ρ y) (valueAt ρ x) (evalM ys))
+          ∙ ap (λ (z : ℤ). z *ℤ evalM ys) (*ℤ-comm (valueAt ρ y) (valueAt ρ x)) ∙ *ℤ-assoc (valueAt ρ x) (valueAt ρ y) (evalM ys)
 
   mulM-ok : (m n : List ℕ) → evalM (mulM m n) ≡ evalM m *ℤ evalM n
   mulM-ok [] n = sym (one-*ℤ (evalM n))
   mulM-ok (x ∷ xs) n = insertM-ok x (mulM xs n) ∙ ap (λ (z : ℤ). valueAt ρ x *ℤ z) (mulM-ok xs n) ∙ sym (*ℤ-assoc (valueAt ρ x) (evalM xs) (evalM n))
 
-  into-ok : (c : ℤ) (m : List ℕ) (k : Poly → Poly) (v : ℤ) → ((q : Poly) → evalP (k q) ≡ v +ℤ evalP q) → (q : Poly) → evalP (into c m k q) ≡ (c *ℤ evalM m +ℤ v) +ℤ evalP q
+  into-ok : (c : ℤ) (m : List ℕ) (k : Poly → Poly) (v : ℤ) → ((q : Poly) → evalP (k q) ≡ v +ℤ evalP q)
+      → (q : Poly) → evalP (into c m k q) ≡ (c *ℤ evalM m +ℤ v) +ℤ evalP q
   into-ok c m k v H nil = ap (λ (z : ℤ). c *ℤ evalM m +ℤ z) (H nil) ∙ sym (+ℤ-assoc (c *ℤ evalM m) v (pos 0))
   into-ok c m k v H (term d n q) = step (compareM m n Ordering·eq) refl (into-ok c m k v H q)
     where

@@ -5,9 +5,9 @@ use mathlib.Core.Bool.{Bool, true, false, not}
 use Prim.Native.Nat.{ℕ, zero, suc, _+_, _*_, _≤_, _<_, zero-le}
 use native.Mathlib.Nat.{zero-lt-suc, add-comm, zero-mul, mul-le-mul-left, mul-le-mul-right, lt-of-lt-of-le, lt-irrefl}
 use native.Mathlib.Omega.{arith}
-use lib.IntN.{ℤ, pos, negsuc}
+use lib.IntN.{ℤ, pos}
 use lib.Dec.{T, ltb→lt, lt→ltb, leb→le, le→leb, not-T, T-not}
-use lib.Signed.{_≤ℤ_, _<ℤ_}
+use lib.Signed.{_≤ℤ_}
 use lib.Ieee.{Float, nan, inf, fin, binary64, up, down, fits, lt}
 use lib.Ieee.Positive.{value-pos}
 use Rattle.numbers.specs.Root.{root}

@@ -3,22 +3,21 @@
 use mathlib.Core.Path.{_≡_, refl, sym, ap, ap₂, _∙_, subst}
 use mathlib.Core.List.{[], _∷_}
 use mathlib.Core.Bool.{Bool, true, false, not, _&&_}
-use Prim.Native.Nat.{ℕ, zero, suc, _+_, _*_, _^_, _≤_, _<_}
+use Prim.Native.Nat.{ℕ, _+_, _*_, _^_, _≤_, _<_}
 use native.Mathlib.Nat.{le-trans, le-of-eq, le-of-lt, mul-assoc, mul-mul-mul-comm, mul-le-mul, mul-le-mul-right, mul-le-mul-left, le-of-mul-le-mul-right, not-le-of-lt}
 use native.Mathlib.Omega.{arith}
-use lib.Dec.{T, lit≤, leb, ltb, leb→le, ltb→lt, lt→ltb, not-T}
+use lib.Dec.{T, lit≤, ltb, ltb→lt, lt→ltb, not-T}
 use lib.IntN.{ℤ, pos, negℤ, _+ℤ_, _*ℤ_, _-ℤ_, negℤ-negℤ}
-use lib.Ieee.{Float, fin, binary64, unlike, le, ofBits}
+use lib.Ieee.{Float, binary64, unlike, le, ofBits}
 use lib.Ieee.Fits.{and-i, and-l, and-r, add-fits}
 use Rattle.laws.specs.Integer.{negℤ-*ℤ, *ℤ-negℤ}
 use Rattle.laws.specs.Ring.{var, num, _*ᵉ_, _-ᵉ_}
 use Rattle.laws.specs.Certificate.{Nonneg, nonneg, nonneg-is, to-le, hyp, nat, _⊞_, _⊠_, prove}
 use Rattle.numbers.specs.Float.{_⊕_, _⊖_, _⊗_, _⊘_, tolerance}
-use Rattle.exact.specs.Rounding.{Close}
 use Rattle.exact.specs.Units.{W, W-pos, Val, signed, units, Within, within-units}
 use Rattle.exact.specs.Order.{above-of-not-le}
-use Rattle.exact.specs.Operations.{Product, mul-law, product-within, Sum, sub-law, sum-small, sum-within, PosSum, add-law-pos, Quotient, div-law}
-use Rattle.exact.specs.Root.{RootOf, root-law}
+use Rattle.exact.specs.Operations.{mul-law, product-within, Sum, sub-law, sum-small, sum-within, add-law-pos, div-law}
+use Rattle.exact.specs.Root.{root-law}
 use Rattle.exact.specs.SineBounds.{Rel, RelAnd, rel, rel-and, le-of-sq, Long, unit-below, length-law, side-law, quotient-law, product-law, products-below, signed-near, cross-law, sine-law}
 use Rattle.exact.specs.Corner.{sin20, norm, cornerOk, Vector, step, cross, squaredLength, sineAboveThird, isShort}
 

@@ -4,10 +4,10 @@
 -- Only equality of monomials matters for soundness: the order of terms decides no more than whether like terms meet.
 use mathlib.Core.Path.{_≡_, refl, sym, ap, ap₂, _∙_, subst}
 use mathlib.Core.List.{List, [], _∷_}
-use mathlib.Core.Bool.{Bool, true, false, _&&_}
+use mathlib.Core.Bool.{Bool, true, false}
 use Prim.Native.Nat.{ℕ, zero, suc, compare, Ordering, Ordering·lt, Ordering·eq, Ordering·gt}
-use lib.Dec.{T, leb, eqb, isEq, eqb→eq}
-use lib.IntN.{ℤ, pos, negsuc, negℤ, _+ℤ_, _*ℤ_, _-ℤ_, +ℤ-idl, +ℤ-idr, +ℤ-assoc, +ℤ-comm, negℤ-+ℤ, zero-*ℤ, *ℤ-zero, *ℤ-comm}
+use lib.Dec.{T, leb, isEq, eqb→eq}
+use lib.IntN.{ℤ, pos, negsuc, negℤ, _+ℤ_, _*ℤ_, +ℤ-idl, +ℤ-idr, +ℤ-assoc, negℤ-+ℤ, zero-*ℤ, *ℤ-zero, *ℤ-comm}
 use Rattle.laws.specs.Integer.{+ℤ-left-comm, +ℤ-swap, +ℤ-*ℤ, *ℤ-+ℤ, negℤ-*ℤ, *ℤ-assoc, *ℤ-swap, one-*ℤ, eq-of-sub}
 
 infixl 6 _+ᵉ_ _-ᵉ_

@@ -1,17 +1,17 @@
 -- The cases of `sqrt_f64`, by the value's sign and bits, and the result that `assemble` puts together. Assumes nothing.
-use mathlib.Core.Path.{_≡_, refl, sym, ap, _∙_, subst}
+use mathlib.Core.Path.{_≡_, refl, sym, ap, _∙_}
 use mathlib.Core.Logic.{⊎-elim}
-use mathlib.Core.Bool.{Bool, true, false}
+use mathlib.Core.Bool.{true, false}
 use Prim.Native.Nat.{ℕ, suc, _+_, _-_, _*_, _/_, _%_, _^_, _≤_, _<_}
 use native.Mathlib.Nat.{le-trans, le-of-eq, le-of-suc-le-suc, lt-of-lt-of-le, lt-of-not-le, not-le-of-lt, mod-eq-of-lt, mul-assoc, mul-le-mul-right, mul-lt-mul-of-pos-right}
 use native.Mathlib.Omega.{arith}
 use lib.Dec.{T}
 use lib.Pow.{pow-pos, pow-mono, pow-add}
 use lib.Count.{leadingZeros, leading-top}
-use lib.Ieee.{Float, nan, inf, fin, binary64, ofBits, toBits, isNan, fits, ne, div}
+use lib.Ieee.{Float, nan, inf, binary64, ofBits, toBits, isNan, fits, ne, div}
 use lib.Ieee.Bits.{ofBits-toBits}
 use Rattle.numbers.specs.Root.{root, rootUnits, NearRoot}
-use Rattle.numbers.specs.RootUnits.{root-value, root-minus, Split, Rounds, rounds}
+use Rattle.numbers.specs.RootUnits.{root-value, root-minus, Split, rounds}
 use Rattle.numbers.specs.Whole.{sizeOf}
 use Rattle.numbers.proofs.Patterns.{is-nan, not-nan, size-low, size-high, size-pos, Pattern, plus, minus-sign, value, infinite, finite-or-not, units-bits}
 

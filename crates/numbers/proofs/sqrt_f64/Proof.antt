@@ -1,11 +1,11 @@
 -- `numbers::sqrt_f64` meets its contract: each way out is a case of `Sqrt`. Assumes nothing.
 use borrow.Author.Needs.{needs}
-use mathlib.Core.Path.{_≡_, sym, _∙_, subst}
-use Prim.Native.Nat.{ℕ, _-_, _≤_, _<_}
+use mathlib.Core.Path.{sym, _∙_, subst}
+use Prim.Native.Nat.{_-_, _≤_}
 use native.Mathlib.Omega.{arith}
 use lib.Dec.{T}
 use lib.Count.{leadingZeros, leading-le}
-use lib.Ieee.{Float, binary64, fits, toBits}
+use lib.Ieee.{binary64, fits, toBits}
 use Rattle.numbers.proofs.Patterns.{no-nan, plus}
 use Rattle.numbers.proofs.Sqrt.{of-nan, of-zero, of-minus-zero, of-inf, of-normal, Moved, leading, of-subnormal, of-rest, quotient}
 use Rattle.numbers.proofs.sqrt_f64.Statement.{statement}

@@ -1,0 +1,7 @@
+mod Patterns
+mod Whole
+mod Casts
+mod Sign
+mod Sqrt
+mod Digits
+mod Square

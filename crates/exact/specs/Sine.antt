@@ -82,10 +82,11 @@ record Prod (s : Bool) (n : ℕ) (x : Float) : Type 0 where
 prod : {x y : Float} {X Y : ℤ} (p : Step x X) (q : Step y Y) → Prod (unlike (sign p) (sign q)) (size p * size q) (x ⊗ y)
 prod p q =
     let r = mul-law (p .within) (q .within) tt tt in
+    let bound = le-trans (mul-le-mul (p .within .small) (q .within .small)) (le-of-eq (mul-mul-mul-comm 4004 W 4004 W)) in
     record {
       size = r .size;
       val = r .val;
-      small = product-small 16032016 (r .size) (size p * size q) (r .near) (le-trans (mul-le-mul (p .within .small) (q .within .small)) (le-of-eq (mul-mul-mul-comm 4004 W 4004 W)));
+      small = product-small 16032016 (r .size) (size p * size q) (r .near) bound;
       near = rel-and (r .size * W) (size p * size q) W (r .near);
     }
 
@@ -133,8 +134,8 @@ length {x} {y} p q t =
 
     root-small : (s L : ℕ) → s ≤ 128300000 * W → L * L ≤ 2 * (s * W) → L ≤ 20000 * W
     root-small s L h k =
-        le-of-sq L (20000 * W)
-        (go (s * W) (L * L) (W * W) (20000 * W * (20000 * W)) (le-trans (mul-le-mul-right W h) (le-of-eq (mul-assoc 128300000 W W))) k (mul-mul-mul-comm 20000 W 20000 W))
+        let l = le-trans (mul-le-mul-right W h) (le-of-eq (mul-assoc 128300000 W W)) in
+        le-of-sq L (20000 * W) (go (s * W) (L * L) (W * W) (20000 * W * (20000 * W)) l k (mul-mul-mul-comm 20000 W 20000 W))
       where
         go : (a b c d : ℕ) → a ≤ 128300000 * c → b ≤ 2 * a → d ≡ 400000000 * c → b ≤ d
         go a b c d h k e = omega arith
@@ -243,15 +244,18 @@ module _ {ux uy vx vy : Float} {X Y X' Y' : ℤ} (a₀ : Step ux X) (a₁ : Step
       let c₁ = prod a₀ b₁ in
       let c₂ = prod a₁ b₀ in
       let d = sub-law (prod-within c₁) (prod-within c₂) tt tt in
-      let r = div-law crossF lengthsF (d .sign) false (d .size) (n .y) (d .val) (n .val) (positive (n .y) (n .low)) (room (d .size) (n .y) (small d (c₁ .small) (c₂ .small)) (n .low)) in
+      let fits = room (d .size) (n .y) (small d (c₁ .small) (c₂ .small)) (n .low) in
+      let r = div-law crossF lengthsF (d .sign) false (d .size) (n .y) (d .val) (n .val) (positive (n .y) (n .low)) fits in
       let t = above-sin20 (crossF ⊘ lengthsF) (unlike (d .sign) false) (r .size) (r .val) ts in
       let z₁ = signed (unlike (sign a₀) (sign b₁)) (c₁ .size) in
       let z₂ = signed (unlike (sign a₁) (sign b₀)) (c₂ .size) in
       let e : pos (d .exact) ≡ z₁ -ℤ z₂ =
-      ap (λ (s : Bool). signed s (d .exact)) (sym (unlike-false (d .sign) (t .0))) ∙ d .is ∙ ap₂ (λ (y z : ℤ). y -ℤ z) (within-units (prod-within c₁)) (within-units (prod-within c₂)) in
+      ap (λ (s : Bool). signed s (d .exact)) (sym (unlike-false (d .sign) (t .0))) ∙ d .is
+      ∙ ap₂ (λ (y z : ℤ). y -ℤ z) (within-units (prod-within c₁)) (within-units (prod-within c₂)) in
       let near₁ = product-law (a₀ .exact) (b₁ .exact) (size a₀) (size b₁) (c₁ .size) (a₀ .near) (b₁ .near) (c₁ .near) in
       let near₂ = product-law (a₁ .exact) (b₀ .exact) (size a₁) (size b₀) (c₂ .size) (a₁ .near) (b₀ .near) (c₂ .near) in
-      let quotient = quotient-law (p .L) (q .L) (n .y) (d .size) (r .size) Sin20 (n .near) far (rel-and (r .size * n .y) (d .size * W) (n .y) (r .near)) (t .1) sin20-low in
+      let near = rel-and (r .size * n .y) (d .size * W) (n .y) (r .near) in
+      let quotient = quotient-law (p .L) (q .L) (n .y) (d .size) (r .size) Sin20 (n .near) far near (t .1) sin20-low in
       let below = products-below (a₀ .exact) (a₁ .exact) (b₀ .exact) (b₁ .exact) (p .L) (q .L) (p .near) (q .near) in
       record {
         L = p .L;
@@ -323,8 +327,8 @@ side-long ax ay bx by Ax Ay Bx By t =
 
 -- THE SINE THEOREM. For places a, b and c within 1,001: where the f64 test of the corner passes, the exact sine between the step from a to b
 -- and the step from b to c is above 1/3.
-pub sine-theorem : (ax ay bx by cx cy : Float) → Within 1001 ax → Within 1001 ay → Within 1001 bx → Within 1001 by → Within 1001 cx → Within 1001 cy
-    → T (cornerOk ax ay bx by cx cy) → T (sineAboveThird (step ax ay bx by) (step bx by cx cy))
+pub sine-theorem : (ax ay bx by cx cy : Float) → Within 1001 ax → Within 1001 ay → Within 1001 bx → Within 1001 by → Within 1001 cx
+    → Within 1001 cy → T (cornerOk ax ay bx by cx cy) → T (sineAboveThird (step ax ay bx by) (step bx by cx cy))
 unfolding cornerOk step cross
 sine-theorem ax ay bx by cx cy Ax Ay Bx By Cx Cy t =
     let a₀ = step-of Ax Bx in
@@ -334,6 +338,7 @@ sine-theorem ax ay bx by cx cy Ax Ay Bx By Cx Cy t =
     let test = corner-tests ax ay bx by cx cy t in
     let u = step ax ay bx by in
     let v = step bx by cx cy in
-    turn-sine u v (product₁ a₀ a₁ b₀ b₁ -ℤ product₂ a₀ a₁ b₀ b₁) (a₀ .exact * a₀ .exact + a₁ .exact * a₁ .exact) (b₀ .exact * b₀ .exact + b₁ .exact * b₁ .exact)
+    turn-sine u v (product₁ a₀ a₁ b₀ b₁ -ℤ product₂ a₀ a₁ b₀ b₁)
+    (a₀ .exact * a₀ .exact + a₁ .exact * a₁ .exact) (b₀ .exact * b₀ .exact + b₁ .exact * b₁ .exact)
     (turn a₀ a₁ b₀ b₁ (test .into) (test .out) (test .sine))
     (ap₂ (λ (y z : ℤ). y -ℤ z) (exact-product a₀ b₁) (exact-product a₁ b₀)) (exact-length {v = u} a₀ a₁) (exact-length {v = v} b₀ b₁)

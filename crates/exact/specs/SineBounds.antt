@@ -90,7 +90,8 @@ pub side-law : (w₀ w₁ g₀ g₁ p₀ p₁ s L : ℕ) → Rel g₀ w₀ → R
 side-law w₀ w₁ g₀ g₁ p₀ p₁ s L r₀ r₁ c₀ c₁ cs q l =
     last (W * W) (L * L) (w₀ * w₀ + w₁ * w₁) (le-trans (mul-le-mul l l) (le-of-eq (mul-mul-mul-comm (10 ^ 13) L (10 ^ 13) L)))
     (rounded (w₀ * w₀) (w₁ * w₁) (g₀ * g₀) (g₁ * g₁) (p₀ * W) (p₁ * W) (s * W) (L * L)
-    (mul-le g₀ w₀ g₀ w₀ 10000 10001 10000 10001 (r₀ .0) (r₀ .0)) (mul-le g₁ w₁ g₁ w₁ 10000 10001 10000 10001 (r₁ .0) (r₁ .0)) (c₀ .0) (c₁ .0) (rel (s * W) (p₀ * W + p₁ * W) (scaled-sum s p₀ p₁ cs) .0) q)
+    (mul-le g₀ w₀ g₀ w₀ 10000 10001 10000 10001 (r₀ .0) (r₀ .0)) (mul-le g₁ w₁ g₁ w₁ 10000 10001 10000 10001 (r₁ .0) (r₁ .0))
+    (c₀ .0) (c₁ .0) (rel (s * W) (p₀ * W + p₁ * W) (scaled-sum s p₀ p₁ cs) .0) q)
     (mul-le-mul-right W W-big)
   where
     rounded : (B₀ B₁ A₀ A₁ P₀ P₁ S Q : ℕ) → 100000000 * A₀ ≤ 100020001 * B₀ → 100000000 * A₁ ≤ 100020001 * B₁

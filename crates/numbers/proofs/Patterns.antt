@@ -60,15 +60,19 @@ ofBits-is b = refl
 fields : (s : Bool) (m : ℕ) → m < 2 ^ 63 → ofBits binary64 (bitsOf s m) ≡ ofFields binary64 s (m / 2 ^ 52) (m % 2 ^ 52)
 fields false m h =
     ofBits-is m
-    ∙ ap₂ (λ (s : Bool) (x : ℕ). ofFields binary64 s (x / 2 ^ 52) (m % 2 ^ 52)) (is-false (leb (2 ^ 63) m) (not-T (leb (2 ^ 63) m) (λ (u : T (leb (2 ^ 63) m)). not-le-of-lt h (leb→le (2 ^ 63) m u)))) (mod-eq-of-lt h)
+    ∙ ap₂ (λ (s : Bool) (x : ℕ). ofFields binary64 s (x / 2 ^ 52) (m % 2 ^ 52))
+    (is-false (leb (2 ^ 63) m) (not-T (leb (2 ^ 63) m) (λ (u : T (leb (2 ^ 63) m)). not-le-of-lt h (leb→le (2 ^ 63) m u)))) (mod-eq-of-lt h)
 fields true m h =
     ofBits-is (2 ^ 63 + m)
-    ∙ ap₂ (λ (s : Bool) (x : ℕ). ofFields binary64 s x ((2 ^ 63 + m) % 2 ^ 52)) (is-true (leb (2 ^ 63) (2 ^ 63 + m)) (le→leb (2 ^ 63) (2 ^ 63 + m) (omega arith))) (omega arith)
+    ∙ ap₂ (λ (s : Bool) (x : ℕ). ofFields binary64 s x ((2 ^ 63 + m) % 2 ^ 52))
+    (is-true (leb (2 ^ 63) (2 ^ 63 + m)) (le→leb (2 ^ 63) (2 ^ 63 + m) (omega arith))) (omega arith)
     ∙ ap (λ (y : ℕ). ofFields binary64 true (m / 2 ^ 52) y) (omega arith)
 
 normal : (s : Bool) (t x : ℕ) → suc x < 2047 → ofFields binary64 s (suc x) t ≡ odd 53 s (2 ^ 52 + t) x 1074
 unfolding ofFields
-normal s t x h = cond-no (eqb (suc x) 2047) (cond (eqb t 0) (inf s) nan) (odd 53 s (2 ^ 52 + t) x 1074) (not-T (eqb (suc x) 2047) (λ (u : T (eqb (suc x) 2047)). differ (eqb→eq (suc x) 2047 u)))
+normal s t x h =
+    cond-no (eqb (suc x) 2047) (cond (eqb t 0) (inf s) nan) (odd 53 s (2 ^ 52 + t) x 1074)
+    (not-T (eqb (suc x) 2047) (λ (u : T (eqb (suc x) 2047)). differ (eqb→eq (suc x) 2047 u)))
   where
     differ : suc x ≡ 2047 → ⊥
     differ e = omega arith
@@ -102,12 +106,15 @@ size-pos m h = go (below-or-not m (2 ^ 52))
     go (inr g) = rw (size-high m g) (mul-pos (omega arith) (pow-pos (m / 2 ^ 52 - 1)))
 
 field-value : (s : Bool) (x t m : ℕ) → x < 2047 → m / 2 ^ 52 ≡ x → m % 2 ^ 52 ≡ t → HasValue (ofFields binary64 s x t) s (sizeOf m) (2 ^ 1074)
-field-value s zero t m h e f = rw (subnormal s t, size-low m (omega arith)) (subst (λ (y : ℕ). HasValue (odd 53 s t 0 1074) s y (2 ^ 1074)) same (odd-sign 53 s t 0 1074))
+field-value s zero t m h e f =
+    rw (subnormal s t, size-low m (omega arith))
+    (subst (λ (y : ℕ). HasValue (odd 53 s t 0 1074) s y (2 ^ 1074)) same (odd-sign 53 s t 0 1074))
   where
     same : t * 2 ^ 0 ≡ m
     same = omega arith
 field-value s (suc x) t m h e f =
-    rw (normal s t x h, size-high m (omega arith)) (subst (λ (y : ℕ). HasValue (odd 53 s (2 ^ 52 + t) x 1074) s y (2 ^ 1074)) same (odd-sign 53 s (2 ^ 52 + t) x 1074))
+    rw (normal s t x h, size-high m (omega arith))
+    (subst (λ (y : ℕ). HasValue (odd 53 s (2 ^ 52 + t) x 1074) s y (2 ^ 1074)) same (odd-sign 53 s (2 ^ 52 + t) x 1074))
   where
     one-less : (y : ℕ) → y ≡ suc x → x ≡ y - 1
     one-less y e = omega arith
@@ -132,7 +139,10 @@ pub plus : (x : Float) → T (fits binary64 x) → toBits binary64 x < 2 ^ 63 �
 plus x f h = record { is = sym (ofBits-toBits binary64 x f); small = h }
 
 pub minus-sign : (x : Float) → T (fits binary64 x) → 2 ^ 63 ≤ toBits binary64 x → Pattern x true (toBits binary64 x - 2 ^ 63)
-minus-sign x f h = record { is = sym (ofBits-toBits binary64 x f) ∙ ap (ofBits binary64) (rejoin (toBits binary64 x) h); small = omega (arith, toBits-lt binary64 x f) }
+minus-sign x f h = record {
+  is = sym (ofBits-toBits binary64 x f) ∙ ap (ofBits binary64) (rejoin (toBits binary64 x) h);
+  small = omega (arith, toBits-lt binary64 x f);
+}
   where
     rejoin : (b : ℕ) → 2 ^ 63 ≤ b → b ≡ 2 ^ 63 + (b - 2 ^ 63)
     rejoin b h = omega arith
@@ -171,7 +181,8 @@ zeros-more zero q h k = absurd (none k)
     none k = omega arith
 zeros-more (suc d) q h k = go (q % 2) refl (λ (e : q % 2 ≡ 0). zeros-more d (q / 2) (omega arith) (omega arith))
   where
-    go : (r : ℕ) → q % 2 ≡ r → (q % 2 ≡ 0 → trailingZeros (suc d) (q / 2) ≡ trailingZeros d (q / 2)) → under r (trailingZeros (suc d) (q / 2)) ≡ under r (trailingZeros d (q / 2))
+    go : (r : ℕ) → q % 2 ≡ r → (q % 2 ≡ 0 → trailingZeros (suc d) (q / 2) ≡ trailingZeros d (q / 2))
+        → under r (trailingZeros (suc d) (q / 2)) ≡ under r (trailingZeros d (q / 2))
     go zero e ih = ap suc (ih e)
     go (suc r) e ih = refl
 

@@ -81,11 +81,19 @@ minus-one : (q : ℕ) → q - 1 ≡ q + 0 - 1
 minus-one q = omega arith
 
 module _ (n q e : ℕ) (h : e + q * q ≡ n + 3 * 2 ^ 56) (top : e ≤ 3 * 2 ^ 56 + 3 * q + 2) (low : 3 * 2 ^ 56 + 2 < e + 3 * q) where
-  pub choose : (up down : ℕ) → ((3 * 2 ^ 56 + q < e) × (up ≡ 1)) ⊎ ((e ≤ 3 * 2 ^ 56 + q) × (up ≡ 0)) → ((e + q ≤ 3 * 2 ^ 56) × (down ≡ 1)) ⊎ ((3 * 2 ^ 56 < e + q) × (down ≡ 0)) → Chosen n q up down
+  pub choose : (up down : ℕ) → ((3 * 2 ^ 56 + q < e) × (up ≡ 1)) ⊎ ((e ≤ 3 * 2 ^ 56 + q) × (up ≡ 0))
+      → ((e + q ≤ 3 * 2 ^ 56) × (down ≡ 1)) ⊎ ((3 * 2 ^ 56 < e + q) × (down ≡ 0))
+      → Chosen n q up down
   choose up down (inl a) (inl b) = absurd (no (a .0) (b .0))
     where
       no : 3 * 2 ^ 56 + q < e → e + q ≤ 3 * 2 ^ 56 → ⊥
       no x y = omega arith
-  choose up down (inl a) (inr b) = rw (a .1, b .1) (record { few = omega arith; less = omega arith; near = subst (NearRoot n) (plus-one q) (next n q e h (a .0) top) })
-  choose up down (inr a) (inl b) = rw (a .1, b .1) (record { few = omega arith; less = omega arith; near = subst (NearRoot n) (minus-one q) (prev n q e h (b .0) low) })
-  choose up down (inr a) (inr b) = rw (a .1, b .1) (record { few = omega arith; less = omega arith; near = subst (NearRoot n) (plain q) (this n q e h (a .0) (b .0)) })
+  choose up down (inl a) (inr b) =
+      rw (a .1, b .1)
+      (record { few = omega arith; less = omega arith; near = subst (NearRoot n) (plus-one q) (next n q e h (a .0) top) })
+  choose up down (inr a) (inl b) =
+      rw (a .1, b .1)
+      (record { few = omega arith; less = omega arith; near = subst (NearRoot n) (minus-one q) (prev n q e h (b .0) low) })
+  choose up down (inr a) (inr b) =
+      rw (a .1, b .1)
+      (record { few = omega arith; less = omega arith; near = subst (NearRoot n) (plain q) (this n q e h (a .0) (b .0)) })

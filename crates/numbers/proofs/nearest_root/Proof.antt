@@ -1,4 +1,5 @@
--- `numbers::nearest_root` meets its contract: where q's square is near enough it shows which of q - 1, q and q + 1 is nearest (`Square`), and otherwise `root_by_digits` answers. Assumes nothing.
+-- `numbers::nearest_root` meets its contract: where q's square is near enough it shows which of q - 1, q and q + 1 is nearest
+-- (`Square`), and otherwise `root_by_digits` answers. Assumes nothing.
 use borrow.Author.Needs.{needs}
 use mathlib.Core.Logic.{⊎-elim, inl, inr}
 use Prim.Native.Nat.{_*_, _^_}
@@ -10,12 +11,14 @@ use Rattle.numbers.proofs.nearest_root.Reads as reads
 use Rattle.numbers.proofs.nearest_root.Lts as lts
 use Rattle.numbers.proofs.root_by_digits.Reads as root-by-digits-reads
 
-chosen : (c : tie.Joined6) → Chosen (c .before .before .before .before .before .before .args .s * 2 ^ 52) (c .before .before .before .before .before .before .args .q) (c .before .if5 .up) (c .if6 .down)
+chosen : (c : tie.Joined6)
+    → Chosen (c .before .before .before .before .before .before .args .s * 2 ^ 52) (c .before .before .before .before .before .before .args .q) (c .before .if5 .up) (c .if6 .down)
 chosen c =
     let at = c .before .before .before .before .before in
     let s = at .before .args .s in
     let q = at .before .args .q in
-    choose (s * 2 ^ 52) q (moved s q) (moved-is s q (at .if1 .taken)) (c .before .before .before .if3 .taken) (c .before .before .if4 .taken) (c .before .if5 .up) (c .if6 .down)
+    choose (s * 2 ^ 52) q (moved s q) (moved-is s q (at .if1 .taken)) (c .before .before .before .if3 .taken) (c .before .before .if4 .taken)
+    (c .before .if5 .up) (c .if6 .down)
     (⊎-elim (λ w. inl (w .0 .taken, w .1)) (λ w. inr (w .0 .left, w .1)) (c .before .if5 .came))
     (⊎-elim (λ w. inl (w .0 .taken, w .1)) (λ w. inr (w .0 .left, w .1)) (c .if6 .came))
 

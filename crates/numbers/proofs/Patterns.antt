@@ -13,6 +13,7 @@ use lib.Ieee.{Float, nan, inf, fin, binary64, odd, units, ofFields, ofBits, toBi
 use lib.Ieee.Bits.{is-true, is-false, cond-no, ofBits-toBits, toBits-lt, nanBits-above}
 use lib.Ieee.Compare.{nan-differs, differs-from-itself}
 use lib.Ieee.Exact.{HasValue, odd-sign}
+use Rattle.numbers.specs.RootUnits.{below-top, units-odd}
 use Rattle.numbers.specs.Whole.{sizeOf}
 
 -- ---- NaN
@@ -191,24 +192,14 @@ unfolding odd
 odd-more zero k h l = absurd (lt-irrefl 0 h)
 odd-more (suc q) k h l = ap (λ (t : ℕ). fin false (suc q / 2 ^ t) (minus (k + t) 1074)) (zeros-more 53 (suc q) h l)
 
-units-in : (q k : ℕ) → q * 2 ^ k < 2 ^ 2098 → units binary64 false q k ≡ odd 54 false q k 1074
-unfolding units
-units-in q k h = rw (is-true (ltb (q * 2 ^ k) (2 ^ 2098)) (lt→ltb (q * 2 ^ k) (2 ^ 2098) h))
-
-pub pattern-lt : (q k : ℕ) → k < 2046 → q < 2 ^ 53 → k * 2 ^ 52 + q < 0x7ff0_0000_0000_0000
-pattern-lt q k h l = omega arith
-
 pub units-bits : (q k : ℕ) → k < 2046 → 2 ^ 52 ≤ q → q < 2 ^ 53 → units binary64 false q k ≡ ofBits binary64 (k * 2 ^ 52 + q)
 units-bits q k h a b =
-    units-in q k (lt-of-lt-of-le (shl-lt 53 k b) (pow-mono room))
+    units-odd q k (below-top q k h b)
     ∙ odd-more q k (omega arith) b
     ∙ ap (λ (y : ℕ). odd 53 false y k 1074) digits
     ∙ sym (normal false (q - 2 ^ 52) k (omega arith))
     ∙ ap₂ (λ (y z : ℕ). ofFields binary64 false y z) (omega arith) (omega arith)
     ∙ sym (fields false (k * 2 ^ 52 + q) (omega arith))
   where
-    room : 53 + k ≤ 2098
-    room = omega arith
-
     digits : q ≡ 2 ^ 52 + (q - 2 ^ 52)
     digits = omega arith

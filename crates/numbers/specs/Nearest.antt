@@ -18,7 +18,7 @@ use lib.Ieee.Fits.{down-pos, up-pos, odd-fits, and-l, and-r}
 use lib.Ieee.Positive.{first-pos}
 use Rattle.numbers.specs.Root.{rootUnits, root, NearRoot}
 use Rattle.numbers.specs.Isqrt.{four-is, four-pos, picked, picked-near}
-use Rattle.numbers.specs.RootUnits.{zero-units, root-value, Split, split-even, split-odd, rounds}
+use Rattle.numbers.specs.RootUnits.{zero-units, root-value, Split, split-even, split-odd, rounds, below-top, units-odd}
 
 -- x is n units, and has no minus sign
 abbrev pub IsUnits : Float → ℕ → Type 0
@@ -51,8 +51,8 @@ whole-down m a n l h =
     e : 1074 ≡ 1074 - suc a + suc a
     e = omega arith
 
-below-top : (v d n : ℕ) → v < 2 ^ 1024 * d → v * 2 ^ 1074 ≡ n * d → n < 2 ^ 2098
-below-top v d n h e =
+under-top : (v d n : ℕ) → v < 2 ^ 1024 * d → v * 2 ^ 1074 ≡ n * d → n < 2 ^ 2098
+under-top v d n h e =
     let t : 2 ^ 1024 * d * 2 ^ 1074 ≡ 2 ^ 2098 * d = mul-right-comm (2 ^ 1024) d (2 ^ 1074) ∙ ap (λ (y : ℕ). y * d) (sym (pow-add 2 1024 1074)) in
     lt-of-mul-lt-mul-right d (lt-of-le-of-lt (le-of-eq (sym e)) (lt-of-lt-of-le (mul-lt-mul-of-pos-right h (pow-pos 1074)) (le-of-eq t)))
 
@@ -69,7 +69,7 @@ digits-of (fin s (suc m) e) n f v =
     let D = ltb (suc m * up e) (2 ^ 1024 * down e) in
     go e (v .1) (leb→le (down e) (2 ^ 1074) (and-r (A && B) C (and-l (A && B && C) D f)))
     (ltb→lt (suc m) (2 ^ 53) (and-r A B (and-l (A && B) C (and-l (A && B && C) D f))))
-    (below-top (suc m * up e) (down e) n (ltb→lt (suc m * up e) (2 ^ 1024 * down e) (and-r (A && B && C) D f)) (v .1))
+    (under-top (suc m * up e) (down e) n (ltb→lt (suc m * up e) (2 ^ 1024 * down e) (and-r (A && B && C) D f)) (v .1))
   where
     go : (e : ℤ) → suc m * up e * 2 ^ 1074 ≡ n * down e → down e ≤ 2 ^ 1074 → suc m < 2 ^ 53 → n < 2 ^ 2098 → Digits n
     go (pos a) h c b t = record { m = suc m; j = a + 1074; is = whole-up (suc m) a n h; small = b; top = t }
@@ -172,17 +172,8 @@ pub record Rounded (x : Float) (n : ℕ) : Type 0 where
   pub value : IsUnits (root x) (Q * 2 ^ k)
   pub held : T (fits binary64 (root x))
 
-under-top : (q k : ℕ) → k < 2046 → q < 2 ^ 53 → q * 2 ^ k < 2 ^ 2098
-under-top q k h l = lt-of-lt-of-le (shl-lt 53 k l) (pow-mono room)
-  where
-    room : 53 + k ≤ 2098
-    room = omega arith
-
 units-fits : (q k : ℕ) → q < 2 ^ 53 → q * 2 ^ k < 2 ^ 2098 → T (fits binary64 (units binary64 false q k))
-unfolding units
-units-fits q k h t =
-    rw (is-true (ltb (q * 2 ^ k) (2 ^ 2098)) (lt→ltb (q * 2 ^ k) (2 ^ 2098) t))
-    (odd-fits binary64 54 false q k (omega arith) (le-of-lt h) t)
+units-fits q k h t = rw (units-odd q k t) (odd-fits binary64 54 false q k (omega arith) (le-of-lt h) t)
 
 pub rounded : (x : Float) (n : ℕ) → T (fits binary64 x) → IsUnits x n → 0 < n → Rounded x n
 rounded x n f v h =
@@ -195,7 +186,7 @@ rounded x n f v h =
     let Q = picked N 1 in
     let near = picked-near N 1 (omega arith) (pow-pos 0) in
     let r = rounds (w .sig) (w .p) (sp .0) Q (w .low) (sp .1) near in
-    let top = under-top Q k (r .small) (r .under) in
+    let top = below-top Q k (r .small) (r .under) in
     let e : root x ≡ units binary64 false Q k = root-value x n v h ∙ ap rootUnits (w .same) ∙ r .is in
     record {
       N = N;

@@ -5,8 +5,10 @@ use mathlib.Core.Bool.{true, false, true≢false, false≢true}
 use Prim.Native.Nat.{ℕ, zero, suc, _+_, _-_, _*_, _/_, _%_, _^_, _≤_, _<_, compare}
 use native.Mathlib.Nat.{le-trans, le-of-eq, le-of-suc-le-suc, lt-of-lt-of-le, lt-of-not-le, lt-irrefl, not-le-of-lt, zero-mul, mul-assoc, mul-pos, mul-right-comm, mul-div-cancel, mul-le-mul-right, mul-lt-mul-of-pos-right, pow-succ'}
 use native.Mathlib.Omega.{arith}
-use lib.Pow.{pow-add, pow-mono}
-use lib.Ieee.{Float, nan, inf, fin, binary64, up, down, size, nearest, units}
+use lib.Dec.{ltb, lt→ltb}
+use lib.Pow.{pow-add, pow-mono, shl-lt}
+use lib.Ieee.{Float, nan, inf, fin, binary64, up, down, odd, size, nearest, units}
+use lib.Ieee.Bits.{is-true}
 use lib.Ieee.Digits.{size-lt, size-le}
 use lib.Ieee.Exact.{HasValue}
 use lib.Ieee.Fits.{down-pos}
@@ -140,3 +142,14 @@ rounds sig p s Q h k n =
       reach = at-least s Q a n;
       under = below s Q b n;
     }
+
+-- such digits at such a place are no infinity
+pub below-top : (q k : ℕ) → k < 2046 → q < 2 ^ 53 → q * 2 ^ k < 2 ^ 2098
+below-top q k h l = lt-of-lt-of-le (shl-lt 53 k l) (pow-mono room)
+  where
+    room : 53 + k ≤ 2098
+    room = omega arith
+
+pub units-odd : (q k : ℕ) → q * 2 ^ k < 2 ^ 2098 → units binary64 false q k ≡ odd 54 false q k 1074
+unfolding units
+units-odd q k h = rw (is-true (ltb (q * 2 ^ k) (2 ^ 2098)) (lt→ltb (q * 2 ^ k) (2 ^ 2098) h))

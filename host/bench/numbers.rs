@@ -84,7 +84,11 @@ impl Random {
                 f64::from_bits((r * r).to_bits() + self.bits() % 5 - 2)
             }
             // beside a power of two
-            4 => f64::from_bits((b & 0xfff << 52).wrapping_add(self.bits() % 5).wrapping_sub(2)),
+            4 => f64::from_bits(
+                (b & 0xfff << 52)
+                    .wrapping_add(self.bits() % 5)
+                    .wrapping_sub(2),
+            ),
             // a coordinate
             _ => (b >> 11) as f64 * (2000.0 / 9007199254740992.0) - 1000.0,
         }
@@ -101,12 +105,24 @@ fn differences(x: f64, y: f64) -> u64 {
     // of equal zeros ours is the first; Rust may take either
     let (least, greatest) = if x == y { (x, x) } else { (x.min(y), x.max(y)) };
     // bounds with which Rust doesn't panic
-    let (lo, hi) = if y <= 3.0 { (y, 3.0) } else if y > 3.0 { (3.0, y) } else { (-1.0, 3.0) };
+    let (lo, hi) = if y <= 3.0 {
+        (y, 3.0)
+    } else if y > 3.0 {
+        (3.0, y)
+    } else {
+        (-1.0, 3.0)
+    };
     let agree = unsafe {
         [
             ("sqrt_f64", same(sqrt_f64(x), x.sqrt())),
-            ("floor_quotient", floor_quotient(x, y) == (x / y).floor() as i64),
-            ("floor_quotient by 1", floor_quotient(x, 1.0) == x.floor() as i64),
+            (
+                "floor_quotient",
+                floor_quotient(x, y) == (x / y).floor() as i64,
+            ),
+            (
+                "floor_quotient by 1",
+                floor_quotient(x, 1.0) == x.floor() as i64,
+            ),
             ("ceil_count", ceil_count(x) == x.ceil() as usize as u64),
             ("min_f64", same(min_f64(x, y), least)),
             ("max_f64", same(max_f64(x, y), greatest)),
@@ -118,7 +134,11 @@ fn differences(x: f64, y: f64) -> u64 {
     let mut count = 0;
     for (name, equal) in agree {
         if !equal {
-            println!("{name} differs at x = {x:e} ({:016x}), y = {y:e} ({:016x})", x.to_bits(), y.to_bits());
+            println!(
+                "{name} differs at x = {x:e} ({:016x}), y = {y:e} ({:016x})",
+                x.to_bits(),
+                y.to_bits()
+            );
             count += 1;
         }
     }
@@ -137,7 +157,10 @@ fn compare(random: &mut Random, cases: u64) -> u64 {
         let x = random.float();
         count += differences(x, random.float());
     }
-    println!("compared: 9 answers for each of {} special and {cases} random pairs; {count} differ", SPECIAL.len() * SPECIAL.len());
+    println!(
+        "compared: 9 answers for each of {} special and {cases} random pairs; {count} differ",
+        SPECIAL.len() * SPECIAL.len()
+    );
     count
 }
 
@@ -197,7 +220,9 @@ fn report(name: &str, mut ours: Vec<f64>, mut theirs: Vec<f64>) {
 fn time(random: &mut Random) {
     let mut times: [Vec<f64>; 4] = Default::default();
     for _ in 0..SLICES {
-        let xs: Vec<f64> = (0..CALLS).map(|_| 1.0 + (random.bits() >> 11) as f64 / 9007199254740992.0 * 1000.0).collect();
+        let xs: Vec<f64> = (0..CALLS)
+            .map(|_| 1.0 + (random.bits() >> 11) as f64 / 9007199254740992.0 * 1000.0)
+            .collect();
         times[0].push(independent(proved, &xs));
         times[1].push(independent(hardware, &xs));
         times[2].push(dependent(proved, &xs));
@@ -210,7 +235,9 @@ fn time(random: &mut Random) {
 }
 
 fn main() {
-    let cases = std::env::args().nth(1).map_or(20_000_000, |n| n.parse().expect("CASES is a number"));
+    let cases = std::env::args()
+        .nth(1)
+        .map_or(20_000_000, |n| n.parse().expect("CASES is a number"));
     let mut random = Random(88172645463325252);
     let differ = compare(&mut random, cases);
     time(&mut random);

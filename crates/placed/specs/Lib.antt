@@ -5,3 +5,4 @@ pub mod Pushed
 pub mod MeshEdges
 pub mod Moved
 pub mod Sides
+pub mod Step

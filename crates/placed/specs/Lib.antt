@@ -6,3 +6,4 @@ pub mod MeshEdges
 pub mod Moved
 pub mod Sides
 pub mod Step
+pub mod Booked

@@ -1,6 +1,6 @@
--- Laws of books: quads that stay where they are; edges that are counted, are there and come off; and what a match gives: as many nodes and edges, and the sum of any antisymmetric
--- weight, the area among them.
-use Prim.Native.Nat.{ℕ, _+_, _*_, _<_, _≤_}
+-- Laws of books: quads that stay where they are; edges that are counted, are there and come off; and what a match gives: as many nodes
+-- and edges, and the sum of any antisymmetric weight, the area among them.
+use Prim.Native.Nat.{ℕ, _+_, _*_, _<_}
 use mathlib.Core.List.{List, [], _∷_}
 use mathlib.Core.Path.{_≡_, refl, sym, _∙_, ap, ap₂}
 use mathlib.Core.Bool.{Bool, true, false, cond, _&&_, _||_}
@@ -11,7 +11,7 @@ use lib.ListN.{length}
 use lib.Seq.{length-take-le}
 use borrow.Author.Tests.{eqb-true, eqb-false, eq-eqb, ne-eqb}
 use Rattle.exact.specs.Corner.{Vector, cross}
-use Rattle.topology.specs.Sums.{frontSum, one}
+use Rattle.topology.specs.Sums.{one}
 use Rattle.topology.specs.Links.{delta, at}
 use Rattle.topology.specs.Balance.{frontSumℤ, Antisymmetric, difference, difference-add, gain, flip, weight-is, front-is}
 use Rattle.front.specs.State.{State, nodePlaces}
@@ -115,11 +115,13 @@ without-sum w u v (e ∷ es) h = by (isEdge (edge u v) e) refl h (without-sum w 
 -- ---- a match
 
 -- as many nodes as the state has, and as many edges
-pub matches-nodes : (n : ℕ) (s : State) (ls : List (List ℕ)) (b : Book) → Sound n s ls → Matches s ls b → length (b .xs) ≡ s .counts .nodes
+pub matches-nodes : (n : ℕ) (s : State) (ls : List (List ℕ)) (b : Book) → Sound n s ls → Matches s ls b
+    → length (b .xs) ≡ s .counts .nodes
 unfolding nodePlaces
 matches-nodes n s ls b S M = ap length (sym (M .xs)) ∙ length-take-le (s .counts .nodes) (s .xs) (omega (arith, S .nodes-fit))
 
-pub matches-edges : (n : ℕ) (s : State) (ls : List (List ℕ)) (b : Book) → Sound n s ls → Matches s ls b → length (b .front) ≡ s .counts .front
+pub matches-edges : (n : ℕ) (s : State) (ls : List (List ℕ)) (b : Book) → Sound n s ls → Matches s ls b
+    → length (b .front) ≡ s .counts .front
 matches-edges n s ls b S M = sym (edges-length (b .front)) ∙ (M .sums one ∙ sym (S .edges))
 
 -- ---- sums over ℤ

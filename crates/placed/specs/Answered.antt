@@ -1,6 +1,6 @@
 -- What a placement says: its front edge is there, its corners are chosen as the reference chooses them, every check was passed, and there is room.
 use Prim.Native.Nat.{ℕ, _+_, _≤_}
-use mathlib.Core.Path.{_≡_, refl, sym, _∙_}
+use mathlib.Core.Path.{_≡_, refl, _∙_}
 use mathlib.Core.Bool.{Bool, true, false, not, _&&_, _||_, cond}
 use mathlib.Core.Logic.{_≢_}
 use native.Mathlib.Omega.{arith}
@@ -10,15 +10,14 @@ use borrow.Author.Tests.{eqb-true, eqb-false, ltb-false, not-true}
 use Rattle.domain.specs.declared.Point.{Point}
 use Rattle.domain.specs.Outline.{Outline}
 use Rattle.topology.specs.Links.{off}
-use Rattle.topology.specs.Placing.{Kind, reused, fresh, ByKind}
+use Rattle.topology.specs.Placing.{Kind, reused, fresh}
 use Rattle.front.specs.declared.Corner.{Corner}
 use Rattle.front.specs.declared.Corner.the-variants.{Reused, Fresh}
 use Rattle.front.specs.State.{State, nextOf, prevOf, nodePlaces, quadPlaces, edgePlaces}
 use Rattle.front.specs.Place.{added, idC, idD, edgesAdded, isFull}
-use Rattle.paving.specs.declared.Attempt.the-variants.{Nothing, Quad}
+use Rattle.paving.specs.declared.Attempt.the-variants.{Quad}
 use Rattle.paving.specs.Checks.{quadFits}
 use Rattle.paving.specs.Attempt.{isReused, cornerAt, cornerC, cornerD, quadIf, attemptQuad}
-use Rattle.paving.specs.Advance.{isThere}
 use Rattle.paving.specs.Reach.{Placement}
 
 -- ---- tests

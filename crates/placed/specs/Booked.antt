@@ -1,4 +1,5 @@
--- The book's step for one placing goes through, and the book matches the state after it. The book reads quads and coordinates from a later state of the run, as answered at its end.
+-- The book's step for one placing goes through, and the book then matches the state after it. The book reads quads and coordinates
+-- from a later state of the run, as they are answered at its end. The theorem, `booked`, stands at the end.
 use Prim.Native.Nat.{ℕ, _+_, _<_, _≤_}
 use mathlib.Core.List.{List, [], _∷_, _++_}
 use mathlib.Core.Path.{_≡_, refl, sym, _∙_, ap}
@@ -8,7 +9,7 @@ use native.Mathlib.Nat.{add-zero}
 use native.Mathlib.Numerals.{add-one}
 use native.Mathlib.Omega.{arith}
 use lib.ListN.{length, getD, take}
-use lib.Seq.{take-suc, take-take, length-take-le}
+use lib.Seq.{take-suc, length-take-le}
 use lib.Ieee.{Float, nan}
 use borrow.Author.Tests.{eq-eqb}
 use Rattle.domain.specs.Outline.{Outline}
@@ -20,11 +21,10 @@ use Rattle.front.specs.declared.Corner.{Corner}
 use Rattle.front.specs.declared.Corner.the-variants.{Reused, Fresh}
 use Rattle.front.specs.State.{State, nodePlaces}
 use Rattle.front.specs.Place.{idC, idD}
-use Rattle.front.specs.Place as front
-use Rattle.front.specs.Sound.{Sound, Extends, Frame}
+use Rattle.front.specs.Sound.{Sound, Frame}
 use Rattle.front.specs.FrameLaws.{frame-trans}
 use Rattle.paving.specs.Reach.{Placement}
-use Rattle.books.specs.Book.{Edge, edge, Book, book, has, without, comesOff, newNode, side, Quad, quadAt, bookQuad}
+use Rattle.books.specs.Book.{edge, Book, book, has, without, comesOff, newNode, side, Quad, quadAt, bookQuad}
 use Rattle.books.specs.Matches.{edgesSum, Matches}
 use Rattle.books.specs.BookLaws.{frame-quad, has-edge, has-none, without-sum}
 use Rattle.placed.specs.Answered.{kindOf, answered}
@@ -120,8 +120,8 @@ next-d s c (Fresh x y) = ap (λ (k : ℕ). s .counts .nodes + k) (sym (new-added
 
 -- ---- the theorem
 
-module _ (n : ℕ) (s : State) (ls : List (List ℕ)) (a b : ℕ) (c d : Corner) (t final : State) (S : Sound n s ls) (X : Sides s ls a b c d)
-    (Y : Stepped n s ls a b c d t) (F : Frame t final) (B : Book) (M : Matches s ls B) where
+module _ (n : ℕ) (s : State) (ls : List (List ℕ)) (a b : ℕ) (c d : Corner) (t final : State)
+    (X : Sides s ls a b c d) (Y : Stepped n s ls a b c d t) (F : Frame t final) (B : Book) (M : Matches s ls B) where
   abbrev N : ℕ
   N = s .counts .nodes
 
@@ -206,16 +206,16 @@ module _ (n : ℕ) (s : State) (ls : List (List ℕ)) (a b : ℕ) (c d : Corner)
             );
       }
 
--- the book of a sound state, for a placing there: its step goes through, with what any later state of the run answers
-pub booked : (n : ℕ) (s : State) (ls : List (List ℕ)) (o : Outline) (size : Float) (a b : ℕ) (c d : Corner) (t final : State) → Sound n s ls
-    → Placement o size s a b c d → (Y : Stepped n s ls a b c d t) → Frame t final → (B : Book) → Matches s ls B
+-- the book of a sound state takes the step of a quad placed there, whichever later state of the run answers it
+pub booked : (n : ℕ) (s : State) (ls : List (List ℕ)) (o : Outline) (size : Float) (a b : ℕ) (c d : Corner) (t final : State)
+    → Sound n s ls → Placement o size s a b c d → (Y : Stepped n s ls a b c d t) → Frame t final → (B : Book) → Matches s ls B
     → BookStep final (quadAt final (s .counts .quads)) B t (Y .loops)
 booked n s ls o size a b c d t final S P Y F B M =
     let X = sides n s ls S o size a b c d (answered o size s a b c d P) in
     record {
-      book = after n s ls a b c d t final S X Y F B M;
+      book = after n s ls a b c d t final X Y F B M;
       through =
           ap (λ (q : Quad). bookQuad final q B) (frame-quad t final F (s .counts .quads) (omega (arith, Y .quads)) ∙ Y .quad)
-          ∙ through n s ls a b c d t final S X Y F B M;
-      matches = matches n s ls a b c d t final S X Y F B M;
+          ∙ through n s ls a b c d t final X Y F B M;
+      matches = matches n s ls a b c d t final X Y F B M;
     }

@@ -1,16 +1,14 @@
 -- The mesh edges of a quad: adding them changes nothing but their list and its count, which grows by the edges that were missing at most.
-use Prim.Native.Nat.{ℕ, zero, suc, _+_, _*_, _<_, _≤_, min, max}
+use Prim.Native.Nat.{ℕ, _+_, _*_, _<_, _≤_, min, max}
 use mathlib.Core.List.{List}
 use mathlib.Core.Path.{_≡_, refl, sym, _∙_, ap}
-use mathlib.Core.Bool.{Bool, true, false, cond, _&&_, _||_}
+use mathlib.Core.Bool.{Bool, true, false, cond}
 use native.Mathlib.Numerals.{add-one}
 use native.Mathlib.Omega.{arith}
-use lib.Dec.{eqb}
-use lib.ListN.{getD, set}
 use Rattle.laws.specs.Loop.{forUp, anyTurn, anyUp, forUp-same}
 use Rattle.front.specs.State.{State, counted, edgeIs, hasEdge, pushEdge, addEdge}
 use Rattle.front.specs.Place.{addEdges, missing, edgesAdded}
-use Rattle.front.specs.Sound.{Extends, Frame}
+use Rattle.front.specs.Sound.{Extends}
 use Rattle.front.specs.FrameLaws.{extends-same, extends-set, extends-trans, extends-at}
 
 -- the same state with other mesh edges
@@ -81,9 +79,9 @@ has-pushed x y u v s h =
     let n = s .counts .edges in
     let E = pushed x y s .list in
     let same : (i : ℕ) → i < n → edgeIs s (min u v) (max u v) i ≡ edgeIs (pushEdge x y s) (min u v) (max u v) i =
-        λ i l. rw (extends-at _ _ _ _ E (2 * i) 0 (omega arith), extends-at _ _ _ _ E (2 * i + 1) 0 (omega arith)) in
+    λ i l. rw (extends-at _ _ _ _ E (2 * i) 0 (omega arith), extends-at _ _ _ _ E (2 * i + 1) 0 (omega arith)) in
     let e = forUp-same n (anyTurn (edgeIs s (min u v) (max u v))) (anyTurn (edgeIs (pushEdge x y s) (min u v) (max u v))) false
-        (λ i f l. rw (same i l)) in
+    (λ i f l. rw (same i l)) in
     rw (add-one n, ← e, h)
 
 has-added : (x y u v : ℕ) (s : State) → hasEdge s u v ≡ true → hasEdge (addEdge x y s) u v ≡ true

@@ -1,13 +1,10 @@
 -- The new nodes of a placing: pushed off the front, they leave the front, the quads and the mesh edges as they were.
-use Prim.Native.Nat.{ℕ, _+_, _*_, _<_, _≤_}
+use Prim.Native.Nat.{ℕ, _+_, _<_, _≤_}
 use mathlib.Core.List.{List}
-use mathlib.Core.Path.{_≡_, refl, sym, _∙_, ap}
-use mathlib.Core.Bool.{Bool}
+use mathlib.Core.Path.{_≡_, refl, _∙_}
 use native.Mathlib.Omega.{arith}
-use lib.ListN.{length, getD, set}
 use lib.Seq.{getD-set-same}
 use lib.Ieee.{nan}
-use Rattle.domain.specs.Outline.{point}
 use Rattle.topology.specs.Links.{off, linkOf, link-more}
 use Rattle.topology.specs.Front.{FrontOf}
 use Rattle.topology.specs.Changes.{grown}

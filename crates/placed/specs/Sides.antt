@@ -1,4 +1,5 @@
--- The quad's ids and the edges of its sides, in a sound state for which the quad was answered: which are on the front, which are not, and that topology's placing applies.
+-- The ids and the sides of a quad that was answered for a sound state: which sides are on the front, which are not, and that topology's
+-- placing applies.
 use Prim.Native.Nat.{ℕ, zero, suc, _+_, _<_, _≤_}
 use mathlib.Core.List.{List}
 use mathlib.Core.Path.{_≡_, refl, sym, _∙_, ap}
@@ -8,23 +9,24 @@ use lib.Ieee.{Float}
 use Rattle.domain.specs.Outline.{Outline}
 use Rattle.topology.specs.Sums.{frontSum}
 use Rattle.topology.specs.Links.{off, at, linkOf, link-out}
-use Rattle.topology.specs.Front.{Loops, Front, source, target, next-edge, next-in, no-self, next-of-prev, prev-in}
+use Rattle.topology.specs.Front.{Loops, source, target, next-edge, next-in, no-self, next-of-prev, prev-in}
 use Rattle.topology.specs.Changes.{OffFront}
-use Rattle.topology.specs.Placing.{Kind, reused, fresh, ByKind, Placeable, newNodes}
+use Rattle.topology.specs.Placing.{ByKind, Placeable, newNodes}
 use Rattle.front.specs.declared.Corner.{Corner}
 use Rattle.front.specs.declared.Corner.the-variants.{Reused, Fresh}
 use Rattle.front.specs.State.{State, nextOf, prevOf}
 use Rattle.front.specs.Place.{added, idC, idD}
 use Rattle.front.specs.Sound.{Sound}
 use Rattle.placed.specs.Answered.{kindOf, Chosen, Answered}
-use Rattle.placed.specs.Pushed.{Pushed, Cornered, IsNode}
+use Rattle.placed.specs.Pushed.{Cornered, IsNode}
 
 -- a fresh corner adds a node
 pub new-added : (c : Corner) → newNodes (kindOf c) ≡ added c
 new-added (Reused id) = refl
 new-added (Fresh x y) = refl
 
--- The sides of the quad a, b, d, c on the front's loops: a to b is there; c to a and b to d are where the corner is reused, and not where it is fresh.
+-- The sides of the quad a, b, d, c on the front's loops: a to b is there; c to a and b to d are there where the corner is reused, and
+-- not where it is fresh.
 pub record Sides (s : State) (ls : List (List ℕ)) (a b : ℕ) (c d : Corner) : Type 0 where
   pub node-a : a < s .counts .nodes
   pub node-b : b < s .counts .nodes

@@ -1,9 +1,9 @@
 -- The snapshot that a pass begins with leaves the state sound, and the book's.
-use Prim.Native.Nat.{ℕ, _≤_, _<_}
+use Prim.Native.Nat.{ℕ}
 use mathlib.Core.List.{List}
 use native.Mathlib.Omega.{arith}
 use lib.ListN.{getD}
-use Rattle.laws.specs.Loop.{forUp, forUp-keeps}
+use Rattle.laws.specs.Loop.{forUp-keeps}
 use Rattle.topology.specs.Links.{off}
 use Rattle.front.specs.State.{State, quadPlaces, edgePlaces}
 use Rattle.front.specs.Sound.{Sound, Extends, Frame}

@@ -6,8 +6,8 @@ use mathlib.Core.Path.{_≡_, refl, sym, _∙_, ap, ap₂}
 use native.Mathlib.Omega.{arith}
 use lib.IntN.{ℤ, pos, negsuc, negℤ, _+ℤ_, +ℤ-assoc, +ℤ-comm, +ℤ-idl, +ℤ-idr, +ℤ-invr, negℤ-+ℤ, pos-+ℤ-pos}
 use Rattle.topology.specs.Sums.{total, pathSum, loopSum, frontSum}
-use Rattle.topology.specs.Changes.{removed, added}
-use Rattle.topology.specs.Placing.{Kind, reused, fresh, placing, After}
+use Rattle.topology.specs.Changes.{removed, added, Changed}
+use Rattle.topology.specs.Placing.{Kind, reused, fresh, placing}
 
 -- ---- sums over ℤ
 
@@ -120,15 +120,15 @@ module _ (w : ℕ → ℕ → ℤ) (anti : Antisymmetric w) where
   quad-is a b d c = rw (weight-is a b, weight-is b d, weight-is d c, weight-is c a, difference-add, difference-add, difference-add) refl
 
   -- the front before is the quad and the front after
-  pub balance : (kc kd : Kind) (n a b c d : ℕ) (ls : List (List ℕ)) (next prev : List ℕ) (A : After kc kd n a b c d ls next prev)
-      → frontSumℤ w ls ≡ quadSumℤ w a b d c +ℤ frontSumℤ w (A .loops)
-  balance kc kd n a b c d ls next prev A =
-      rw (front-is ls, quad-is a b d c, front-is (A .loops), difference-add)
+  pub balance : (kc kd : Kind) (n a b c d : ℕ) (next prev : List ℕ) (ls ms : List (List ℕ))
+      → Changed n next prev ls ms (placing kc kd a b c d) → frontSumℤ w ls ≡ quadSumℤ w a b d c +ℤ frontSumℤ w ms
+  balance kc kd n a b c d next prev ls ms H =
+      rw (front-is ls, quad-is a b d c, front-is ms, difference-add)
       (difference-same _ _ _ _
       (omega (
         arith,
-        A .sums gain,
-        A .sums (flip gain),
+        H .sums gain,
+        H .sums (flip gain),
         sides kc kd gain a b c d,
         sides kc kd (flip gain) a b c d,
       )))

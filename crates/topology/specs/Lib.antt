@@ -2,7 +2,9 @@ pub mod Sums
 pub mod Links
 pub mod Front
 pub mod Changes
+pub mod Laying
 pub mod Placing
 pub mod Balance
 pub mod Walk
+pub mod Follow
 pub mod Listing

@@ -166,7 +166,8 @@ unfolding total ifListed
 short [] E z = tt
 short (l ∷ ls) E z = by (leb 3 (length l)) refl (short ls (E .1))
   where
-    by : (b : Bool) → leb 3 (length l) ≡ b → (total (ifListed 3 (λ l. 1)) ls ≡ 0 → All (λ l. length l ≡ 2) ls) → All (λ l. length l ≡ 2) (l ∷ ls)
+    by : (b : Bool) → leb 3 (length l) ≡ b → (total (ifListed 3 (λ l. 1)) ls ≡ 0 → All (λ l. length l ≡ 2) ls)
+        → All (λ l. length l ≡ 2) (l ∷ ls)
     by true e later = absurd (omega (arith, rw e at z))
     by false e later = (omega (arith, leb-false 3 (length l) e, E .0 .two), later (omega (arith, z)))
 

@@ -234,9 +234,9 @@ walk-ring f n few u k (x ∷ xs) r c nodes h =
     let s = placeIn u (x ∷ xs) (omega arith) in
     let vs = s .Q ++ s .P in
     let long : length vs < k =
-        omega (arith, length-append (s .Q) (s .P), length-append (s .P) (u ∷ s .Q), ap length (s .whole)) in
+    omega (arith, length-append (s .Q) (s .P), length-append (s .P) (u ∷ s .Q), ap length (s .whole)) in
     let counts : (v : ℕ) → count v (x ∷ xs) ≡ count v vs + delta u v =
-        λ v. omega (arith, ap (count v) (s .whole), count-append v (s .P) (u ∷ s .Q), count-append v (s .Q) (s .P)) in
+    λ v. omega (arith, ap (count v) (s .whole), count-append v (s .P) (u ∷ s .Q), count-append v (s .Q) (s .P)) in
     let linked = ring-turn f u (s .P) (s .Q) (subst (Ring f) (s .whole) r) in
     let once : count u vs ≡ 0 = omega (arith, counts u, delta-same u u refl) in
     let turned : fromOn u (x ∷ xs) ++ before u (x ∷ xs) ≡ u ∷ vs = rw (s .from, s .up) in

@@ -112,7 +112,7 @@ pub record OffFront (n : ℕ) (f g : ℕ → ℕ) (u : ℕ) : Type 0 where
   pub next : f u ≡ off
   pub prev : g u ≡ off
 
--- one node more, off the front
+-- one node more: the front stays as it is
 pub grown : (n : ℕ) (next prev : List ℕ) (ls : List (List ℕ)) → FrontOf n next prev ls → n < off → n < length next → n < length prev
     → FrontOf (n + 1) (set next n off) (set prev n off) ls
 grown n next prev ls F few hn hp =
@@ -123,11 +123,19 @@ grown n next prev ls F few hn hp =
       prevs = F .prevs;
     })
 
+-- and that node is off it
 pub grown-off : (n : ℕ) (next prev : List ℕ) → n < length next → n < length prev
     → OffFront (n + 1) (linkOf (n + 1) (set next n off)) (linkOf (n + 1) (set prev n off)) n
 grown-off n next prev hn hp =
     rw (link-more n next hn, link-more n prev hp)
     (record { node = omega arith; next = link-out n next n (omega arith); prev = link-out n prev n (omega arith) })
+
+-- as any other that was off it
+pub off-kept : (n : ℕ) (next prev : List ℕ) (u : ℕ) → n < length next → n < length prev
+    → OffFront n (linkOf n next) (linkOf n prev) u
+    → OffFront (n + 1) (linkOf (n + 1) (set next n off)) (linkOf (n + 1) (set prev n off)) u
+off-kept n next prev u hn hp o =
+    rw (link-more n next hn, link-more n prev hp) (record { node = omega (arith, o .node); next = o .next; prev = o .prev })
 
 -- ---- the theorem
 
@@ -138,7 +146,7 @@ pub record Changed (n : ℕ) (next prev : List ℕ) (ls ms : List (List ℕ)) (c
   pub steps : Valid (linkOf n next) cs
   -- whatever is summed over the edges: the loops after and what came off are the loops before and what went on
   pub sums : (w : ℕ → ℕ → ℕ) → frontSum w ms + removed w cs ≡ frontSum w ls + added w cs
-  -- the links after are those of the loops after, and inverse to each other
+  -- the links after are inverse to each other, and are those of the loops after, which are even
   pub front : FrontOf n (stored set cs next) (stored set (reversed cs) prev) ms
 
 links-changed : (n : ℕ) (f g : ℕ → ℕ) (ls ms : List (List ℕ)) (cs : List Change) → Front n f g ls

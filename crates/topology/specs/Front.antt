@@ -152,6 +152,7 @@ loops-same n f ls ms same evens L =
     }
 
 module _ (n : ℕ) (f : ℕ → ℕ) (ls : List (List ℕ)) (L : Loops n f ls) where
+  -- an edge begins and ends at nodes
   pub source : (u v : ℕ) → 0 < frontSum (at u v) ls → u < n
   source u v h = by (ltb u n) refl
     where
@@ -170,16 +171,19 @@ module _ (n : ℕ) (f : ℕ → ℕ) (ls : List (List ℕ)) (L : Loops n f ls) w
   pub target : (u v : ℕ) → 0 < frontSum (at u v) ls → v < n
   target u v h = let e = onward u v h in source v (e .0) (e .1)
 
+  -- an edge is a link
   pub edge-next : (u v : ℕ) → 0 < frontSum (at u v) ls → f u ≡ v
   edge-next u v h = delta-is (f u) v (omega (arith, L .nexts u v (omega (arith, target u v h, L .few))))
 
+  -- and stands in the loops once
   pub edge-once : (u v : ℕ) → v ≢ off → frontSum (at u v) ls ≤ 1
   edge-once u v h = omega (arith, L .nexts u v h, delta-le (f u) v)
 
+  -- a link is an edge
   pub next-edge : (u v : ℕ) → v ≢ off → f u ≡ v → frontSum (at u v) ls ≡ 1
   next-edge u v h e = L .nexts u v h ∙ delta-same (f u) v e
 
-  -- a link is `off` or a node
+  -- a link that is not `off` is a node
   pub next-in : (u : ℕ) → f u ≢ off → f u < n
   next-in u h = target u (f u) (omega (arith, next-edge u (f u) h refl))
 
@@ -190,6 +194,7 @@ module _ (n : ℕ) (f : ℕ → ℕ) (ls : List (List ℕ)) (L : Loops n f ls) w
       let o = onward u v (omega (arith, next-edge u v h refl)) in
       omega (arith, e, edge-next v (o .0) (o .1), target v (o .0) (o .1), L .few)
 
+  -- links are ids or `off`
   pub next-le : (u : ℕ) → f u ≤ off
   next-le u = by (eqb (f u) off) refl
     where
@@ -221,6 +226,7 @@ module _ (n : ℕ) (f : ℕ → ℕ) (ls : List (List ℕ)) (L : Loops n f ls) w
 
 -- ---- the links and the links back are inverse to each other
 
+-- loops with the same edges are as good
 pub front-same : (n : ℕ) (f g : ℕ → ℕ) (ls ms : List (List ℕ)) → ((w : ℕ → ℕ → ℕ) → frontSum w ls ≡ frontSum w ms) → All Even ms
     → Front n f g ls → Front n f g ms
 front-same n f g ls ms same evens F =
@@ -236,12 +242,13 @@ module _ (n : ℕ) (f g : ℕ → ℕ) (ls : List (List ℕ)) (F : Front n f g l
   pub next-of-prev : (u v : ℕ) → u ≢ off → g v ≡ u → f u ≡ v
   next-of-prev u v h e = edge-next n f ls (F .loops) u v (omega (arith, F .prevs u v h, delta-same (g v) u e))
 
+  -- a link back that is not `off` is a node, and goes from a node
   pub prev-in : (v : ℕ) → g v ≢ off → (g v < n) × (v < n)
   prev-in v h =
       let p : 0 < frontSum (at (g v) v) ls = omega (arith, F .prevs (g v) v h, delta-same (g v) (g v) refl) in
       (source n f ls (F .loops) (g v) v p, target n f ls (F .loops) (g v) v p)
 
-  -- where a link begins, another ends
+  -- a node with a link has a link to it
   pub prev-next : (u : ℕ) → f u ≢ off → g u ≢ off
   unfolding total loopSum pathSum
   prev-next u h =

@@ -35,6 +35,7 @@ onIf fresh u v cs = add u v ∷ cs
 abbrev pub placing : Kind → Kind → ℕ → ℕ → ℕ → ℕ → List Change
 placing kc kd a b c d = remove a b ∷ offIf kc c a (offIf kd b d (onIf kc a c (add c d ∷ onIf kd d b [])))
 
+-- how many nodes a corner adds
 abbrev pub newNodes : Kind → ℕ
 newNodes reused = 0
 newNodes fresh = 1
@@ -53,41 +54,11 @@ pub record Placeable (kc kd : Kind) (n : ℕ) (f g : ℕ → ℕ) (a b c d : ℕ
   pub corner-d : ByKind kd ((f b ≡ d) × (d ≢ a)) (OffFront n f g d)
   pub apart : c ≢ d
 
--- What a placing leaves: the changes have been made, and there are as many loops as before.
+-- What a placing leaves: other loops, as many as before, where the changes have been made.
 pub record After (n : ℕ) (next prev : List ℕ) (ls : List (List ℕ)) (cs : List Change) : Type 0 where
   pub loops : List (List ℕ)
   pub count : length loops ≡ length ls
   pub changes : Changed n next prev ls loops cs
-
--- ---- the changes can be made, one by one
-
-ids-within : (kc kd : Kind) (n a b c d : ℕ) → a < n → b < n → c < n → d < n → All (Within n) (placing kc kd a b c d)
-ids-within reused reused n a b c d ha hb hc hd = ((ha, hb), ((hc, ha), ((hb, hd), ((hc, hd), tt))))
-ids-within reused fresh n a b c d ha hb hc hd = ((ha, hb), ((hc, ha), ((hc, hd), ((hd, hb), tt))))
-ids-within fresh reused n a b c d ha hb hc hd = ((ha, hb), ((hb, hd), ((ha, hc), ((hc, hd), tt))))
-ids-within fresh fresh n a b c d ha hb hc hd = ((ha, hb), ((ha, hc), ((hc, hd), ((hd, hb), tt))))
-
-eqb-self : (x : ℕ) → eqb x x ≡ true
-eqb-self x = eq-eqb x x refl
-
-module _ (a b c d : ℕ) (ab : a ≢ b) (ac : a ≢ c) (ad : a ≢ d) (bc : b ≢ c) (bd : b ≢ d) (cd : c ≢ d) where
-  valid-next : (kc kd : Kind) (f : ℕ → ℕ) → f a ≡ b → ByKind kc (f c ≡ a) (f c ≡ off) → ByKind kd (f b ≡ d) (f d ≡ off)
-      → Valid f (placing kc kd a b c d)
-  valid-next reused reused f e hc hd =
-      (e, (simp ne-eqb hc, (simp (ne-eqb, ne-eqb c b (λ q. bc (sym q))) hd, (simp (ne-eqb, eqb-self), tt))))
-  valid-next reused fresh f e hc hd = (e, (simp ne-eqb hc, (simp (ne-eqb, eqb-self), (simp ne-eqb hd, tt))))
-  valid-next fresh reused f e hc hd = (e, (simp ne-eqb hd, (simp (ne-eqb b a (λ q. ab (sym q)), eqb-self), (simp ne-eqb hc, tt))))
-  valid-next fresh fresh f e hc hd = (e, (simp eqb-self, (simp ne-eqb hc, (simp ne-eqb hd, tt))))
-
-  valid-prev : (kc kd : Kind) (g : ℕ → ℕ) → g b ≡ a → ByKind kc (g a ≡ c) (g c ≡ off) → ByKind kd (g d ≡ b) (g d ≡ off)
-      → Valid g (reversed (placing kc kd a b c d))
-  valid-prev reused reused g e hc hd = (e, (simp (ne-eqb b a (λ q. ab (sym q))) hc, (simp ne-eqb hd, (simp eqb-self, tt))))
-  valid-prev reused fresh g e hc hd =
-      (e, (simp (ne-eqb b a (λ q. ab (sym q))) hc, (simp ne-eqb hd, (simp (ne-eqb, ne-eqb d b (λ q. bd (sym q)), eqb-self), tt))))
-  valid-prev fresh reused g e hc hd =
-      (e, (simp ne-eqb hd, (simp (ne-eqb, ne-eqb d c (λ q. cd (sym q))) hc, (simp (ne-eqb, eqb-self), tt))))
-  valid-prev fresh fresh g e hc hd =
-      (e, (simp ne-eqb hc, (simp ne-eqb hd, (simp (ne-eqb c b (λ q. bc (sym q)), ne-eqb d b (λ q. bd (sym q)), eqb-self), tt))))
 
 -- ---- the loop after
 
@@ -98,18 +69,20 @@ record Reshaped (kc kd : Kind) (a b c d : ℕ) (l : List ℕ) : Type 0 where
   sums : (w : ℕ → ℕ → ℕ) → loopSum w loop + removed w (placing kc kd a b c d) ≡ loopSum w l + added w (placing kc kd a b c d)
 
 -- the rest R of the loop a b R: a reused c is its last node, a reused d its first
-reshaped : (kc kd : Kind) (a b c d : ℕ) (R : List ℕ) → Even (a ∷ b ∷ R) → c ≢ d → ByKind kc ((M : List ℕ) × (R ≡ M ++ c ∷ [])) (Unit {0})
-    → ByKind kd ((Q : List ℕ) × (R ≡ d ∷ Q)) (Unit {0}) → Reshaped kc kd a b c d (a ∷ b ∷ R)
+reshaped : (kc kd : Kind) (a b c d : ℕ) (R : List ℕ) → Even (a ∷ b ∷ R) → c ≢ d
+    → ByKind kc ((M : List ℕ) × (R ≡ M ++ c ∷ [])) (Unit {0}) → ByKind kd ((Q : List ℕ) × (R ≡ d ∷ Q)) (Unit {0})
+    → Reshaped kc kd a b c d (a ∷ b ∷ R)
 unfolding loopSum pathSum
 reshaped fresh fresh a b c d R E cd hc hd =
     record { loop = a ∷ c ∷ d ∷ b ∷ R; even = record { even = omega (arith, E .even); two = omega arith }; sums = λ w. omega arith }
 reshaped reused fresh a b c d R E cd hc hd =
     let M = hc .0 in
-    let long : length (M ++ c ∷ d ∷ []) ≡ suc (length R) =
-    omega (arith, ap length (hc .1), length-append M (c ∷ []), length-append M (c ∷ d ∷ [])) in
+    let whole = ap length (hc .1) in
+    let short = length-append M (c ∷ []) in
+    let long = length-append M (c ∷ d ∷ []) in
     record {
       loop = b ∷ (M ++ c ∷ d ∷ []);
-      even = record { even = omega (arith, E .even, long); two = omega (arith, long) };
+      even = record { even = omega (arith, E .even); two = omega arith };
       sums = λ w.
           omega (
             arith,
@@ -145,6 +118,36 @@ reshaped reused reused a b c d R E cd hc hd = by (hc .0) (hd .0) (hc .1) (hd .1)
                 path-append w d M c [] d,
               );
         }
+
+-- ---- the changes can be made, one by one
+
+ids-within : (kc kd : Kind) (n a b c d : ℕ) → a < n → b < n → c < n → d < n → All (Within n) (placing kc kd a b c d)
+ids-within reused reused n a b c d ha hb hc hd = ((ha, hb), ((hc, ha), ((hb, hd), ((hc, hd), tt))))
+ids-within reused fresh n a b c d ha hb hc hd = ((ha, hb), ((hc, ha), ((hc, hd), ((hd, hb), tt))))
+ids-within fresh reused n a b c d ha hb hc hd = ((ha, hb), ((hb, hd), ((ha, hc), ((hc, hd), tt))))
+ids-within fresh fresh n a b c d ha hb hc hd = ((ha, hb), ((ha, hc), ((hc, hd), ((hd, hb), tt))))
+
+eqb-self : (x : ℕ) → eqb x x ≡ true
+eqb-self x = eq-eqb x x refl
+
+module _ (a b c d : ℕ) (ab : a ≢ b) (ac : a ≢ c) (ad : a ≢ d) (bc : b ≢ c) (bd : b ≢ d) (cd : c ≢ d) where
+  valid-next : (kc kd : Kind) (f : ℕ → ℕ) → f a ≡ b → ByKind kc (f c ≡ a) (f c ≡ off) → ByKind kd (f b ≡ d) (f d ≡ off)
+      → Valid f (placing kc kd a b c d)
+  valid-next reused reused f e hc hd =
+      (e, (simp ne-eqb hc, (simp (ne-eqb, ne-eqb c b (λ q. bc (sym q))) hd, (simp (ne-eqb, eqb-self), tt))))
+  valid-next reused fresh f e hc hd = (e, (simp ne-eqb hc, (simp (ne-eqb, eqb-self), (simp ne-eqb hd, tt))))
+  valid-next fresh reused f e hc hd = (e, (simp ne-eqb hd, (simp (ne-eqb b a (λ q. ab (sym q)), eqb-self), (simp ne-eqb hc, tt))))
+  valid-next fresh fresh f e hc hd = (e, (simp eqb-self, (simp ne-eqb hc, (simp ne-eqb hd, tt))))
+
+  valid-prev : (kc kd : Kind) (g : ℕ → ℕ) → g b ≡ a → ByKind kc (g a ≡ c) (g c ≡ off) → ByKind kd (g d ≡ b) (g d ≡ off)
+      → Valid g (reversed (placing kc kd a b c d))
+  valid-prev reused reused g e hc hd = (e, (simp (ne-eqb b a (λ q. ab (sym q))) hc, (simp ne-eqb hd, (simp eqb-self, tt))))
+  valid-prev reused fresh g e hc hd =
+      (e, (simp (ne-eqb b a (λ q. ab (sym q))) hc, (simp ne-eqb hd, (simp (ne-eqb, ne-eqb d b (λ q. bd (sym q)), eqb-self), tt))))
+  valid-prev fresh reused g e hc hd =
+      (e, (simp ne-eqb hd, (simp (ne-eqb, ne-eqb d c (λ q. cd (sym q))) hc, (simp (ne-eqb, eqb-self), tt))))
+  valid-prev fresh fresh g e hc hd =
+      (e, (simp ne-eqb hc, (simp ne-eqb hd, (simp (ne-eqb c b (λ q. bc (sym q)), ne-eqb d b (λ q. bd (sym q)), eqb-self), tt))))
 
 -- ---- the corners
 

@@ -171,10 +171,17 @@ short (l ∷ ls) E z = by (leb 3 (length l)) refl (short ls (E .1))
     by true e later = absurd (omega (arith, rw e at z))
     by false e later = (omega (arith, leb-false 3 (length l) e, E .0 .two), later (omega (arith, z)))
 
--- ---- the theorems: ls are the loops of the links f, and have m edges at most
+-- ---- the theorems
 
+-- ms lists the loops ls of the links f: as many, of the same edges, and loops of the links themselves
+pub record Listed (n : ℕ) (f : ℕ → ℕ) (ls ms : List (List ℕ)) : Type 0 where
+  pub number : length ms ≡ length ls
+  pub sums : (w : ℕ → ℕ → ℕ) → frontSum w ms ≡ frontSum w ls
+  pub loops : Loops n f ms
+
+-- ls are the loops of the links f, and have m edges at most
 module _ (n : ℕ) (f : ℕ → ℕ) (ls : List (List ℕ)) (L : Loops n f ls) (m : ℕ) (few : total length ls ≤ m) where
-  -- the walks list the loops, each from its smallest id
+  -- the walks list the loops, each from its smallest id, in the order of these ids
   pub walks-list : (k : ℕ) → walks k n m f ≡ listing k n (λ u. loopFrom u ls)
   walks-list k = ap (listing k n) (fun-ext (λ u. walk-loop n f ls L m u few))
 
@@ -182,26 +189,27 @@ module _ (n : ℕ) (f : ℕ → ℕ) (ls : List (List ℕ)) (L : Loops n f ls) (
   pub walks-total : (k : ℕ) (r : List ℕ → ℕ) → ((u : ℕ) (l : List ℕ) → r (turnTo u l) ≡ r l)
       → total r (walks (suc k) n m f) ≡ total (ifListed (suc k) r) ls
   walks-total k r turn =
-      let R = cycles n f ls L in
+      let C = cycles n f ls L in
       ap (total r) (walks-list (suc k))
-      ∙ (total-listing f k r turn ls R (once n f ls L) n ∙ total-within f n (ifListed (suc k) r) ls R (nodes n f ls L))
+      ∙ (total-listing f k r turn ls C (once n f ls L) n ∙ total-within f n (ifListed (suc k) r) ls C (nodes n f ls L))
 
-  -- all loops are listed: as many as ls,
-  pub walks-number : length (walks 1 n m f) ≡ length ls
-  walks-number =
-      sym (total-one (walks 1 n m f)) ∙ (walks-total 0 (λ l. 1) (λ u l. refl) ∙ (listed-all f (λ l. 1) ls (cycles n f ls L) ∙ total-one ls))
-
-  -- of the same edges,
-  pub walks-sums : (w : ℕ → ℕ → ℕ) → frontSum w (walks 1 n m f) ≡ frontSum w ls
-  walks-sums w = walks-total 0 (loopSum w) (turn-sum w) ∙ listed-all f (loopSum w) ls (cycles n f ls L)
-
-  -- each even
+  -- each loop listed is even
   pub walks-even : (k : ℕ) → All Even (walks (suc k) n m f)
   walks-even k = rw (walks-list (suc k)) (listing-even k n (λ u. loopFrom u ls) (λ u. even-from u ls (L .evens)))
 
-  -- so what is listed are the loops of the links
-  pub walks-loops : Loops n f (walks 1 n m f)
-  walks-loops = loops-same n f ls (walks 1 n m f) (λ w. sym (walks-sums w)) (walks-even 0) L
+  walks-sums : (w : ℕ → ℕ → ℕ) → frontSum w (walks 1 n m f) ≡ frontSum w ls
+  walks-sums w = walks-total 0 (loopSum w) (turn-sum w) ∙ listed-all f (loopSum w) ls (cycles n f ls L)
+
+  -- those of one node or more are all loops
+  pub walks-all : Listed n f ls (walks 1 n m f)
+  walks-all =
+      record {
+        number =
+            sym (total-one (walks 1 n m f))
+            ∙ (walks-total 0 (λ l. 1) (λ u l. refl) ∙ (listed-all f (λ l. 1) ls (cycles n f ls L) ∙ total-one ls));
+        sums = walks-sums;
+        loops = loops-same n f ls (walks 1 n m f) (λ w. sym (walks-sums w)) (walks-even 0) L;
+      }
 
   -- where none of three nodes or more is listed, each loop has two
   pub walks-none : walks 3 n m f ≡ [] → All (λ l. length l ≡ 2) ls

@@ -1,10 +1,13 @@
--- Laws of `sumUp`.
-use mathlib.Core.Path.{_≡_, refl}
+-- Laws of `sumUp` and `anyUp`.
+use mathlib.Core.Path.{_≡_, refl, ap}
+use mathlib.Core.Bool.{Bool, false, _||_}
 use mathlib.Core.Logic.{⊎-elim}
 use Prim.Native.Nat.{ℕ, zero, suc, _+_, _<_, _≤_}
 use native.Mathlib.Nat.{eq-or-lt-of-le, le-of-suc-le-suc}
 use native.Mathlib.Omega.{arith}
-use Rattle.laws.specs.Loop.{forUp, sumUp}
+use Rattle.laws.specs.Loop.{forUp, forUp-same, sumUp, anyUp, anyTurn}
+
+-- ---- sums
 
 module _ (f : ℕ → ℕ) where
   pub sum-zero : sumUp 0 f ≡ 0
@@ -29,3 +32,15 @@ module _ (f : ℕ → ℕ) where
   pub sum-least : ((i : ℕ) → 1 ≤ f i) → (n : ℕ) → n ≤ sumUp n f
   sum-least h zero = omega arith
   sum-least h (suc n) = omega (arith, sum-suc n, sum-least h n, h n)
+
+-- ---- searches
+
+pub any-suc : (test : ℕ → Bool) (n : ℕ) → anyUp (suc n) test ≡ (anyUp n test || test n)
+unfolding anyUp forUp
+any-suc test n = refl
+
+-- tests that agree find the same
+pub any-same : (test other : ℕ → Bool) (n : ℕ) → ((i : ℕ) → i < n → test i ≡ other i) → anyUp n test ≡ anyUp n other
+unfolding anyUp
+any-same test other n same =
+    forUp-same n (anyTurn test) (anyTurn other) false (λ i found h. ap (λ (b : Bool). found || b) (same i h))

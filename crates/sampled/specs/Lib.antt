@@ -1,0 +1,4 @@
+pub mod Lists
+pub mod Nodes
+pub mod Cuts
+pub mod Rings

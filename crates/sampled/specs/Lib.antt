@@ -6,3 +6,6 @@ pub mod OneWay
 pub mod Edges
 pub mod Joins
 pub mod Laid
+pub mod Turn
+pub mod Outlines
+pub mod Begun

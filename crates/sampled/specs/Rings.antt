@@ -14,7 +14,7 @@ use Rattle.laws.specs.Tabulate.{tabulate, tabulate-length}
 use Rattle.topology.specs.Sums.{All}
 use Rattle.topology.specs.Laying.{Distinct}
 use Rattle.front.specs.declared.Ring.{Ring}
-use Rattle.front.specs.Sampling.{edgeLength, longestTurn, longestEdge, ringCount, sampledAt, ringAt, ringIds}
+use Rattle.front.specs.Sampling.{edgeLength, longestTurn, longestEdge, ringOf, ringCount, sampledAt, ringAt, ringIds}
 use Rattle.sampled.specs.Lists.{all-tabulate, distinct-tabulate}
 
 -- the longest edge is one of the ring's
@@ -27,6 +27,10 @@ longest-in xs ys base n turned h =
     by : (i best : ℕ) → i < n → best < n → (b : Bool) → cond b best i < n
     by i best q p true = p
     by i best q p false = q
+
+pub ring-longest : (k : ℕ) (xs ys : List Float) (base n : ℕ) → 0 < n → ringOf k xs ys base n .longest < n
+unfolding ringOf
+ring-longest k xs ys base n h = longest-in xs ys base n _ h
 
 -- where id k of a ring comes from
 data Origin (r : Ring) (k : ℕ) : Type 0 where

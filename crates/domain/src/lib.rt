@@ -54,6 +54,9 @@ impl Settings {
     pub const MOST_POINTS: usize = 65535;
 
     pub const FARTHEST: f64 = 1000.0;
+
+    // No part of a segment is longer than this many sizes.
+    pub const STRETCH: f64 = 1.05;
 }
 
 // ---- the refusals

@@ -5,7 +5,7 @@ use mathlib.Core.Path.{_≡_, refl, sym, ap, ap₂, _∙_}
 use Prim.Native.Nat.{ℕ, zero, suc, _+_, _-_, _*_, _%_, _≤_, _<_}
 use native.Mathlib.Nat.{le-antisymm}
 use native.Mathlib.Omega.{arith}
-use borrow.Author.Tests.{lt-ltb, le-ltb, eq-eqb, ne-eqb}
+use borrow.Author.Tests.{lt-ltb, le-ltb, eq-eqb, ne-eqb, eqb-true, eqb-false}
 use lib.Dec.{eqb, ltb}
 use lib.Ieee.{Float, lt}
 use lib.ListN.{length}
@@ -15,10 +15,12 @@ use Rattle.domain.specs.declared.Point.{Point}
 use Rattle.domain.specs.Outline.{points, pointAt, pointAfter, after}
 use Rattle.geometry.specs.Plane.{distance}
 use Rattle.front.specs.declared.Ring.{Ring}
-use Rattle.front.specs.State.{State, pushNode}
-use Rattle.front.specs.Sampling.{partsOf, parts, loopParts, cut, cutTurn, sampleSegment, sampleTurn, sampleLoop, edgeLength, longestTurn, longestEdge, ringCount, sampledAt, ringAt, midpoint, splitLongest}
-use Rattle.sampled.specs.Joins.{withLink}
-use Rattle.boundary.specs.Laying.{withNodes, withEdges, NodeRoom, NodesFrom, RingFits, linkTurn, linkRing}
+use Rattle.front.specs.State.{State, counted, pushNode}
+use Rattle.front.specs.Sampling.{partsOf, parts, loopParts, cut, cutTurn, sampleSegment, sampleTurn, sampleLoop, edgeLength, longestTurn, longestEdge, ringOf, ringCount, sampledAt, ringAt, midpoint, splitLongest, ringIn}
+use Rattle.sampled.specs.Cuts.{cuts-least}
+use Rattle.sampled.specs.Rings.{longest-in}
+use Rattle.boundary.specs.Counting.{evenUp}
+use Rattle.boundary.specs.Laying.{lists, between, NodeRoom, NodesFrom, RingFits, LoopRoom, linkRing, layLoop}
 
 -- ---- room
 
@@ -144,3 +146,67 @@ module _ (r : Ring) (t : State) where
   unfolding splitLongest
   split-one e m q =
       q ∙ ap (λ (p : Point). pushNode p t) m ∙ ap (λ (b : Bool). cond b (pushNode (midpoint (t .xs) (t .ys) r) t) t) (sym e)
+
+-- ---- a loop
+
+-- n and n made even
+even-up : (n : ℕ) → n + cond (eqb (n % 2) 1) 1 0 ≡ evenUp n
+even-up n = by (eqb (n % 2) 1) refl
+  where
+    by : (b : Bool) → eqb (n % 2) 1 ≡ b → n + cond b 1 0 ≡ evenUp n
+    by true e = omega (arith, eqb-true (n % 2) 1 e)
+    by false e = omega (arith, eqb-false (n % 2) 1 e)
+
+-- r is the ring of n nodes from base on
+pub record RingOf (r : Ring) (base n : ℕ) : Type 0 where
+  pub base-is : r .base ≡ base
+  pub count-is : r .count ≡ n
+  pub longest : r .longest < r .count
+  pub ids : ringCount r ≡ evenUp n
+
+pub ring-of : (k : ℕ) (xs ys : List Float) (base n : ℕ) {r : Ring} → 0 < n → r ≡ ringOf k xs ys base n → RingOf r base n
+unfolding ringOf
+ring-of k xs ys base n h e =
+    rw e (record { base-is = refl; count-is = refl; longest = longest-in xs ys base n _ h; ids = even-up n })
+
+module _ {s : List Float} {size : Float} {base nodes : ℕ} {xs ys : List Float} {next prev edges : List ℕ} (R : LoopRoom s size base xs ys next prev edges)
+    (count : nodes ≡ base + loopParts size s) where
+  pub nodes-some : 0 < nodes - base
+  nodes-some = omega (arith, R .some, cuts-least size s)
+
+  module _ (xs′ ys′ : List Float) (a : length xs′ ≡ length xs) (b : length ys′ ≡ length ys) where
+    pub nodes-from : NodesFrom base (nodes - base) xs′ ys′
+    nodes-from =
+        record {
+          some = nodes-some;
+          in-xs = omega (arith, R .nodes .in-xs);
+          in-ys = omega (arith, R .nodes .in-ys);
+          few = omega (arith, R .nodes .few);
+        }
+
+    pub ring-nodes : {r : Ring} → RingOf r base (nodes - base) → NodesFrom (r .base) (r .count) xs′ ys′ × (r .longest < r .count) × (nodes ≡ r .base + r .count)
+    ring-nodes {r} O = (
+      rw (O .base-is, O .count-is) nodes-from,
+      O .longest,
+      omega (arith, O .base-is, O .count-is),
+    )
+
+  module _ {r : Ring} (O : RingOf r base (nodes - base)) where
+    pub ring-end : r .base + ringCount r ≡ base + evenUp (loopParts size s)
+    ring-end = let e : nodes - base ≡ loopParts size s = omega arith in omega (arith, O .base-is, O .ids ∙ ap evenUp e)
+
+    pub ring-fits : RingFits r
+    ring-fits = record { longest = O .longest; few = omega (arith, ring-end, R .nodes .few) }
+
+-- sampling, the midpoint and the edges, one after the other
+pub laid : (k : ℕ) (s : List Float) (size : Float) (st t t′ t″ : State) (r : Ring) → t ≡ sampleLoop size s st → r ≡ ringIn k (st .counts .nodes) t
+    → t′ ≡ splitLongest r t → t″ ≡ linkRing r t′ → t″ ≡ layLoop k s size st
+unfolding layLoop
+laid k s size st t t′ t″ r a b c d =
+    d ∙ ap (linkRing r) c ∙ ap (λ (q : Ring). linkRing q (splitLongest q t)) b
+    ∙ ap (λ (u : State). linkRing (ringIn k (st .counts .nodes) u) (splitLongest (ringIn k (st .counts .nodes) u) u)) a
+
+-- as many edges as nodes
+pub as-many : (snapshot quads : List ℕ) (xs ys : List Float) (next prev edges : List ℕ) {n m : ℕ} → n ≡ m
+    → between snapshot quads xs ys next prev edges n ≡ lists xs ys next prev snapshot quads edges (counted n 0 m m)
+as-many snapshot quads xs ys next prev edges {n} e = ap (λ (k : ℕ). lists xs ys next prev snapshot quads edges (counted n 0 k k)) e

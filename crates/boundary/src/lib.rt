@@ -11,7 +11,7 @@ ghost use Rattle.front.specs.declared.Counts.{Counts};
 ghost use Rattle.front.specs.State.{State, nodePlaces, edgePlaces, nodeIn, pushNode};
 ghost use Rattle.front.specs.Sampling.{partsOf, loopParts, sampledCount, frontRefusal, cut, sampleSegment, sampleLoop, signedArea, orderedAt, edgeLength, longestEdge, ringOf, ringCount, sampledAt, ringAt, midpoint, splitLongest, fromBoundary};
 ghost use Rattle.sampled.specs.Joins.{withLink};
-ghost use Rattle.boundary.specs.Counting.{most};
+ghost use Rattle.boundary.specs.Counting.{most, evenUp};
 ghost use Rattle.boundary.specs.Laying.{lists, withNodes, withEdges, between, NodeRoom, NodesFrom, RingFits, LoopRoom, CanSample, linkRing, layLoop};
 use domain::Point;
 use domain::Settings;
@@ -406,7 +406,7 @@ fn lay_loop(
     base: usize,
 ) -> usize
     requires { ⌜ LoopRoom (now s) size base (now xs) (now ys) (now next) (now prev) (now edges) ⌝ }
-    ensures { λ r. ⌜ ((snapshot quads : List ℕ) → between snapshot quads (now (xs .exit)) (now (ys .exit)) (now (next .exit)) (now (prev .exit)) (now (edges .exit)) r
+    ensures { λ r. ⌜ (r ≡ base + evenUp (loopParts size (now (s .entry)))) × ((snapshot quads : List ℕ) → between snapshot quads (now (xs .exit)) (now (ys .exit)) (now (next .exit)) (now (prev .exit)) (now (edges .exit)) r
         ≡ layLoop k (now (s .entry)) size (between snapshot quads (now (xs .entry)) (now (ys .entry)) (now (next .entry)) (now (prev .entry)) (now (edges .entry)) base)) ⌝ }
 {
     let nodes = sample_loop(s, size, xs, ys, next, prev, base);
@@ -430,6 +430,8 @@ pub fn from_boundary<'a>(
 ) -> Counts
     requires { ⌜ CanSample (outline (now outer) (now holes) (now lens)) size (now xs) (now ys) (now next) (now prev) (now edges) ⌝ }
     ensures { λ r. ⌜ ((snapshot quads : List ℕ) (counts : Counts)
+        → frontRefusal (outline (now (outer .entry)) (now (holes .entry)) (now (lens .entry))) size
+        (lists (now (xs .entry)) (now (ys .entry)) (now (next .entry)) (now (prev .entry)) snapshot quads (now (edges .entry)) counts) ≡ 0
         → lists (now (xs .exit)) (now (ys .exit)) (now (next .exit)) (now (prev .exit)) snapshot quads (now (edges .exit)) r
         ≡ fromBoundary (outline (now (outer .entry)) (now (holes .entry)) (now (lens .entry))) size
         (lists (now (xs .entry)) (now (ys .entry)) (now (next .entry)) (now (prev .entry)) snapshot quads (now (edges .entry)) counts)) ⌝ }

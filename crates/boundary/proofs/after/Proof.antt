@@ -1,24 +1,19 @@
-use borrow.Author.Tests.{lt-ltb, le-ltb}
+-- `boundary::after` meets its contract: by the test.
 use native.Mathlib.Omega.{arith}
+use borrow.Author.Tests.{lt-ltb, le-ltb}
 use borrow.Author.Needs.{needs}
 use Rattle.boundary.proofs.after.Statement.{statement}
 use Rattle.boundary.proofs.after.Tie as tie
-use Rattle.boundary.proofs.after.Reads as reads
-use Rattle.boundary.proofs.after.Lts as lts
 
--- src/lib.rt:210:8
 add-if1 : tie.Need-add-if1
 add-if1 c = search needs
 
--- src/lib.rt:210:20
 add-result : tie.Need-add-result
 add-result c = search needs
 
--- src/lib.rt:206:1
 returns : tie.Need-returns
 returns c = (rw (lt-ltb _ _ (c .if1 .taken)), c .if1 .taken)
 
--- src/lib.rt:206:1
 returns-2 : tie.Need-returns-2
 returns-2 c = (rw (le-ltb _ _ (c .if1 .left)), omega arith)
 

@@ -1,24 +1,18 @@
-use Rattle.boundary.specs.Counting.{refused-nodes, refused-edges, not-refused}
+-- `boundary::front_refusal` meets its contract: a count that was stopped refuses as the whole count does.
 use borrow.Author.Needs.{needs}
+use Rattle.boundary.specs.Counting.{refused-nodes, refused-edges, not-refused}
 use Rattle.boundary.proofs.front_refusal.Statement.{statement}
 use Rattle.boundary.proofs.front_refusal.Tie as tie
-use Rattle.boundary.proofs.front_refusal.Reads as reads
-use Rattle.boundary.proofs.front_refusal.Lts as lts
-use Rattle.boundary.proofs.sampled_count.Reads as sampled-count-reads
 
--- src/lib.rt:89:17
 sampled-count-requires : tie.Need-sampled-count-requires
 sampled-count-requires c κs = search needs
 
--- src/lib.rt:91:9
 returns : tie.Need-returns
 returns c = λ s p q. refused-nodes _ _ s _ (c .before .sampled-count .ensures) (rw p (c .if1 .taken))
 
--- src/lib.rt:77:1
 returns-2 : tie.Need-returns-2
 returns-2 c = λ s p q. refused-edges _ _ s _ (c .before .before .sampled-count .ensures) (rw p (c .before .if1 .left)) (rw q (c .if2 .taken))
 
--- src/lib.rt:77:1
 returns-3 : tie.Need-returns-3
 returns-3 c = λ s p q. not-refused _ _ s _ (c .before .before .sampled-count .ensures) (rw p (c .before .if1 .left)) (rw q (c .if2 .left))
 

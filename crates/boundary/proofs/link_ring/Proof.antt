@@ -1,21 +1,16 @@
-use Rattle.boundary.specs.LayingLaws.{loop-as, loop-last, plus-none, plus-one}
-use Rattle.boundary.specs.Laying.{withEdges, linkTurn, linkRing}
+-- `boundary::link_ring` meets its contract: the loop's invariant is `Loop` of `linkTurn`, whatever the rest of the state.
+use mathlib.Core.Path.{_≡_, refl, _∙_}
+use Prim.Native.Nat.{_-_, _+_}
+use native.Mathlib.Omega.{arith}
+use borrow.Author.Needs.{needs}
+use lib.ListN.{length}
+use Rattle.laws.specs.Loop.{Loop, loop-start}
 use Rattle.front.specs.Sampling.{ringCount}
 use Rattle.front.specs.State.{State}
-use Rattle.laws.specs.Loop.{forUp, Loop, loop-start}
-use lib.ListN.{length}
-use borrow.Author.Needs.{needs}
-use native.Mathlib.Omega.{arith}
-use Prim.Native.Nat.{_-_, _+_}
-use mathlib.Core.Path.{_≡_, refl, _∙_, ap}
+use Rattle.boundary.specs.LayingLaws.{loop-as, loop-last, plus-none, plus-one}
+use Rattle.boundary.specs.Laying.{withEdges, linkTurn, linkRing}
 use Rattle.boundary.proofs.link_ring.Statement.{statement}
 use Rattle.boundary.proofs.link_ring.Tie as tie
-use Rattle.boundary.proofs.link_ring.Reads as reads
-use Rattle.boundary.proofs.link_ring.Lts as lts
-use Rattle.boundary.proofs.after.Reads as after-reads
-use Rattle.boundary.proofs.link.Reads as link-reads
-use Rattle.boundary.proofs.ring_at.Reads as ring-at-reads
-use Rattle.boundary.proofs.ring_count.Reads as ring-count-reads
 
 abbrev Inv-loop : tie.InvT-loop
 Inv-loop r next₀ prev₀ edges₀ e n i₀ next prev edges i =
@@ -25,43 +20,33 @@ Inv-loop r next₀ prev₀ edges₀ e n i₀ next prev edges i =
 abbrev μ-loop : tie.MeasureT-loop
 μ-loop r next₀ prev₀ edges₀ e n i₀ next prev edges i = n - i
 
--- src/lib.rt:379:9
 ring-count-requires : tie.Need-ring-count-requires Inv-loop μ-loop
 ring-count-requires c κs = search needs
 
--- src/lib.rt:381:5
 loop-holds : tie.Need-loop-holds Inv-loop μ-loop
 loop-holds c = (c .ring-count .ensures, refl, refl, refl, λ st. rw plus-none (loop-start _ _ _))
 
--- src/lib.rt:382:13
 ring-at-requires : tie.Need-ring-at-requires Inv-loop μ-loop
 ring-at-requires c κs = (c .before .before .before .before .before .before .pre .0, rw (← c .before .loop .inv .0) (c .loop-test .taken))
 
--- src/lib.rt:383:28
 after-requires : tie.Need-after-requires Inv-loop μ-loop
 after-requires c κs = c .before .loop-test .taken
 
--- src/lib.rt:383:13
 ring-at-requires-2 : tie.Need-ring-at-requires-2 Inv-loop μ-loop
 ring-at-requires-2 c κs = (c .before .before .before .before .before .before .before .before .pre .0, rw (← c .before .before .before .loop .inv .0) (c .after .ensures .1))
 
--- src/lib.rt:384:39
 add-link : tie.Need-add-link Inv-loop μ-loop
 add-link c = omega (arith, c .before .before .before .before .before .before .before .before .before .before .before .before .pre .3, c .before .before .before .before .before .before .before .loop .inv .0, c .before .before .before .before .before .before .loop-test .taken)
 
--- src/lib.rt:384:9
 link-requires : tie.Need-link-requires Inv-loop μ-loop
 link-requires c κs = (omega (arith, c .before .before .before .before .before .ring-at .ensures .1, c .before .before .before .before .before .before .before .before .before .before .before .before .pre .1, c .before .before .before .before .before .before .before .loop .inv .1), omega (arith, c .before .before .before .ring-at2 .ensures .1, c .before .before .before .before .before .before .before .before .before .before .before .before .pre .2, c .before .before .before .before .before .before .before .loop .inv .2), omega (arith, c .before .before .before .before .before .before .before .before .before .before .before .before .pre .3, c .before .before .before .before .before .before .before .loop .inv .0, c .before .before .before .before .before .before .loop-test .taken, c .before .before .before .before .before .before .before .loop .inv .3))
 
--- src/lib.rt:385:9
 add-i : tie.Need-add-i Inv-loop μ-loop
 add-i c = omega (arith, c .before .before .before .before .before .before .before .before .before .before .before .before .before .loop-test .taken)
 
--- src/lib.rt:381:5
 loop-less : tie.Need-loop-less Inv-loop μ-loop
 loop-less c = omega (arith, c .before .before .before .before .before .before .before .before .before .before .before .before .before .loop-test .taken)
 
--- src/lib.rt:381:5
 loop-again : tie.Need-loop-again Inv-loop μ-loop
 loop-again c = let inv = c .before .before .before .before .before .before .before .before .before .before .before .before .before .before .loop .inv in
     let kept = c .before .before .before .before .before .before .link .kept in (
@@ -72,19 +57,15 @@ loop-again c = let inv = c .before .before .before .before .before .before .befo
       λ st. loop-as _ _ _ (inv .4 st) (c .before .before .before .before .before .before .before .before .before .before .before .before .before .loop-test .taken) (rw (plus-one, c .before .before .before .before .before .before .link .ensures st, c .before .before .before .before .before .before .before .before .before .before .before .before .ring-at .ensures .0, c .before .before .before .before .before .before .before .before .before .before .ring-at2 .ensures .0, c .before .before .before .before .before .before .before .before .before .before .before .after .ensures .0, inv .0)),
     )
 
--- src/lib.rt:374:1
 same-length : tie.Need-same-length Inv-loop μ-loop
 same-length c = c .before .loop .inv .1
 
--- src/lib.rt:374:1
 same-length-2 : tie.Need-same-length-2 Inv-loop μ-loop
 same-length-2 c = c .before .loop .inv .2
 
--- src/lib.rt:374:1
 same-length-3 : tie.Need-same-length-3 Inv-loop μ-loop
 same-length-3 c = c .before .loop .inv .3
 
--- src/lib.rt:374:1
 returns : tie.Need-returns Inv-loop μ-loop
 unfolding linkRing
 returns c = λ st. rw (← c .before .loop .inv .0) (loop-last _ _ (λ n. withEdges st (c .before .loop .next) (c .before .loop .prev) (c .before .loop .edges) (c .before .before .before .before .before .before .args .e + n)) (c .before .loop .inv .4 st) (c .loop-test .left))

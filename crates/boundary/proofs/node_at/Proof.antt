@@ -1,28 +1,22 @@
-use Rattle.front.specs.State.{nodeIn}
+-- `boundary::node_at` meets its contract: by unfolding.
 use mathlib.Core.Path.{refl}
 use borrow.Author.Needs.{needs}
+use Rattle.front.specs.State.{nodeIn}
 use Rattle.boundary.proofs.node_at.Statement.{statement}
 use Rattle.boundary.proofs.node_at.Tie as tie
-use Rattle.boundary.proofs.node_at.Reads as reads
-use Rattle.boundary.proofs.node_at.Lts as lts
 
--- src/lib.rt:200:12
 mul-t4 : tie.Need-mul-t4
 mul-t4 c = search needs
 
--- src/lib.rt:200:12
 shared-slice-read-t6 : tie.Need-shared-slice-read-t6
 shared-slice-read-t6 c = search needs
 
--- src/lib.rt:201:12
 mul-t7 : tie.Need-mul-t7
 mul-t7 c = search needs
 
--- src/lib.rt:201:12
 shared-slice-read-t9 : tie.Need-shared-slice-read-t9
 shared-slice-read-t9 c = search needs
 
--- src/lib.rt:195:1
 returns : tie.Need-returns
 unfolding nodeIn
 returns c = refl

@@ -1,55 +1,42 @@
-use Rattle.boundary.specs.LayingLaws.{ring-plain, ring-before, ring-middle, ring-behind, count-plain, count-split}
-use borrow.Author.Tests.{not-true, not-false}
+-- `boundary::ring_at` meets its contract: by the cases of `ringAt`.
+use mathlib.Core.Path.{sym, _∙_}
 use native.Mathlib.Omega.{arith}
-use mathlib.Core.Path.{_≡_, sym, _∙_}
+use borrow.Author.Tests.{not-true, not-false}
 use borrow.Author.Needs.{needs}
+use Rattle.boundary.specs.LayingLaws.{ring-plain, ring-before, ring-middle, ring-behind, count-plain, count-split}
 use Rattle.boundary.proofs.ring_at.Statement.{statement}
 use Rattle.boundary.proofs.ring_at.Tie as tie
-use Rattle.boundary.proofs.ring_at.Reads as reads
-use Rattle.boundary.proofs.ring_at.Lts as lts
-use Rattle.boundary.proofs.sampled_at.Reads as sampled-at-reads
 
--- src/lib.rt:306:9
 sampled-at-requires : tie.Need-sampled-at-requires
 sampled-at-requires c κs = let count = count-plain (c .before .before .args .r) (not-true _ (c .if1 .taken)) in (omega (arith, c .before .before .pre .0 .few, c .before .before .pre .1, count), omega (arith, c .before .before .pre .0 .few, count))
 
--- src/lib.rt:306:9
 returns : tie.Need-returns
 returns c = let plain = not-true _ (c .before .if1 .taken) in (c .sampled-at .ensures .0 ∙ sym (ring-plain (c .before .before .before .args .r) _ plain), omega (arith, c .sampled-at .ensures .1, count-plain (c .before .before .before .args .r) plain))
 
--- src/lib.rt:308:19
 cast-middle : tie.Need-cast-middle
 cast-middle c = search needs
 
--- src/lib.rt:308:18
 add-middle : tie.Need-add-middle
 add-middle c = omega (arith, c .before .before .before .pre .0 .longest, c .before .before .before .pre .0 .few)
 
--- src/lib.rt:310:9
 sampled-at-requires-2 : tie.Need-sampled-at-requires-2
 sampled-at-requires-2 c κs = (omega (arith, c .before .before .before .before .pre .0 .longest, c .if2 .taken), omega (arith, c .before .before .before .before .pre .0 .few, count-split (c .before .before .before .before .args .r) (not-false _ (c .before .before .if1 .left))))
 
--- src/lib.rt:310:9
 returns-2 : tie.Need-returns-2
 returns-2 c = let split = not-false _ (c .before .before .before .if1 .left) in (c .sampled-at2 .ensures .0 ∙ sym (ring-before (c .before .before .before .before .before .args .r) _ split (c .before .if2 .taken)), omega (arith, c .sampled-at2 .ensures .1, count-split (c .before .before .before .before .before .args .r) split))
 
--- src/lib.rt:313:16
 add-result : tie.Need-add-result
 add-result c = omega (arith, c .before .before .before .before .before .before .pre .0 .few, count-split (c .before .before .before .before .before .before .args .r) (not-false _ (c .before .before .before .before .if1 .left)))
 
--- src/lib.rt:313:9
 returns-3 : tie.Need-returns-3
 returns-3 c = let split = not-false _ (c .before .before .before .before .if1 .left) in (sym (ring-middle (c .before .before .before .before .before .before .args .r) _ split (c .before .if3 .taken)), omega (arith, count-split (c .before .before .before .before .before .before .args .r) split))
 
--- src/lib.rt:315:19
 sub-sampled-at : tie.Need-sub-sampled-at
 sub-sampled-at c = omega (arith, c .before .if2 .left)
 
--- src/lib.rt:315:5
 sampled-at-requires-3 : tie.Need-sampled-at-requires-3
 sampled-at-requires-3 c κs = let count = count-split (c .before .before .before .before .before .args .r) (not-false _ (c .before .before .before .if1 .left)) in (omega (arith, c .before .before .before .before .before .pre .1, count, c .before .if2 .left), omega (arith, c .before .before .before .before .before .pre .0 .few, count))
 
--- src/lib.rt:301:1
 returns-4 : tie.Need-returns-4
 returns-4 c = let split = not-false _ (c .before .before .before .before .if1 .left) in (c .sampled-at3 .ensures .0 ∙ sym (ring-behind (c .before .before .before .before .before .before .args .r) _ split (c .before .before .if2 .left) (c .before .if3 .left)), omega (arith, c .sampled-at3 .ensures .1, count-split (c .before .before .before .before .before .before .args .r) split))
 

@@ -1,23 +1,18 @@
+-- `boundary::ring_count` meets its contract: by the test.
 use native.Mathlib.Omega.{arith}
 use borrow.Author.Needs.{needs}
 use Rattle.boundary.proofs.ring_count.Statement.{statement}
 use Rattle.boundary.proofs.ring_count.Tie as tie
-use Rattle.boundary.proofs.ring_count.Reads as reads
-use Rattle.boundary.proofs.ring_count.Lts as lts
 
--- src/lib.rt:288:13
 cast-n : tie.Need-cast-n
 cast-n c = search needs
 
--- src/lib.rt:289:18
 add-result : tie.Need-add-result
 add-result c = search needs
 
--- src/lib.rt:285:1
 returns : tie.Need-returns
 returns c = rw (c .if1 .taken)
 
--- src/lib.rt:285:1
 returns-2 : tie.Need-returns-2
 returns-2 c = rw (c .if1 .left) (omega arith)
 

@@ -1,18 +1,15 @@
-use Rattle.boundary.specs.LayingLaws.{room-fewer, loop-as, loop-last, plus-none, plus-one}
-use Rattle.boundary.specs.Laying.{withNodes}
+-- `boundary::sample_segment` meets its contract: the loop's invariant is `Loop` of `cutTurn`, whatever the rest of the state.
+use mathlib.Core.Path.{_≡_, refl, _∙_}
+use Prim.Native.Nat.{_-_, _+_}
+use native.Mathlib.Omega.{arith}
+use lib.ListN.{length}
+use Rattle.laws.specs.Loop.{Loop, loop-start}
 use Rattle.front.specs.Sampling.{cutTurn, sampleSegment}
 use Rattle.front.specs.State.{State}
-use Rattle.laws.specs.Loop.{Loop, loop-start}
-use lib.ListN.{length}
-use native.Mathlib.Omega.{arith}
-use Prim.Native.Nat.{_-_, _+_}
-use mathlib.Core.Path.{_≡_, refl, _∙_}
+use Rattle.boundary.specs.LayingLaws.{room-fewer, loop-as, loop-last, plus-none, plus-one}
+use Rattle.boundary.specs.Laying.{withNodes}
 use Rattle.boundary.proofs.sample_segment.Statement.{statement}
 use Rattle.boundary.proofs.sample_segment.Tie as tie
-use Rattle.boundary.proofs.sample_segment.Reads as reads
-use Rattle.boundary.proofs.sample_segment.Lts as lts
-use Rattle.boundary.proofs.cut.Reads as cut-reads
-use Rattle.boundary.proofs.push_node.Reads as push-node-reads
 
 abbrev Inv-loop : tie.InvT-loop
 Inv-loop a b parts xs₀ ys₀ next₀ prev₀ from k₀ xs ys next prev k =
@@ -22,31 +19,24 @@ Inv-loop a b parts xs₀ ys₀ next₀ prev₀ from k₀ xs ys next prev k =
 abbrev μ-loop : tie.MeasureT-loop
 μ-loop a b parts xs₀ ys₀ next₀ prev₀ from k₀ xs ys next prev k = parts - k
 
--- src/lib.rt:159:5
 loop-holds : tie.Need-loop-holds Inv-loop μ-loop
 loop-holds c = (refl, refl, refl, refl, λ st. rw plus-none (loop-start _ _ _))
 
--- src/lib.rt:160:39
 add-push-node : tie.Need-add-push-node Inv-loop μ-loop
 add-push-node c = omega (arith, c .before .before .before .before .before .before .before .before .before .before .pre .few, c .before .before .before .before .loop-test .taken)
 
--- src/lib.rt:160:49
 cut-requires : tie.Need-cut-requires Inv-loop μ-loop
 cut-requires c κs = (omega (arith, c .before .before .before .before .before .before .before .before .before .before .pre .few), omega (arith, c .before .before .before .before .before .before .before .before .before .before .pre .few, c .before .before .before .before .loop-test .taken))
 
--- src/lib.rt:160:9
 push-node-requires : tie.Need-push-node-requires Inv-loop μ-loop
 push-node-requires c κs = room-fewer _ _ _ _ _ (c .before .before .before .before .before .before .before .before .before .before .before .pre) (omega (arith, c .before .before .before .before .before .loop-test .taken)) (c .before .before .before .before .before .before .loop .inv .0) (c .before .before .before .before .before .before .loop .inv .1) (c .before .before .before .before .before .before .loop .inv .2) (c .before .before .before .before .before .before .loop .inv .3)
 
--- src/lib.rt:161:9
 add-k : tie.Need-add-k Inv-loop μ-loop
 add-k c = omega (arith, c .before .before .before .before .before .before .before .before .before .before .before .before .before .before .loop-test .taken)
 
--- src/lib.rt:159:5
 loop-less : tie.Need-loop-less Inv-loop μ-loop
 loop-less c = omega (arith, c .before .before .before .before .before .before .before .before .before .before .before .before .before .before .loop-test .taken)
 
--- src/lib.rt:159:5
 loop-again : tie.Need-loop-again Inv-loop μ-loop
 loop-again c = let inv = c .before .before .before .before .before .before .before .before .before .before .before .before .before .before .before .loop .inv in
     let kept = c .before .before .before .before .before .before .before .before .push-node .kept in (
@@ -57,23 +47,18 @@ loop-again c = let inv = c .before .before .before .before .before .before .befo
       λ st. loop-as _ _ _ (inv .4 st) (c .before .before .before .before .before .before .before .before .before .before .before .before .before .before .loop-test .taken) (rw (plus-one, c .before .before .before .before .before .before .before .before .push-node .ensures st, c .before .before .before .before .before .before .before .before .before .cut .ensures)),
     )
 
--- src/lib.rt:144:1
 same-length : tie.Need-same-length Inv-loop μ-loop
 same-length c = c .before .loop .inv .0
 
--- src/lib.rt:144:1
 same-length-2 : tie.Need-same-length-2 Inv-loop μ-loop
 same-length-2 c = c .before .loop .inv .1
 
--- src/lib.rt:144:1
 same-length-3 : tie.Need-same-length-3 Inv-loop μ-loop
 same-length-3 c = c .before .loop .inv .2
 
--- src/lib.rt:144:1
 same-length-4 : tie.Need-same-length-4 Inv-loop μ-loop
 same-length-4 c = c .before .loop .inv .3
 
--- src/lib.rt:144:1
 returns : tie.Need-returns Inv-loop μ-loop
 unfolding sampleSegment
 returns c = λ st. loop-last _ _ (λ n. withNodes st (c .before .loop .xs) (c .before .loop .ys) (c .before .loop .next) (c .before .loop .prev) (c .before .before .before .before .before .before .args .from + n)) (c .before .loop .inv .4 st) (c .loop-test .left)

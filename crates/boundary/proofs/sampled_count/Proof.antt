@@ -1,19 +1,14 @@
-use Rattle.boundary.specs.Counting.{Added, added-none, added-few, added-all, loop-added, start-few}
-use Rattle.front.specs.Sampling.{loopNodes, sampledCount}
-use Rattle.domain.specs.Outline.{outline, loopStart}
-use lib.ListN.{length}
-use borrow.Author.Needs.{needs}
-use native.Mathlib.Omega.{arith}
-use Prim.Native.Nat.{suc, _-_}
+-- `boundary::sampled_count` meets its contract: the loop's invariant is `Added`: the sum so far, stopped.
 use mathlib.Core.Path.{_≡_, refl}
+use Prim.Native.Nat.{suc, _-_}
+use native.Mathlib.Omega.{arith}
+use borrow.Author.Needs.{needs}
+use lib.ListN.{length}
+use Rattle.domain.specs.Outline.{outline, loopStart}
+use Rattle.front.specs.Sampling.{loopNodes, sampledCount}
+use Rattle.boundary.specs.Counting.{Added, added-none, added-few, added-all, loop-added, start-few}
 use Rattle.boundary.proofs.sampled_count.Statement.{statement}
 use Rattle.boundary.proofs.sampled_count.Tie as tie
-use Rattle.boundary.proofs.sampled_count.Reads as reads
-use Rattle.boundary.proofs.sampled_count.Lts as lts
-use Rattle.boundary.proofs.add_counts.Reads as add-counts-reads
-use Rattle.boundary.proofs.loop_parts.Reads as loop-parts-reads
-use Rattle.boundary.proofs.next_start.Reads as next-start-reads
-use Rattle.domain.proofs.loop_points.Reads as loop-points-reads
 
 abbrev Inv-loop : tie.InvT-loop
 Inv-loop outer holes lens size sum₀ start₀ k₀ sum start k = (start ≡ loopStart lens k) × Added (loopNodes (outline outer holes lens) size) (suc (length lens)) k sum
@@ -21,43 +16,33 @@ Inv-loop outer holes lens size sum₀ start₀ k₀ sum start k = (start ≡ loo
 abbrev μ-loop : tie.MeasureT-loop
 μ-loop outer holes lens size sum₀ start₀ k₀ sum start k = suc (length lens) - k
 
--- src/lib.rt:67:5
 loop-holds : tie.Need-loop-holds Inv-loop μ-loop
 loop-holds c = (refl, added-none _ _)
 
--- src/lib.rt:68:32
 loop-points-requires : tie.Need-loop-points-requires Inv-loop μ-loop
 loop-points-requires c κs = record { shape = c .before .before .before .before .before .pre; within = c .loop-test .taken; at = c .before .loop .inv .0 }
 
--- src/lib.rt:68:13
 loop-parts-requires : tie.Need-loop-parts-requires Inv-loop μ-loop
 loop-parts-requires c κs = search needs
 
--- src/lib.rt:69:31
 add-add-counts : tie.Need-add-add-counts Inv-loop μ-loop
 add-add-counts c = omega (arith, c .loop-parts .ensures)
 
--- src/lib.rt:69:9
 add-counts-requires : tie.Need-add-counts-requires Inv-loop μ-loop
 add-counts-requires c κs = added-few _ (c .before .before .before .loop .inv .1)
 
--- src/lib.rt:70:9
 next-start-requires : tie.Need-next-start-requires Inv-loop μ-loop
 next-start-requires c κs = (c .before .before .before .loop-test .taken, c .before .before .before .before .loop .inv .0, start-few _ (c .before .before .before .before .before .before .before .before .pre) _ (c .before .before .before .loop-test .taken))
 
--- src/lib.rt:71:9
 add-k : tie.Need-add-k Inv-loop μ-loop
 add-k c = omega (arith, c .before .before .before .before .loop-test .taken, c .before .before .before .before .before .before .before .before .before .good .1 .1 .0)
 
--- src/lib.rt:67:5
 loop-less : tie.Need-loop-less Inv-loop μ-loop
 loop-less c = omega (arith, c .before .before .before .before .loop-test .taken)
 
--- src/lib.rt:67:5
 loop-again : tie.Need-loop-again Inv-loop μ-loop
 loop-again c = (c .next-start .ensures, rw (c .before .add-counts .ensures) (loop-added _ _ _ _ (c .before .before .before .before .before .loop .inv .1) (c .before .before .before .before .loop-test .taken) (c .before .before .before .loop-points .ensures) (c .before .before .loop-parts .ensures)))
 
--- src/lib.rt:60:1
 returns : tie.Need-returns Inv-loop μ-loop
 unfolding sampledCount
 returns c = added-all _ (c .before .loop .inv .1) (omega (arith, c .loop-test .left))

@@ -1,48 +1,35 @@
-use Rattle.boundary.specs.LayingLaws.{room-fewer, split-none, split-one, count-plain, count-split}
-use borrow.Author.Tests.{not-true, not-false}
-use mathlib.Core.Path.{_≡_, refl}
+-- `boundary::split_longest` meets its contract: by the test.
+use mathlib.Core.Path.{refl}
 use native.Mathlib.Omega.{arith}
-use borrow.Author.Needs.{needs}
+use borrow.Author.Tests.{not-true, not-false}
+use Rattle.boundary.specs.LayingLaws.{room-fewer, split-none, split-one, count-plain, count-split}
 use Rattle.boundary.proofs.split_longest.Statement.{statement}
 use Rattle.boundary.proofs.split_longest.Tie as tie
-use Rattle.boundary.proofs.split_longest.Reads as reads
-use Rattle.boundary.proofs.split_longest.Lts as lts
-use Rattle.boundary.proofs.midpoint.Reads as midpoint-reads
-use Rattle.boundary.proofs.push_node.Reads as push-node-reads
 
--- src/lib.rt:340:9
 returns : tie.Need-returns
 returns c = (omega (arith, c .before .before .before .before .before .before .pre .0 .2, count-plain (c .before .before .before .before .before .before .args .r) (not-true _ (c .if1 .taken))), λ st. split-none (c .before .before .before .before .before .before .args .r) _ (not-true _ (c .if1 .taken)))
 
--- src/lib.rt:342:9
 midpoint-requires : tie.Need-midpoint-requires
 midpoint-requires c κs = (c .before .before .before .before .before .before .before .before .pre .0 .0, c .before .before .before .before .before .before .before .before .pre .0 .1)
 
--- src/lib.rt:343:5
 push-node-requires : tie.Need-push-node-requires
 push-node-requires c κs = room-fewer _ _ _ _ _ (c .before .before .before .before .before .before .before .before .before .before .before .before .before .pre .1) (omega (arith, c .before .before .before .before .before .before .before .before .before .before .before .before .before .pre .0 .2, count-split (c .before .before .before .before .before .before .before .before .before .before .before .before .before .args .r) (not-false _ (c .before .before .before .before .before .before .before .if1 .left)))) refl refl refl refl
 
--- src/lib.rt:344:5
 add-result : tie.Need-add-result
 add-result c = omega (arith, c .before .before .before .before .before .before .before .before .before .before .before .before .before .before .before .before .before .before .before .before .before .before .pre .0 .2, c .before .before .before .before .before .before .before .before .before .before .before .before .before .before .before .before .before .before .before .before .before .before .pre .0 .0 .few)
 
--- src/lib.rt:333:1
 same-length : tie.Need-same-length
 same-length c = c .before .before .before .before .before .before .before .before .push-node .kept .0
 
--- src/lib.rt:333:1
 same-length-2 : tie.Need-same-length-2
 same-length-2 c = c .before .before .before .before .before .before .before .before .push-node .kept .1 .0
 
--- src/lib.rt:333:1
 same-length-3 : tie.Need-same-length-3
 same-length-3 c = c .before .before .before .before .before .before .before .before .push-node .kept .1 .1 .0
 
--- src/lib.rt:333:1
 same-length-4 : tie.Need-same-length-4
 same-length-4 c = c .before .before .before .before .before .before .before .before .push-node .kept .1 .1 .1 .0
 
--- src/lib.rt:333:1
 returns-2 : tie.Need-returns-2
 returns-2 c = (omega (arith, c .before .before .before .before .before .before .before .before .before .before .before .before .before .before .before .before .before .before .before .before .before .before .pre .0 .2, count-split (c .before .before .before .before .before .before .before .before .before .before .before .before .before .before .before .before .before .before .before .before .before .before .args .r) (not-false _ (c .before .before .before .before .before .before .before .before .before .before .before .before .before .before .before .before .if1 .left))), λ st. split-one (c .before .before .before .before .before .before .before .before .before .before .before .before .before .before .before .before .before .before .before .before .before .before .args .r) _ (not-false _ (c .before .before .before .before .before .before .before .before .before .before .before .before .before .before .before .before .if1 .left)) (c .before .before .before .before .before .before .before .before .before .before .before .before .before .midpoint .ensures) (c .before .before .before .before .before .before .before .before .push-node .ensures st))
 

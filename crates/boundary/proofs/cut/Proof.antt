@@ -12,7 +12,10 @@ to-f64-requires-2 c κs = search needs
 
 returns : tie.Need-returns
 unfolding cut
-returns c = rw (c .before .before .before .before .before .before .before .to-f64 .ensures, c .before .before .before .before .before .before .to-f642 .ensures)
+returns c =
+    let after-to-f642 = c .before .before .before .before .before .before in
+    let after-to-f64 = after-to-f642 .before in
+    rw (after-to-f64 .to-f64 .ensures, after-to-f642 .to-f642 .ensures)
 
 pub cut-spec : {M : Type 1} → statement M
 cut-spec = tie.close (tie.spec to-f64-requires to-f64-requires-2 returns)

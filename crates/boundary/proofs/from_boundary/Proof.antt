@@ -31,37 +31,61 @@ unfolding cleared
 loop-holds c = (progress-none _ _, refl, refl, refl, refl, refl, λ snapshot quads counts none. loop-start _ _ _)
 
 loop-points-requires : tie.Need-loop-points-requires Inv-loop μ-loop
-loop-points-requires c κs = record { shape = outline-shaped _ (c .before .before .before .before .before .before .before .before .before .before .pre .unrefused); within = c .loop-test .taken; at = c .before .loop .inv .0 .at }
+loop-points-requires c κs =
+    let start = c .before .before .before .before .before .before .before .before .before .before in
+    record { shape = outline-shaped _ (start .pre .unrefused); within = c .loop-test .taken; at = c .before .loop .inv .0 .at }
 
 lay-loop-requires : tie.Need-lay-loop-requires Inv-loop μ-loop
-lay-loop-requires c κs = let inv = c .before .before .before .before .before .before .before .loop .inv in
-    progress-room _ _ (inv .0) (c .before .before .before .before .before .before .loop-test .taken) (c .before .before .before .before .before .loop-points .ensures) _ _ _ _ _ (c .before .before .before .before .before .before .before .before .before .before .before .before .before .before .before .before .pre) (inv .1) (inv .2) (inv .3) (inv .4) (inv .5)
+lay-loop-requires c κs =
+    let after-loop-points = c .before .before .before .before .before in
+    let past-test = after-loop-points .before in
+    let at-loop = past-test .before in
+    let start = at-loop .before .before .before .before .before .before .before .before .before in
+    let inv = at-loop .loop .inv in
+    progress-room _ _ (inv .0) (past-test .loop-test .taken) (after-loop-points .loop-points .ensures) _ _ _ _ _ (start .pre) (inv .1) (inv .2) (inv .3) (inv .4) (inv .5)
 
 next-start-requires : tie.Need-next-start-requires Inv-loop μ-loop
-next-start-requires c κs = (c .before .before .before .before .before .before .before .before .before .before .before .before .before .before .before .before .before .loop-test .taken, c .before .before .before .before .before .before .before .before .before .before .before .before .before .before .before .before .before .before .loop .inv .0 .at, start-few _ (outline-shaped _ (c .before .before .before .before .before .before .before .before .before .before .before .before .before .before .before .before .before .before .before .before .before .before .before .before .before .before .before .pre .unrefused)) _ (c .before .before .before .before .before .before .before .before .before .before .before .before .before .before .before .before .before .loop-test .taken))
+next-start-requires c κs =
+    let past-test = c .before .before .before .before .before .before .before .before .before .before .before .before .before .before .before .before .before in
+    let at-loop = past-test .before in
+    let start = at-loop .before .before .before .before .before .before .before .before .before in
+    (past-test .loop-test .taken, at-loop .loop .inv .0 .at, start-few _ (outline-shaped _ (start .pre .unrefused)) _ (past-test .loop-test .taken))
 
 add-k : tie.Need-add-k Inv-loop μ-loop
-add-k c = omega (arith, c .before .before .before .before .before .before .before .before .before .before .before .before .before .before .before .before .before .before .loop-test .taken, c .before .before .before .before .before .before .before .before .before .before .before .before .before .before .before .before .before .before .before .before .before .before .before .before .before .before .before .before .good .1 .1 .0)
+add-k c =
+    let past-test = c .before .before .before .before .before .before .before .before .before .before .before .before .before .before .before .before .before .before in
+    let start = past-test .before .before .before .before .before .before .before .before .before .before in
+    omega (arith, past-test .loop-test .taken, start .good .1 .1 .0)
 
 loop-less : tie.Need-loop-less Inv-loop μ-loop
-loop-less c = omega (arith, c .before .before .before .before .before .before .before .before .before .before .before .before .before .before .before .before .before .before .loop-test .taken)
+loop-less c =
+    let past-test = c .before .before .before .before .before .before .before .before .before .before .before .before .before .before .before .before .before .before in
+    omega (arith, past-test .loop-test .taken)
 
 loop-again : tie.Need-loop-again Inv-loop μ-loop
-loop-again c = let inv = c .before .before .before .before .before .before .before .before .before .before .before .before .before .before .before .before .before .before .before .loop .inv in
-    let kept = c .before .before .before .before .before .before .before .before .before .before .before .lay-loop .kept in (
-      progress-next _ _ (inv .0) (c .before .before .before .before .before .before .before .before .before .before .before .before .before .before .before .before .before .before .loop-test .taken) (c .before .before .before .before .before .before .before .before .before .before .before .before .before .before .before .before .before .loop-points .ensures) (c .next-start .ensures) (c .before .before .before .before .before .before .before .before .before .before .before .lay-loop .ensures .0),
+loop-again c =
+    let after-lay-loop = c .before .before .before .before .before .before .before .before .before .before .before in
+    let after-loop-points = after-lay-loop .before .before .before .before .before .before in
+    let past-test = after-loop-points .before in
+    let at-loop = past-test .before in
+    let start = at-loop .before .before .before .before .before .before .before .before .before in
+    let inv = at-loop .loop .inv in
+    let kept = after-lay-loop .lay-loop .kept in (
+      progress-next _ _ (inv .0) (past-test .loop-test .taken) (after-loop-points .loop-points .ensures) (c .next-start .ensures) (after-lay-loop .lay-loop .ensures .0),
       kept .1 .1 .1 .0 ∙ inv .1,
       kept .1 .1 .1 .1 .0 ∙ inv .2,
       kept .1 .1 .1 .1 .1 .0 ∙ inv .3,
       kept .1 .1 .1 .1 .1 .1 .0 ∙ inv .4,
       kept .1 .1 .1 .1 .1 .1 .1 .0 ∙ inv .5,
       λ snapshot quads counts none.
-          turn-laid _ _ _ (c .before .before .before .before .before .before .before .before .before .before .before .before .before .before .before .before .before .before .before .before .before .before .before .before .before .before .before .before .pre .unrefused) none (inv .6 snapshot quads counts none) (c .before .before .before .before .before .before .before .before .before .before .before .before .before .before .before .before .before .before .loop-test .taken) (c .before .before .before .before .before .before .before .before .before .before .before .before .before .before .before .before .before .loop-points .ensures)
-          (c .before .before .before .before .before .before .before .before .before .before .before .lay-loop .ensures .1 snapshot quads),
+          turn-laid _ _ _ (start .pre .unrefused) none (inv .6 snapshot quads counts none) (past-test .loop-test .taken) (after-loop-points .loop-points .ensures)
+          (after-lay-loop .lay-loop .ensures .1 snapshot quads),
     )
 
 cast-t26 : tie.Need-cast-t26 Inv-loop μ-loop
-cast-t26 c = omega (arith, progress-few _ _ (c .before .loop .inv .0), c .before .before .before .before .before .before .before .before .before .before .pre .nodes .few)
+cast-t26 c =
+    let start = c .before .before .before .before .before .before .before .before .before .before in
+    omega (arith, progress-few _ _ (c .before .loop .inv .0), start .pre .nodes .few)
 
 same-length : tie.Need-same-length Inv-loop μ-loop
 same-length c = c .before .loop .inv .1

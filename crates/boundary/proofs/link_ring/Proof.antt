@@ -33,28 +33,50 @@ after-requires : tie.Need-after-requires Inv-loop μ-loop
 after-requires c κs = c .before .loop-test .taken
 
 ring-at-requires-2 : tie.Need-ring-at-requires-2 Inv-loop μ-loop
-ring-at-requires-2 c κs = (c .before .before .before .before .before .before .before .before .pre .0, rw (← c .before .before .before .loop .inv .0) (c .after .ensures .1))
+ring-at-requires-2 c κs =
+    let at-loop = c .before .before .before in
+    let start = at-loop .before .before .before .before .before in
+    (start .pre .0, rw (← at-loop .loop .inv .0) (c .after .ensures .1))
 
 add-link : tie.Need-add-link Inv-loop μ-loop
-add-link c = omega (arith, c .before .before .before .before .before .before .before .before .before .before .before .before .pre .3, c .before .before .before .before .before .before .before .loop .inv .0, c .before .before .before .before .before .before .loop-test .taken)
+add-link c =
+    let past-test = c .before .before .before .before .before .before in
+    let at-loop = past-test .before in
+    let start = at-loop .before .before .before .before .before in
+    omega (arith, start .pre .3, at-loop .loop .inv .0, past-test .loop-test .taken)
 
 link-requires : tie.Need-link-requires Inv-loop μ-loop
-link-requires c κs = (omega (arith, c .before .before .before .before .before .ring-at .ensures .1, c .before .before .before .before .before .before .before .before .before .before .before .before .pre .1, c .before .before .before .before .before .before .before .loop .inv .1), omega (arith, c .before .before .before .ring-at2 .ensures .1, c .before .before .before .before .before .before .before .before .before .before .before .before .pre .2, c .before .before .before .before .before .before .before .loop .inv .2), omega (arith, c .before .before .before .before .before .before .before .before .before .before .before .before .pre .3, c .before .before .before .before .before .before .before .loop .inv .0, c .before .before .before .before .before .before .loop-test .taken, c .before .before .before .before .before .before .before .loop .inv .3))
+link-requires c κs =
+    let after-ring-at2 = c .before .before .before in
+    let after-ring-at = after-ring-at2 .before .before in
+    let past-test = after-ring-at .before in
+    let at-loop = past-test .before in
+    let start = at-loop .before .before .before .before .before in
+    (omega (arith, after-ring-at .ring-at .ensures .1, after-ring-at2 .ring-at2 .ensures .1, start .pre .1, at-loop .loop .inv .1), omega (arith, after-ring-at .ring-at .ensures .1, after-ring-at2 .ring-at2 .ensures .1, start .pre .2, at-loop .loop .inv .2), omega (arith, start .pre .3, at-loop .loop .inv .0, past-test .loop-test .taken, at-loop .loop .inv .3))
 
 add-i : tie.Need-add-i Inv-loop μ-loop
 add-i c = omega (arith, c .before .before .before .before .before .before .before .before .before .before .before .before .before .loop-test .taken)
 
 loop-less : tie.Need-loop-less Inv-loop μ-loop
-loop-less c = omega (arith, c .before .before .before .before .before .before .before .before .before .before .before .before .before .loop-test .taken)
+loop-less c =
+    let past-test = c .before .before .before .before .before .before .before .before .before .before .before .before .before in
+    omega (arith, past-test .loop-test .taken)
 
 loop-again : tie.Need-loop-again Inv-loop μ-loop
-loop-again c = let inv = c .before .before .before .before .before .before .before .before .before .before .before .before .before .before .loop .inv in
-    let kept = c .before .before .before .before .before .before .link .kept in (
+loop-again c =
+    let after-link = c .before .before .before .before .before .before in
+    let after-ring-at2 = after-link .before .before .before .before in
+    let after-after = after-ring-at2 .before in
+    let after-ring-at = after-after .before in
+    let past-test = after-ring-at .before in
+    let at-loop = past-test .before in
+    let inv = at-loop .loop .inv in
+    let kept = after-link .link .kept in (
       inv .0,
       kept .0 ∙ inv .1,
       kept .1 .0 ∙ inv .2,
       kept .1 .1 .0 ∙ inv .3,
-      λ st. loop-as _ _ _ (inv .4 st) (c .before .before .before .before .before .before .before .before .before .before .before .before .before .loop-test .taken) (rw (plus-one, c .before .before .before .before .before .before .link .ensures st, c .before .before .before .before .before .before .before .before .before .before .before .before .ring-at .ensures .0, c .before .before .before .before .before .before .before .before .before .before .ring-at2 .ensures .0, c .before .before .before .before .before .before .before .before .before .before .before .after .ensures .0, inv .0)),
+      λ st. loop-as _ _ _ (inv .4 st) (past-test .loop-test .taken) (rw (plus-one, after-link .link .ensures st, after-ring-at .ring-at .ensures .0, after-ring-at2 .ring-at2 .ensures .0, after-after .after .ensures .0, inv .0)),
     )
 
 same-length : tie.Need-same-length Inv-loop μ-loop
@@ -68,7 +90,9 @@ same-length-3 c = c .before .loop .inv .3
 
 returns : tie.Need-returns Inv-loop μ-loop
 unfolding linkRing
-returns c = λ st. rw (← c .before .loop .inv .0) (loop-last _ _ (λ n. withEdges st (c .before .loop .next) (c .before .loop .prev) (c .before .loop .edges) (c .before .before .before .before .before .before .args .e + n)) (c .before .loop .inv .4 st) (c .loop-test .left))
+returns c =
+    let start = c .before .before .before .before .before .before in
+    λ st. rw (← c .before .loop .inv .0) (loop-last _ _ (λ n. withEdges st (c .before .loop .next) (c .before .loop .prev) (c .before .loop .edges) (start .args .e + n)) (c .before .loop .inv .4 st) (c .loop-test .left))
 
 pub link-ring-spec : {M : Type 1} → statement M
 link-ring-spec =

@@ -29,16 +29,22 @@ loop-less : tie.Need-loop-less Inv-loop μ-loop
 loop-less c = omega (arith, c .before .before .loop-test .taken)
 
 loop-again : tie.Need-loop-again Inv-loop μ-loop
-loop-again c = longest-moves _ _ _ _ _ (c .before .before .before .loop .inv) (c .before .before .loop-test .taken) (c .before .edge-length2 .ensures) (not-true _ (c .if1 .taken))
+loop-again c =
+    let at-loop = c .before .before .before in
+    longest-moves _ _ _ _ _ (at-loop .loop .inv) (c .before .before .loop-test .taken) (c .before .edge-length2 .ensures) (not-true _ (c .if1 .taken))
 
 loop-less-2 : tie.Need-loop-less-2 Inv-loop μ-loop
 loop-less-2 c = omega (arith, c .before .before .loop-test .taken)
 
 loop-again-2 : tie.Need-loop-again-2 Inv-loop μ-loop
-loop-again-2 c = longest-stays _ _ _ _ _ (c .before .before .before .loop .inv) (c .before .before .loop-test .taken) (c .before .edge-length2 .ensures) (not-false _ (c .if1 .left))
+loop-again-2 c =
+    let at-loop = c .before .before .before in
+    longest-stays _ _ _ _ _ (at-loop .loop .inv) (c .before .before .loop-test .taken) (c .before .edge-length2 .ensures) (not-false _ (c .if1 .left))
 
 returns : tie.Need-returns Inv-loop μ-loop
-returns c = let all = longest-all _ _ _ _ _ (c .before .loop .inv) (c .loop-test .left) in (all, rw all (longest-in _ _ _ _ _ (c .before .before .before .before .before .pre .some)))
+returns c =
+    let start = c .before .before .before .before .before in
+    let all = longest-all _ _ _ _ _ (c .before .loop .inv) (c .loop-test .left) in (all, rw all (longest-in _ _ _ _ _ (start .pre .some)))
 
 pub longest-edge-spec : {M : Type 1} → statement M
 longest-edge-spec =

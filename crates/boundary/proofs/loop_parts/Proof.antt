@@ -42,8 +42,13 @@ loop-less c = omega arith
 
 loop-again : tie.Need-loop-again Inv-loop μ-loop
 unfolding parts
-loop-again c = let parts-are = c .before .parts-of .ensures ∙ ap (partsOf _) (c .before .before .distance .ensures ∙ ap₂ distance (c .before .before .before .before .point-at .ensures) (c .before .before .before .point-after .ensures)) in
-    (c .before .before .before .before .before .before .loop .inv .0, rw (c .add-counts .ensures) (added-next _ _ (c .before .before .before .before .before .before .loop .inv .1) (c .before .before .before .before .before .loop-test .taken) (ap (λ n. min n most) parts-are)))
+loop-again c =
+    let after-point-after = c .before .before .before in
+    let after-point-at = after-point-after .before in
+    let past-test = after-point-at .before in
+    let at-loop = past-test .before in
+    let parts-are = c .before .parts-of .ensures ∙ ap (partsOf _) (c .before .before .distance .ensures ∙ ap₂ distance (after-point-at .point-at .ensures) (after-point-after .point-after .ensures)) in
+    (at-loop .loop .inv .0, rw (c .add-counts .ensures) (added-next _ _ (at-loop .loop .inv .1) (past-test .loop-test .taken) (ap (λ n. min n most) parts-are)))
 
 returns : tie.Need-returns Inv-loop μ-loop
 unfolding loopParts

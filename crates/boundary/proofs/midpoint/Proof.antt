@@ -34,7 +34,13 @@ node-at-requires-2 c κs = search needs
 
 returns : tie.Need-returns
 unfolding midpoint
-returns c = rw (c .before .before .before .before .before .before .before .before .node-at .ensures, c .before .before .before .before .node-at2 .ensures, c .before .before .before .before .before .before .before .before .before .sampled-at .ensures .0, c .before .before .before .before .before .sampled-at2 .ensures .0, c .before .before .before .before .before .before .after .ensures .0)
+returns c =
+    let after-node-at2 = c .before .before .before .before in
+    let after-sampled-at2 = after-node-at2 .before in
+    let after-after = after-sampled-at2 .before in
+    let after-node-at = after-after .before .before in
+    let after-sampled-at = after-node-at .before in
+    rw (after-node-at .node-at .ensures, after-node-at2 .node-at2 .ensures, after-sampled-at .sampled-at .ensures .0, after-sampled-at2 .sampled-at2 .ensures .0, after-after .after .ensures .0)
 
 pub midpoint-spec : {M : Type 1} → statement M
 midpoint-spec =

@@ -37,32 +37,60 @@ parts-of-requires : tie.Need-parts-of-requires Inv-loop μ-loop
 parts-of-requires c κs = search needs
 
 sample-segment-requires : tie.Need-sample-segment-requires Inv-loop μ-loop
-sample-segment-requires c κs = let inv = c .before .before .before .before .before .before .before .before .before .loop .inv in
-    let are = parts-are _ _ _ (c .before .before .before .before .parts-of .ensures) (c .before .before .before .before .before .distance .ensures) (c .before .before .before .before .before .before .before .point-at .ensures) (c .before .before .before .before .before .before .point-after .ensures) in
-    room-fewer _ _ _ _ _ (c .before .before .before .before .before .before .before .before .before .before .before .before .before .before .before .pre) (sampling-fits _ _ (inv .1) (rw (← inv .0) (c .before .before .before .before .before .before .before .before .loop-test .taken)) are) (inv .2) (inv .3) (inv .4) (inv .5)
+sample-segment-requires c κs =
+    let after-parts-of = c .before .before .before .before in
+    let after-distance = after-parts-of .before in
+    let after-point-after = after-distance .before in
+    let after-point-at = after-point-after .before in
+    let past-test = after-point-at .before in
+    let at-loop = past-test .before in
+    let start = at-loop .before .before .before .before .before .before in
+    let inv = at-loop .loop .inv in
+    let are = parts-are _ _ _ (after-parts-of .parts-of .ensures) (after-distance .distance .ensures) (after-point-at .point-at .ensures) (after-point-after .point-after .ensures) in
+    room-fewer _ _ _ _ _ (start .pre) (sampling-fits _ _ (inv .1) (rw (← inv .0) (past-test .loop-test .taken)) are) (inv .2) (inv .3) (inv .4) (inv .5)
 
 add-nodes : tie.Need-add-nodes Inv-loop μ-loop
-add-nodes c = let inv = c .before .before .before .before .before .before .before .before .before .before .before .before .before .before .before .before .before .before .loop .inv in
-    let are = parts-are _ _ _ (c .before .before .before .before .before .before .before .before .before .before .before .before .before .parts-of .ensures) (c .before .before .before .before .before .before .before .before .before .before .before .before .before .before .distance .ensures) (c .before .before .before .before .before .before .before .before .before .before .before .before .before .before .before .before .point-at .ensures) (c .before .before .before .before .before .before .before .before .before .before .before .before .before .before .before .point-after .ensures) in
-    omega (arith, sampling-fits _ _ (inv .1) (rw (← inv .0) (c .before .before .before .before .before .before .before .before .before .before .before .before .before .before .before .before .before .loop-test .taken)) are, c .before .before .before .before .before .before .before .before .before .before .before .before .before .before .before .before .before .before .before .before .before .before .before .before .pre .few)
+add-nodes c =
+    let after-parts-of = c .before .before .before .before .before .before .before .before .before .before .before .before .before in
+    let after-distance = after-parts-of .before in
+    let after-point-after = after-distance .before in
+    let after-point-at = after-point-after .before in
+    let past-test = after-point-at .before in
+    let at-loop = past-test .before in
+    let start = at-loop .before .before .before .before .before .before in
+    let inv = at-loop .loop .inv in
+    let are = parts-are _ _ _ (after-parts-of .parts-of .ensures) (after-distance .distance .ensures) (after-point-at .point-at .ensures) (after-point-after .point-after .ensures) in
+    omega (arith, sampling-fits _ _ (inv .1) (rw (← inv .0) (past-test .loop-test .taken)) are, start .pre .few)
 
 add-i : tie.Need-add-i Inv-loop μ-loop
-add-i c = omega (arith, c .before .before .before .before .before .before .before .before .before .before .before .before .before .before .before .before .before .loop-test .taken)
+add-i c =
+    let past-test = c .before .before .before .before .before .before .before .before .before .before .before .before .before .before .before .before .before in
+    omega (arith, past-test .loop-test .taken)
 
 loop-less : tie.Need-loop-less Inv-loop μ-loop
-loop-less c = omega (arith, c .before .before .before .before .before .before .before .before .before .before .before .before .before .before .before .before .before .loop-test .taken)
+loop-less c =
+    let past-test = c .before .before .before .before .before .before .before .before .before .before .before .before .before .before .before .before .before in
+    omega (arith, past-test .loop-test .taken)
 
 loop-again : tie.Need-loop-again Inv-loop μ-loop
-loop-again c = let inv = c .before .before .before .before .before .before .before .before .before .before .before .before .before .before .before .before .before .before .loop .inv in
-    let kept = c .before .before .before .before .before .before .before .before .sample-segment .kept in
-    let are = parts-are _ _ _ (c .before .before .before .before .before .before .before .before .before .before .before .before .before .parts-of .ensures) (c .before .before .before .before .before .before .before .before .before .before .before .before .before .before .distance .ensures) (c .before .before .before .before .before .before .before .before .before .before .before .before .before .before .before .before .point-at .ensures) (c .before .before .before .before .before .before .before .before .before .before .before .before .before .before .before .point-after .ensures) in (
+loop-again c =
+    let after-sample-segment = c .before .before .before .before .before .before .before .before in
+    let after-parts-of = after-sample-segment .before .before .before .before .before in
+    let after-distance = after-parts-of .before in
+    let after-point-after = after-distance .before in
+    let after-point-at = after-point-after .before in
+    let past-test = after-point-at .before in
+    let at-loop = past-test .before in
+    let inv = at-loop .loop .inv in
+    let kept = after-sample-segment .sample-segment .kept in
+    let are = parts-are _ _ _ (after-parts-of .parts-of .ensures) (after-distance .distance .ensures) (after-point-at .point-at .ensures) (after-point-after .point-after .ensures) in (
       inv .0,
-      sampling-next _ _ (inv .1) (rw (← inv .0) (c .before .before .before .before .before .before .before .before .before .before .before .before .before .before .before .before .before .loop-test .taken)) are,
+      sampling-next _ _ (inv .1) (rw (← inv .0) (past-test .loop-test .taken)) are,
       kept .1 .1 .1 .0 ∙ inv .2,
       kept .1 .1 .1 .1 .0 ∙ inv .3,
       kept .1 .1 .1 .1 .1 .0 ∙ inv .4,
       kept .1 .1 .1 .1 .1 .1 .0 ∙ inv .5,
-      λ st. loop-as _ _ _ (inv .6 st) (c .before .before .before .before .before .before .before .before .before .before .before .before .before .before .before .before .before .loop-test .taken) (rw (c .before .before .before .before .before .before .before .before .sample-segment .ensures st, c .before .before .before .before .before .before .before .before .before .before .before .before .before .before .before .before .point-at .ensures, c .before .before .before .before .before .before .before .before .before .before .before .before .before .before .before .point-after .ensures, ← are)),
+      λ st. loop-as _ _ _ (inv .6 st) (past-test .loop-test .taken) (rw (after-sample-segment .sample-segment .ensures st, after-point-at .point-at .ensures, after-point-after .point-after .ensures, ← are)),
     )
 
 same-length : tie.Need-same-length Inv-loop μ-loop

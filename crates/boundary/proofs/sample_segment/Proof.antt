@@ -23,28 +23,47 @@ loop-holds : tie.Need-loop-holds Inv-loop μ-loop
 loop-holds c = (refl, refl, refl, refl, λ st. rw plus-none (loop-start _ _ _))
 
 add-push-node : tie.Need-add-push-node Inv-loop μ-loop
-add-push-node c = omega (arith, c .before .before .before .before .before .before .before .before .before .before .pre .few, c .before .before .before .before .loop-test .taken)
+add-push-node c =
+    let past-test = c .before .before .before .before in
+    let start = past-test .before .before .before .before .before .before in
+    omega (arith, start .pre .few, past-test .loop-test .taken)
 
 cut-requires : tie.Need-cut-requires Inv-loop μ-loop
-cut-requires c κs = (omega (arith, c .before .before .before .before .before .before .before .before .before .before .pre .few), omega (arith, c .before .before .before .before .before .before .before .before .before .before .pre .few, c .before .before .before .before .loop-test .taken))
+cut-requires c κs =
+    let past-test = c .before .before .before .before in
+    let start = past-test .before .before .before .before .before .before in
+    (omega (arith, start .pre .few), omega (arith, start .pre .few, past-test .loop-test .taken))
 
 push-node-requires : tie.Need-push-node-requires Inv-loop μ-loop
-push-node-requires c κs = room-fewer _ _ _ _ _ (c .before .before .before .before .before .before .before .before .before .before .before .pre) (omega (arith, c .before .before .before .before .before .loop-test .taken)) (c .before .before .before .before .before .before .loop .inv .0) (c .before .before .before .before .before .before .loop .inv .1) (c .before .before .before .before .before .before .loop .inv .2) (c .before .before .before .before .before .before .loop .inv .3)
+push-node-requires c κs =
+    let past-test = c .before .before .before .before .before in
+    let at-loop = past-test .before in
+    let start = at-loop .before .before .before .before .before in
+    room-fewer _ _ _ _ _ (start .pre) (omega (arith, past-test .loop-test .taken)) (at-loop .loop .inv .0) (at-loop .loop .inv .1) (at-loop .loop .inv .2) (at-loop .loop .inv .3)
 
 add-k : tie.Need-add-k Inv-loop μ-loop
-add-k c = omega (arith, c .before .before .before .before .before .before .before .before .before .before .before .before .before .before .loop-test .taken)
+add-k c =
+    let past-test = c .before .before .before .before .before .before .before .before .before .before .before .before .before .before in
+    omega (arith, past-test .loop-test .taken)
 
 loop-less : tie.Need-loop-less Inv-loop μ-loop
-loop-less c = omega (arith, c .before .before .before .before .before .before .before .before .before .before .before .before .before .before .loop-test .taken)
+loop-less c =
+    let past-test = c .before .before .before .before .before .before .before .before .before .before .before .before .before .before in
+    omega (arith, past-test .loop-test .taken)
 
 loop-again : tie.Need-loop-again Inv-loop μ-loop
-loop-again c = let inv = c .before .before .before .before .before .before .before .before .before .before .before .before .before .before .before .loop .inv in
-    let kept = c .before .before .before .before .before .before .before .before .push-node .kept in (
+loop-again c =
+    let after-push-node = c .before .before .before .before .before .before .before .before in
+    let after-cut = after-push-node .before in
+    let past-test = after-cut .before .before .before .before .before in
+    let at-loop = past-test .before in
+    let inv = at-loop .loop .inv in
+    let kept = after-push-node .push-node .kept in (
       kept .0 ∙ inv .0,
       kept .1 .0 ∙ inv .1,
       kept .1 .1 .0 ∙ inv .2,
       kept .1 .1 .1 .0 ∙ inv .3,
-      λ st. loop-as _ _ _ (inv .4 st) (c .before .before .before .before .before .before .before .before .before .before .before .before .before .before .loop-test .taken) (rw (plus-one, c .before .before .before .before .before .before .before .before .push-node .ensures st, c .before .before .before .before .before .before .before .before .before .cut .ensures)),
+      λ st. loop-as _ _ _ (inv .4 st) (past-test .loop-test .taken) (rw (plus-one, after-push-node .push-node .ensures st, after-cut .cut .ensures)),
     )
 
 same-length : tie.Need-same-length Inv-loop μ-loop
@@ -61,7 +80,9 @@ same-length-4 c = c .before .loop .inv .3
 
 returns : tie.Need-returns Inv-loop μ-loop
 unfolding sampleSegment
-returns c = λ st. loop-last _ _ (λ n. withNodes st (c .before .loop .xs) (c .before .loop .ys) (c .before .loop .next) (c .before .loop .prev) (c .before .before .before .before .before .before .args .from + n)) (c .before .loop .inv .4 st) (c .loop-test .left)
+returns c =
+    let start = c .before .before .before .before .before .before in
+    λ st. loop-last _ _ (λ n. withNodes st (c .before .loop .xs) (c .before .loop .ys) (c .before .loop .next) (c .before .loop .prev) (start .args .from + n)) (c .before .loop .inv .4 st) (c .loop-test .left)
 
 pub sample-segment-spec : {M : Type 1} → statement M
 sample-segment-spec =

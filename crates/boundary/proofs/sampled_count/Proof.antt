@@ -20,7 +20,9 @@ loop-holds : tie.Need-loop-holds Inv-loop μ-loop
 loop-holds c = (refl, added-none _ _)
 
 loop-points-requires : tie.Need-loop-points-requires Inv-loop μ-loop
-loop-points-requires c κs = record { shape = c .before .before .before .before .before .pre; within = c .loop-test .taken; at = c .before .loop .inv .0 }
+loop-points-requires c κs =
+    let start = c .before .before .before .before .before in
+    record { shape = start .pre; within = c .loop-test .taken; at = c .before .loop .inv .0 }
 
 loop-parts-requires : tie.Need-loop-parts-requires Inv-loop μ-loop
 loop-parts-requires c κs = search needs
@@ -32,16 +34,27 @@ add-counts-requires : tie.Need-add-counts-requires Inv-loop μ-loop
 add-counts-requires c κs = added-few _ (c .before .before .before .loop .inv .1)
 
 next-start-requires : tie.Need-next-start-requires Inv-loop μ-loop
-next-start-requires c κs = (c .before .before .before .loop-test .taken, c .before .before .before .before .loop .inv .0, start-few _ (c .before .before .before .before .before .before .before .before .pre) _ (c .before .before .before .loop-test .taken))
+next-start-requires c κs =
+    let past-test = c .before .before .before in
+    let at-loop = past-test .before in
+    let start = at-loop .before .before .before .before in
+    (past-test .loop-test .taken, at-loop .loop .inv .0, start-few _ (start .pre) _ (past-test .loop-test .taken))
 
 add-k : tie.Need-add-k Inv-loop μ-loop
-add-k c = omega (arith, c .before .before .before .before .loop-test .taken, c .before .before .before .before .before .before .before .before .before .good .1 .1 .0)
+add-k c =
+    let past-test = c .before .before .before .before in
+    let start = past-test .before .before .before .before .before in
+    omega (arith, past-test .loop-test .taken, start .good .1 .1 .0)
 
 loop-less : tie.Need-loop-less Inv-loop μ-loop
 loop-less c = omega (arith, c .before .before .before .before .loop-test .taken)
 
 loop-again : tie.Need-loop-again Inv-loop μ-loop
-loop-again c = (c .next-start .ensures, rw (c .before .add-counts .ensures) (loop-added _ _ _ _ (c .before .before .before .before .before .loop .inv .1) (c .before .before .before .before .loop-test .taken) (c .before .before .before .loop-points .ensures) (c .before .before .loop-parts .ensures)))
+loop-again c =
+    let after-loop-points = c .before .before .before in
+    let past-test = after-loop-points .before in
+    let at-loop = past-test .before in
+    (c .next-start .ensures, rw (c .before .add-counts .ensures) (loop-added _ _ _ _ (at-loop .loop .inv .1) (past-test .loop-test .taken) (after-loop-points .loop-points .ensures) (c .before .before .loop-parts .ensures)))
 
 returns : tie.Need-returns Inv-loop μ-loop
 unfolding sampledCount

@@ -30,7 +30,9 @@ add-node-at-2 : tie.Need-add-node-at-2 Inv-loop μ-loop
 add-node-at-2 c = omega (arith, c .before .before .before .before .before .before .pre .few, c .after .ensures .1)
 
 node-at-requires-2 : tie.Need-node-at-requires-2 Inv-loop μ-loop
-node-at-requires-2 c κs = (omega (arith, c .before .before .before .before .before .before .pre .in-xs, c .after .ensures .1), omega (arith, c .before .before .before .before .before .before .pre .in-ys, c .after .ensures .1))
+node-at-requires-2 c κs =
+    let start = c .before .before .before .before .before .before in
+    (omega (arith, start .pre .in-xs, c .after .ensures .1), omega (arith, start .pre .in-ys, c .after .ensures .1))
 
 add-i : tie.Need-add-i Inv-loop μ-loop
 add-i c = omega arith
@@ -40,7 +42,13 @@ loop-less c = omega arith
 
 loop-again : tie.Need-loop-again Inv-loop μ-loop
 unfolding areaTerm
-loop-again c = rw (c .before .before .before .before .before .before .node-at .ensures, c .before .before .before .before .node-at2 .ensures, c .before .before .before .before .before .after .ensures .0) (loop-next _ _ (c .before .before .before .before .before .before .before .before .loop .inv) (c .before .before .before .before .before .before .before .loop-test .taken))
+loop-again c =
+    let after-node-at2 = c .before .before .before .before in
+    let after-after = after-node-at2 .before in
+    let after-node-at = after-after .before in
+    let past-test = after-node-at .before in
+    let at-loop = past-test .before in
+    rw (after-node-at .node-at .ensures, after-node-at2 .node-at2 .ensures, after-after .after .ensures .0) (loop-next _ _ (at-loop .loop .inv) (past-test .loop-test .taken))
 
 returns : tie.Need-returns Inv-loop μ-loop
 unfolding signedArea

@@ -7,16 +7,25 @@ use Rattle.boundary.proofs.split_longest.Statement.{statement}
 use Rattle.boundary.proofs.split_longest.Tie as tie
 
 returns : tie.Need-returns
-returns c = (omega (arith, c .before .before .before .before .before .before .pre .0 .2, count-plain (c .before .before .before .before .before .before .args .r) (not-true _ (c .if1 .taken))), λ st. split-none (c .before .before .before .before .before .before .args .r) _ (not-true _ (c .if1 .taken)))
+returns c =
+    let start = c .before .before .before .before .before .before in
+    (omega (arith, start .pre .0 .2, count-plain (start .args .r) (not-true _ (c .if1 .taken))), λ st. split-none (start .args .r) _ (not-true _ (c .if1 .taken)))
 
 midpoint-requires : tie.Need-midpoint-requires
-midpoint-requires c κs = (c .before .before .before .before .before .before .before .before .pre .0 .0, c .before .before .before .before .before .before .before .before .pre .0 .1)
+midpoint-requires c κs =
+    let start = c .before .before .before .before .before .before .before .before in
+    (start .pre .0 .0, start .pre .0 .1)
 
 push-node-requires : tie.Need-push-node-requires
-push-node-requires c κs = room-fewer _ _ _ _ _ (c .before .before .before .before .before .before .before .before .before .before .before .before .before .pre .1) (omega (arith, c .before .before .before .before .before .before .before .before .before .before .before .before .before .pre .0 .2, count-split (c .before .before .before .before .before .before .before .before .before .before .before .before .before .args .r) (not-false _ (c .before .before .before .before .before .before .before .if1 .left)))) refl refl refl refl
+push-node-requires c κs =
+    let after-if1 = c .before .before .before .before .before .before .before in
+    let start = after-if1 .before .before .before .before .before .before in
+    room-fewer _ _ _ _ _ (start .pre .1) (omega (arith, start .pre .0 .2, count-split (start .args .r) (not-false _ (after-if1 .if1 .left)))) refl refl refl refl
 
 add-result : tie.Need-add-result
-add-result c = omega (arith, c .before .before .before .before .before .before .before .before .before .before .before .before .before .before .before .before .before .before .before .before .before .before .pre .0 .2, c .before .before .before .before .before .before .before .before .before .before .before .before .before .before .before .before .before .before .before .before .before .before .pre .0 .0 .few)
+add-result c =
+    let start = c .before .before .before .before .before .before .before .before .before .before .before .before .before .before .before .before .before .before .before .before .before .before in
+    omega (arith, start .pre .0 .2, start .pre .0 .0 .few)
 
 same-length : tie.Need-same-length
 same-length c = c .before .before .before .before .before .before .before .before .push-node .kept .0
@@ -31,7 +40,12 @@ same-length-4 : tie.Need-same-length-4
 same-length-4 c = c .before .before .before .before .before .before .before .before .push-node .kept .1 .1 .1 .0
 
 returns-2 : tie.Need-returns-2
-returns-2 c = (omega (arith, c .before .before .before .before .before .before .before .before .before .before .before .before .before .before .before .before .before .before .before .before .before .before .pre .0 .2, count-split (c .before .before .before .before .before .before .before .before .before .before .before .before .before .before .before .before .before .before .before .before .before .before .args .r) (not-false _ (c .before .before .before .before .before .before .before .before .before .before .before .before .before .before .before .before .if1 .left))), λ st. split-one (c .before .before .before .before .before .before .before .before .before .before .before .before .before .before .before .before .before .before .before .before .before .before .args .r) _ (not-false _ (c .before .before .before .before .before .before .before .before .before .before .before .before .before .before .before .before .if1 .left)) (c .before .before .before .before .before .before .before .before .before .before .before .before .before .midpoint .ensures) (c .before .before .before .before .before .before .before .before .push-node .ensures st))
+returns-2 c =
+    let after-push-node = c .before .before .before .before .before .before .before .before in
+    let after-midpoint = after-push-node .before .before .before .before .before in
+    let after-if1 = after-midpoint .before .before .before in
+    let start = after-if1 .before .before .before .before .before .before in
+    (omega (arith, start .pre .0 .2, count-split (start .args .r) (not-false _ (after-if1 .if1 .left))), λ st. split-one (start .args .r) _ (not-false _ (after-if1 .if1 .left)) (after-midpoint .midpoint .ensures) (after-push-node .push-node .ensures st))
 
 pub split-longest-spec : {M : Type 1} → statement M
 split-longest-spec =

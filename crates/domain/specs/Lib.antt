@@ -1,4 +1,5 @@
 pub mod Outline
+pub mod OutlineLaws
 pub mod Queries
 pub mod Search
 pub mod Table

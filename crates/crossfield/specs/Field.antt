@@ -1,5 +1,6 @@
 -- The field of an outline, a size and a number of sweeps, in the lists lent, with the refusals 1 to 9. Definitions only.
 use mathlib.Core.Bool.{Bool, cond}
+use mathlib.Core.List.{List}
 use Prim.Native.Nat.{ℕ, _/_, min}
 use lib.Dec.{ltb}
 use lib.ListN.{length}
@@ -28,9 +29,12 @@ pub record FieldRecord : Type 0 where
   pub grid : Grid
   pub lists : FieldLists
 
+abbrev pub fieldRecord : Grid → List Float → List ℕ → FieldRecord
+fieldRecord g values marks = record { grid = g; lists = fieldLists values marks }
+
 -- `new_with_options`: seeds and marks, then at most n sweeps
 unfoldable pub fieldOf : Outline → Float → ℕ → FieldLists → FieldRecord
 fieldOf o size n f =
     let g = gridOf (bounds o) size in
     let s = seeded o g f in
-    record { grid = g; lists = fieldLists (sweeps n g (s .marks) (s .values)) (s .marks) }
+    fieldRecord g (sweeps n g (s .marks) (s .values)) (s .marks)

@@ -3,3 +3,4 @@ pub mod Seeds
 pub mod Sweeps
 pub mod Field
 pub mod Direction
+pub mod Places

@@ -1,5 +1,5 @@
 -- Laws of the outline: where a hole's points stand in the holes' list, and what an outline that refusal 1 lets through has. Assumes nothing.
-use mathlib.Core.Bool.{Bool, true, false, not, _||_, true≢false}
+use mathlib.Core.Bool.{Bool, true, false, _||_, true≢false}
 use mathlib.Core.List.{List}
 use mathlib.Core.Path.{_≡_, refl, sym, ap, _∙_}
 use Prim.Native.Nat.{ℕ, zero, suc, _+_, _-_, _*_, _/_, _%_, _≤_, _<_}
@@ -7,11 +7,11 @@ use native.Mathlib.Nat.{le-antisymm}
 use native.Mathlib.Numerals.{add-one}
 use native.Mathlib.Omega.{arith}
 use borrow.Author.Tests.{ltb-false, eqb-true, eqb-false, eq-eqb, ne-eqb, not-false}
-use lib.Dec.{ltb, eqb}
+use lib.Dec.{eqb}
 use lib.ListN.{length, take, drop}
 use lib.Ieee.{Float}
 use Rattle.laws.specs.Loop.{forUp, sumUp}
-use Rattle.domain.specs.Outline.{Outline, holeLength, holeStart, holeAt, loopAt, loopStart, points, misshapen, LoopPlace}
+use Rattle.domain.specs.Outline.{Outline, holeLength, holeStart, holeAt, loopAt, points, misshapen, LoopPlace}
 
 -- ---- the points before a hole
 
@@ -102,14 +102,14 @@ hole-part {o} {start} (suc k) l h =
     taken : (a b : ℕ) → a + b - a ≡ b
     taken a b = omega arith
 
--- what f answers of the points handed out for a loop: loop 0 is the outer one, and loop k + 1 is hole k
-pub of-outer : {A : Type 0} (o : Outline) (f : List Float → A) {s : List Float} {r : A} → s ≡ loopAt o 0 → r ≡ f s → r ≡ f (o .outer)
+-- the points handed out: loop 0 is the outer one, and loop k + 1 is hole k
+pub outer-points : (o : Outline) {s : List Float} → s ≡ loopAt o 0 → s ≡ o .outer
 unfolding loopAt
-of-outer o f e r = r ∙ ap f e
+outer-points o e = e
 
-pub of-hole : {A : Type 0} (o : Outline) (f : List Float → A) (k : ℕ) {s : List Float} {r : A} → s ≡ loopAt o (k + 1) → r ≡ f s → r ≡ f (holeAt o k)
+pub hole-points : (o : Outline) (k : ℕ) {s : List Float} → s ≡ loopAt o (k + 1) → s ≡ holeAt o k
 unfolding loopAt
-of-hole o f k e r = r ∙ ap f (e ∙ rw add-one refl)
+hole-points o k e = e ∙ rw add-one refl
 
 pub outer-place : (o : Outline) → misshapen o ≡ false → LoopPlace o 0 0
 outer-place o e = record { shape = e; within = omega arith; at = refl }

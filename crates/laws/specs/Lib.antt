@@ -1,1 +1,5 @@
+pub mod Certificate
+pub mod Examples
+pub mod Integer
 pub mod Loop
+pub mod Ring

@@ -1,5 +1,4 @@
 -- `domain::add_up` meets its contract: the loop's invariant is `Left`, and each answer is a law of it.
-use mathlib.Core.Path.{_≡_}
 use Prim.Native.Nat.{_-_}
 use native.Mathlib.Omega.{arith}
 use lib.ListN.{length}

@@ -1,8 +1,8 @@
 -- `domain::contains_point` meets its contract: what the outer loop's points and the holes answer are the definition's two conjuncts.
-use mathlib.Core.Path.{refl, sym, _∙_}
+use mathlib.Core.Path.{refl}
 use borrow.Author.Needs.{needs}
-use Rattle.domain.specs.OutlineLaws.{of-outer, outer-place}
-use Rattle.domain.specs.Queries.{pointInPolygon, contains}
+use Rattle.domain.specs.OutlineLaws.{outer-points, outer-place}
+use Rattle.domain.specs.Queries.{contains}
 use Rattle.domain.proofs.contains_point.Statement.{statement}
 use Rattle.domain.proofs.contains_point.Tie as tie
 
@@ -18,14 +18,15 @@ in-some-hole-requires c κs = search needs
 returns : tie.Need-returns
 unfolding contains
 returns c =
-    let inside = of-outer _ (pointInPolygon _) (c .before .before .before .loop-points .ensures) (c .before .before .point-in-polygon .ensures) in
-    rw (sym inside ∙ c .before .if1 .taken, ← c .in-some-hole .ensures) refl
+    let called = c .before .before in
+    rw (← c .in-some-hole .ensures, ← outer-points _ (called .before .loop-points .ensures), ← called .point-in-polygon .ensures, c .before .if1 .taken)
+    refl
 
 returns-2 : tie.Need-returns-2
 unfolding contains
 returns-2 c =
-    let inside = of-outer _ (pointInPolygon _) (c .before .before .loop-points .ensures) (c .before .point-in-polygon .ensures) in
-    rw (sym inside ∙ c .if1 .left) refl
+    let called = c .before in
+    rw (← outer-points _ (called .before .loop-points .ensures), ← called .point-in-polygon .ensures, c .if1 .left) refl
 
 pub contains-point-spec : {M : Type 1} → statement M
 contains-point-spec =

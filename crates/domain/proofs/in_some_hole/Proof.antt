@@ -1,13 +1,12 @@
 -- `domain::in_some_hole` meets its contract: the loop's invariant is a search that has found nothing, and where the next hole's points begin.
-use mathlib.Core.Path.{sym, _∙_}
 use Prim.Native.Nat.{_-_}
 use native.Mathlib.Omega.{arith}
 use borrow.Author.Needs.{needs}
 use lib.ListN.{length}
 use Rattle.laws.specs.Loop.{Scan, scan-start, scan-next, scan-hit, scan-none}
 use Rattle.domain.specs.Outline.{outline}
-use Rattle.domain.specs.OutlineLaws.{of-hole, Passed, passed-none, passed-next, passed-place, passed-few}
-use Rattle.domain.specs.Queries.{inHole, pointInPolygon}
+use Rattle.domain.specs.OutlineLaws.{hole-points, Passed, passed-none, passed-next, passed-place, passed-few}
+use Rattle.domain.specs.Queries.{inHole}
 use Rattle.domain.proofs.in_some_hole.Statement.{statement}
 use Rattle.domain.proofs.in_some_hole.Tie as tie
 
@@ -32,8 +31,9 @@ point-in-polygon-requires c κs = search needs
 
 returns : tie.Need-returns Inv-loop μ-loop
 returns c =
+    let called = c .before in
     scan-hit _ (c .before .before .before .before .loop .inv .1) (c .before .before .before .loop-test .taken)
-    (sym (of-hole _ (pointInPolygon _) _ (c .before .before .loop-points .ensures) (c .before .point-in-polygon .ensures)) ∙ c .if1 .taken)
+    (rw (← hole-points _ _ (called .before .loop-points .ensures), ← called .point-in-polygon .ensures) (c .if1 .taken))
 
 mul-start : tie.Need-mul-start Inv-loop μ-loop
 mul-start c = omega arith
@@ -42,7 +42,9 @@ shared-slice-read-start : tie.Need-shared-slice-read-start Inv-loop μ-loop
 shared-slice-read-start c = omega arith
 
 add-start : tie.Need-add-start Inv-loop μ-loop
-add-start c = omega (arith, passed-few (c .before .before .before .before .before .loop .inv .0) (c .before .before .before .before .loop-test .taken))
+add-start c =
+    let few = passed-few (c .before .before .before .before .before .loop .inv .0) (c .before .before .before .before .loop-test .taken) in
+    omega arith
 
 add-k : tie.Need-add-k Inv-loop μ-loop
 add-k c = omega arith
@@ -52,11 +54,12 @@ loop-less c = omega arith
 
 loop-again : tie.Need-loop-again Inv-loop μ-loop
 loop-again c =
+    let called = c .before .before in
     let inv = c .before .before .before .before .before .loop .inv in
     let in-loop = c .before .before .before .before .loop-test .taken in (
       passed-next (inv .0) in-loop,
       scan-next _ (inv .1) in-loop
-          (sym (of-hole _ (pointInPolygon _) _ (c .before .before .before .loop-points .ensures) (c .before .before .point-in-polygon .ensures)) ∙ c .before .if1 .left),
+          (rw (← hole-points _ _ (called .before .loop-points .ensures), ← called .point-in-polygon .ensures) (c .before .if1 .left)),
     )
 
 returns-2 : tie.Need-returns-2 Inv-loop μ-loop

@@ -20,7 +20,8 @@ add-up-requires c κs = search needs
 returns-3 : tie.Need-returns-3
 unfolding misshapen
 returns-3 c =
-    rw (ne-eqb _ _ (c .before .before .before .if1 .left), ne-eqb _ _ (c .before .before .if2 .left), ← c .before .add-up .ensures, not-true (c .before .add-up .result) (c .if3 .taken))
+    let sum = c .before in
+    rw (ne-eqb _ _ (sum .before .before .if1 .left), ne-eqb _ _ (sum .before .if2 .left), ← sum .add-up .ensures, not-true (sum .add-up .result) (c .if3 .taken))
     refl
 
 add-result : tie.Need-add-result
@@ -29,7 +30,8 @@ add-result c = search needs
 returns-4 : tie.Need-returns-4
 unfolding misshapen
 returns-4 c =
-    rw (ne-eqb _ _ (c .before .before .before .if1 .left), ne-eqb _ _ (c .before .before .if2 .left), ← c .before .add-up .ensures, not-false (c .before .add-up .result) (c .if3 .left))
+    let sum = c .before in
+    rw (ne-eqb _ _ (sum .before .before .if1 .left), ne-eqb _ _ (sum .before .if2 .left), ← sum .add-up .ensures, not-false (sum .add-up .result) (c .if3 .left))
     refl
 
 pub is-misshapen-spec : {M : Type 1} → statement M

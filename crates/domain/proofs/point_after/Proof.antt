@@ -1,5 +1,4 @@
 -- `domain::point_after` meets its contract: what the test gives decides the index after.
-use mathlib.Core.Path.{refl}
 use borrow.Author.Needs.{needs}
 use borrow.Author.Tests.{lt-ltb, le-ltb}
 use Rattle.domain.specs.Outline.{pointAfter}

@@ -1,7 +1,7 @@
 -- Refusal 11, and the direction query. Definitions only.
-use mathlib.Core.Bool.{Bool, true, false, not, _&&_, cond}
+use mathlib.Core.Bool.{Bool, not, _&&_, cond}
 use mathlib.Core.List.{List}
-use Prim.Native.Nat.{ℕ, zero, suc, _+_, _-_, _*_, min}
+use Prim.Native.Nat.{ℕ, _+_, _-_, _*_, min}
 use lib.IntN.{ℤ, pos, negsuc}
 use lib.Dec.{leb, eqb}
 use lib.ListN.{length}
@@ -10,6 +10,7 @@ use Rattle.numbers.specs.Float.{_⊕_, _⊖_, _⊗_, _⊘_, bits, zeroF, oneF, 
 use Rattle.numbers.specs.Whole.{floorInt}
 use Rattle.domain.specs.declared.Point.{Point}
 use Rattle.domain.specs.Outline.{point, pointAt, anyFloat, firstOf, pointRefusal}
+use Rattle.domain.specs.Queries.{answerBy}
 use Rattle.geometry.specs.Plane.{norm}
 use Rattle.crossfield.specs.declared.Grid.{Grid}
 use Rattle.crossfield.specs.declared.Direction.{Direction}
@@ -119,10 +120,6 @@ nearestDirection g values p target = nearestOf target (directionOf (rawAt g valu
 unfoldable pub directionRefusal : FieldRecord → Point → ℕ
 directionRefusal r p = firstOf (recordRefusal r) (pointRefusal p)
 
--- the answer: refused with document 01's number, or the direction
-abbrev pub directionBy : ℕ → Point → Direction
-directionBy zero d = direction-is.Toward d
-directionBy (suc n) d = direction-is.Refused (suc n)
-
 unfoldable pub directionAnswer : FieldRecord → Point → Point → Direction
-directionAnswer r p target = directionBy (directionRefusal r p) (nearestDirection (r .grid) (r .lists .values) p target)
+directionAnswer r p target =
+    answerBy direction-is.Refused (direction-is.Toward (nearestDirection (r .grid) (r .lists .values) p target)) (directionRefusal r p)

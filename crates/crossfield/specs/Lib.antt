@@ -4,3 +4,4 @@ pub mod Sweeps
 pub mod Field
 pub mod Direction
 pub mod Places
+pub mod RecordLaws

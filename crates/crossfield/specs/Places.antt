@@ -3,14 +3,17 @@ use mathlib.Core.Path.{_≡_, ap}
 use mathlib.Core.Bool.{true}
 use mathlib.Core.List.{List}
 use Prim.Native.Nat.{ℕ, _+_, _*_, _≤_, _<_}
-use native.Mathlib.Nat.{mul-comm, mul-le-mul-left, mul-le-mul-right, mul-le-mul}
+use native.Mathlib.Nat.{le-max-left, mul-comm, mul-le-mul-left, mul-le-mul-right, mul-le-mul}
 use native.Mathlib.Omega.{arith}
 use borrow.Author.Tests.{ltb-true}
 use lib.Dec.{ltb}
 use lib.ListN.{length}
 use lib.Ieee.{Float}
+use Rattle.numbers.specs.Float.{_⊖_, _⊗_, _⊘_, halfF}
+use Rattle.numbers.specs.Whole.{ceilCount}
+use Rattle.crossfield.specs.declared.Bounds.{Bounds}
 use Rattle.crossfield.specs.declared.Grid.{Grid}
-use Rattle.crossfield.specs.Grid.{mostFieldNodes, gridNodes}
+use Rattle.crossfield.specs.Grid.{mostFieldNodes, gridNodes, gridCount, spacing, gridOf}
 
 -- a grid of at least two nodes and at most 250,000, and a list that holds their values: what refusal 11 leaves
 pub record Lent (g : Grid) (values : List Float) : Type 0 where
@@ -36,6 +39,18 @@ pub record Row (w n j base floats : ℕ) : Type 0 where
   pub at : base ≡ j * w
   pub row : j < n
   pub room : 2 * (n * w) ≤ floats
+
+-- a mark for node id, and counts that a float holds
+pub record Counts (w n id bytes : ℕ) : Type 0 where
+  pub mark : id < bytes
+  pub columns : w ≤ mostFieldNodes
+  pub rows : n ≤ mostFieldNodes
+
+-- marks for the row that begins with node base, and counts that a float holds
+pub record RowMarks (w n base bytes : ℕ) : Type 0 where
+  pub marks : base + w ≤ bytes
+  pub columns : w ≤ mostFieldNodes
+  pub rows : n ≤ mostFieldNodes
 
 -- row j of n lies within them, and so does the row above; the row below begins at 0 or later
 pub row-in : (j n w : ℕ) → j < n → j * w + w ≤ n * w
@@ -97,3 +112,49 @@ row-small {g} j h t = omega (arith, h .few, mul-le-mul-right (g .ny) (h .columns
 
 pub room-of : {w n floats bytes now : ℕ} → Room w n floats bytes → now ≡ floats → Room w n now bytes
 room-of h e = record { values = omega (arith, h .values, e); marks = h .marks }
+
+pub mark-of : {w n base bytes now : ℕ} (i : ℕ) → RowMarks w n base bytes → i < w → now ≡ bytes → Counts w n (base + i) now
+mark-of i h t e = record { mark = omega (arith, h .marks, e); columns = h .columns; rows = h .rows }
+
+pub row-marks : {w n base floats bytes now : ℕ} (j : ℕ) → Room w n floats bytes → w ≤ mostFieldNodes → n ≤ mostFieldNodes
+    → base ≡ j * w → j < n → now ≡ bytes → RowMarks w n base now
+row-marks {w} {n} j h columns rows a t e = record { marks = omega (arith, h .marks, e, row-in j n w t); columns = columns; rows = rows }
+
+-- ---- the counts of a grid: each is above 2, and a side of more than 250,000 cells has too many nodes by itself
+count-over : (width h : Float) → ceilCount (width ⊘ h) < gridCount width h
+unfolding gridCount
+count-over width h = let l = le-max-left (ceilCount (width ⊘ h)) 2 in omega arith
+
+count-pos : (width h : Float) → 2 ≤ gridCount width h
+unfolding gridCount
+count-pos width h = omega arith
+
+pub wide-many : (width height h : Float) → mostFieldNodes < ceilCount (width ⊘ h) → mostFieldNodes < gridCount width h * gridCount height h
+wide-many width height h t = more-columns _ _ _ (let l = count-over width h in omega arith) (count-pos height h)
+
+pub high-many : (width height h : Float) → mostFieldNodes < ceilCount (height ⊘ h) → mostFieldNodes < gridCount width h * gridCount height h
+high-many width height h t = more-rows _ _ _ (let l = count-over height h in omega arith) (count-pos width h)
+
+-- so where a grid has few nodes, no side has more cells
+module _ (b : Bounds) (size h : Float) (few : gridNodes (gridOf b size) ≤ mostFieldNodes) (e : h ≡ spacing (b .xmax ⊖ b .xmin) (b .ymax ⊖ b .ymin) (halfF ⊗ size)) where
+  abbrev width : Float
+  width = b .xmax ⊖ b .xmin
+
+  abbrev height : Float
+  height = b .ymax ⊖ b .ymin
+
+  few-at : gridCount width h * gridCount height h ≤ mostFieldNodes
+  unfolding gridOf
+  few-at = rw e few
+
+  pub few-columns : ceilCount ((b .xmax ⊖ b .xmin) ⊘ h) ≤ mostFieldNodes
+  few-columns =
+      let l = count-over width h in
+      let m = mul-le-mul-left (gridCount width h) (count-pos height h) in
+      let t = few-at in omega arith
+
+  pub few-rows : ceilCount ((b .ymax ⊖ b .ymin) ⊘ h) ≤ mostFieldNodes
+  few-rows =
+      let l = count-over height h in
+      let m = mul-le-mul-right (gridCount height h) (count-pos width h) in
+      let t = few-at in omega arith

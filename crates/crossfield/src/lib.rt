@@ -6,12 +6,13 @@ ghost use lib.ListN.{length};
 ghost use Rattle.numbers.specs.Float.{_⊘_, toFloat};
 ghost use Rattle.numbers.specs.Whole.{floorQuotient, ceilCount};
 ghost use Rattle.domain.specs.Outline.{outline, misshapen, point, pointAt, anyFloat};
-ghost use Rattle.crossfield.specs.Grid.{noBounds, widened, loopBounds, bounds, gridCount, tooManyNodes, spacing, gridOf, sizeRefusal, boundsRefusal, sweepsRefusal};
-ghost use Rattle.crossfield.specs.Seeds.{fieldLists, gridPoint, seed, setValue};
+ghost use Rattle.crossfield.specs.Grid.{noBounds, widened, loopBounds, bounds, gridCount, tooManyNodes, spacing, gridOf, sizeRefusal, boundsRefusal, sweepsRefusal, mostFieldNodes, gridNodes};
+ghost use Rattle.crossfield.specs.Seeds.{fieldLists, gridPoint, seed, isFixed, markOf, seedNode, seedRow, seeded};
 ghost use Rattle.crossfield.specs.Sweeps.{plusIf, oneIf, neighbourSum, neighbourCount, normalised, average, swept, change, relaxed, sweepNode, sweepRow, sweep, sweeps};
-ghost use Rattle.crossfield.specs.Field.{fieldRecord};
-ghost use Rattle.crossfield.specs.Direction.{within, valueUnsound, countsSound, gridSound, recordRefusal, cellOf, weighed, rawAt, scaled, half, directionOf, dot, closerOf, nearestOf, nearestDirection};
-ghost use Rattle.crossfield.specs.Places.{Node, Row, Lent, Room};
+ghost use Rattle.crossfield.specs.Field.{fieldRecord, placesRefusal};
+ghost use Rattle.crossfield.specs.Direction.{within, valueUnsound, countsSound, gridSound, recordRefusal, cellOf, weighed, rawAt, scaled, half, directionOf, dot, closerOf, nearestOf, nearestDirection, directionRefusal, directionAnswer};
+ghost use Rattle.crossfield.specs.Places.{Node, Row, Counts, RowMarks, Lent, Room};
+use domain::Near;
 use domain::Point;
 use domain::Settings;
 
@@ -30,6 +31,11 @@ pub struct Grid {
     pub h: f64,
     pub nx: usize,
     pub ny: usize,
+}
+
+pub enum FieldAnswer {
+    Refused(u32),
+    Made(Grid),
 }
 
 pub enum Direction {
@@ -254,6 +260,305 @@ pub fn nearest_direction(g: Grid, values: &[f64], p: Point, target: Point) -> Po
     ensures { λ r. ⌜ r ≡ nearestDirection g (now (values .entry)) p target ⌝ }
 {
     nearest_of(target, direction_of(raw_at(g, values, p)))
+}
+
+fn direction_refusal(g: Grid, values: &[f64], marks: &[u8], p: Point) -> u32
+    ensures { λ r. ⌜ r ≡ directionRefusal (fieldRecord g (now (values .entry)) (now (marks .entry))) p ⌝ }
+{
+    let refusal = record_refusal(g, values, marks);
+    if refusal != 0 {
+        return refusal;
+    }
+    domain::point_refusal(p)
+}
+
+// The direction query, refusals first.
+pub fn query_direction(g: Grid, values: &[f64], marks: &[u8], p: Point, target: Point) -> Direction
+    ensures { λ r. ⌜ r ≡ directionAnswer (fieldRecord g (now (values .entry)) (now (marks .entry))) p target ⌝ }
+{
+    let refusal = direction_refusal(g, values, marks, p);
+    if refusal != 0 {
+        return Direction::Refused(refusal);
+    }
+    Direction::Toward(nearest_direction(g, values, p, target))
+}
+
+// ---- the bounding box, over all loops
+
+fn no_bounds() -> Bounds
+    ensures { λ r. ⌜ r ≡ noBounds ⌝ }
+{
+    Bounds {
+        xmin: 1.0 / 0.0,
+        xmax: -1.0 / 0.0,
+        ymin: 1.0 / 0.0,
+        ymax: -1.0 / 0.0,
+    }
+}
+
+fn widened(p: Point, b: Bounds) -> Bounds
+    ensures { λ r. ⌜ r ≡ widened p b ⌝ }
+{
+    Bounds {
+        xmin: numbers::min_f64(b.xmin, p.x),
+        xmax: numbers::max_f64(b.xmax, p.x),
+        ymin: numbers::min_f64(b.ymin, p.y),
+        ymax: numbers::max_f64(b.ymax, p.y),
+    }
+}
+
+fn loop_bounds(s: &[f64], b: Bounds) -> Bounds
+    ensures { λ r. ⌜ r ≡ loopBounds (now (s .entry)) b ⌝ }
+{
+    let n = s.len() / 2;
+    let mut wide = b;
+    let mut i = 0;
+    while i < n {
+        wide = widened(domain::point_at(s, i), wide);
+        i += 1;
+    }
+    wide
+}
+
+pub fn bounds_of<'a>(outer: &'a [f64], holes: &'a [f64], lens: &[usize]) -> Bounds
+    requires { ⌜ misshapen (outline (now outer) (now holes) (now lens)) ≡ false ⌝ }
+    ensures { λ r. ⌜ r ≡ bounds (outline (now (outer .entry)) (now (holes .entry)) (now (lens .entry))) ⌝ }
+{
+    let mut wide = loop_bounds(domain::loop_points(outer, holes, lens, 0, 0), no_bounds());
+    let mut k = 0;
+    let mut start = 0;
+    while k < lens.len() {
+        wide = loop_bounds(domain::loop_points(outer, holes, lens, k + 1, start), wide);
+        start += lens[k];
+        k += 1;
+    }
+    wide
+}
+
+// ---- the grid
+
+// max(ceil(width / h), 2) + 3
+fn grid_count(width: f64, h: f64) -> usize
+    requires { ⌜ ceilCount (width ⊘ h) ≤ mostFieldNodes ⌝ }
+    ensures { λ r. ⌜ r ≡ gridCount width h ⌝ }
+    ensures { λ r. ⌜ r ≤ mostFieldNodes + 3 ⌝ }
+{
+    let cells = numbers::ceil_count(width / h) as usize;
+    if cells < 2 { 5 } else { cells + 3 }
+}
+
+// Whether a grid of this spacing has more than 250,000 nodes. A side of more than that has too many by itself, so that no product overflows.
+fn too_many_nodes(width: f64, height: f64, h: f64) -> bool
+    ensures { λ r. ⌜ r ≡ tooManyNodes width height h ⌝ }
+{
+    if 250000 < numbers::ceil_count(width / h) {
+        return true;
+    }
+    if 250000 < numbers::ceil_count(height / h) {
+        return true;
+    }
+    Settings::MOST_FIELD_NODES < grid_count(width, h) * grid_count(height, h)
+}
+
+// h, grown by 1.25 while the grid has more than 250,000 nodes.
+fn spacing(width: f64, height: f64, h: f64) -> f64
+    ensures { λ r. ⌜ r ≡ spacing width height h ⌝ }
+{
+    let mut grown = h;
+    let mut k: usize = 0;
+    while k < 64 {
+        if !too_many_nodes(width, height, grown) {
+            return grown;
+        }
+        grown = grown * 1.25;
+        k += 1;
+    }
+    grown
+}
+
+fn grid_of(b: Bounds, size: f64) -> Grid
+    requires { ⌜ gridNodes (gridOf b size) ≤ mostFieldNodes ⌝ }
+    ensures { λ r. ⌜ r ≡ gridOf b size ⌝ }
+{
+    let width = b.xmax - b.xmin;
+    let height = b.ymax - b.ymin;
+    let h = spacing(width, height, 0.5 * size);
+    let nx = grid_count(width, h);
+    let ny = grid_count(height, h);
+    Grid {
+        xmin: b.xmin - h,
+        ymin: b.ymin - h,
+        h,
+        nx,
+        ny,
+    }
+}
+
+// ---- refusals 5 to 9
+
+fn size_refusal(size: f64) -> u32
+    ensures { λ r. ⌜ r ≡ sizeRefusal size ⌝ }
+{
+    if !numbers::is_finite_f64(size) {
+        return 5;
+    }
+    if size <= 0.0 {
+        return 5;
+    }
+    if size < Settings::LEAST_SIZE {
+        return 6;
+    }
+    if Settings::MOST_SIZE < size { 6 } else { 0 }
+}
+
+fn bounds_refusal(b: Bounds) -> u32
+    ensures { λ r. ⌜ r ≡ boundsRefusal b ⌝ }
+{
+    if b.xmax <= b.xmin {
+        return 7;
+    }
+    if b.ymax <= b.ymin { 7 } else { 0 }
+}
+
+fn sweeps_refusal(sweeps: usize) -> u32
+    ensures { λ r. ⌜ r ≡ sweepsRefusal sweeps ⌝ }
+{
+    if Settings::MOST_SWEEPS < sweeps { 8 } else { 0 }
+}
+
+fn places_refusal(g: Grid, places: usize) -> u32
+    requires { ⌜ gridNodes g ≤ mostFieldNodes ⌝ }
+    ensures { λ r. ⌜ r ≡ placesRefusal g places ⌝ }
+{
+    let nx = g.nx;
+    let ny = g.ny;
+    if places < nx * ny { 9 } else { 0 }
+}
+
+// ---- seeds and marks
+
+// Where node (i, j) stands.
+fn grid_point(g: Grid, i: usize, j: usize) -> Point
+    requires { ⌜ (i < 4294967296) × (j < 4294967296) ⌝ }
+    ensures { λ r. ⌜ r ≡ gridPoint g i j ⌝ }
+{
+    Point {
+        x: g.xmin + to_f64(i) * g.h,
+        y: g.ymin + to_f64(j) * g.h,
+    }
+}
+
+// Four times the angle of a tangent.
+fn seed(t: Point) -> Point
+    ensures { λ r. ⌜ r ≡ seed t ⌝ }
+{
+    let p = t.x * t.x - t.y * t.y;
+    let q = 2.0 * (t.x * t.y);
+    Point {
+        x: p * p - q * q,
+        y: 2.0 * (p * q),
+    }
+}
+
+// Whether a node at p is fixed: inside, and its nearest segment within 1.5 spacings.
+fn is_fixed<'a>(
+    outer: &'a [f64],
+    holes: &'a [f64],
+    lens: &[usize],
+    h: f64,
+    p: Point,
+    found: Near,
+) -> bool
+    requires { ⌜ misshapen (outline (now outer) (now holes) (now lens)) ≡ false ⌝ }
+    ensures { λ r. ⌜ r ≡ isFixed (outline (now (outer .entry)) (now (holes .entry)) (now (lens .entry))) h p found ⌝ }
+{
+    if domain::contains_point(outer, holes, lens, p) {
+        found.distance <= Settings::BAND * h
+    } else {
+        false
+    }
+}
+
+fn mark_of(fixed: bool) -> u8
+    ensures { λ r. ⌜ r ≡ markOf fixed ⌝ }
+{
+    if fixed { 1 } else { 0 }
+}
+
+// Node (i, j), whose number is id: one search serves its value and its mark.
+fn seed_node<'a>(
+    outer: &'a [f64],
+    holes: &'a [f64],
+    lens: &[usize],
+    g: Grid,
+    values: &mut [f64],
+    marks: &mut [u8],
+    j: usize,
+    i: usize,
+    id: usize,
+)
+    requires { ⌜ misshapen (outline (now outer) (now holes) (now lens)) ≡ false ⌝ }
+    requires { ⌜ Node (g .nx) (g .ny) j i id (length (now values)) ⌝ }
+    requires { ⌜ Counts (g .nx) (g .ny) id (length (now marks)) ⌝ }
+    ensures { λ r. ⌜ fieldLists (now (values .exit)) (now (marks .exit)) ≡ seedNode (outline (now (outer .entry)) (now (holes .entry)) (now (lens .entry))) g j i (fieldLists (now (values .entry)) (now (marks .entry))) ⌝ }
+{
+    let p = grid_point(g, i, j);
+    let found = domain::nearest_segment(outer, holes, lens, p);
+    let v = seed(geometry::tangent(found.a, found.b));
+    let mark = mark_of(is_fixed(outer, holes, lens, g.h, p, found));
+    let k = 2 * id;
+    values[k] = v.x;
+    values[k + 1] = v.y;
+    marks[id] = mark;
+}
+
+// Row j, whose first node's number is base.
+fn seed_row<'a>(
+    outer: &'a [f64],
+    holes: &'a [f64],
+    lens: &[usize],
+    g: Grid,
+    values: &mut [f64],
+    marks: &mut [u8],
+    j: usize,
+    base: usize,
+)
+    requires { ⌜ misshapen (outline (now outer) (now holes) (now lens)) ≡ false ⌝ }
+    requires { ⌜ Row (g .nx) (g .ny) j base (length (now values)) ⌝ }
+    requires { ⌜ RowMarks (g .nx) (g .ny) base (length (now marks)) ⌝ }
+    ensures { λ r. ⌜ fieldLists (now (values .exit)) (now (marks .exit)) ≡ seedRow (outline (now (outer .entry)) (now (holes .entry)) (now (lens .entry))) g j (fieldLists (now (values .entry)) (now (marks .entry))) ⌝ }
+{
+    let nx = g.nx;
+    let mut i = 0;
+    while i < nx {
+        seed_node(outer, holes, lens, g, values, marks, j, i, base + i);
+        i += 1;
+    }
+}
+
+// Every node's value and mark.
+fn seed_all<'a>(
+    outer: &'a [f64],
+    holes: &'a [f64],
+    lens: &[usize],
+    g: Grid,
+    values: &mut [f64],
+    marks: &mut [u8],
+)
+    requires { ⌜ misshapen (outline (now outer) (now holes) (now lens)) ≡ false ⌝ }
+    requires { ⌜ Room (g .nx) (g .ny) (length (now values)) (length (now marks)) ⌝ }
+    requires { ⌜ (g .nx ≤ mostFieldNodes) × (g .ny ≤ mostFieldNodes) ⌝ }
+    ensures { λ r. ⌜ fieldLists (now (values .exit)) (now (marks .exit)) ≡ seeded (outline (now (outer .entry)) (now (holes .entry)) (now (lens .entry))) g (fieldLists (now (values .entry)) (now (marks .entry))) ⌝ }
+{
+    let nx = g.nx;
+    let ny = g.ny;
+    let mut base = 0;
+    let mut j = 0;
+    while j < ny {
+        seed_row(outer, holes, lens, g, values, marks, j, base);
+        base += nx;
+        j += 1;
+    }
 }
 
 // ---- sweeps

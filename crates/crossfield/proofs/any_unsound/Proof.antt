@@ -1,15 +1,14 @@
 -- `crossfield::any_unsound` meets its contract. Assumes nothing.
-use borrow.Author.Needs.{needs}
-use Rattle.crossfield.specs.Direction.{valueUnsound}
-use Rattle.domain.specs.Outline.{anyFloat}
-use Rattle.laws.specs.Loop.{Scan, scan-start, scan-next, scan-hit, scan-none}
-use lib.Ieee.{nan}
-use lib.ListN.{length, getD}
-use borrow.Author.Tests.{not-true, not-false}
-use native.Mathlib.Omega.{arith}
-use Prim.Native.Nat.{_-_}
 use mathlib.Core.Bool.{not}
 use mathlib.Core.Path.{sym, ap, _∙_}
+use Prim.Native.Nat.{_-_}
+use native.Mathlib.Omega.{arith}
+use borrow.Author.Needs.{needs}
+use lib.Ieee.{nan}
+use lib.ListN.{length, getD}
+use Rattle.laws.specs.Loop.{Scan, scan-start, scan-next, scan-hit, scan-none}
+use Rattle.domain.specs.Outline.{anyFloat}
+use Rattle.crossfield.specs.Direction.{valueUnsound}
 use Rattle.crossfield.proofs.any_unsound.Statement.{statement}
 use Rattle.crossfield.proofs.any_unsound.Tie as tie
 

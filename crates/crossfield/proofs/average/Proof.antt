@@ -1,6 +1,6 @@
 -- `crossfield::average` meets its contract. Assumes nothing.
-use Rattle.crossfield.specs.Sweeps.{average}
 use borrow.Author.Needs.{needs}
+use Rattle.crossfield.specs.Sweeps.{average}
 use Rattle.crossfield.proofs.average.Statement.{statement}
 use Rattle.crossfield.proofs.average.Tie as tie
 

@@ -1,18 +1,18 @@
 -- `crossfield::cell_of` meets its contract. Assumes nothing.
+use mathlib.Core.Bool.{true, false, true≢false}
+use mathlib.Core.Path.{_≡_, refl, sym, ap, _∙_}
+use Prim.Native.Nat.{ℕ, _-_, _<_, _≤_}
+use native.Mathlib.Omega.{arith}
+use native.Mathlib.Nat.{le-of-lt, min-eq-left, min-eq-right}
 use borrow.Author.Tests.{ltb-true}
+use borrow.Author.Needs.{needs}
 use mir.ValLaws.{toZ-ofZ}
 use mir.Val.{Fits, SFits, ofZ, toZ}
 use mir.Syntax.{w64}
 use lib.Signed.{ltZ, nonNeg}
 use lib.Dec.{T}
 use lib.IntN.{ℤ, pos, negsuc, natAbs}
-use native.Mathlib.Omega.{arith}
-use native.Mathlib.Nat.{le-of-lt, min-eq-left, min-eq-right}
-use Prim.Native.Nat.{ℕ, _+_, _-_, _^_, _<_, _≤_}
-use mathlib.Core.Bool.{Bool, true, false, true≢false}
-use mathlib.Core.Path.{_≡_, refl, sym, ap, _∙_}
 use Rattle.crossfield.specs.Direction.{cellOf}
-use borrow.Author.Needs.{needs}
 use Rattle.crossfield.proofs.cell_of.Statement.{statement}
 use Rattle.crossfield.proofs.cell_of.Tie as tie
 

@@ -1,6 +1,6 @@
 -- `crossfield::change` meets its contract. Assumes nothing.
-use Rattle.crossfield.specs.Sweeps.{change}
 use borrow.Author.Needs.{needs}
+use Rattle.crossfield.specs.Sweeps.{change}
 use Rattle.crossfield.proofs.change.Statement.{statement}
 use Rattle.crossfield.proofs.change.Tie as tie
 

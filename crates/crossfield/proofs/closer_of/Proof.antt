@@ -1,6 +1,6 @@
 -- `crossfield::closer_of` meets its contract. Assumes nothing.
-use Rattle.crossfield.specs.Direction.{closerOf}
 use borrow.Author.Needs.{needs}
+use Rattle.crossfield.specs.Direction.{closerOf}
 use Rattle.crossfield.proofs.closer_of.Statement.{statement}
 use Rattle.crossfield.proofs.closer_of.Tie as tie
 

@@ -1,9 +1,9 @@
 -- `crossfield::counts_sound` meets its contract. Assumes nothing.
-use borrow.Author.Tests.{lt-leb, le-leb, ne-eqb, eq-eqb}
 use native.Mathlib.Omega.{arith}
+use borrow.Author.Tests.{lt-leb, le-leb, ne-eqb, eq-eqb}
+use borrow.Author.Needs.{needs}
 use Rattle.crossfield.specs.Places.{more-columns, more-rows, product-small}
 use Rattle.crossfield.specs.Direction.{countsSound}
-use borrow.Author.Needs.{needs}
 use Rattle.crossfield.proofs.counts_sound.Statement.{statement}
 use Rattle.crossfield.proofs.counts_sound.Tie as tie
 

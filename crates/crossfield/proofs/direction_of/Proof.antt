@@ -1,6 +1,6 @@
 -- `crossfield::direction_of` meets its contract. Assumes nothing.
-use Rattle.crossfield.specs.Direction.{directionOf}
 use borrow.Author.Needs.{needs}
+use Rattle.crossfield.specs.Direction.{directionOf}
 use Rattle.crossfield.proofs.direction_of.Statement.{statement}
 use Rattle.crossfield.proofs.direction_of.Tie as tie
 

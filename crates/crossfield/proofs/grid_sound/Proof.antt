@@ -1,9 +1,9 @@
 -- `crossfield::grid_sound` meets its contract. Assumes nothing.
+use mathlib.Core.Path.{sym, _∙_}
 use borrow.Author.Tests.{not-true, not-false}
-use mathlib.Core.Path.{sym, ap, _∙_}
-use Rattle.crossfield.specs.Direction.{leastSpacing, mostSpacing, gridSound}
-use lib.Ieee.{le}
 use borrow.Author.Needs.{needs}
+use lib.Ieee.{le}
+use Rattle.crossfield.specs.Direction.{leastSpacing, mostSpacing, gridSound}
 use Rattle.crossfield.proofs.grid_sound.Statement.{statement}
 use Rattle.crossfield.proofs.grid_sound.Tie as tie
 

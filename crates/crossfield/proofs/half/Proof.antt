@@ -1,6 +1,6 @@
 -- `crossfield::half` meets its contract. Assumes nothing.
-use Rattle.crossfield.specs.Direction.{half}
 use borrow.Author.Needs.{needs}
+use Rattle.crossfield.specs.Direction.{half}
 use Rattle.crossfield.proofs.half.Statement.{statement}
 use Rattle.crossfield.proofs.half.Tie as tie
 

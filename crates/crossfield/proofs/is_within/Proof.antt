@@ -1,6 +1,6 @@
 -- `crossfield::is_within` meets its contract. Assumes nothing.
-use Rattle.crossfield.specs.Direction.{within}
 use borrow.Author.Needs.{needs}
+use Rattle.crossfield.specs.Direction.{within}
 use Rattle.crossfield.proofs.is_within.Statement.{statement}
 use Rattle.crossfield.proofs.is_within.Tie as tie
 

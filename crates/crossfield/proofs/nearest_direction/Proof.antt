@@ -1,6 +1,6 @@
 -- `crossfield::nearest_direction` meets its contract. Assumes nothing.
-use Rattle.crossfield.specs.Direction.{nearestDirection}
 use borrow.Author.Needs.{needs}
+use Rattle.crossfield.specs.Direction.{nearestDirection}
 use Rattle.crossfield.proofs.nearest_direction.Statement.{statement}
 use Rattle.crossfield.proofs.nearest_direction.Tie as tie
 

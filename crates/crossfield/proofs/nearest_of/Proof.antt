@@ -1,6 +1,6 @@
 -- `crossfield::nearest_of` meets its contract. Assumes nothing.
-use Rattle.crossfield.specs.Direction.{nearestOf}
 use borrow.Author.Needs.{needs}
+use Rattle.crossfield.specs.Direction.{nearestOf}
 use Rattle.crossfield.proofs.nearest_of.Statement.{statement}
 use Rattle.crossfield.proofs.nearest_of.Tie as tie
 

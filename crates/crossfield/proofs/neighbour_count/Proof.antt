@@ -1,6 +1,6 @@
 -- `crossfield::neighbour_count` meets its contract. Assumes nothing.
-use Rattle.crossfield.specs.Sweeps.{neighbourCount}
 use borrow.Author.Needs.{needs}
+use Rattle.crossfield.specs.Sweeps.{neighbourCount}
 use Rattle.crossfield.proofs.neighbour_count.Statement.{statement}
 use Rattle.crossfield.proofs.neighbour_count.Tie as tie
 

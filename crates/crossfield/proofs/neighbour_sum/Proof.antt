@@ -1,7 +1,7 @@
 -- `crossfield::neighbour_sum` meets its contract. Assumes nothing.
+use borrow.Author.Needs.{needs}
 use Rattle.crossfield.specs.Places.{here-in, left-in, right-in, under-in, over-in}
 use Rattle.crossfield.specs.Sweeps.{neighbourSum}
-use borrow.Author.Needs.{needs}
 use Rattle.crossfield.proofs.neighbour_sum.Statement.{statement}
 use Rattle.crossfield.proofs.neighbour_sum.Tie as tie
 

@@ -1,6 +1,6 @@
 -- `crossfield::normalised` meets its contract. Assumes nothing.
-use Rattle.crossfield.specs.Sweeps.{normalised}
 use borrow.Author.Needs.{needs}
+use Rattle.crossfield.specs.Sweeps.{normalised}
 use Rattle.crossfield.proofs.normalised.Statement.{statement}
 use Rattle.crossfield.proofs.normalised.Tie as tie
 

@@ -1,7 +1,7 @@
 -- `crossfield::plus_before` meets its contract. Assumes nothing.
 use native.Mathlib.Omega.{arith}
-use Rattle.crossfield.specs.Sweeps.{plusIf}
 use borrow.Author.Needs.{needs}
+use Rattle.crossfield.specs.Sweeps.{plusIf}
 use Rattle.crossfield.proofs.plus_before.Statement.{statement}
 use Rattle.crossfield.proofs.plus_before.Tie as tie
 

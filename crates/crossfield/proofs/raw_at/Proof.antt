@@ -1,10 +1,10 @@
 -- `crossfield::raw_at` meets its contract. Assumes nothing.
-use Rattle.crossfield.specs.Places.{Lent, corner-in, corner-small, column-small, row-small}
 use mathlib.Core.Path.{refl}
 use native.Mathlib.Omega.{arith}
-use Rattle.numbers.specs.Whole.{floorQuotient}
-use Rattle.crossfield.specs.Direction.{rawAt}
 use borrow.Author.Needs.{needs}
+use Rattle.numbers.specs.Whole.{floorQuotient}
+use Rattle.crossfield.specs.Places.{corner-in, corner-small, column-small, row-small}
+use Rattle.crossfield.specs.Direction.{rawAt}
 use Rattle.crossfield.proofs.raw_at.Statement.{statement}
 use Rattle.crossfield.proofs.raw_at.Tie as tie
 

@@ -1,8 +1,8 @@
 -- `crossfield::record_refusal` meets its contract. Assumes nothing.
-use borrow.Author.Tests.{not-true, not-false}
 use mathlib.Core.Path.{sym, _∙_}
-use Rattle.crossfield.specs.Direction.{recordRefusal}
+use borrow.Author.Tests.{not-true, not-false}
 use borrow.Author.Needs.{needs}
+use Rattle.crossfield.specs.Direction.{recordRefusal}
 use Rattle.crossfield.proofs.record_refusal.Statement.{statement}
 use Rattle.crossfield.proofs.record_refusal.Tie as tie
 

@@ -1,12 +1,12 @@
 -- `crossfield::relax` meets its contract. Assumes nothing.
-use lib.ListN.{length-set}
 use Prim.Native.Nat.{_*_}
 use native.Mathlib.Omega.{arith}
-use Rattle.crossfield.specs.Places.{here-in}
+use borrow.Author.Needs.{needs}
+use lib.ListN.{length-set}
 use Rattle.domain.specs.Outline.{pointAt}
+use Rattle.crossfield.specs.Places.{here-in}
 use Rattle.crossfield.specs.Seeds.{setValue}
 use Rattle.crossfield.specs.Sweeps.{relaxed}
-use borrow.Author.Needs.{needs}
 use Rattle.crossfield.proofs.relax.Statement.{statement}
 use Rattle.crossfield.proofs.relax.Tie as tie
 

@@ -1,6 +1,6 @@
 -- `crossfield::scaled` meets its contract. Assumes nothing.
-use Rattle.crossfield.specs.Direction.{scaled}
 use borrow.Author.Needs.{needs}
+use Rattle.crossfield.specs.Direction.{scaled}
 use Rattle.crossfield.proofs.scaled.Statement.{statement}
 use Rattle.crossfield.proofs.scaled.Tie as tie
 

@@ -1,12 +1,12 @@
 -- `crossfield::sweep` meets its contract. Assumes nothing.
+use mathlib.Core.Bool.{true}
+use mathlib.Core.Path.{_≡_, refl, _∙_}
+use Prim.Native.Nat.{_-_, _*_}
+use native.Mathlib.Omega.{arith}
+use lib.ListN.{length}
+use Rattle.laws.specs.Loop.{Loop, loop-start, loop-next, loop-end}
 use Rattle.crossfield.specs.Sweeps.{swept, sweepRow, sweep}
 use Rattle.crossfield.specs.Places.{row-in, row-of}
-use Rattle.laws.specs.Loop.{Loop, loop-start, loop-next, loop-end}
-use lib.ListN.{length}
-use native.Mathlib.Omega.{arith}
-use Prim.Native.Nat.{_-_, _*_}
-use mathlib.Core.Bool.{true}
-use mathlib.Core.Path.{_≡_, refl, sym, ap, _∙_}
 use Rattle.crossfield.proofs.sweep.Statement.{statement}
 use Rattle.crossfield.proofs.sweep.Tie as tie
 

@@ -1,8 +1,7 @@
 -- `crossfield::sweep_node` meets its contract. Assumes nothing.
-use mathlib.Core.Path.{sym, ap, _∙_}
 use borrow.Author.Tests.{eq-eqb, ne-eqb}
-use Rattle.crossfield.specs.Sweeps.{sweepNode}
 use borrow.Author.Needs.{needs}
+use Rattle.crossfield.specs.Sweeps.{sweepNode}
 use Rattle.crossfield.proofs.sweep_node.Statement.{statement}
 use Rattle.crossfield.proofs.sweep_node.Tie as tie
 

@@ -1,11 +1,11 @@
 -- `crossfield::sweep_row` meets its contract. Assumes nothing.
+use mathlib.Core.Path.{_≡_, refl, _∙_}
+use Prim.Native.Nat.{_-_}
+use native.Mathlib.Omega.{arith}
+use lib.ListN.{length}
+use Rattle.laws.specs.Loop.{Loop, loop-start, loop-next, loop-end}
 use Rattle.crossfield.specs.Sweeps.{swept, sweepNode, sweepRow}
 use Rattle.crossfield.specs.Places.{node-of}
-use Rattle.laws.specs.Loop.{Loop, loop-start, loop-next, loop-end}
-use lib.ListN.{length}
-use native.Mathlib.Omega.{arith}
-use Prim.Native.Nat.{_-_}
-use mathlib.Core.Path.{_≡_, refl, sym, ap, _∙_}
 use Rattle.crossfield.proofs.sweep_row.Statement.{statement}
 use Rattle.crossfield.proofs.sweep_row.Tie as tie
 

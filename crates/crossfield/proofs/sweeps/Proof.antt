@@ -1,13 +1,13 @@
 -- `crossfield::sweeps` meets its contract. Assumes nothing.
-use Rattle.crossfield.specs.Sweeps.{sweep, sweepTurn, sweeps}
-use Rattle.crossfield.specs.Places.{room-of}
-use Rattle.laws.specs.Loop.{Run, run-start, run-go, run-out, run-end}
+use mathlib.Core.List.{List}
+use mathlib.Core.Path.{_≡_, refl, _∙_}
+use Prim.Native.Nat.{_-_}
+use native.Mathlib.Omega.{arith}
 use lib.Ieee.{Float}
 use lib.ListN.{length}
-use native.Mathlib.Omega.{arith}
-use Prim.Native.Nat.{_-_}
-use mathlib.Core.List.{List}
-use mathlib.Core.Path.{_≡_, refl, sym, ap, _∙_}
+use Rattle.laws.specs.Loop.{Run, run-start, run-go, run-out, run-end}
+use Rattle.crossfield.specs.Sweeps.{sweep, sweepTurn, sweeps}
+use Rattle.crossfield.specs.Places.{room-of}
 use Rattle.crossfield.proofs.sweeps.Statement.{statement}
 use Rattle.crossfield.proofs.sweeps.Tie as tie
 

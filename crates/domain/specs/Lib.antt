@@ -1,4 +1,7 @@
 pub mod Outline
+pub mod OutlineLaws
 pub mod Queries
+pub mod RefusalLaws
 pub mod Search
+pub mod SearchLaws
 pub mod Table

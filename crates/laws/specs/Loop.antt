@@ -49,6 +49,14 @@ forUp-same zero turn other a same = refl
 forUp-same (suc n) turn other a same =
     same n (forUp n turn a) (omega arith) ∙ ap (other n) (forUp-same n turn other a (λ i s h. same i s (omega arith)))
 
+-- two loops whose turns keep their states related, each turn of one with the same turn of the other
+pub forUp-related {ℓ m} : {A B : Type ℓ} (R : A → B → Type m) (n : ℕ) (turn : ℕ → A → A) (other : ℕ → B → B) (a : A) (b : B)
+    → R a b → ((i : ℕ) (s : A) (t : B) → R s t → R (turn i s) (other i t)) → R (forUp n turn a) (forUp n other b)
+unfolding forUp
+forUp-related R zero turn other a b start keeps = start
+forUp-related R (suc n) turn other a b start keeps =
+    keeps n (forUp n turn a) (forUp n other b) (forUp-related R n turn other a b start keeps)
+
 -- a state that no later turn changes is the loop's answer
 pub forUp-stays {ℓ} : {A : Type ℓ} (n i : ℕ) (turn : ℕ → A → A) (a s : A) → i ≤ n
     → forUp i turn a ≡ s → ((j : ℕ) → turn j s ≡ s) → forUp n turn a ≡ s

@@ -1,5 +1,5 @@
 -- The root of s * 2 ^ 52 digit by digit: one turn of the loop of `slow`, on plain numbers. Assumes nothing.
-use mathlib.Core.Path.{_≡_, sym, ap, _∙_}
+use mathlib.Core.Path.{_≡_, ap, _∙_}
 use Prim.Native.Nat.{ℕ, zero, suc, _+_, _-_, _*_, _/_, _%_, _^_, _≤_, _<_}
 use native.Mathlib.Nat.{lt-of-lt-of-le, pow-succ', mul-left-comm}
 use native.Mathlib.Numerals.{add-one}

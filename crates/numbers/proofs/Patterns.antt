@@ -3,7 +3,7 @@ use mathlib.Core.Path.{_≡_, refl, sym, ap, ap₂, _∙_, subst}
 use mathlib.Core.Bool.{Bool, true, false, not, cond, true≢false}
 use mathlib.Core.Logic.{_⊎_, inl, inr}
 use Prim.Native.Nat.{ℕ, zero, suc, _+_, _-_, _*_, _/_, _%_, _^_, _≤_, _<_}
-use native.Mathlib.Nat.{le-of-eq, lt-of-lt-of-le, lt-irrefl, not-le-of-lt, mod-eq-of-lt, mul-pos, add-comm}
+use native.Mathlib.Nat.{lt-of-lt-of-le, lt-irrefl, not-le-of-lt, mod-eq-of-lt, mul-pos, add-comm}
 use native.Mathlib.Omega.{arith}
 use lib.Dec.{T, leb, ltb, eqb, leb→le, le→leb, eqb→eq, ltb→lt, nltb→le, lt→ltb, not-T}
 use lib.Arith.{le→nltb}

@@ -1,24 +1,37 @@
--- The cases of `sqrt_f64`, by the value's sign and bits, and the result that `assemble` puts together. Assumes nothing.
-use mathlib.Core.Path.{_≡_, refl, sym, ap, _∙_, subst}
-use mathlib.Core.Logic.{⊎-elim}
-use mathlib.Core.Bool.{Bool, true, false}
+-- The cases of `sqrt_f64`, by the value's sign and bits, and the pattern that `root_bits` puts together. Assumes nothing.
+use mathlib.Core.Path.{_≡_, refl, sym, ap, _∙_}
+use mathlib.Core.Logic.{_⊎_, inl, inr, ⊎-elim}
+use mathlib.Core.Bool.{true, false}
 use Prim.Native.Nat.{ℕ, suc, _+_, _-_, _*_, _/_, _%_, _^_, _≤_, _<_}
 use native.Mathlib.Nat.{le-trans, le-of-eq, le-of-suc-le-suc, lt-of-lt-of-le, lt-of-not-le, not-le-of-lt, mod-eq-of-lt, mul-assoc, mul-le-mul-right, mul-lt-mul-of-pos-right}
 use native.Mathlib.Omega.{arith}
 use lib.Dec.{T}
 use lib.Pow.{pow-pos, pow-mono, pow-add}
 use lib.Count.{leadingZeros, leading-top}
-use lib.Ieee.{Float, nan, inf, fin, binary64, ofBits, toBits, isNan, fits, ne, div}
+use lib.Ieee.{Float, nan, inf, binary64, ofBits, toBits, isNan, fits, ne, div}
 use lib.Ieee.Bits.{ofBits-toBits}
-use Rattle.numbers.specs.Root.{root, rootUnits, NearRoot}
-use Rattle.numbers.specs.RootUnits.{root-value, root-minus, Split, Rounds, rounds}
+use Rattle.numbers.specs.Root.{root, rootUnits, NearRoot, RootBits}
+use Rattle.numbers.specs.RootUnits.{root-value, root-minus, Split, rounds}
 use Rattle.numbers.specs.Whole.{sizeOf}
 use Rattle.numbers.proofs.Patterns.{is-nan, not-nan, size-low, size-high, size-pos, Pattern, plus, minus-sign, value, infinite, finite-or-not, units-bits}
 
 -- ---- the root's digits and its place, put together
 
-pub assembled : (sig p s Q : ℕ) → p ≤ 3067 → Split sig p s → NearRoot (s * 2 ^ 52) Q → ofBits binary64 (p / 2 * 2 ^ 52 + Q) ≡ rootUnits (sig * 2 ^ 52 * 2 ^ p)
-assembled sig p s Q h k n = let r = rounds sig p s Q h k n in sym (r .is ∙ units-bits Q (p / 2) (r .small) (r .reach) (r .under))
+pub root-bits : (sig p s Q : ℕ) → p ≤ 3067 → Split sig p s → NearRoot (s * 2 ^ 52) Q → RootBits (sig * 2 ^ 52 * 2 ^ p) (p / 2 * 2 ^ 52 + Q)
+root-bits sig p s Q h k n =
+    let r = rounds sig p s Q h k n in
+    let small = r .small in
+    let reach = r .reach in
+    let under = r .under in
+    record { is = sym (r .is ∙ units-bits Q (p / 2) small reach under); least = omega arith; finite = omega arith }
+
+-- a guess w whose bits are the root's is the root; v are w's bits, or 0 where w is no guess
+pub guessed : (n k v : ℕ) (w : Float) → T (fits binary64 w) → RootBits n k → (v ≡ toBits binary64 w) ⊎ (v ≡ 0) → v ≡ k → w ≡ rootUnits n
+guessed n k v w f r (inl e) h = sym (ofBits-toBits binary64 w f) ∙ ap (ofBits binary64) (sym e ∙ h) ∙ r .is
+guessed n k v w f r (inr e) h = absurd (no (r .least))
+  where
+    no : 2 ^ 52 ≤ k → ⊥
+    no l = omega arith
 
 -- ---- a value that is its own root
 

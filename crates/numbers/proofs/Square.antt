@@ -1,10 +1,9 @@
 -- The square of a number below 2 ^ 53 in two halves, and what its distance from s * 2 ^ 52 says of the root of that. Assumes nothing.
-use mathlib.Core.Path.{_≡_, sym, ap, _∙_, subst}
+use mathlib.Core.Path.{_≡_, ap, subst}
 use mathlib.Core.Logic.{_⊎_, inl, inr}
 use Prim.Native.Nat.{ℕ, zero, suc, _+_, _-_, _*_, _/_, _%_, _^_, _≤_, _<_}
-use native.Mathlib.Nat.{mul-le-mul, le-trans, lt-of-le-of-lt}
+use native.Mathlib.Nat.{mul-le-mul}
 use native.Mathlib.Omega.{arith}
-use lib.Dec.{lit≤, lit<}
 use Rattle.numbers.specs.Root.{NearRoot}
 
 -- the digits of q, in base 2 ^ 27

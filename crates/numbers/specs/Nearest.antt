@@ -9,7 +9,7 @@ use native.Mathlib.Omega.{arith}
 use lib.IntN.{ℤ, pos, negsuc}
 use lib.Dec.{T, lit≤, leb, ltb, eqb, leb→le, nleb→lt, ltb→lt, lt→ltb}
 use lib.Pow.{pow-pos, pow-mono, pow-add, pow-lt, shl-lt}
-use lib.Ieee.{Float, nan, inf, fin, binary64, up, down, odd, size, units, fits}
+use lib.Ieee.{Float, nan, inf, fin, binary64, up, down, size, units, fits}
 use lib.Ieee.Bits.{is-true}
 use lib.Ieee.Digits.{size-lt, size-le, size-reaches}
 use lib.Ieee.Exact.{HasValue, units-val}
@@ -17,7 +17,7 @@ use lib.Ieee.Fits.{down-pos, up-pos, odd-fits, and-l, and-r}
 use lib.Ieee.Positive.{first-pos}
 use Rattle.numbers.specs.Root.{rootUnits, root, NearRoot}
 use Rattle.numbers.specs.Isqrt.{four-is, four-pos, picked, picked-near}
-use Rattle.numbers.specs.RootUnits.{zero-units, root-value, Split, split-even, split-odd, Rounds, rounds}
+use Rattle.numbers.specs.RootUnits.{zero-units, root-value, Split, split-even, split-odd, rounds}
 
 -- x is n units, and has no minus sign
 abbrev pub IsUnits : Float → ℕ → Type 0

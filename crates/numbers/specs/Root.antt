@@ -1,8 +1,9 @@
 -- The square root of an f64 as IEEE 754 has it: the exact root rounded once, to the nearest double. Definitions only; specs/Nearest.antt proves that it is the nearest, specs/Table.antt computes some.
+use mathlib.Core.Path.{_≡_}
 use mathlib.Core.Bool.{true, false, cond}
 use Prim.Native.Nat.{ℕ, zero, suc, _+_, _-_, _*_, _/_, _^_, _≤_, _<_, compare}
 use lib.Dec.{leb}
-use lib.Ieee.{Float, nan, inf, fin, binary64, up, down, size, nearest, units}
+use lib.Ieee.{Float, nan, inf, fin, binary64, up, down, size, nearest, units, ofBits}
 
 -- one more binary digit of a root: r is the whole part of √(n / 4)
 abbrev pub digit : ℕ → ℕ → ℕ
@@ -42,3 +43,9 @@ root (fin false (suc m) e) = rootUnits (suc m * up e * 2 ^ 2148 / down e)
 pub record NearRoot (n q : ℕ) : Type 0 where
   pub below : q * q < n + q
   pub above : n ≤ q * q + q
+
+-- k are the bits of √n units, rounded, which is a normal number
+pub record RootBits (n k : ℕ) : Type 0 where
+  pub is : ofBits binary64 k ≡ rootUnits n
+  pub least : 2 ^ 52 ≤ k
+  pub finite : k < 0x7ff0_0000_0000_0000

@@ -1,6 +1,6 @@
 -- How `root` and `rootUnits` round: √(N * 4 ^ k) units, for an N of 105 or 106 digits, are Q * 2 ^ k units, where Q is the whole number nearest to √N. Assumes nothing.
 use mathlib.Core.Path.{_≡_, refl, sym, ap, _∙_, subst}
-use mathlib.Core.Bool.{Bool, true, false, true≢false, false≢true}
+use mathlib.Core.Bool.{true, false, true≢false, false≢true}
 use Prim.Native.Nat.{ℕ, zero, suc, _+_, _-_, _*_, _/_, _%_, _^_, _≤_, _<_, compare}
 use native.Mathlib.Nat.{le-trans, le-of-eq, le-of-suc-le-suc, lt-of-lt-of-le, lt-of-not-le, lt-irrefl, not-le-of-lt, zero-mul, mul-assoc, mul-pos, mul-right-comm, mul-div-cancel, mul-le-mul-right, mul-lt-mul-of-pos-right, pow-succ'}
 use native.Mathlib.Omega.{arith}
@@ -10,7 +10,7 @@ use lib.Ieee.Digits.{size-lt, size-le}
 use lib.Ieee.Exact.{HasValue}
 use lib.Ieee.Fits.{down-pos}
 use Rattle.numbers.specs.Root.{rootSize, isqrt, rootUnits, root, NearRoot}
-use Rattle.numbers.specs.Isqrt.{four-is, four-pow, four-pos, near-unique, picked, picked-near}
+use Rattle.numbers.specs.Isqrt.{four-pow, four-pos, near-unique, picked, picked-near}
 
 -- ---- `root` by the units of a value
 

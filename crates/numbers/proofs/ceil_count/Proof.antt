@@ -1,7 +1,7 @@
 -- `numbers::ceil_count` meets its contract: each way out is a case of `Casts`. Assumes nothing.
 use borrow.Author.Needs.{needs}
-use mathlib.Core.Path.{_≡_, sym, _∙_, subst}
-use Prim.Native.Nat.{ℕ, _-_, _^_, _≤_, _<_}
+use mathlib.Core.Path.{sym, _∙_, subst}
+use Prim.Native.Nat.{_-_, _^_}
 use native.Mathlib.Omega.{arith}
 use lib.Dec.{T}
 use lib.Ieee.{binary64, fits, toBits}

@@ -1,16 +1,15 @@
 -- `numbers::floor_int` meets its contract: each way out is a case of `Casts`. Assumes nothing.
 use borrow.Author.Needs.{needs}
-use mathlib.Core.Path.{_≡_, sym, ap, _∙_, subst}
-use Prim.Native.Nat.{ℕ, _-_, _/_, _^_, _≤_, _<_}
+use mathlib.Core.Path.{_≡_, sym, _∙_, subst}
+use Prim.Native.Nat.{ℕ, _-_, _^_, _≤_, _<_}
 use native.Mathlib.Nat.{le-of-lt}
-use native.Mathlib.Omega.{arith}
 use lib.Dec.{T}
 use lib.IntN.{pos, negℤ}
 use lib.Ieee.{binary64, fits, toBits}
 use mir.Syntax.{w64}
 use mir.ValLaws.{toZ-pos}
 use Rattle.std.proofs.num.Truncating.{one-less-fits, negated-fits, negated}
-use Rattle.numbers.specs.Whole.{ceilDiv, sizeOf, floorInt}
+use Rattle.numbers.specs.Whole.{floorInt}
 use Rattle.numbers.proofs.Patterns.{no-nan, plus, minus-sign}
 use Rattle.numbers.proofs.Casts.{floor-nan, floor-in, floor-over, floor-minus-zero, floor-minus-in, floor-under}
 use Rattle.numbers.proofs.floor_int.Statement.{statement}

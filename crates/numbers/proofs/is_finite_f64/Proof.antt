@@ -1,6 +1,6 @@
 -- `numbers::is_finite_f64` meets its contract. Assumes nothing.
 use mathlib.Core.Path.{_≡_, refl, sym, ap, _∙_}
-use mathlib.Core.Bool.{Bool, true, false, true≢false}
+use mathlib.Core.Bool.{true, false, true≢false}
 use lib.Ieee.{Float, nan, inf, fin, binary64, ofBits, div, neg, lt}
 use Rattle.numbers.specs.Float.{isFinite}
 use Rattle.numbers.proofs.is_finite_f64.Statement.{statement}

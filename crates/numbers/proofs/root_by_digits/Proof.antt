@@ -1,8 +1,7 @@
 -- `numbers::root_by_digits` meets its contract: each turn is one of `Digits`, and after 53 turns the remainder says whether the root is nearer to `root` or to the next number. Assumes nothing.
-use borrow.Author.Needs.{needs}
 use mathlib.Core.Logic.{⊎-elim}
-use mathlib.Core.Path.{_≡_, subst}
-use Prim.Native.Nat.{ℕ, _+_, _*_, _/_, _%_, _^_, _≤_, _<_, _-_}
+use mathlib.Core.Path.{_≡_}
+use Prim.Native.Nat.{_*_, _^_, _≤_, _<_, _-_}
 use native.Mathlib.Omega.{arith}
 use Rattle.numbers.proofs.Digits.{Turn, turn-zero, turn-one, short-lt, all, near-this, near-next}
 use Rattle.numbers.proofs.root_by_digits.Statement.{statement}

@@ -1,5 +1,9 @@
+pub mod Corner
+pub mod Examples
 pub mod Operations
 pub mod Order
 pub mod Root
 pub mod Rounding
+pub mod Sine
+pub mod SineBounds
 pub mod Units

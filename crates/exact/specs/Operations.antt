@@ -1,12 +1,13 @@
--- How far +, -, * and / of doubles are from the exact results, in units. Where the operands are at most 2 ^ 200 either way nothing overflows, the sign is the exact result's, and its size is close:
--- a sum or a difference within one part in 2 ^ 53, a product or a quotient within that and half a unit (Rounding, `Close`). Assumes nothing.
+-- How far +, -, * and / of doubles are from the exact results, in units. Where the operands are at most 2 ^ 200 either way nothing overflows,
+-- the sign is the exact result's, and its size is close: a sum or a difference within one part in 2 ^ 53, a product or a quotient within
+-- that and half a unit (Rounding, `Close`). Assumes nothing.
 use mathlib.Core.Path.{_≡_, refl, sym, ap, ap₂, _∙_, subst, subst₂}
 use mathlib.Core.Bool.{Bool, true, false, not, _&&_, cond, Bool·beq}
 use Prim.Native.Nat.{ℕ, zero, suc, _+_, _-_, _*_, _^_, _≤_, _<_}
 use native.Mathlib.Nat.{le-refl, le-trans, le-of-eq, zero-lt-suc, zero-mul, one-mul, mul-comm, mul-left-comm, mul-assoc, mul-right-comm, mul-mul-mul-comm, add-mul, mul-sub, mul-pos, mul-le-mul, mul-le-mul-right, le-mul-of-pos-right, mul-lt-mul-of-pos-right, le-of-mul-le-mul-right, lt-of-lt-of-le, lt-of-le-of-lt, eq-of-mul-eq-mul-right}
 use native.Mathlib.Omega.{arith}
 use lib.IntN.{ℤ, pos, negℤ, _+ℤ_, _-ℤ_, negℤ-+ℤ, negℤ-negℤ, +ℤ-comm}
-use lib.Dec.{T, lit<, leb, ltb, eqb, ltb→lt, lt→ltb, leb→le, nltb→le, eqb→eq}
+use lib.Dec.{T, leb, ltb, eqb, ltb→lt, leb→le, nltb→le, eqb→eq}
 use lib.Pow.{pow-add}
 use lib.Ieee.{Float, nan, inf, fin, binary64, up, down, unlike, round, sum, add, sub, mul, div, neg}
 use lib.Ieee.Exact.{units-val}
@@ -118,7 +119,7 @@ bound K x n w y h l k = go (K * y) ((2 * K + 1) * y) (add-mul (2 * K) 1 y ∙ ap
     go : (z v : ℕ) → v ≡ 2 * z + y → n ≤ z → x ≤ 2 * n + w → x ≤ v
     go z v e l g = omega arith
 
-product-small : (K g n : ℕ) → Close (g * W) n (n + 2 ^ 52 * W) → n ≤ K * (W * W) → g ≤ (2 * K + 1) * W
+pub product-small : (K g n : ℕ) → Close (g * W) n (n + 2 ^ 52 * W) → n ≤ K * (W * W) → g ≤ (2 * K + 1) * W
 product-small K g n h l =
     le-of-mul-le-mul-right (le-trans (bound K (g * W) n W (W * W) h l (le-mul-of-pos-right W W-pos)) (le-of-eq (sym (mul-assoc (2 * K + 1) W W)))) W-pos
 
@@ -146,10 +147,12 @@ pub record Product (s : Bool) (n : ℕ) (x : Float) : Type 0 where
 mul-close : (n : ℕ) → Close (rounded (n * W) (W * W) * W) n (n + 2 ^ 52 * W)
 mul-close n =
     close-cancel (rounded (n * W) (W * W) * W) n (n + 2 ^ 52 * W) W W-pos
-    (subst₂ (λ (x m : ℕ). Close x (n * W) m) (sym (mul-assoc (rounded (n * W) (W * W)) W W)) (ap (λ (z : ℕ). n * W + z) (sym (mul-assoc (2 ^ 52) W W)) ∙ sym (add-mul n (2 ^ 52 * W) W))
+    (subst₂ (λ (x m : ℕ). Close x (n * W) m) (sym (mul-assoc (rounded (n * W) (W * W)) W W))
+    (ap (λ (z : ℕ). n * W + z) (sym (mul-assoc (2 ^ 52) W W)) ∙ sym (add-mul n (2 ^ 52 * W) W))
     (round-close (n * W) (W * W) (mul-pos W-pos W-pos)))
 
-pub mul-law : {K L : ℕ} {x y : Float} (p : Within K x) (q : Within L y) → Moderate K → Moderate L → Product (unlike (p .sign) (q .sign)) (p .size * q .size) (x ⊗ y)
+pub mul-law : {K L : ℕ} {x y : Float} (p : Within K x) (q : Within L y) → Moderate K → Moderate L
+    → Product (unlike (p .sign) (q .sign)) (p .size * q .size) (x ⊗ y)
 mul-law {K} {L} {x} {y} p q hK hL =
     let n = p .size * q .size in
     let l : n ≤ 2 ^ 400 * (W * W) = le-trans (mul-le-mul (moderate hK p) (moderate hL q)) (le-of-eq (mul-mul-mul-comm (2 ^ 200) W (2 ^ 200) W)) in
@@ -162,7 +165,7 @@ mul-law {K} {L} {x} {y} p q hK hL =
       near = mul-close n;
     }
 
-pub product-within : {s : Bool} {n : ℕ} {x : Float} (K : ℕ) → Product s n x → n ≤ K * (W * W) → Within (2 * K + 1) x
+abbrev pub product-within : {s : Bool} {n : ℕ} {x : Float} (K : ℕ) → Product s n x → n ≤ K * (W * W) → Within (2 * K + 1) x
 product-within {s} {n} K p h = record { sign = s; size = p .size; val = p .val; small = product-small K (p .size) n (p .near) h }
 
 -- ---- the sum and the difference
@@ -198,7 +201,8 @@ exact-sum false a false b = record { sign = false; size = a + b; same = refl; is
 exact-sum true a true b = record { sign = true; size = a + b; same = refl; is = negℤ-+ℤ (pos a) (pos b); small = le-refl (a + b) }
 exact-sum false a true b = go (ltb a b) (ltb→lt a b) (nltb→le a b)
   where
-    go : (c : Bool) → (T c → a < b) → (T (not c) → b ≤ a) → Exact (pos a +ℤ negℤ (pos b)) (a + b) (cond c (round binary64 true (b - a) W) (round binary64 false (a - b) W))
+    go : (c : Bool) → (T c → a < b) → (T (not c) → b ≤ a)
+        → Exact (pos a +ℤ negℤ (pos b)) (a + b) (cond c (round binary64 true (b - a) W) (round binary64 false (a - b) W))
     go true h k = let l = h tt in record { sign = true; size = b - a; same = refl; is = less-neg a b (omega arith); small = omega arith }
     go false h k = record { sign = false; size = a - b; same = refl; is = sym (sub-pos b a (k tt)); small = omega arith }
 exact-sum true a false b = go (ltb a b) (ltb→lt a b) (nltb→le a b) (ltb b a) (nltb→le b a)
@@ -210,7 +214,13 @@ exact-sum true a false b = go (ltb a b) (ltb→lt a b) (nltb→le a b) (ltb b a)
         → Exact (negℤ (pos a) +ℤ pos b) (a + b) (cond c (round binary64 false (b - a) W) (round binary64 e (a - b) W))
     go true h k e l = let m = h tt in record { sign = false; size = b - a; same = refl; is = less a b (omega arith); small = omega arith }
     go false h k true l = record { sign = true; size = a - b; same = refl; is = less-neg b a (k tt) ∙ +ℤ-comm (pos b) (negℤ (pos a)); small = omega arith }
-    go false h k false l = record { sign = false; size = a - b; same = refl; is = ap pos (is-zero a b (l tt) (k tt) ∙ sym (is-zero b a (k tt) (l tt))) ∙ less a b (l tt); small = omega arith }
+    go false h k false l = record {
+      sign = false;
+      size = a - b;
+      same = refl;
+      is = ap pos (is-zero a b (l tt) (k tt) ∙ sym (is-zero b a (k tt) (l tt))) ∙ less a b (l tt);
+      small = omega arith;
+    }
 
 sum-close : (w : ℕ) → Close (rounded (w * W) W) w w
 sum-close w = close-cancel (rounded (w * W) W) w w W W-pos (round-close-whole w W W-pos)
@@ -218,8 +228,9 @@ sum-close w = close-cancel (rounded (w * W) W) w w W W-pos (round-close-whole w 
 -- w units rounded, where w is at most the sum of two moderate sizes
 sum-val : (s : Bool) (w a b : ℕ) → w ≤ a + b → a ≤ 2 ^ 200 * W → b ≤ 2 ^ 200 * W → Val (round binary64 s w W) s (rounded (w * W) W)
 sum-val s w a b h p q =
-    round-val s w W
-    (no-overflow (4 * 2 ^ 200) (rounded (w * W) W) tt (le-trans (four (2 ^ 200 * W) (rounded (w * W) W) (double (rounded (w * W) W) w (sum-close w)) h p q) (le-of-eq (sym (mul-assoc 4 (2 ^ 200) W)))))
+    let g = rounded (w * W) W in
+    let l = four (2 ^ 200 * W) g (double g w (sum-close w)) h p q in
+    round-val s w W (no-overflow (4 * 2 ^ 200) g tt (le-trans l (le-of-eq (sym (mul-assoc 4 (2 ^ 200) W)))))
   where
     four : (k g : ℕ) → g ≤ 2 * w → w ≤ a + b → a ≤ k → b ≤ k → g ≤ 4 * k
     four k g h l p q = omega arith
@@ -227,12 +238,13 @@ sum-val s w a b h p q =
 add-units : (x y : Float) (s t : Bool) (a b : ℕ) → Val x s a → Val y t b → a ≤ 2 ^ 200 * W → b ≤ 2 ^ 200 * W → Sum (signed s a +ℤ signed t b) (a + b) (x ⊕ y)
 add-units x y s t a b p q ha hb =
     let e = exact-sum s a t b in
+    let g = rounded (e .size * W) W in
     record {
       sign = e .sign;
       exact = e .size;
-      size = rounded (e .size * W) W;
+      size = g;
       is = e .is;
-      val = subst (λ (z : Float). Val z (e .sign) (rounded (e .size * W) W)) (sym (add-is x y s t a b p q ∙ e .same)) (sum-val (e .sign) (e .size) a b (e .small) ha hb);
+      val = subst (λ (z : Float). Val z (e .sign) g) (sym (add-is x y s t a b p q ∙ e .same)) (sum-val (e .sign) (e .size) a b (e .small) ha hb);
       near = sum-close (e .size);
       small = e .small;
     }
@@ -251,11 +263,14 @@ sub-law {K} {L} {x} {y} p q hK hL =
     signed-not false b = refl
     signed-not true b = sym (negℤ-negℤ (pos b))
 
-pub sum-within : {z : ℤ} {m : ℕ} {x : Float} (K : ℕ) → Sum z m x → m ≤ K * W → Within (2 * K) x
-sum-within {z} {m} K p h = record { sign = p .sign; size = p .size; val = p .val; small = le-trans (twice (p .size) (p .exact) (K * W) (double (p .size) (p .exact) (p .near)) (p .small) h) (le-of-eq (sym (mul-assoc 2 K W))) }
+pub sum-small : {z : ℤ} {m : ℕ} {x : Float} (K : ℕ) (p : Sum z m x) → m ≤ K * W → p .size ≤ 2 * K * W
+sum-small {z} {m} K p h = le-trans (twice (p .size) (p .exact) (K * W) (double (p .size) (p .exact) (p .near)) (p .small) h) (le-of-eq (sym (mul-assoc 2 K W)))
   where
     twice : (g w k : ℕ) → g ≤ 2 * w → w ≤ m → m ≤ k → g ≤ 2 * k
     twice g w k a b c = omega arith
+
+abbrev pub sum-within : {z : ℤ} {m : ℕ} {x : Float} (K : ℕ) → Sum z m x → m ≤ K * W → Within (2 * K) x
+sum-within K p h = record { sign = p .sign; size = p .size; val = p .val; small = sum-small K p h }
 
 -- of two that are not negative: no minus sign
 pub record PosSum (n : ℕ) (x : Float) : Type 0 where
@@ -285,9 +300,12 @@ div-law x y s t a b p q B h =
     let g = rounded (a * W) b in
     let c = round-close (a * W) b B in
     let l : a * W ≤ 2 ^ 400 * (b * W) = le-trans (mul-le-mul-right W h) (le-of-eq (mul-assoc (2 ^ 400) b W)) in
-    let k : g * b ≤ (2 * 2 ^ 400 + 1) * W * b = le-trans (bound (2 ^ 400) (g * b) (a * W) b (b * W) c l (le-mul-of-pos-right b W-pos)) (le-of-eq (ap (λ (z : ℕ). (2 * 2 ^ 400 + 1) * z) (mul-comm b W) ∙ sym (mul-assoc (2 * 2 ^ 400 + 1) W b))) in
+    let K = 2 * 2 ^ 400 + 1 in
+    let k : g * b ≤ K * W * b =
+    le-trans (bound (2 ^ 400) (g * b) (a * W) b (b * W) c l (le-mul-of-pos-right b W-pos)) (le-of-eq (ap (λ (z : ℕ). K * z) (mul-comm b W) ∙ sym (mul-assoc K W b))) in
+    let top = no-overflow K g tt (le-of-mul-le-mul-right k B) in
     record {
       size = g;
-      val = subst (λ (z : Float). Val z (unlike s t) g) (sym (div-is x y s t a b p q B)) (round-val (unlike s t) a b (no-overflow (2 * 2 ^ 400 + 1) g tt (le-of-mul-le-mul-right k B)));
+      val = subst (λ (z : Float). Val z (unlike s t) g) (sym (div-is x y s t a b p q B)) (round-val (unlike s t) a b top);
       near = c;
     }

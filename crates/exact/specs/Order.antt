@@ -1,20 +1,22 @@
--- Rust's `<`, `<=` and `==` on finite doubles are the order and the equality of their units. Each law stands twice: for two values whose units are known, and for two doubles that fit. Assumes nothing.
+-- Rust's `<`, `<=` and `==` on finite doubles are the order and the equality of their units: `lt-units`, `le-units`, `eq-units`. Before these stand
+-- the laws for two floats whose units are known (`lt-val` and so on), and after them bounds. Assumes nothing.
 use mathlib.Core.Path.{_≡_, refl, sym, ap, ap₂, _∙_, subst, subst₂}
 use mathlib.Core.Logic.{_⊎_, inl, inr, _↔_}
-use mathlib.Core.List.{List, [], _∷_}
+use mathlib.Core.List.{[], _∷_}
 use mathlib.Core.Bool.{Bool, true, false, not, _&&_, _||_, Bool·beq}
-use Prim.Native.Nat.{ℕ, zero, suc, _+_, _-_, _*_, _≤_, _<_}
-use native.Mathlib.Nat.{le-trans, zero-mul, mul-comm, mul-assoc, mul-right-comm, add-mul, mul-sub, mul-pos, mul-lt-mul-of-pos-right, lt-of-mul-lt-mul-right, eq-of-mul-eq-mul-right}
+use Prim.Native.Nat.{ℕ, zero, suc, _+_, _*_, _≤_, _<_}
+use native.Mathlib.Nat.{le-of-lt, lt-of-le-of-lt, not-le-of-lt, zero-mul, mul-comm, mul-assoc, mul-right-comm, add-mul, mul-pos, mul-lt-mul-of-pos-right, lt-of-mul-lt-mul-right, eq-of-mul-eq-mul-right}
 use native.Mathlib.Omega.{arith}
 use lib.Dec.{T, ltb, eqb, ltb→lt, lt→ltb, leb→le, eqb→eq, not-T, T-not}
-use lib.IntN.{ℤ, pos, negsuc, negℤ, natAbs, _+ℤ_, _*ℤ_, _-ℤ_}
-use lib.Signed.{_≤ℤ_, _<ℤ_, ltZ, ltZ-no, ≤ℤ-refl, clashℤ}
+use lib.IntN.{ℤ, pos, negℤ, natAbs, _-ℤ_, negℤ-negℤ, pos-ne-negsuc}
+use lib.Signed.{_≤ℤ_, _<ℤ_, ≤ℤ-refl, clashℤ}
 use lib.Ieee.{Float, nan, inf, fin, binary64, up, down, fits, lt, eq, le, below, level}
+use lib.Ieee.Bits.{is-true, is-false}
 use lib.Ieee.Fits.{down-pos, and-i, and-l, and-r, eq→eqb}
 use Rattle.laws.specs.Ring.{Expr, var, num, con, _+ᵉ_, _*ᵉ_, _-ᵉ_, neg, eval, same}
-use Rattle.laws.specs.Certificate.{Nonneg, nonneg, nonneg-is, not-nonneg, of-le, to-le, of-≤ℤ, to-≤ℤ, of-<ℤ, to-<ℤ, <ℤ-weaken, ≤ℤ-antisym, hyp, nat, _⊞_, prove}
-use Rattle.numbers.specs.Float.{isFinite}
-use Rattle.exact.specs.Units.{W, W-pos, Val, signed, signOf, sizeOf, units, val-of, Within, within, whole-val}
+use Rattle.laws.specs.Certificate.{Nonneg, nonneg, not-nonneg, of-le, to-le, of-≤ℤ, of-<ℤ, to-<ℤ, <ℤ-or-≤ℤ, <ℤ-weaken, ≤ℤ-antisym, hyp, _⊞_, prove}
+use Rattle.numbers.specs.Float.{isFinite, absF}
+use Rattle.exact.specs.Units.{W, W-pos, Val, signed, signOf, sizeOf, units, val-of, abs-val, Within, within, whole-val}
 
 -- ---- the tests from the units: A / c and B / c are the fractions that lib.Ieee compares, and a / w and b / w are the same
 
@@ -122,7 +124,8 @@ below-nonneg false false a b = (
 below-nonneg false true a b = (
   λ u. absurd u,
   λ n. not-nonneg {n = 0}
-      (prove (pos a ∷ pos b ∷ []) ((neg (var 1) -ᵉ var 0 -ᵉ num 1) ∷ var 0 ∷ var 1 ∷ []) (n, (nonneg a, (nonneg b, tt))) [] tt 0 (neg (num 1)) (hyp 0 ⊞ hyp 1 ⊞ hyp 2) tt),
+      (prove (pos a ∷ pos b ∷ []) ((neg (var 1) -ᵉ var 0 -ᵉ num 1) ∷ var 0 ∷ var 1 ∷ []) (n, (nonneg a, (nonneg b, tt))) [] tt 0
+      (neg (num 1)) (hyp 0 ⊞ hyp 1 ⊞ hyp 2) tt),
 )
 below-nonneg true false a b = (
   λ u. by a b (var 0 +ᵉ var 1 -ᵉ num 1) (var 1 -ᵉ neg (var 0) -ᵉ num 1) (of-le (ltb→lt 0 (a + b) u)) tt,
@@ -138,7 +141,7 @@ below-lt s t a b = let i = below-nonneg s t a b in (λ u. to-<ℤ (i .0 u), λ h
 
 minus-zero : (a b : ℕ) → pos a ≡ negℤ (pos b) → (a ≡ b) × (a ≡ 0)
 minus-zero a zero e = (ap natAbs e, ap natAbs e)
-minus-zero a (suc b) e = absurd (lib.IntN.pos-ne-negsuc a b e)
+minus-zero a (suc b) e = absurd (pos-ne-negsuc a b e)
 
 both-zero : (a b : ℕ) → T (eqb a b && eqb a 0) → (a ≡ 0) × (b ≡ 0)
 both-zero a b u = let z = eqb→eq a 0 (and-r (eqb a b) (eqb a 0) u) in (z, sym (eqb→eq a b (and-l (eqb a b) (eqb a 0) u)) ∙ z)
@@ -147,15 +150,17 @@ pub level-eq : (s t : Bool) (a b : ℕ) → T (level s a t b) ↔ (signed s a �
 level-eq false false a b =
     (λ u. ap pos (eqb→eq a b (and-l (eqb a b) true u)), λ e. and-i (eqb a b) true (eq→eqb (ap natAbs e)) tt)
 level-eq false true a b = (
-  λ u. let z = both-zero a b u in ap₂ (λ (m n : ℕ). pos m) (z .0) (z .1) ∙ ap (λ (n : ℕ). negℤ (pos n)) (sym (z .1)),
+  λ u. let z = both-zero a b u in ap pos (z .0) ∙ ap (λ (n : ℕ). negℤ (pos n)) (sym (z .1)),
   λ e. let z = minus-zero a b e in and-i (eqb a b) (eqb a 0) (eq→eqb (z .0)) (eq→eqb (z .1)),
 )
 level-eq true false a b = (
   λ u. let z = both-zero a b u in ap (λ (n : ℕ). negℤ (pos n)) (z .0) ∙ ap pos (sym (z .1)),
   λ e. let z = minus-zero b a (sym e) in and-i (eqb a b) (eqb a 0) (eq→eqb (sym (z .0))) (eq→eqb (sym (z .0) ∙ z .1)),
 )
-level-eq true true a b =
-    (λ u. ap (λ (n : ℕ). negℤ (pos n)) (eqb→eq a b (and-l (eqb a b) true u)), λ e. and-i (eqb a b) true (eq→eqb (ap natAbs (sym (lib.IntN.negℤ-negℤ (pos a)) ∙ ap negℤ e ∙ lib.IntN.negℤ-negℤ (pos b)))) tt)
+level-eq true true a b = (
+  λ u. ap (λ (n : ℕ). negℤ (pos n)) (eqb→eq a b (and-l (eqb a b) true u)),
+  λ e. and-i (eqb a b) true (eq→eqb (ap natAbs (sym (negℤ-negℤ (pos a)) ∙ ap negℤ e ∙ negℤ-negℤ (pos b)))) tt,
+)
 
 or-split : (p q : Bool) → T (p || q) → T p ⊎ T q
 or-split true q t = inl tt
@@ -168,13 +173,6 @@ or-left false q t = absurd t
 or-right : (p q : Bool) → T q → T (p || q)
 or-right true q t = tt
 or-right false q t = t
-
-split-ltZ : (a b : ℤ) → (a <ℤ b) ⊎ (b ≤ℤ a)
-split-ltZ a b = go (ltZ a b) refl
-  where
-    go : (t : Bool) → ltZ a b ≡ t → (a <ℤ b) ⊎ (b ≤ℤ a)
-    go true e = inl (record { lt = subst T (sym e) tt })
-    go false e = inr (ltZ-no (subst (λ (t : Bool). T (not t)) (sym e) tt))
 
 -- ---- floats whose units are known
 
@@ -194,20 +192,26 @@ module _ (x y : Float) (s t : Bool) (a b : ℕ) (p : Val x s a) (q : Val y t b) 
   pub le-val : T (le x y) ↔ (signed s a ≤ℤ signed t b)
   unfolding le
   le-val = (
-    λ u. elim (or-split (lt x y) (eq x y) u) [ inl h ↦ <ℤ-weaken (lt-val .0 h) | inr h ↦ subst (λ (z : ℤ). signed s a ≤ℤ z) (eq-val .0 h) (≤ℤ-refl (signed s a)) ],
-    λ h. elim (split-ltZ (signed s a) (signed t b)) [ inl k ↦ or-left (lt x y) (eq x y) (lt-val .1 k) | inr k ↦ or-right (lt x y) (eq x y) (eq-val .1 (≤ℤ-antisym h k)) ],
+    λ u. elim (or-split (lt x y) (eq x y) u) [
+      | inl h ↦ <ℤ-weaken (lt-val .0 h)
+      | inr h ↦ subst (λ (z : ℤ). signed s a ≤ℤ z) (eq-val .0 h) (≤ℤ-refl (signed s a))
+    ],
+    λ h. elim (<ℤ-or-≤ℤ (signed s a) (signed t b)) [
+      | inl k ↦ or-left (lt x y) (eq x y) (lt-val .1 k)
+      | inr k ↦ or-right (lt x y) (eq x y) (eq-val .1 (≤ℤ-antisym h k))
+    ],
   )
 
   -- where a test fails, the opposite one holds
   pub not-lt-val : T (not (lt x y)) ↔ (signed t b ≤ℤ signed s a)
   not-lt-val = (
-    λ u. elim (split-ltZ (signed s a) (signed t b)) [ inl k ↦ absurd (T-not (lt x y) u (lt-val .1 k)) | inr k ↦ k ],
+    λ u. elim (<ℤ-or-≤ℤ (signed s a) (signed t b)) [ inl k ↦ absurd (T-not (lt x y) u (lt-val .1 k)) | inr k ↦ k ],
     λ h. not-T (lt x y) (λ u. clashℤ (lt-val .0 u) h),
   )
 
   pub not-le-val : T (not (le x y)) ↔ (signed t b <ℤ signed s a)
   not-le-val = (
-    λ u. elim (split-ltZ (signed t b) (signed s a)) [ inl k ↦ k | inr k ↦ absurd (T-not (le x y) u (le-val .1 k)) ],
+    λ u. elim (<ℤ-or-≤ℤ (signed t b) (signed s a)) [ inl k ↦ k | inr k ↦ absurd (T-not (le x y) u (le-val .1 k)) ],
     λ h. not-T (le x y) (λ u. clashℤ h (le-val .0 u)),
   )
 
@@ -257,3 +261,22 @@ within-le K x t p q =
     within K x t f
     (size-le (signOf x) (sizeOf x) (K * W) (le-val x (fin false K (pos 0)) (signOf x) false (sizeOf x) (K * W) v (whole-val false K) .0 p)
     (le-val (fin true K (pos 0)) x true (signOf x) (K * W) (sizeOf x) (whole-val true K) v .0 q))
+
+-- |x| is not above K, as the code tests it; y is K as a double
+pub within-abs : (K : ℕ) (x y : Float) → Val y false (K * W) → T (fits binary64 x) → T (isFinite x) → T (not (lt y (absF x))) → Within K x
+within-abs K x y v t f h =
+    let a = abs-val x (signOf x) (sizeOf x) (val-of x f t) in
+    within K x t f (leb→le (sizeOf x) (K * W) (not-lt-val y (absF x) false false (K * W) (sizeOf x) v a .0 h .le))
+
+-- what is farther out than a bound of y is below y exactly if it is negative
+pub beyond-lt : {K : ℕ} {y : Float} (x : Float) (s : Bool) (n : ℕ) → Val x s n → Within K y → K * W < n → lt x y ≡ s
+beyond-lt {K} {y} x s n v z h = lt-is x y s (z .sign) n (z .size) v (z .val) ∙ go s (z .sign) (lt-of-le-of-lt (z .small) h)
+  where
+    some : (a b : ℕ) → b < a → 0 < a + b
+    some a b h = omega arith
+
+    go : (s t : Bool) → z .size < n → below s n t (z .size) ≡ s
+    go true true l = is-true (ltb (z .size) n) (lt→ltb (z .size) n l)
+    go true false l = is-true (ltb 0 (n + z .size)) (lt→ltb 0 (n + z .size) (some n (z .size) l))
+    go false true l = refl
+    go false false l = is-false (ltb n (z .size)) (not-T (ltb n (z .size)) (λ t. not-le-of-lt l (le-of-lt (ltb→lt n (z .size) t))))

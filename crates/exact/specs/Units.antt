@@ -1,5 +1,6 @@
 -- A double as a whole number of units. A unit is the smallest double above 0, 2 ^ -1074 (document 01, "The exact books").
--- `units x` computes; `Val x s a` says that x is finite, has the sign s, and is a units in size, for proofs; `Within K x` bounds it by K either way. Assumes nothing.
+-- `units x` computes. For proofs, `Val x s a` says that x is finite, has the sign s, and is a units in size; `Within K x` bounds it by K
+-- either way. Assumes nothing.
 use mathlib.Core.Path.{_≡_, refl, sym, ap, ap₂, _∙_, subst}
 use mathlib.Core.Bool.{Bool, true, false, not, _&&_}
 use Prim.Native.Nat.{ℕ, zero, suc, _-_, _+_, _*_, _/_, _%_, _^_, _≤_, _<_}
@@ -139,7 +140,7 @@ pub record Within (K : ℕ) (x : Float) : Type 0 where
   pub val : Val x sign size
   pub small : size ≤ K * W
 
-pub within : (K : ℕ) (x : Float) → T (fits binary64 x) → T (isFinite x) → sizeOf x ≤ K * W → Within K x
+abbrev pub within : (K : ℕ) (x : Float) → T (fits binary64 x) → T (isFinite x) → sizeOf x ≤ K * W → Within K x
 within K x t f h = record { sign = signOf x; size = sizeOf x; val = val-of x f t; small = h }
 
 pub within-size : {K : ℕ} {x : Float} → Within K x → sizeOf x ≤ K * W
@@ -150,7 +151,7 @@ pub within-units : {K : ℕ} {x : Float} (p : Within K x) → units x ≡ signed
 within-units {K} {x} p = units-val x (p .sign) (p .size) (p .val)
 
 -- a larger bound, by a test of two numerals
-pub widen : {K : ℕ} {x : Float} (L : ℕ) → T (leb K L) → Within K x → Within L x
+abbrev pub widen : {K : ℕ} {x : Float} (L : ℕ) → T (leb K L) → Within K x → Within L x
 widen {K} L t p = record { sign = p .sign; size = p .size; val = p .val; small = le-trans (p .small) (mul-le-mul-right W (leb→le K L t)) }
 
 -- the whole number K, as a double or not

@@ -173,6 +173,13 @@ to-≤ℤ {a = pos (suc a)} {b = negsuc b} h = absurd (not-nonneg h)
 to-≤ℤ {a = negsuc a} {b = pos b} h = record { le = tt }
 to-≤ℤ {a = negsuc a} {b = negsuc b} h = record { le = le→leb b a (le-of-suc-le-suc (to-le (suc b) (suc a) h)) }
 
+pub <ℤ-or-≤ℤ : (a b : ℤ) → (a <ℤ b) ⊎ (b ≤ℤ a)
+<ℤ-or-≤ℤ a b = go (ltZ a b) refl
+  where
+    go : (t : Bool) → ltZ a b ≡ t → (a <ℤ b) ⊎ (b ≤ℤ a)
+    go true e = inl (record { lt = subst T (sym e) tt })
+    go false e = inr (ltZ-no (subst (λ (t : Bool). T (not t)) (sym e) tt))
+
 pub of-<ℤ : {a b : ℤ} → a <ℤ b → Nonneg (b -ℤ a -ℤ pos 1)
 of-<ℤ {a} {b} h =
     elim (sign (b -ℤ a -ℤ pos 1)) [
@@ -181,15 +188,13 @@ of-<ℤ {a} {b} h =
     ]
 
 pub to-<ℤ : {a b : ℤ} → Nonneg (b -ℤ a -ℤ pos 1) → a <ℤ b
-to-<ℤ {a} {b} n = go (ltZ a b) refl
-  where
-    go : (t : Bool) → ltZ a b ≡ t → a <ℤ b
-    go true e = record { lt = subst T (sym e) tt }
-    go false e =
-        let h = of-≤ℤ {a = b} {b = a} (ltZ-no (subst (λ (t : Bool). T (not t)) (sym e) tt)) in
-        absurd
-        (not-nonneg {n = 0}
-        (prove (a ∷ b ∷ []) ((var 1 -ᵉ var 0 -ᵉ num 1) ∷ (var 0 -ᵉ var 1) ∷ []) (n, (h, tt)) [] tt 0 (neg (num 1)) (hyp 0 ⊞ hyp 1) tt))
+to-<ℤ {a} {b} n =
+    elim (<ℤ-or-≤ℤ a b) [
+      | inl h ↦ h
+      | inr h ↦ absurd
+          (not-nonneg {n = 0}
+          (prove (a ∷ b ∷ []) ((var 1 -ᵉ var 0 -ᵉ num 1) ∷ (var 0 -ᵉ var 1) ∷ []) (n, (of-≤ℤ h, tt)) [] tt 0 (neg (num 1)) (hyp 0 ⊞ hyp 1) tt))
+    ]
 
 pub <ℤ-weaken : {a b : ℤ} → a <ℤ b → a ≤ℤ b
 <ℤ-weaken {a} {b} h = to-≤ℤ (prove (a ∷ b ∷ []) ((var 1 -ᵉ var 0 -ᵉ num 1) ∷ []) (of-<ℤ h, tt) [] tt 0 (var 1 -ᵉ var 0) (hyp 0 ⊞ nat 1) tt)

@@ -1,10 +1,10 @@
--- Worked uses of `ring` and `prove`, each with the call of tools/ring.py that wrote it. Nothing cites them: they show the form, and the check computes them. Assumes nothing.
-use mathlib.Core.Path.{_≡_, refl}
-use mathlib.Core.List.{List, [], _∷_}
+-- Worked uses of `ring` and `prove`, each with the call of tools/ring.py that wrote it. They show the form, and the check computes them. Assumes nothing.
+use mathlib.Core.Path.{_≡_}
+use mathlib.Core.List.{[], _∷_}
 use Prim.Native.Nat.{ℕ, _+_, _*_, _^_, _≤_}
-use lib.IntN.{ℤ, pos, negsuc, negℤ, _+ℤ_, _*ℤ_, _-ℤ_}
+use lib.IntN.{ℤ, pos, _+ℤ_, _*ℤ_, _-ℤ_}
 use lib.Signed.{_≤ℤ_}
-use Rattle.laws.specs.Ring.{Expr, var, num, _+ᵉ_, _*ᵉ_, _-ᵉ_, neg, ring}
+use Rattle.laws.specs.Ring.{var, num, _+ᵉ_, _*ᵉ_, _-ᵉ_, ring}
 use Rattle.laws.specs.Certificate.{Nonneg, of-≤ℤ, to-≤ℤ, to-le, hyp, nat, _⊞_, _⊠_, sq, eqn, prove, zero-of}
 
 -- Lagrange's identity: the cross product and the dot product of two vectors.
@@ -23,7 +23,7 @@ scaled a b = ring (a ∷ b ∷ []) (num (2 ^ 1074) *ᵉ (var 0 +ᵉ var 1)) (num
 
 -- Cauchy's inequality, in ℕ. The certificate is one square.
 -- ring.py certificate 'a b c d' '(a*a + c*c)*(b*b + d*d) - (a*b + c*d)^2' -s 'a*d - b*c'
-cauchy : (a b c d : ℕ) → (a * b + c * d) * (a * b + c * d) ≤ (a * a + c * c) * (b * b + d * d)
+pub cauchy : (a b c d : ℕ) → (a * b + c * d) * (a * b + c * d) ≤ (a * a + c * c) * (b * b + d * d)
 cauchy a b c d =
     to-le _ _
     (prove (pos a ∷ pos b ∷ pos c ∷ pos d ∷ []) [] tt [] tt 0

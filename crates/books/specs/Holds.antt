@@ -1,0 +1,74 @@
+-- Demand 3: what holds of a run's books before the first quad, after each one, and where the run stops. Statements only.
+use mathlib.Core.Path.{_≡_}
+use mathlib.Core.Bool.{cond, not}
+use mathlib.Core.Option.{Option, some}
+use mathlib.Core.List.{List, [], _∷_}
+use Prim.Native.Nat.{ℕ, _+_, _*_, _<_, _≤_}
+use lib.IntN.{ℤ, _+ℤ_}
+use lib.Dec.{T}
+use lib.ListN.{length, take}
+use lib.Ieee.{Float}
+use Rattle.domain.specs.Outline.{Outline}
+use Rattle.front.specs.State.{State, nextOf}
+use Rattle.front.specs.Sampling.{loopCount, sampledCount}
+use Rattle.topology.specs.Sums.{All, Even}
+use Rattle.topology.specs.Listing.{walks}
+use Rattle.paving.specs.Loops.{frontLoops}
+use Rattle.exact.specs.Corner.{Vector, step, sineAboveThird, isShort}
+use Rattle.books.specs.Book.{Edge, edge, Book, Quad, startBook, quadAt, bookAfter, xOf, yOf, loopEdges, frontArea, quadsArea, follow, isEdge}
+
+-- the exact step from node u to node v
+abbrev pub stepOf : Book → ℕ → ℕ → Vector
+stepOf b u v = step (xOf b u) (yOf b u) (xOf b v) (yOf b v)
+
+-- the corner at v between u and w: its sine is above 1/3, and the side from u is not shorter than 1e-150
+pub record CornerHolds (b : Book) (u v w : ℕ) : Type 0 where
+  pub sine : T (sineAboveThird (stepOf b u v) (stepOf b v w))
+  pub side : T (not (isShort (stepOf b u v)))
+
+-- the quad a, b, d, c turns left at all four corners
+pub record QuadHolds (book : Book) (q : Quad) : Type 0 where
+  pub at-a : CornerHolds book (q .c) (q .a) (q .b)
+  pub at-b : CornerHolds book (q .a) (q .b) (q .d)
+  pub at-d : CornerHolds book (q .b) (q .d) (q .c)
+  pub at-c : CornerHolds book (q .d) (q .c) (q .a)
+
+-- how often the edge from u to v stands in a list
+unfoldable pub countEdge : ℕ → ℕ → List Edge → ℕ
+countEdge u v [] = 0
+countEdge u v (e ∷ es) = cond (isEdge (edge u v) e) 1 0 + countEdge u v es
+
+-- one closed loop for each loop of the outline, of an even number of edges; each edge of the front is in exactly one, and no node has two edges out
+pub record LoopsHold (o : Outline) (b : Book) : Type 0 where
+  pub loops : List (List ℕ)
+  pub number : length loops ≡ loopCount o
+  pub even : All Even loops
+  pub edges : (u v : ℕ) → countEdge u v (loopEdges loops) ≡ countEdge u v (b .front)
+  pub once : (u v : ℕ) → countEdge u v (b .front) ≤ 1
+  pub single : (u v w : ℕ) → 0 < countEdge u v (b .front) → 0 < countEdge u w (b .front) → v ≡ w
+
+-- after k quads of the run whose state is s
+pub record HoldsAfter (o : Outline) (size : Float) (s : State) (k : ℕ) : Type 0 where
+  pub book : Book
+  -- each step of the book went through
+  pub steps : bookAfter o size s k ≡ some book
+  -- the start's area is the sum of the quads' and of the front left
+  pub areas : frontArea (startBook o size) ≡ quadsArea book s k +ℤ frontArea book
+  pub quads : (i : ℕ) → i < k → QuadHolds book (quadAt s i)
+  pub loops : LoopsHold o book
+  -- front edges plus twice the quads plus the points sampled make twice the nodes
+  pub counts : length (book .front) + 2 * k + sampledCount o size ≡ 2 * length (book .xs)
+
+-- where the run stops: its nodes bit for bit, its front edge for edge and its counts are the book's, and `front_loops` lists the book's loops of three or more
+pub record Closes (s : State) (b : Book) : Type 0 where
+  pub xs : take (s .counts .nodes) (s .xs) ≡ b .xs
+  pub ys : take (s .counts .nodes) (s .ys) ≡ b .ys
+  pub front : (u : ℕ) → nextOf s u ≡ follow (b .front) u
+  pub nodes : s .counts .nodes ≡ length (b .xs)
+  pub edges : s .counts .front ≡ length (b .front)
+  pub loops : frontLoops s ≡ walks 3 (length (b .xs)) (length (b .front)) (follow (b .front))
+
+-- demand 3 of a run that left the state s: before the first quad and after each one, and at the end
+pub record BooksHold (o : Outline) (size : Float) (s : State) : Type 0 where
+  pub each : (k : ℕ) → k ≤ s .counts .quads → HoldsAfter o size s k
+  pub closes : (b : Book) → bookAfter o size s (s .counts .quads) ≡ some b → Closes s b

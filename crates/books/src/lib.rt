@@ -1,0 +1,1 @@
+// Specifications only: the exact books of a run. No function.

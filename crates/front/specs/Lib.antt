@@ -1,0 +1,5 @@
+pub mod State
+pub mod Sampling
+pub mod Place
+pub mod Sound
+pub mod FrameLaws

@@ -1,0 +1,7 @@
+pub mod Checks
+pub mod Attempt
+pub mod Advance
+pub mod Loops
+pub mod Reach
+pub mod ReachLaws
+pub mod Run

@@ -1,0 +1,3 @@
+pub mod Opened
+pub mod Table
+pub mod Square

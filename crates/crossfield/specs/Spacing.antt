@@ -5,7 +5,7 @@ use mathlib.Core.Bool.{Bool, true, false, not, _||_, cond, true≢false}
 use Prim.Native.Nat.{ℕ, zero, suc, _+_, _-_, _*_, _/_, _^_, _≤_, _<_}
 use native.Mathlib.Nat.{le-trans, le-of-eq, le-mul-of-pos-right, min-le-left, mul-comm, mul-assoc, mul-left-comm, suc-mul, mul-le-mul, mul-le-mul-right, le-of-mul-le-mul-right, div-lt-iff-lt-mul, le-of-lt, lt-of-not-le}
 use native.Mathlib.Omega.{arith}
-use borrow.Author.Tests.{le-ltb, ltb-false}
+use borrow.Author.Tests.{le-ltb, ltb-false, not-false}
 use lib.Dec.{T, leb, lit≤, leb→le}
 use lib.Ieee.{Float, nan, inf, fin, binary64, up, down, fits, lt, le, ofBits}
 use lib.Ieee.Fits.{down-pos}
@@ -15,8 +15,9 @@ use Rattle.numbers.specs.Whole.{ceilDiv, ceilCount}
 use Rattle.exact.specs.Units.{W, W-pos, W-big, Val, val-of, signOf, sizeOf, Within}
 use Rattle.exact.specs.Order.{not-lt-val, above-of-not-le}
 use Rattle.exact.specs.Operations.{mul-law, div-law}
+use Rattle.domain.specs.Accepted.{neither, cond-zero}
 use Rattle.crossfield.specs.declared.Bounds.{Bounds}
-use Rattle.crossfield.specs.Box.{Box, cond-none, neither, fails, finite-of}
+use Rattle.crossfield.specs.Box.{Box}
 use Rattle.crossfield.specs.Grid.{growth, gridCount, tooManyNodes, growTurn, growths, spacing, gridOf, gridNodes, mostFieldNodes, leastSize, mostSize, sizeRefusal}
 
 -- ---- counts
@@ -288,15 +289,15 @@ start size a v low high =
 pub start-size : (size : Float) → T (fits binary64 size) → sizeRefusal size ≡ 0 → Grown 0 (halfF ⊗ size)
 unfolding sizeRefusal
 start-size size held e =
-    let five = cond-none (not (isFinite size) || le size zeroF) 4 (cond (lt size leastSize || lt mostSize size) 6 0) e in
-    let six = neither (lt size leastSize) (lt mostSize size) (cond-none (lt size leastSize || lt mostSize size) 5 0 (five .1) .0) in
+    let five = cond-zero (not (isFinite size) || le size zeroF) 4 (cond (lt size leastSize || lt mostSize size) 6 0) e in
+    let six = neither (lt size leastSize) (lt mostSize size) (cond-zero (lt size leastSize || lt mostSize size) 5 0 (five .1) .0) in
     let whole = neither (not (isFinite size)) (le size zeroF) (five .0) in
-    let v = val-of size (finite-of size (whole .0)) held in
-    let plus = above-of-not-le size zeroF (signOf size) (sizeOf size) 0 v zero-val (fails (le size zeroF) (whole .1)) in
+    let v = val-of size (rw (not-false (isFinite size) (whole .0)) tt) held in
+    let plus = above-of-not-le size zeroF (signOf size) (sizeOf size) 0 v zero-val (rw (whole .1) tt) in
     let w : Val size false (sizeOf size) = subst (λ (s : Bool). Val size s (sizeOf size)) (plus .0) v in
     start size (sizeOf size) w
-    (leb→le least-units (sizeOf size) (not-lt-val size leastSize false false (sizeOf size) least-units w least-val .0 (fails (lt size leastSize) (six .0)) .le))
-    (leb→le (sizeOf size) (100 * W) (not-lt-val mostSize size false false (100 * W) (sizeOf size) most-val w .0 (fails (lt mostSize size) (six .1)) .le))
+    (leb→le least-units (sizeOf size) (not-lt-val size leastSize false false (sizeOf size) least-units w least-val .0 (rw (six .0) tt) .le))
+    (leb→le (sizeOf size) (100 * W) (not-lt-val mostSize size false false (100 * W) (sizeOf size) most-val w .0 (rw (six .1) tt) .le))
 
 -- ---- the grid of an outline and a size that are not refused has at most 250,000 nodes
 

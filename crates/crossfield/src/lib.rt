@@ -9,8 +9,8 @@ ghost use Rattle.domain.specs.Outline.{outline, misshapen, point, pointAt, anyF
 ghost use Rattle.crossfield.specs.Grid.{noBounds, widened, loopBounds, bounds, gridCount, tooManyNodes, spacing, gridOf, sizeRefusal, boundsRefusal, sweepsRefusal, mostFieldNodes, gridNodes};
 ghost use Rattle.crossfield.specs.Seeds.{fieldLists, gridPoint, seed, isFixed, markOf, seedNode, seedRow, seeded};
 ghost use Rattle.crossfield.specs.Sweeps.{plusIf, oneIf, neighbourSum, neighbourCount, normalised, average, swept, change, relaxed, sweepNode, sweepRow, sweep, sweeps};
-ghost use Rattle.crossfield.specs.Field.{fieldRecord, placesRefusal, fieldRefusal, fieldResult, fieldAnswer};
-ghost use Rattle.crossfield.specs.Direction.{within, valueUnsound, countsSound, gridSound, recordRefusal, cellOf, weighed, rawAt, scaled, half, directionOf, dot, closerOf, nearestOf, nearestDirection, directionRefusal, directionAnswer};
+ghost use Rattle.crossfield.specs.Field.{fieldRecord, placesRefusal, refusalFor, fieldResult, fieldAnswer};
+ghost use Rattle.crossfield.specs.Direction.{within, valueUnsound, countsSound, gridSound, recordRefusal, cellOf, weighed, rawAt, scaled, half, directionOf, dot, closerOf, nearestOf, directionAt, directionRefusal, directionAnswer};
 ghost use Rattle.crossfield.specs.Places.{Node, Row, Counts, RowMarks, Lent, Room};
 use domain::Near;
 use domain::Point;
@@ -257,7 +257,7 @@ fn nearest_of(target: Point, d: Point) -> Point
 
 pub fn nearest_direction(g: Grid, values: &[f64], p: Point, target: Point) -> Point
     requires { ⌜ Lent g (now values) ⌝ }
-    ensures { λ r. ⌜ r ≡ nearestDirection g (now (values .entry)) p target ⌝ }
+    ensures { λ r. ⌜ r ≡ directionAt g (now (values .entry)) p target ⌝ }
 {
     nearest_of(target, direction_of(raw_at(g, values, p)))
 }
@@ -756,7 +756,7 @@ fn field_refusal<'a>(
     sweeps: usize,
     places: usize,
 ) -> u32
-    ensures { λ r. ⌜ r ≡ fieldRefusal (outline (now (outer .entry)) (now (holes .entry)) (now (lens .entry))) size sweeps places ⌝ }
+    ensures { λ r. ⌜ r ≡ refusalFor (outline (now (outer .entry)) (now (holes .entry)) (now (lens .entry))) size sweeps places ⌝ }
 {
     let outline = domain::outline_refusal(outer, holes, lens);
     if outline != 0 {

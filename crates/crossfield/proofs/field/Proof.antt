@@ -2,11 +2,11 @@
 use mathlib.Core.Path.{sym, _∙_, subst}
 use borrow.Author.Needs.{needs}
 use lib.Dec.{T}
+use Rattle.domain.specs.Accepted.{accepted}
 use Rattle.domain.specs.RefusalLaws.{answer-refused}
-use Rattle.crossfield.specs.FieldLaws.{unrefused, few-made, room-made, short-sides}
+use Rattle.crossfield.specs.FieldLaws.{unrefused, few-made, room-made, seeds-ask}
 use Rattle.crossfield.specs.Places.{room-of}
-use Rattle.crossfield.specs.Box.{accepted}
-use Rattle.crossfield.specs.Field.{fieldOf, fieldAnswer}
+use Rattle.crossfield.specs.Field.{fieldRefusal, fieldOf, fieldAnswer}
 use Rattle.crossfield.proofs.field.Statement.{statement}
 use Rattle.crossfield.proofs.field.Tie as tie
 
@@ -17,23 +17,20 @@ field-refusal-requires : tie.Need-field-refusal-requires
 field-refusal-requires c κs = search needs
 
 returns : tie.Need-returns
-unfolding fieldAnswer
+unfolding fieldAnswer fieldRefusal
 returns c = rw (← c .before .before .lesser .ensures, ← c .before .field-refusal .ensures) (sym (answer-refused _ _ _ (c .if1 .taken)))
 
 bounds-of-requires : tie.Need-bounds-of-requires
 bounds-of-requires c κs = accepted _ (unrefused _ _ _ _ (sym (c .before .field-refusal .ensures) ∙ c .if1 .left) .outline) .shape
 
 grid-of-requires : tie.Need-grid-of-requires
-grid-of-requires c κs = few-made _ _ _ _ (c .before .before .before .before .before .before .before .before .shared-slice-known .given) (c .before .before .before .before .before .before .before .shared-slice-known2 .given) (subst T (sym (c .before .before .before .before .before .before .before .before .before .good .1 .1 .1 .0 .1)) tt) (sym (c .before .before .field-refusal .ensures) ∙ c .before .if1 .left) (c .bounds-of .ensures)
+grid-of-requires c κs = few-made _ _ _ _ (record { outer = λ i h. c .before .before .before .before .before .before .before .before .shared-slice-known .given i; holes = λ i h. c .before .before .before .before .before .before .before .shared-slice-known2 .given i }) (subst T (sym (c .before .before .before .before .before .before .before .before .before .good .1 .1 .1 .0 .1)) tt) (sym (c .before .before .field-refusal .ensures) ∙ c .before .if1 .left) (c .bounds-of .ensures)
 
 seed-all-requires : tie.Need-seed-all-requires
-seed-all-requires c κs = let none = sym (c .before .before .before .before .before .field-refusal .ensures) ∙ c .before .before .before .before .if1 .left in
-    let few = few-made _ _ _ _ (c .before .before .before .before .before .before .before .before .before .before .before .shared-slice-known .given) (c .before .before .before .before .before .before .before .before .before .before .shared-slice-known2 .given) (subst T (sym (c .before .before .before .before .before .before .before .before .before .before .before .before .good .1 .1 .1 .0 .1)) tt) none (c .before .before .before .bounds-of .ensures) in
-    (accepted _ (unrefused _ _ _ _ none .outline) .shape, (room-made _ _ _ _ _ _ none (c .before .before .before .before .before .before .lesser .ensures) (c .before .before .before .bounds-of .ensures) (c .before .before .grid-of .ensures), short-sides _ _ _ (c .before .before .grid-of .ensures) few))
+seed-all-requires c κs = seeds-ask _ _ _ _ _ _ (record { outer = λ i h. c .before .before .before .before .before .before .before .before .before .before .before .shared-slice-known .given i; holes = λ i h. c .before .before .before .before .before .before .before .before .before .before .shared-slice-known2 .given i }) (subst T (sym (c .before .before .before .before .before .before .before .before .before .before .before .before .good .1 .1 .1 .0 .1)) tt) (sym (c .before .before .before .before .before .field-refusal .ensures) ∙ c .before .before .before .before .if1 .left) (c .before .before .before .before .before .before .lesser .ensures) (c .before .before .before .bounds-of .ensures) (c .before .before .grid-of .ensures)
 
 sweeps-requires : tie.Need-sweeps-requires
-sweeps-requires c κs = let none = sym (c .before .before .before .before .before .before .before .before .before .before .before .before .field-refusal .ensures) ∙ c .before .before .before .before .before .before .before .before .before .before .before .if1 .left in
-    room-of (room-made _ _ _ _ _ _ none (c .before .before .before .before .before .before .before .before .before .before .before .before .before .lesser .ensures) (c .before .before .before .before .before .before .before .before .before .before .bounds-of .ensures) (c .before .before .before .before .before .before .before .before .before .grid-of .ensures)) (c .before .before .before .before .before .before .seed-all .kept .1 .1 .1 .1 .0) (c .before .before .before .before .before .before .seed-all .kept .1 .1 .1 .1 .1 .0)
+sweeps-requires c κs = room-of (room-made _ _ _ _ _ _ (sym (c .before .before .before .before .before .before .before .before .before .before .before .before .field-refusal .ensures) ∙ c .before .before .before .before .before .before .before .before .before .before .before .if1 .left) (c .before .before .before .before .before .before .before .before .before .before .before .before .before .lesser .ensures) (c .before .before .before .before .before .before .before .before .before .before .bounds-of .ensures) (c .before .before .before .before .before .before .before .before .before .grid-of .ensures)) (c .before .before .before .before .before .before .seed-all .kept .1 .1 .1 .1 .0) (c .before .before .before .before .before .before .seed-all .kept .1 .1 .1 .1 .1 .0)
 
 same-length : tie.Need-same-length
 same-length c = search needs
@@ -42,7 +39,7 @@ same-length-2 : tie.Need-same-length-2
 same-length-2 c = search needs
 
 returns-2 : tie.Need-returns-2
-unfolding fieldAnswer fieldOf
+unfolding fieldAnswer fieldRefusal fieldOf
 returns-2 c = rw (← c .before .before .before .before .before .before .before .before .before .before .before .before .before .before .before .before .lesser .ensures, sym (c .before .before .before .before .before .before .before .before .before .before .before .before .before .before .before .field-refusal .ensures) ∙ c .before .before .before .before .before .before .before .before .before .before .before .before .before .before .if1 .left, ← c .before .before .before .before .before .before .before .before .before .before .before .before .before .bounds-of .ensures, ← c .before .before .before .before .before .before .before .before .before .before .before .before .grid-of .ensures, ← c .before .before .before .before .before .before .before .before .before .seed-all .ensures, ← c .before .before .sweeps .ensures)
 
 pub field-spec : {M : Type 1} → statement M

@@ -8,3 +8,4 @@ pub mod RecordLaws
 pub mod Box
 pub mod Spacing
 pub mod FieldLaws
+pub mod Past

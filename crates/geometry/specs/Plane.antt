@@ -1,6 +1,6 @@
 -- The free functions of src/alt_crossfield.rs on points, each float operation as it stands there. `convexCcw` is that file's, with the angle limit, and not the one of src/two_d.rs.
 -- Definitions only.
-use mathlib.Core.Bool.{Bool, not, _&&_, _||_, cond}
+use mathlib.Core.Bool.{Bool, true, false, not, _&&_, _||_, cond}
 use lib.Ieee.{Float, neg, lt, le}
 use Rattle.numbers.specs.Float.{_⊕_, _⊖_, _⊗_, _⊘_, zeroF, oneF, fourF, tolerance, absF, minF, maxF}
 use Rattle.exact.specs.Corner as corner

@@ -9,3 +9,4 @@ pub mod Box
 pub mod Spacing
 pub mod FieldLaws
 pub mod Past
+pub mod Unit

@@ -10,3 +10,5 @@ pub mod Spacing
 pub mod FieldLaws
 pub mod Past
 pub mod Unit
+pub mod Sound
+pub mod Handed

@@ -1,12 +1,12 @@
 -- Bounds of computed values in thousandths, and that a pair divided by its norm is of length 1 but for rounding. Errors are taken crudely, 10 ^ -4 for each 2 ^ -53. Assumes nothing.
 use mathlib.Core.Path.{_≡_, refl, sym, ap, _∙_, subst, subst₂}
-use mathlib.Core.Bool.{Bool, true, false, not}
+use mathlib.Core.Bool.{Bool, true, false}
 use Prim.Native.Nat.{ℕ, _+_, _-_, _*_, _^_, _≤_, _<_}
-use native.Mathlib.Nat.{le-trans, le-of-eq, le-of-lt, add-comm, add-mul, mul-add, mul-comm, mul-assoc, mul-mul-mul-comm, mul-pos, mul-le-mul, mul-le-mul-left, mul-le-mul-right, le-mul-of-pos-right, le-of-mul-le-mul-left, le-of-mul-le-mul-right}
+use native.Mathlib.Nat.{le-trans, le-of-eq, le-of-lt, add-comm, add-mul, mul-add, mul-comm, mul-assoc, mul-mul-mul-comm, mul-pos, mul-le-mul, mul-le-mul-left, mul-le-mul-right, le-of-mul-le-mul-right}
 use native.Mathlib.Omega.{arith}
 use borrow.Author.Tests.{leb-true, leb-false}
-use lib.Dec.{T, leb, leb→le, lit≤}
-use lib.IntN.{ℤ, pos, _+ℤ_, _-ℤ_}
+use lib.Dec.{T, leb, lit≤}
+use lib.IntN.{ℤ, _+ℤ_, _-ℤ_}
 use lib.Ieee.{Float, binary64, unlike, lt, le, ofBits}
 use lib.Ieee.Fits.{add-fits}
 use Rattle.numbers.specs.Float.{_⊕_, _⊖_, _⊗_, _⊘_, zeroF, oneF, twoF, tolerance}
@@ -14,7 +14,7 @@ use Rattle.exact.specs.Units.{W, W-pos, W-big, Val, units, Within}
 use Rattle.exact.specs.Order.{lt-val, above-pos, above-of-not-le}
 use Rattle.exact.specs.Operations.{product-small, mul-law, Sum, add-law, sub-law, add-law-pos, div-law}
 use Rattle.exact.specs.Root.{root-law}
-use Rattle.exact.specs.SineBounds.{mul-le, le-of-sq, Rel, RelAnd, rel, rel-and, Long, length-law}
+use Rattle.exact.specs.SineBounds.{le-of-sq, Rel, RelAnd, rel, rel-and, Long, length-law}
 use Rattle.exact.specs.Corner.{norm}
 use Rattle.domain.specs.declared.Point.{Point}
 use Rattle.crossfield.specs.Seeds.{seed}

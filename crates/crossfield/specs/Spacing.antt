@@ -208,8 +208,8 @@ module _ (width height : Float) (p : Within 4000 width) (q : Within 4000 height)
   unfolding least
   last-large h g = large-few h (g .size) (g .val) (reaches W (g .size) (g .low))
     where
-      reaches : (w b : ℕ) → least 64 * w ≤ b * 1000000 → 11 * w ≤ b
-      reaches w b l = let m = mul-le-mul-right w (lit≤ {m = 11000000} {n = least 64} tt) in omega arith
+      reaches : (w b : ℕ) → least growths * w ≤ b * 1000000 → 11 * w ≤ b
+      reaches w b l = let m = mul-le-mul-right w (lit≤ {m = 11000000} {n = least growths} tt) in omega arith
 
   last-held : (t : Turn Float Float) → Held growths t → Grown 0 (answer (λ (h : Float). h) t) × (tooManyNodes width height (answer (λ (h : Float). h) t) ≡ false)
   unfolding least

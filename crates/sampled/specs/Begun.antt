@@ -18,7 +18,7 @@ use Rattle.front.specs.State.{State, nodePlaces, edgePlaces, hasEdge, cleared}
 use Rattle.front.specs.Sampling.{loopCount, loopNodes, sampledCount, frontRefusal, boundaryTurn, fromBoundary, loopIds, boundaryLoops}
 use Rattle.front.specs.Sound.{Sound, Frame}
 use Rattle.front.specs.FrameLaws.{frame-same, frame-node-places, frame-edge-places}
-use Rattle.sampled.specs.Nodes.{Room, room-places, room-kept}
+use Rattle.sampled.specs.Nodes.{nodesOf, Room, room-places, room-kept}
 use Rattle.sampled.specs.Joins.{OnlyLinked}
 use Rattle.sampled.specs.Laid.{Laid, Added}
 use Rattle.sampled.specs.Turn.{turnPoints, turn-added, turn-length}
@@ -76,6 +76,10 @@ cleared-places n lent P = record { nodes = P .nodes; edges = P .edges }
 cleared-lists : (lent : State) → (cleared lent .snapshot ≡ lent .snapshot) × (cleared lent .quads ≡ lent .quads)
 unfolding cleared
 cleared-lists lent = (refl, refl)
+
+pub no-nodes : (lent : State) → nodesOf (cleared lent) ≡ []
+unfolding nodesOf cleared tabulate
+no-nodes lent = refl
 
 none-count : (lent : State) → cleared lent .counts .nodes ≡ 0
 unfolding cleared

@@ -11,3 +11,4 @@ pub mod Outlines
 pub mod Begun
 pub mod Same
 pub mod Points
+pub mod Starts

@@ -1,5 +1,5 @@
 -- `contains`, `nearest_segment` and `distance_to_boundary`: each float operation as it stands in src/two_d.rs. Definitions only.
-use mathlib.Core.Bool.{Bool, true, false, not, _&&_, cond}
+use mathlib.Core.Bool.{Bool, false, not, _&&_, cond}
 use mathlib.Core.List.{List}
 use Prim.Native.Nat.{ℕ, zero, suc}
 use lib.ListN.{length}
@@ -91,25 +91,18 @@ nearestSegment o p = forUp (length (o .lens)) (holeTurn o p) (nearestInLoop p (o
 abbrev pub distanceToBoundary : Outline → Point → Float
 distanceToBoundary o p = nearestSegment o p .distance
 
--- ---- the answers: refused with document 01's number, or answered
+-- ---- the answers
 
-abbrev pub containsBy : ℕ → Bool → Contains
-containsBy zero inside = contains-is.Inside inside
-containsBy (suc n) inside = contains-is.Refused (suc n)
+-- refused with document 01's number, or answered where that is 0
+abbrev pub answerBy : {A : Type 0} → (ℕ → A) → A → ℕ → A
+answerBy refused answer zero = answer
+answerBy refused answer (suc n) = refused (suc n)
 
 unfoldable pub containsAnswer : Outline → Point → Contains
-containsAnswer o p = containsBy (queryRefusal o p) (contains o p)
-
-abbrev pub nearestBy : ℕ → Near → Nearest
-nearestBy zero found = nearest-is.Segment found
-nearestBy (suc n) found = nearest-is.Refused (suc n)
+containsAnswer o p = answerBy contains-is.Refused (contains-is.Inside (contains o p)) (queryRefusal o p)
 
 unfoldable pub nearestAnswer : Outline → Point → Nearest
-nearestAnswer o p = nearestBy (queryRefusal o p) (nearestSegment o p)
-
-abbrev pub distanceBy : ℕ → Float → Distance
-distanceBy zero distance = distance-is.Of distance
-distanceBy (suc n) distance = distance-is.Refused (suc n)
+nearestAnswer o p = answerBy nearest-is.Refused (nearest-is.Segment (nearestSegment o p)) (queryRefusal o p)
 
 unfoldable pub distanceAnswer : Outline → Point → Distance
-distanceAnswer o p = distanceBy (queryRefusal o p) (distanceToBoundary o p)
+distanceAnswer o p = answerBy distance-is.Refused (distance-is.Of (distanceToBoundary o p)) (queryRefusal o p)

@@ -1,5 +1,6 @@
--- The search for the nearest segment as the code runs it: a root is taken only where the squared distance beats the best so far. Definitions only; that it finds the same is a law.
-use mathlib.Core.Bool.{Bool, _&&_, cond}
+-- The search for the nearest segment as the code runs it: a root is taken only where the squared distance beats the best so far. Definitions only;
+-- that it finds the same is a law (SearchLaws).
+use mathlib.Core.Bool.{_&&_, cond}
 use mathlib.Core.List.{List}
 use Prim.Native.Nat.{ℕ}
 use lib.ListN.{length}
@@ -14,6 +15,10 @@ use Rattle.domain.specs.Queries.{squaredDistance, footOf, near, nowhere}
 
 abbrev pub search : Near → Float → Search
 search found squared = record { near = found; squared = squared }
+
+-- what the search starts with
+abbrev pub searchStart : Search
+searchStart = search nowhere infinityF
 
 -- one segment: its root is compared only where its square is below the best one's
 unfoldable pub searched : Point → Point → Point → Search → Search
@@ -32,4 +37,4 @@ abbrev pub searchHole : Outline → Point → ℕ → Search → Search
 searchHole o p k best = searchLoop p (holeAt o k) best
 
 unfoldable pub searchAll : Outline → Point → Search
-searchAll o p = forUp (length (o .lens)) (searchHole o p) (searchLoop p (o .outer) (search nowhere infinityF))
+searchAll o p = forUp (length (o .lens)) (searchHole o p) (searchLoop p (o .outer) searchStart)

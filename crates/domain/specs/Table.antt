@@ -1,7 +1,7 @@
 -- The lines of document 01's table of edges that this layer decides, computed from the definitions.
 use mathlib.Core.Path.{_≡_, refl}
 use mathlib.Core.Bool.{true, false}
-use mathlib.Core.List.{List, [], _∷_}
+use mathlib.Core.List.{[], _∷_}
 use lib.Ieee.{ofBits, lt, add, sub, mul, div}
 use Rattle.laws.specs.Loop.{forUp, anyUp}
 use Rattle.numbers.specs.Float.{zeroF, oneF}

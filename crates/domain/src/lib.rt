@@ -1,14 +1,13 @@
 // The outline as lent, its refusals 1 to 4, and the queries of src/two_d.rs's `Domain`.
 ghost use mathlib.Core.Path.{_≡_};
-ghost use mathlib.Core.Bool.{true, false};
-ghost use Prim.Native.Nat.{suc, _+_, _*_, _/_, _≤_, _<_};
+ghost use mathlib.Core.Bool.{false};
+ghost use Prim.Native.Nat.{_+_, _*_, _<_};
 ghost use lib.Dec.{eqb};
-ghost use lib.ListN.{length, getD};
+ghost use lib.ListN.{length};
 ghost use Rattle.laws.specs.Loop.{anyUp};
-ghost use Rattle.numbers.specs.Float.{infinityF};
-ghost use Rattle.domain.specs.Outline.{outline, holeLength, holeStart, holeAt, loopAt, pointAt, pointAfter, anyFloat, notFinite, beyond, misshapen, LoopPlace, loopRefusal, loopsRefusal, outlineRefusal, pointRefusal, queryRefusal};
-ghost use Rattle.domain.specs.Queries.{rayCrosses, pointInPolygon, inHole, contains, squaredDistance, footOf, nowhere, nearestSegment, containsAnswer, nearestAnswer, distanceAnswer};
-ghost use Rattle.domain.specs.Search.{search, searched, searchLoop, searchAll};
+ghost use Rattle.domain.specs.Outline.{outline, holeStart, loopAt, pointAt, pointAfter, anyFloat, notFinite, beyond, misshapen, LoopPlace, loopRefusal, loopsRefusal, outlineRefusal, pointRefusal, queryRefusal};
+ghost use Rattle.domain.specs.Queries.{rayCrosses, pointInPolygon, inHole, contains, squaredDistance, footOf, nearestSegment, containsAnswer, nearestAnswer, distanceAnswer};
+ghost use Rattle.domain.specs.Search.{searchStart, searched, searchLoop, searchAll};
 
 // `[f64; 2]`
 pub struct Point {
@@ -55,4 +54,380 @@ impl Settings {
     pub const MOST_POINTS: usize = 65535;
 
     pub const FARTHEST: f64 = 1000.0;
+}
+
+// ---- the refusals
+
+fn is_not_finite(x: f64) -> bool
+    ensures { λ r. ⌜ r ≡ notFinite x ⌝ }
+{
+    !numbers::is_finite_f64(x)
+}
+
+fn is_beyond(x: f64) -> bool
+    ensures { λ r. ⌜ r ≡ beyond x ⌝ }
+{
+    numbers::abs_f64(x) > Settings::FARTHEST
+}
+
+fn any_not_finite(s: &[f64]) -> bool
+    ensures { λ r. ⌜ r ≡ anyFloat notFinite (now (s .entry)) ⌝ }
+{
+    let mut i = 0;
+    while i < s.len() {
+        if is_not_finite(s[i]) {
+            return true;
+        }
+        i += 1;
+    }
+    false
+}
+
+fn any_beyond(s: &[f64]) -> bool
+    ensures { λ r. ⌜ r ≡ anyFloat beyond (now (s .entry)) ⌝ }
+{
+    let mut i = 0;
+    while i < s.len() {
+        if is_beyond(s[i]) {
+            return true;
+        }
+        i += 1;
+    }
+    false
+}
+
+// Whether the lengths add up to the total. They are taken off it one by one, so that no sum overflows.
+fn add_up(lens: &[usize], total: usize) -> bool
+    ensures { λ r. ⌜ r ≡ eqb (holeStart (now (lens .entry)) (length (now (lens .entry)))) total ⌝ }
+{
+    let mut left = total;
+    let mut k = 0;
+    while k < lens.len() {
+        let n = lens[k];
+        if left < n {
+            return false;
+        }
+        left -= n;
+        k += 1;
+    }
+    left == 0
+}
+
+// Refusal 1.
+fn is_misshapen(outer: &[f64], holes: &[f64], lens: &[usize]) -> bool
+    ensures { λ r. ⌜ r ≡ misshapen (outline (now (outer .entry)) (now (holes .entry)) (now (lens .entry))) ⌝ }
+{
+    if outer.len() % 2 == 1 {
+        return true;
+    }
+    if holes.len() % 2 == 1 {
+        return true;
+    }
+    if !add_up(lens, holes.len() / 2) {
+        return true;
+    }
+    Settings::MOST_POINTS < outer.len() / 2 + holes.len() / 2
+}
+
+// Refusals 2 and 3 of one loop.
+fn loop_refusal(s: &[f64]) -> u32
+    ensures { λ r. ⌜ r ≡ loopRefusal (now (s .entry)) ⌝ }
+{
+    let few = s.len() / 2 < 3;
+    let infinite = any_not_finite(s);
+    if few {
+        return 2;
+    }
+    if infinite { 3 } else { 0 }
+}
+
+// The points of loop k, a part of one of the two slices: loop 0 is the outer one, and `start` hole points stand before loop k.
+pub fn loop_points<'a>(
+    outer: &'a [f64],
+    holes: &'a [f64],
+    lens: &[usize],
+    k: usize,
+    start: usize,
+) -> &'a [f64]
+    requires { ⌜ LoopPlace (outline (now outer) (now holes) (now lens)) k start ⌝ }
+    ensures { λ r. ⌜ now r ≡ loopAt (outline (now (outer .entry)) (now (holes .entry)) (now (lens .entry))) k ⌝ }
+{
+    if k == 0 {
+        return outer;
+    }
+    let from = 2 * start;
+    let to = from + 2 * lens[k - 1];
+    &holes[from..to]
+}
+
+// Refusals 2 and 3, loop by loop.
+fn loops_refusal<'a>(outer: &'a [f64], holes: &'a [f64], lens: &[usize]) -> u32
+    requires { ⌜ misshapen (outline (now outer) (now holes) (now lens)) ≡ false ⌝ }
+    ensures { λ r. ⌜ r ≡ loopsRefusal (outline (now (outer .entry)) (now (holes .entry)) (now (lens .entry))) ⌝ }
+{
+    let first = loop_refusal(loop_points(outer, holes, lens, 0, 0));
+    if first != 0 {
+        return first;
+    }
+    let mut k = 0;
+    let mut start = 0;
+    while k < lens.len() {
+        let refusal = loop_refusal(loop_points(outer, holes, lens, k + 1, start));
+        if refusal != 0 {
+            return refusal;
+        }
+        start += lens[k];
+        k += 1;
+    }
+    0
+}
+
+// Refusals 1 to 4.
+pub fn outline_refusal<'a>(outer: &'a [f64], holes: &'a [f64], lens: &[usize]) -> u32
+    ensures { λ r. ⌜ r ≡ outlineRefusal (outline (now (outer .entry)) (now (holes .entry)) (now (lens .entry))) ⌝ }
+{
+    if is_misshapen(outer, holes, lens) {
+        return 1;
+    }
+    let refusal = loops_refusal(outer, holes, lens);
+    if refusal != 0 {
+        return refusal;
+    }
+    if any_beyond(outer) {
+        return 4;
+    }
+    if any_beyond(holes) { 4 } else { 0 }
+}
+
+// Refusals 3 and 4 of a query's point.
+pub fn point_refusal(p: Point) -> u32
+    ensures { λ r. ⌜ r ≡ pointRefusal p ⌝ }
+{
+    if is_not_finite(p.x) {
+        return 3;
+    }
+    if is_not_finite(p.y) {
+        return 3;
+    }
+    if is_beyond(p.x) {
+        return 4;
+    }
+    if is_beyond(p.y) { 4 } else { 0 }
+}
+
+fn query_refusal<'a>(outer: &'a [f64], holes: &'a [f64], lens: &[usize], p: Point) -> u32
+    ensures { λ r. ⌜ r ≡ queryRefusal (outline (now (outer .entry)) (now (holes .entry)) (now (lens .entry))) p ⌝ }
+{
+    let refusal = outline_refusal(outer, holes, lens);
+    if refusal != 0 {
+        return refusal;
+    }
+    point_refusal(p)
+}
+
+// ---- `contains`
+
+pub fn point_at(s: &[f64], i: usize) -> Point
+    requires { ⌜ 2 * i + 1 < length (now s) ⌝ }
+    ensures { λ r. ⌜ r ≡ pointAt (now (s .entry)) i ⌝ }
+{
+    Point {
+        x: s[2 * i],
+        y: s[2 * i + 1],
+    }
+}
+
+pub fn point_after(s: &[f64], i: usize) -> Point
+    requires { ⌜ 2 * i + 1 < length (now s) ⌝ }
+    ensures { λ r. ⌜ r ≡ pointAfter (now (s .entry)) i ⌝ }
+{
+    let k = i + 1;
+    if k < s.len() / 2 {
+        point_at(s, k)
+    } else {
+        point_at(s, 0)
+    }
+}
+
+fn ray_crosses(p: Point, a: Point, b: Point) -> bool
+    ensures { λ r. ⌜ r ≡ rayCrosses p a b ⌝ }
+{
+    if (a.y > p.y) != (b.y > p.y) {
+        let t = (p.y - a.y) / (b.y - a.y);
+        p.x < a.x + t * (b.x - a.x)
+    } else {
+        false
+    }
+}
+
+pub fn point_in_polygon(p: Point, s: &[f64]) -> bool
+    ensures { λ r. ⌜ r ≡ pointInPolygon p (now (s .entry)) ⌝ }
+{
+    let n = s.len() / 2;
+    let mut inside = false;
+    let mut i = 0;
+    while i < n {
+        let a = point_at(s, i);
+        let b = point_after(s, i);
+        inside = inside != ray_crosses(p, a, b);
+        i += 1;
+    }
+    inside
+}
+
+fn in_some_hole<'a>(outer: &'a [f64], holes: &'a [f64], lens: &[usize], p: Point) -> bool
+    requires { ⌜ misshapen (outline (now outer) (now holes) (now lens)) ≡ false ⌝ }
+    ensures { λ r. ⌜ r ≡ anyUp (length (now (lens .entry))) (inHole (outline (now (outer .entry)) (now (holes .entry)) (now (lens .entry))) p) ⌝ }
+{
+    let mut k = 0;
+    let mut start = 0;
+    while k < lens.len() {
+        if point_in_polygon(p, loop_points(outer, holes, lens, k + 1, start)) {
+            return true;
+        }
+        start += lens[k];
+        k += 1;
+    }
+    false
+}
+
+pub fn contains_point<'a>(outer: &'a [f64], holes: &'a [f64], lens: &[usize], p: Point) -> bool
+    requires { ⌜ misshapen (outline (now outer) (now holes) (now lens)) ≡ false ⌝ }
+    ensures { λ r. ⌜ r ≡ contains (outline (now (outer .entry)) (now (holes .entry)) (now (lens .entry))) p ⌝ }
+{
+    if point_in_polygon(p, loop_points(outer, holes, lens, 0, 0)) {
+        !in_some_hole(outer, holes, lens, p)
+    } else {
+        false
+    }
+}
+
+// ---- `nearest_segment`, `distance_to_boundary`
+
+fn squared_distance(p: Point, q: Point) -> f64
+    ensures { λ r. ⌜ r ≡ squaredDistance p q ⌝ }
+{
+    let dx = p.x - q.x;
+    let dy = p.y - q.y;
+    dx * dx + dy * dy
+}
+
+// The point of the segment a to b that is next to p.
+fn foot_of(p: Point, a: Point, b: Point) -> Point
+    ensures { λ r. ⌜ r ≡ footOf p a b ⌝ }
+{
+    let abx = b.x - a.x;
+    let aby = b.y - a.y;
+    let length2 = abx * abx + aby * aby;
+    if length2 <= 0.0 {
+        return a;
+    }
+    let t = numbers::clamp_f64(((p.x - a.x) * abx + (p.y - a.y) * aby) / length2, 0.0, 1.0);
+    Point {
+        x: a.x + t * abx,
+        y: a.y + t * aby,
+    }
+}
+
+// One segment of the search: the root is taken only where the square beats the best one's.
+fn search_segment(p: Point, a: Point, b: Point, best: Search) -> Search
+    ensures { λ r. ⌜ r ≡ searched p a b best ⌝ }
+{
+    let squared = squared_distance(p, foot_of(p, a, b));
+    if squared < best.squared {
+        let distance = numbers::sqrt_f64(squared);
+        let found = best.near;
+        if distance < found.distance {
+            let near = Near { a, b, distance };
+            return Search { near, squared };
+        }
+    }
+    best
+}
+
+fn search_loop(p: Point, s: &[f64], best: Search) -> Search
+    ensures { λ r. ⌜ r ≡ searchLoop p (now (s .entry)) best ⌝ }
+{
+    let n = s.len() / 2;
+    let mut found = best;
+    let mut i = 0;
+    while i < n {
+        let a = point_at(s, i);
+        let b = point_after(s, i);
+        found = search_segment(p, a, b, found);
+        i += 1;
+    }
+    found
+}
+
+fn search_start() -> Search
+    ensures { λ r. ⌜ r ≡ searchStart ⌝ }
+{
+    let origin = Point { x: 0.0, y: 0.0 };
+    let infinity = 1.0 / 0.0;
+    let near = Near {
+        a: origin,
+        b: origin,
+        distance: infinity,
+    };
+    Search {
+        near,
+        squared: infinity,
+    }
+}
+
+fn search_all<'a>(outer: &'a [f64], holes: &'a [f64], lens: &[usize], p: Point) -> Search
+    requires { ⌜ misshapen (outline (now outer) (now holes) (now lens)) ≡ false ⌝ }
+    ensures { λ r. ⌜ r ≡ searchAll (outline (now (outer .entry)) (now (holes .entry)) (now (lens .entry))) p ⌝ }
+{
+    let mut best = search_loop(p, loop_points(outer, holes, lens, 0, 0), search_start());
+    let mut k = 0;
+    let mut start = 0;
+    while k < lens.len() {
+        best = search_loop(p, loop_points(outer, holes, lens, k + 1, start), best);
+        start += lens[k];
+        k += 1;
+    }
+    best
+}
+
+pub fn nearest_segment<'a>(outer: &'a [f64], holes: &'a [f64], lens: &[usize], p: Point) -> Near
+    requires { ⌜ misshapen (outline (now outer) (now holes) (now lens)) ≡ false ⌝ }
+    ensures { λ r. ⌜ r ≡ nearestSegment (outline (now (outer .entry)) (now (holes .entry)) (now (lens .entry))) p ⌝ }
+{
+    let found = search_all(outer, holes, lens, p);
+    found.near
+}
+
+// ---- the queries, refusals first
+
+pub fn query_contains<'a>(outer: &'a [f64], holes: &'a [f64], lens: &[usize], p: Point) -> Contains
+    ensures { λ r. ⌜ r ≡ containsAnswer (outline (now (outer .entry)) (now (holes .entry)) (now (lens .entry))) p ⌝ }
+{
+    let refusal = query_refusal(outer, holes, lens, p);
+    if refusal != 0 {
+        return Contains::Refused(refusal);
+    }
+    Contains::Inside(contains_point(outer, holes, lens, p))
+}
+
+pub fn query_nearest<'a>(outer: &'a [f64], holes: &'a [f64], lens: &[usize], p: Point) -> Nearest
+    ensures { λ r. ⌜ r ≡ nearestAnswer (outline (now (outer .entry)) (now (holes .entry)) (now (lens .entry))) p ⌝ }
+{
+    let refusal = query_refusal(outer, holes, lens, p);
+    if refusal != 0 {
+        return Nearest::Refused(refusal);
+    }
+    Nearest::Segment(nearest_segment(outer, holes, lens, p))
+}
+
+pub fn query_distance<'a>(outer: &'a [f64], holes: &'a [f64], lens: &[usize], p: Point) -> Distance
+    ensures { λ r. ⌜ r ≡ distanceAnswer (outline (now (outer .entry)) (now (holes .entry)) (now (lens .entry))) p ⌝ }
+{
+    let refusal = query_refusal(outer, holes, lens, p);
+    if refusal != 0 {
+        return Distance::Refused(refusal);
+    }
+    let found = nearest_segment(outer, holes, lens, p);
+    Distance::Of(found.distance)
 }

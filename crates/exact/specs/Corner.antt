@@ -1,7 +1,7 @@
 -- One corner of a quad, from a to b to c: the reference's f64 test of it, and in whole numbers what document 01 claims of it.
 -- Definitions only; Sine.antt proves that the one gives the other.
 use mathlib.Core.Bool.{Bool, not, _&&_}
-use Prim.Native.Nat.{ℕ, _*_, _^_}
+use Prim.Native.Nat.{_*_, _^_}
 use lib.IntN.{ℤ, pos, _+ℤ_, _*ℤ_, _-ℤ_}
 use lib.Signed.{ltZ}
 use lib.Ieee.{Float, le}

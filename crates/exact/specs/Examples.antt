@@ -1,12 +1,12 @@
 -- Small cases that the check computes: units of doubles, corners that pass the test and corners that fail it; and the sine theorem at a
 -- corner of the unit square. Assumes nothing.
 use mathlib.Core.Path.{_≡_, refl, subst, sym}
-use mathlib.Core.Bool.{Bool, true, false}
-use Prim.Native.Nat.{ℕ, _^_}
+use mathlib.Core.Bool.{true, false}
+use Prim.Native.Nat.{_^_}
 use lib.Dec.{T}
-use lib.IntN.{ℤ, pos, negsuc, negℤ}
+use lib.IntN.{pos, negℤ}
 use lib.Count.{trailingZeros}
-use lib.Ieee.{Float, binary64, fits, ofBits, ofFields, lt, eq, le, add, sub, mul, div, neg, round, sum, units, odd, size, span, climb}
+use lib.Ieee.{fits, ofBits, lt, eq, le, add, sub, mul, div, neg, round, sum, units, odd, size, span, climb}
 use Rattle.numbers.specs.Root.{root, rootUnits, isqrtIn}
 use Rattle.numbers.specs.Float.{bits, zeroF, oneF, twoF}
 use Rattle.exact.specs.Units as U

@@ -7,7 +7,7 @@ use Prim.Native.Nat.{ℕ, zero, suc, _+_, _-_, _*_, _^_, _≤_, _<_}
 use native.Mathlib.Nat.{le-refl, le-trans, le-of-eq, zero-lt-suc, zero-mul, one-mul, mul-comm, mul-left-comm, mul-assoc, mul-right-comm, mul-mul-mul-comm, add-mul, mul-sub, mul-pos, mul-le-mul, mul-le-mul-right, le-mul-of-pos-right, mul-lt-mul-of-pos-right, le-of-mul-le-mul-right, lt-of-lt-of-le, lt-of-le-of-lt, eq-of-mul-eq-mul-right}
 use native.Mathlib.Omega.{arith}
 use lib.IntN.{ℤ, pos, negℤ, _+ℤ_, _-ℤ_, negℤ-+ℤ, negℤ-negℤ, +ℤ-comm}
-use lib.Dec.{T, lit<, leb, ltb, eqb, ltb→lt, lt→ltb, leb→le, nltb→le, eqb→eq}
+use lib.Dec.{T, leb, ltb, eqb, ltb→lt, leb→le, nltb→le, eqb→eq}
 use lib.Pow.{pow-add}
 use lib.Ieee.{Float, nan, inf, fin, binary64, up, down, unlike, round, sum, add, sub, mul, div, neg}
 use lib.Ieee.Exact.{units-val}

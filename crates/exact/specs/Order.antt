@@ -2,19 +2,19 @@
 -- the laws for two floats whose units are known (`lt-val` and so on), and after them bounds. Assumes nothing.
 use mathlib.Core.Path.{_≡_, refl, sym, ap, ap₂, _∙_, subst, subst₂}
 use mathlib.Core.Logic.{_⊎_, inl, inr, _↔_}
-use mathlib.Core.List.{List, [], _∷_}
+use mathlib.Core.List.{[], _∷_}
 use mathlib.Core.Bool.{Bool, true, false, not, _&&_, _||_, Bool·beq}
-use Prim.Native.Nat.{ℕ, zero, suc, _+_, _-_, _*_, _≤_, _<_}
-use native.Mathlib.Nat.{le-of-lt, lt-of-le-of-lt, not-le-of-lt, zero-mul, mul-comm, mul-assoc, mul-right-comm, add-mul, mul-sub, mul-pos, mul-lt-mul-of-pos-right, lt-of-mul-lt-mul-right, eq-of-mul-eq-mul-right}
+use Prim.Native.Nat.{ℕ, zero, suc, _+_, _*_, _≤_, _<_}
+use native.Mathlib.Nat.{le-of-lt, lt-of-le-of-lt, not-le-of-lt, zero-mul, mul-comm, mul-assoc, mul-right-comm, add-mul, mul-pos, mul-lt-mul-of-pos-right, lt-of-mul-lt-mul-right, eq-of-mul-eq-mul-right}
 use native.Mathlib.Omega.{arith}
 use lib.Dec.{T, ltb, eqb, ltb→lt, lt→ltb, leb→le, eqb→eq, not-T, T-not}
-use lib.IntN.{ℤ, pos, negsuc, negℤ, natAbs, _+ℤ_, _*ℤ_, _-ℤ_, negℤ-negℤ, pos-ne-negsuc}
+use lib.IntN.{ℤ, pos, negℤ, natAbs, _-ℤ_, negℤ-negℤ, pos-ne-negsuc}
 use lib.Signed.{_≤ℤ_, _<ℤ_, ≤ℤ-refl, clashℤ}
 use lib.Ieee.{Float, nan, inf, fin, binary64, up, down, fits, lt, eq, le, below, level}
 use lib.Ieee.Bits.{is-true, is-false}
 use lib.Ieee.Fits.{down-pos, and-i, and-l, and-r, eq→eqb}
 use Rattle.laws.specs.Ring.{Expr, var, num, con, _+ᵉ_, _*ᵉ_, _-ᵉ_, neg, eval, same}
-use Rattle.laws.specs.Certificate.{Nonneg, nonneg, nonneg-is, not-nonneg, of-le, to-le, of-≤ℤ, to-≤ℤ, of-<ℤ, to-<ℤ, <ℤ-or-≤ℤ, <ℤ-weaken, ≤ℤ-antisym, hyp, nat, _⊞_, prove}
+use Rattle.laws.specs.Certificate.{Nonneg, nonneg, not-nonneg, of-le, to-le, of-≤ℤ, of-<ℤ, to-<ℤ, <ℤ-or-≤ℤ, <ℤ-weaken, ≤ℤ-antisym, hyp, _⊞_, prove}
 use Rattle.numbers.specs.Float.{isFinite, absF}
 use Rattle.exact.specs.Units.{W, W-pos, Val, signed, signOf, sizeOf, units, val-of, abs-val, Within, within, whole-val}
 

@@ -1,12 +1,13 @@
--- The square root of doubles in units: how near it is to the exact root, and that it keeps the order. Both follow from `nearest-root` of crate numbers: the root is the nearest double. Assumes nothing.
-use mathlib.Core.Path.{_≡_, refl, sym, ap, ap₂, _∙_}
+-- The square root of doubles in units: how near it is to the exact root, and that it keeps the order. Both follow from what crate numbers
+-- proves: the root is the nearest double. Assumes nothing.
+use mathlib.Core.Path.{_≡_, refl, sym, ap, _∙_}
 use mathlib.Core.Bool.{Bool, true, false, not}
 use Prim.Native.Nat.{ℕ, zero, suc, _+_, _*_, _≤_, _<_, zero-le}
 use native.Mathlib.Nat.{zero-lt-suc, add-comm, zero-mul, mul-le-mul-left, mul-le-mul-right, lt-of-lt-of-le, lt-irrefl}
 use native.Mathlib.Omega.{arith}
-use lib.IntN.{ℤ, pos, negsuc}
+use lib.IntN.{ℤ, pos}
 use lib.Dec.{T, ltb→lt, lt→ltb, leb→le, le→leb, not-T, T-not}
-use lib.Signed.{_≤ℤ_, _<ℤ_}
+use lib.Signed.{_≤ℤ_}
 use lib.Ieee.{Float, nan, inf, fin, binary64, up, down, fits, lt}
 use lib.Ieee.Positive.{value-pos}
 use Rattle.numbers.specs.Root.{root}
@@ -17,14 +18,14 @@ use Rattle.exact.specs.Order.{lt-val, not-lt-val}
 
 -- ---- the error
 
--- y is near the root of n units, L units: L * L is near n * W, and crudely so
-pub record Root (n : ℕ) (y : Float) : Type 0 where
+-- y is near the root of n units: it is L units, and L * L is n * W within a factor, crudely
+pub record RootOf (n : ℕ) (y : Float) : Type 0 where
   pub L : ℕ
   pub val : Val y false L
   pub lower : 9999 * (n * W) ≤ 10000 * (L * L)
   pub upper : L * L ≤ 2 * (n * W)
 
-pub root-law : (x : Float) → T (fits binary64 x) → (n : ℕ) → Val x false n → Root n (sqrt x)
+pub root-law : (x : Float) → T (fits binary64 x) → (n : ℕ) → Val x false n → RootOf n (sqrt x)
 unfolding W
 root-law x f n v = let r = N.root-law x f n v in record { L = r .L; val = r .val; lower = r .lower; upper = r .upper }
 
@@ -43,9 +44,10 @@ not-inf-lt (inf s) = tt
 not-inf-lt (fin s m e) = tt
 
 -- two doubles above 0, of n and k units
-roots-mono : (x y : Float) (n k : ℕ) → T (fits binary64 x) → T (fits binary64 y) → Val x false n → Val y false k → 0 < n → n ≤ k → T (not (lt (root y) (root x)))
+roots-mono : (x y : Float) (n k : ℕ) → T (fits binary64 x) → T (fits binary64 y) → Val x false n → Val y false k → 0 < n → n ≤ k
+    → T (not (lt (root y) (root x)))
 unfolding W
-roots-mono x y n k fx fy vx vy P h = not-T (lt (root y) (root x)) (λ t. clash (below-both (ltb→lt (Y .r) (X .r) (lt-val (root y) (root x) false false (Y .r) (X .r) (Y .value) (X .value) .0 t .lt))))
+roots-mono x y n k fx fy vx vy P h = not-T (lt (root y) (root x)) (λ t. clash (below-both (smaller t)))
   where
     X : N.Nearest n (root x)
     X = N.nearest-root x n fx vx P
@@ -53,12 +55,15 @@ roots-mono x y n k fx fy vx vy P h = not-T (lt (root y) (root x)) (λ t. clash (
     Y : N.Nearest k (root y)
     Y = N.nearest-root y k fy vy (lt-of-lt-of-le P h)
 
+    smaller : T (lt (root y) (root x)) → Y .r < X .r
+    smaller t = ltb→lt (Y .r) (X .r) (lt-val (root y) (root x) false false (Y .r) (X .r) (Y .value) (X .value) .0 t .lt)
+
     -- the exact root of y would be below the middle of the two roots, and that of x above it
     below-both : Y .r < X .r → 4 * (k * W) < 4 * (n * W)
     below-both l =
         let a : (X .r + Y .r) * (X .r + Y .r) < 4 * (n * W) = X .below (root y) (Y .r) (Y .held) (Y .value) l in
         let b : 4 * (k * W) < (Y .r + X .r) * (Y .r + X .r) = Y .above (root x) (X .r) (X .held) (X .value) l in
-        let e : (Y .r + X .r) * (Y .r + X .r) ≡ (X .r + Y .r) * (X .r + Y .r) = ap₂ (λ (p q : ℕ). p * q) (add-comm (Y .r) (X .r)) (add-comm (Y .r) (X .r)) in
+        let e : (Y .r + X .r) * (Y .r + X .r) ≡ (X .r + Y .r) * (X .r + Y .r) = ap (λ (z : ℕ). z * z) (add-comm (Y .r) (X .r)) in
         between (4 * (k * W)) (4 * (n * W)) ((Y .r + X .r) * (Y .r + X .r)) ((X .r + Y .r) * (X .r + Y .r)) b e a
       where
         between : (p q u v : ℕ) → p < u → u ≡ v → v < q → p < q
@@ -100,16 +105,19 @@ not-below-zero t d m e f h =
     go true {n} l k = none n (leb→le n 0 (l .le)) k
     go false {n} l k = none n (leb→le n 0 (l .le)) k
 
-both-above : (m : ℕ) (e : ℤ) (n : ℕ) (d : ℤ) → T (fits binary64 (fin false (suc m) e)) → T (fits binary64 (fin false (suc n) d)) → T (not (lt (fin false (suc n) d) (fin false (suc m) e)))
+both-above : (m : ℕ) (e : ℤ) (n : ℕ) (d : ℤ) → T (fits binary64 (fin false (suc m) e)) → T (fits binary64 (fin false (suc n) d))
+    → T (not (lt (fin false (suc n) d) (fin false (suc m) e)))
     → T (not (lt (root (fin false (suc n) d)) (root (fin false (suc m) e))))
 both-above m e n d fx fy h =
     let x = fin false (suc m) e in
     let y = fin false (suc n) d in
     let vx = some-val m e fx in
     let vy = some-val n d fy in
-    roots-mono x y (sizeOf x) (sizeOf y) fx fy vx vy (some-pos m e fx) (leb→le (sizeOf x) (sizeOf y) (not-lt-val y x false false (sizeOf y) (sizeOf x) vy vx .0 h .le))
+    let l = leb→le (sizeOf x) (sizeOf y) (not-lt-val y x false false (sizeOf y) (sizeOf x) vy vx .0 h .le) in
+    roots-mono x y (sizeOf x) (sizeOf y) fx fy vx vy (some-pos m e fx) l
 
--- The rounded root keeps the order: where y is not below x, the root of y is not below that of x. On every pair of doubles: of a NaN or a negative number the root is a NaN, and below nothing.
+-- The rounded root keeps the order: where y is not below x, the root of y is not below that of x. It holds of every pair of doubles, since the
+-- root of a NaN or of a negative number is a NaN, which is below nothing and above nothing.
 pub root-mono : (x y : Float) → T (fits binary64 x) → T (fits binary64 y) → T (not (lt y x)) → T (not (lt (sqrt y) (sqrt x)))
 unfolding root lt isFinite
 root-mono nan y fx fy h = not-lt-nan (root y)

@@ -1,5 +1,6 @@
--- How far lib.Ieee's `round` is from its fraction, in ℕ. n / c is the fraction in units of the smallest double, 2 ^ -1074, and `rounded n c` is what `round` makes of it, in units.
--- `Close x n m` says that x is within m / 2 ^ 53 of n. A result in the normal range is off by at most one part in 2 ^ 53, and below it by at most half a unit. Assumes nothing.
+-- How far lib.Ieee's `round` is from its fraction, in ℕ. n / c is the fraction in units of the smallest double, 2 ^ -1074, and `rounded n c` is
+-- what `round` makes of it, in units. `Close x n m` says that x is within m / 2 ^ 53 of n: a result in the normal range is off by at most one
+-- part in 2 ^ 53, and below that range by at most half a unit. Assumes nothing.
 use mathlib.Core.Path.{_≡_, refl, sym, ap, _∙_, subst}
 use mathlib.Core.Logic.{_⊎_, inl, inr}
 use Prim.Native.Nat.{ℕ, zero, suc, _+_, _-_, _*_, _/_, _%_, _^_, _≤_, _<_, compare, Ordering, Ordering·lt, Ordering·eq, Ordering·gt}
@@ -62,7 +63,8 @@ step-small n c C = go (drop 53 n c) refl
     go : (k : ℕ) → drop 53 n c ≡ k → (k ≡ 0) ⊎ (2 ^ 52 * (c * 2 ^ k) ≤ n)
     go zero e = inl refl
     go (suc k) e =
-        let shift = ap (λ (z : ℕ). 2 ^ 52 * z) (mul-comm c (2 ^ suc k)) ∙ sym (mul-assoc (2 ^ 52) (2 ^ suc k) c) ∙ ap (λ (z : ℕ). z * c) (sym (pow-add 2 52 (suc k))) in
+        let shift =
+        ap (λ (z : ℕ). 2 ^ 52 * z) (mul-comm c (2 ^ suc k)) ∙ sym (mul-assoc (2 ^ 52) (2 ^ suc k) c) ∙ ap (λ (z : ℕ). z * c) (sym (pow-add 2 52 (suc k))) in
         inr (le-trans (le-of-eq shift) (le-div-iff-mul-le C .0 (size-reaches (n / c) (52 + suc k) (lower (size (n / c)) k e))))
 
 regroup : (n c : ℕ) → rounded n c * c ≡ closest n (step n c) * step n c
@@ -70,7 +72,9 @@ regroup n c = mul-assoc (kept 53 n c) (2 ^ drop 53 n c) c ∙ ap (λ (z : ℕ). 
 
 -- half a step is at most m / 2 ^ 53
 step-close : (n c m : ℕ) → 0 < c → 2 ^ 52 * step n c ≤ m → Close (rounded n c * c) n m
-step-close n c m C l = subst (λ (z : ℕ). Close z n m) (sym (regroup n c)) (half-close (closest n (step n c) * step n c) (step n c) (closest-half n (step n c) (step-pos n c C)) l)
+step-close n c m C l =
+    let u = step n c in
+    subst (λ (z : ℕ). Close z n m) (sym (regroup n c)) (half-close (closest n u * u) u (closest-half n u (step-pos n c C)) l)
   where
     half-close : (x u : ℕ) → Half x n u → 2 ^ 52 * u ≤ m → Close x n m
     half-close x u h l = omega arith

@@ -1,24 +1,24 @@
--- The sine theorem: where the f64 test of a corner passes, for places within 1,001, the exact sine is above 1/3. It is the last statement; `side-long`, before it, says that no side is short.
--- Each computed value is a record of its units and of how near it is to the exact one; SineBounds does the arithmetic. Assumes nothing.
+-- The sine theorem: for places within 1,001, where the f64 test of a corner passes, the exact sine is above 1/3. It is the last statement;
+-- `side-long`, before it, says that no side is short. Each computed value is a record of its units and of how near it is to the exact one;
+-- SineBounds has the arithmetic. Assumes nothing.
 use mathlib.Core.Path.{_≡_, refl, sym, ap, ap₂, _∙_, subst}
 use mathlib.Core.List.{[], _∷_}
 use mathlib.Core.Bool.{Bool, true, false, not, _&&_}
-use Prim.Native.Nat.{ℕ, zero, suc, _+_, _*_, _^_, _≤_, _<_}
+use Prim.Native.Nat.{ℕ, _+_, _*_, _^_, _≤_, _<_}
 use native.Mathlib.Nat.{le-trans, le-of-eq, le-of-lt, mul-assoc, mul-mul-mul-comm, mul-le-mul, mul-le-mul-right, mul-le-mul-left, le-of-mul-le-mul-right, not-le-of-lt}
 use native.Mathlib.Omega.{arith}
-use lib.Dec.{T, lit≤, leb, ltb, leb→le, ltb→lt, lt→ltb, not-T}
+use lib.Dec.{T, lit≤, ltb, ltb→lt, lt→ltb, not-T}
 use lib.IntN.{ℤ, pos, negℤ, _+ℤ_, _*ℤ_, _-ℤ_, negℤ-negℤ}
-use lib.Ieee.{Float, fin, binary64, unlike, le, ofBits}
+use lib.Ieee.{Float, binary64, unlike, le, ofBits}
 use lib.Ieee.Fits.{and-i, and-l, and-r, add-fits}
 use Rattle.laws.specs.Integer.{negℤ-*ℤ, *ℤ-negℤ}
 use Rattle.laws.specs.Ring.{var, num, _*ᵉ_, _-ᵉ_}
 use Rattle.laws.specs.Certificate.{Nonneg, nonneg, nonneg-is, to-le, hyp, nat, _⊞_, _⊠_, prove}
 use Rattle.numbers.specs.Float.{_⊕_, _⊖_, _⊗_, _⊘_, tolerance}
-use Rattle.exact.specs.Rounding.{Close}
 use Rattle.exact.specs.Units.{W, W-pos, Val, signed, units, Within, within-units}
 use Rattle.exact.specs.Order.{above-of-not-le}
-use Rattle.exact.specs.Operations.{Product, mul-law, product-within, Sum, sub-law, sum-small, sum-within, PosSum, add-law-pos, Quotient, div-law}
-use Rattle.exact.specs.Root.{Root, root-law}
+use Rattle.exact.specs.Operations.{mul-law, product-small, Sum, sub-law, sum-small, sum-within, add-law-pos, div-law}
+use Rattle.exact.specs.Root.{root-law}
 use Rattle.exact.specs.SineBounds.{Rel, RelAnd, rel, rel-and, le-of-sq, Long, unit-below, length-law, side-law, quotient-law, product-law, products-below, signed-near, cross-law, sine-law}
 use Rattle.exact.specs.Corner.{sin20, norm, cornerOk, Vector, step, cross, squaredLength, sineAboveThird, isShort}
 
@@ -43,7 +43,7 @@ sin20-low : 342 * W ≤ 1000 * Sin20
 unfolding W Sin20
 sin20-low = lit≤ tt
 
--- ---- steps: x is the rounded difference z
+-- ---- steps: x is the exact difference z, rounded
 
 record Step (x : Float) (z : ℤ) : Type 0 where
   within : Within 4004 x
@@ -51,37 +51,51 @@ record Step (x : Float) (z : ℤ) : Type 0 where
   is : signed (within .sign) exact ≡ z
   near : Rel (within .size) exact
 
+-- the rounded size, and the sign
+abbrev size : {x : Float} {z : ℤ} → Step x z → ℕ
+size p = p .within .size
+
+abbrev sign : {x : Float} {z : ℤ} → Step x z → Bool
+sign p = p .within .sign
+
 step-of : {x y : Float} → Within 1001 x → Within 1001 y → Step (y ⊖ x) (units y -ℤ units x)
 step-of p q =
     let s = sub-law q p tt tt in
-    record { within = sum-within 2002 s (both (q .size) (p .size) (q .small) (p .small)); exact = s .exact; is = s .is; near = rel (s .size) (s .exact) (s .near) }
+    record {
+      within = sum-within 2002 s (both (q .size) (p .size) (q .small) (p .small));
+      exact = s .exact;
+      is = s .is;
+      near = rel (s .size) (s .exact) (s .near);
+    }
   where
     both : (a b : ℕ) → a ≤ 1001 * W → b ≤ 1001 * W → a + b ≤ 2002 * W
     both a b h k = omega arith
 
--- ---- products of steps
+-- ---- products of steps: x is n squares of a unit, with the sign s, rounded
 
 record Prod (s : Bool) (n : ℕ) (x : Float) : Type 0 where
-  within : Within 32064033 x
-  sign : within .sign ≡ s
-  near : RelAnd (within .size * W) n W
+  size : ℕ
+  val : Val x s size
+  small : size ≤ 32064033 * W
+  near : RelAnd (size * W) n W
 
-prod : {x y : Float} {X Y : ℤ} (p : Step x X) (q : Step y Y) → Prod (unlike (p .within .sign) (q .within .sign)) (p .within .size * q .within .size) (x ⊗ y)
+prod : {x y : Float} {X Y : ℤ} (p : Step x X) (q : Step y Y) → Prod (unlike (sign p) (sign q)) (size p * size q) (x ⊗ y)
 prod p q =
     let r = mul-law (p .within) (q .within) tt tt in
-    let n = p .within .size * q .within .size in
+    let bound = le-trans (mul-le-mul (p .within .small) (q .within .small)) (le-of-eq (mul-mul-mul-comm 4004 W 4004 W)) in
     record {
-      within = product-within 16032016 r (le-trans (mul-le-mul (p .within .small) (q .within .small)) (le-of-eq (mul-mul-mul-comm 4004 W 4004 W)));
-      sign = refl;
-      near = rel-and (r .size * W) n W (r .near);
+      size = r .size;
+      val = r .val;
+      small = product-small 16032016 (r .size) (size p * size q) (r .near) bound;
+      near = rel-and (r .size * W) (size p * size q) W (r .near);
     }
 
 unlike-self : (s : Bool) → unlike s s ≡ false
 unlike-self true = refl
 unlike-self false = refl
 
-square : {x : Float} {X : ℤ} (p : Step x X) → Prod false (p .within .size * p .within .size) (x ⊗ x)
-square {x} p = subst (λ (s : Bool). Prod s (p .within .size * p .within .size) (x ⊗ x)) (unlike-self (p .within .sign)) (prod p p)
+square : {x : Float} {X : ℤ} (p : Step x X) → Prod false (size p * size p) (x ⊗ x)
+square {x} p = subst (λ (s : Bool). Prod s (size p * size p) (x ⊗ x)) (unlike-self (sign p)) (prod p p)
 
 -- ---- lengths
 
@@ -90,39 +104,38 @@ record Length (l : Float) (w₀ w₁ : ℕ) : Type 0 where
   L : ℕ
   val : Val l false L
   long : Long L
-  near : 9985 * (w₀ * w₀ + w₁ * w₁) ≤ 10000 * (L * L)
   small : L ≤ 20000 * W
+  near : 9985 * (w₀ * w₀ + w₁ * w₁) ≤ 10000 * (L * L)
   far : W * W ≤ 10 ^ 28 * (w₀ * w₀ + w₁ * w₁)
-
-prod-val : {n : ℕ} {x : Float} (p : Prod false n x) → Val x false (p .within .size)
-prod-val {n} {x} p = subst (λ (s : Bool). Val x s (p .within .size)) (p .sign) (p .within .val)
-
-moderate : (n : ℕ) → n ≤ 32064033 * W → n ≤ 2 ^ 200 * W
-moderate n h = le-trans h (mul-le-mul-right W (lit≤ tt))
 
 length : {x y : Float} {X Y : ℤ} (p : Step x X) (q : Step y Y) → T (not (le (norm x y) tolerance)) → Length (norm x y) (p .exact) (q .exact)
 unfolding norm
 length {x} {y} p q t =
     let a = square p in
     let b = square q in
-    let s = add-law-pos (x ⊗ x) (y ⊗ y) (a .within .size) (b .within .size) (prod-val a) (prod-val b) (moderate (a .within .size) (a .within .small)) (moderate (b .within .size) (b .within .small)) in
+    let s = add-law-pos (x ⊗ x) (y ⊗ y) (a .size) (b .size) (a .val) (b .val) (moderate (a .size) (a .small)) (moderate (b .size) (b .small)) in
     let r = root-law (x ⊗ x ⊕ y ⊗ y) (add-fits binary64 (x ⊗ x) (y ⊗ y)) (s .size) (s .val) in
     let l = long-of (norm x y) (r .L) (r .val) t in
+    let sum = sum-small (a .size) (b .size) (s .size) (a .small) (b .small) (rel (s .size) (a .size + b .size) (s .near)) in
     record {
       L = r .L;
       val = r .val;
       long = l;
-      near = length-law (p .exact) (q .exact) (p .within .size) (q .within .size) (a .within .size) (b .within .size) (s .size) (r .L) (p .near) (q .near) (a .near) (b .near) (s .near) (r .lower) l;
-      small = root-small (s .size) (r .L) (sum-small (a .within .size) (b .within .size) (s .size) (a .within .small) (b .within .small) (rel (s .size) (a .within .size + b .within .size) (s .near))) (r .upper);
-      far = side-law (p .exact) (q .exact) (p .within .size) (q .within .size) (a .within .size) (b .within .size) (s .size) (r .L) (p .near) (q .near) (a .near) (b .near) (s .near) (r .upper) l;
+      small = root-small (s .size) (r .L) sum (r .upper);
+      near = length-law (p .exact) (q .exact) (size p) (size q) (a .size) (b .size) (s .size) (r .L) (p .near) (q .near) (a .near) (b .near) (s .near) (r .lower) l;
+      far = side-law (p .exact) (q .exact) (size p) (size q) (a .size) (b .size) (s .size) (r .L) (p .near) (q .near) (a .near) (b .near) (s .near) (r .upper) l;
     }
   where
+    moderate : (n : ℕ) → n ≤ 32064033 * W → n ≤ 2 ^ 200 * W
+    moderate n h = le-trans h (mul-le-mul-right W (lit≤ tt))
+
     sum-small : (p q s : ℕ) → p ≤ 32064033 * W → q ≤ 32064033 * W → Rel s (p + q) → s ≤ 128300000 * W
     sum-small p q s a b r = omega arith
 
     root-small : (s L : ℕ) → s ≤ 128300000 * W → L * L ≤ 2 * (s * W) → L ≤ 20000 * W
     root-small s L h k =
-        le-of-sq L (20000 * W) (go (s * W) (L * L) (W * W) (20000 * W * (20000 * W)) (le-trans (mul-le-mul-right W h) (le-of-eq (mul-assoc 128300000 W W))) k (mul-mul-mul-comm 20000 W 20000 W))
+        let l = le-trans (mul-le-mul-right W h) (le-of-eq (mul-assoc 128300000 W W)) in
+        le-of-sq L (20000 * W) (go (s * W) (L * L) (W * W) (20000 * W * (20000 * W)) l k (mul-mul-mul-comm 20000 W 20000 W))
       where
         go : (a b c d : ℕ) → a ≤ 128300000 * c → b ≤ 2 * a → d ≡ 400000000 * c → b ≤ d
         go a b c d h k e = omega arith
@@ -135,23 +148,26 @@ record Denominator (x : Float) (N : ℕ) : Type 0 where
   near : RelAnd (y * W) N W
   low : W ≤ 2 * 10 ^ 26 * y
 
+abbrev length-within : {l : Float} {w₀ w₁ : ℕ} → Length l w₀ w₁ → Within 20000 l
+length-within p = record { sign = false; size = p .L; val = p .val; small = p .small }
+
 denominator : {l m : Float} {w₀ w₁ k₀ k₁ : ℕ} (p : Length l w₀ w₁) (q : Length m k₀ k₁) → Denominator (l ⊗ m) (p .L * q .L)
-denominator {l} {m} p q =
-    let r = mul-law {K = 20000} {L = 20000} (record { sign = false; size = p .L; val = p .val; small = p .small }) (record { sign = false; size = q .L; val = q .val; small = q .small }) tt tt in
+denominator p q =
+    let r = mul-law (length-within p) (length-within q) tt tt in
     let n = rel-and (r .size * W) (p .L * q .L) W (r .near) in
     record { y = r .size; val = r .val; near = n; low = low-of (r .size) (p .L) (q .L) (p .long) (q .long) n }
   where
+    twice : (a b : ℕ) → 10 ^ 10 * W ≤ a → 9999 * a ≤ 10000 * b + 10000 * W → a ≤ 2 * b
+    twice a b h k = omega arith
+
+    go : (a b c d : ℕ) → a ≤ 10 ^ 26 * b → b ≤ 2 * c → d ≡ 2 * 10 ^ 26 * c → a ≤ d
+    go a b c d h k e = omega arith
+
     low-of : (y L M : ℕ) → Long L → Long M → RelAnd (y * W) (L * M) W → W ≤ 2 * 10 ^ 26 * y
     low-of y L M h k r =
+        let square = le-trans (mul-le-mul h k) (le-of-eq (mul-mul-mul-comm (10 ^ 13) L (10 ^ 13) M)) in
         le-of-mul-le-mul-right
-        (go (W * W) (L * M) (y * W) (2 * 10 ^ 26 * y * W) (le-trans (mul-le-mul h k) (le-of-eq (mul-mul-mul-comm (10 ^ 13) L (10 ^ 13) M))) (twice (L * M) (y * W) (unit-below L M h k) (r .1)) (mul-assoc (2 * 10 ^ 26) y W))
-        W-pos
-      where
-        twice : (a b : ℕ) → 10 ^ 10 * W ≤ a → 9999 * a ≤ 10000 * b + 10000 * W → a ≤ 2 * b
-        twice a b h k = omega arith
-
-        go : (a b c d : ℕ) → a ≤ 10 ^ 26 * b → b ≤ 2 * c → d ≡ 2 * 10 ^ 26 * c → a ≤ d
-        go a b c d h k e = omega arith
+        (go (W * W) (L * M) (y * W) (2 * 10 ^ 26 * y * W) square (twice (L * M) (y * W) (unit-below L M h k) (r .1)) (mul-assoc (2 * 10 ^ 26) y W)) W-pos
 
 -- ---- exact products of steps
 
@@ -161,11 +177,11 @@ signed-mul false true a b = *ℤ-negℤ (pos a) (pos b)
 signed-mul true false a b = negℤ-*ℤ (pos a) (pos b)
 signed-mul true true a b = negℤ-*ℤ (pos a) (negℤ (pos b)) ∙ ap negℤ (*ℤ-negℤ (pos a) (pos b)) ∙ negℤ-negℤ (pos (a * b))
 
-exact-product : {x y : Float} {X Y : ℤ} (p : Step x X) (q : Step y Y) → X *ℤ Y ≡ signed (unlike (p .within .sign) (q .within .sign)) (p .exact * q .exact)
-exact-product p q = ap₂ (λ (a b : ℤ). a *ℤ b) (sym (p .is)) (sym (q .is)) ∙ signed-mul (p .within .sign) (q .within .sign) (p .exact) (q .exact)
+exact-product : {x y : Float} {X Y : ℤ} (p : Step x X) (q : Step y Y) → X *ℤ Y ≡ signed (unlike (sign p) (sign q)) (p .exact * q .exact)
+exact-product p q = ap₂ (λ (a b : ℤ). a *ℤ b) (sym (p .is)) (sym (q .is)) ∙ signed-mul (sign p) (sign q) (p .exact) (q .exact)
 
 exact-square : {x : Float} {X : ℤ} (p : Step x X) → X *ℤ X ≡ pos (p .exact * p .exact)
-exact-square p = exact-product p p ∙ ap (λ (s : Bool). signed s (p .exact * p .exact)) (unlike-self (p .within .sign))
+exact-square p = exact-product p p ∙ ap (λ (s : Bool). signed s (p .exact * p .exact)) (unlike-self (sign p))
 
 exact-length : {x y : Float} {v : Vector} (p : Step x (v .x)) (q : Step y (v .y)) → squaredLength v ≡ pos (p .exact * p .exact + q .exact * q .exact)
 unfolding squaredLength
@@ -173,17 +189,17 @@ exact-length p q = ap₂ (λ (a b : ℤ). a +ℤ b) (exact-square p) (exact-squa
 
 -- ---- from ℕ to the claims
 
-cross-nonneg : (P : ℤ) (N : ℕ) → Nonneg (pos 1000 *ℤ P -ℤ pos 340 *ℤ pos N) → Nonneg P
-cross-nonneg P N h = prove (P ∷ pos N ∷ []) ((num 1000 *ᵉ var 0 -ᵉ num 340 *ᵉ var 1) ∷ var 1 ∷ []) (h, (nonneg N, tt)) [] tt 999 (var 0) (hyp 0 ⊞ nat 340 ⊠ hyp 1) tt
-
-sine-test : (u v : Vector) (p Q R : ℕ) → cross u v ≡ pos p → squaredLength u ≡ pos Q → squaredLength v ≡ pos R → (0 < p) × (Q * R < 9 * (p * p)) → T (sineAboveThird u v)
+sine-test : (u v : Vector) (p Q R : ℕ) → cross u v ≡ pos p → squaredLength u ≡ pos Q → squaredLength v ≡ pos R → (0 < p) × (Q * R < 9 * (p * p))
+    → T (sineAboveThird u v)
 unfolding sineAboveThird
-sine-test u v p Q R e f g h = rw (e, f, g) (and-i (ltb 0 p) (ltb (Q * R) (9 * (p * p))) (lt→ltb 0 p (h .0)) (lt→ltb (Q * R) (9 * (p * p)) (h .1)))
+sine-test u v p Q R e f g h =
+    rw (e, f, g) (and-i (ltb 0 p) (ltb (Q * R) (9 * (p * p))) (lt→ltb 0 p (h .0)) (lt→ltb (Q * R) (9 * (p * p)) (h .1)))
 
 side-test : (u : Vector) (Q : ℕ) → squaredLength u ≡ pos Q → W * W ≤ 10 ^ 28 * Q → T (not (isShort u))
 unfolding isShort
 side-test u Q e h =
-    rw e (not-T (ltb (10 ^ 300 * Q) (W * W)) (λ t. not-le-of-lt (ltb→lt (10 ^ 300 * Q) (W * W) t) (le-trans h (mul-le-mul-right Q (lit≤ tt)))))
+    let l = le-trans h (mul-le-mul-right Q (lit≤ {n = 10 ^ 300} tt)) in
+    rw e (not-T (ltb (10 ^ 300 * Q) (W * W)) (λ t. not-le-of-lt (ltb→lt (10 ^ 300 * Q) (W * W) t) l))
 
 -- ---- the corner, from its four steps
 
@@ -196,49 +212,60 @@ record Turn (P : ℤ) (Q R : ℕ) : Type 0 where
   nearL : 9985 * Q ≤ 10000 * (L * L)
   nearM : 9985 * R ≤ 10000 * (M * M)
 
-prod-units : {s : Bool} {n : ℕ} {x : Float} (c : Prod s n x) → units x ≡ signed s (c .within .size)
-prod-units c = within-units (c .within) ∙ ap (λ (s : Bool). signed s (c .within .size)) (c .sign)
+abbrev prod-within : {s : Bool} {n : ℕ} {x : Float} → Prod s n x → Within 32064033 x
+prod-within {s} c = record { sign = s; size = c .size; val = c .val; small = c .small }
 
 unlike-false : (s : Bool) → unlike s false ≡ false → s ≡ false
 unlike-false false e = refl
 unlike-false true e = e
 
 module _ {ux uy vx vy : Float} {X Y X' Y' : ℤ} (a₀ : Step ux X) (a₁ : Step uy Y) (b₀ : Step vx X') (b₁ : Step vy Y') where
-  -- the exact products
+  -- the sines' numerator and denominator, as the code has them
+  abbrev crossF : Float
+  crossF = ux ⊗ vy ⊖ uy ⊗ vx
+
+  abbrev lengthsF : Float
+  lengthsF = norm ux uy ⊗ norm vx vy
+
+  -- the exact products of the numerator
   abbrev product₁ : ℤ
-  product₁ = signed (unlike (a₀ .within .sign) (b₁ .within .sign)) (a₀ .exact * b₁ .exact)
+  product₁ = signed (unlike (sign a₀) (sign b₁)) (a₀ .exact * b₁ .exact)
 
   abbrev product₂ : ℤ
-  product₂ = signed (unlike (a₁ .within .sign) (b₀ .within .sign)) (a₁ .exact * b₀ .exact)
+  product₂ = signed (unlike (sign a₁) (sign b₀)) (a₁ .exact * b₀ .exact)
 
-  turn : T (not (le (norm ux uy) tolerance)) → T (not (le (norm vx vy) tolerance)) → T (not (le ((ux ⊗ vy ⊖ uy ⊗ vx) ⊘ (norm ux uy ⊗ norm vx vy)) sin20))
+  turn : T (not (le (norm ux uy) tolerance)) → T (not (le (norm vx vy) tolerance)) → T (not (le (crossF ⊘ lengthsF) sin20))
       → Turn (product₁ -ℤ product₂) (a₀ .exact * a₀ .exact + a₁ .exact * a₁ .exact) (b₀ .exact * b₀ .exact + b₁ .exact * b₁ .exact)
   turn tu tv ts =
       let p = length a₀ a₁ tu in
       let q = length b₀ b₁ tv in
-      let N = p .L * q .L in
-      let far : 10 ^ 10 * W ≤ N = unit-below (p .L) (q .L) (p .long) (q .long) in
+      let far = unit-below (p .L) (q .L) (p .long) (q .long) in
       let n = denominator p q in
       let c₁ = prod a₀ b₁ in
       let c₂ = prod a₁ b₀ in
-      let d = sub-law (c₁ .within) (c₂ .within) tt tt in
-      let r = div-law (ux ⊗ vy ⊖ uy ⊗ vx) (norm ux uy ⊗ norm vx vy) (d .sign) false (d .size) (n .y) (d .val) (n .val) (positive (n .y) (n .low)) (room (d .size) (n .y) (small d (c₁ .within .small) (c₂ .within .small)) (n .low)) in
-      let t = above-sin20 ((ux ⊗ vy ⊖ uy ⊗ vx) ⊘ (norm ux uy ⊗ norm vx vy)) (unlike (d .sign) false) (r .size) (r .val) ts in
-      let s₁ = unlike (a₀ .within .sign) (b₁ .within .sign) in
-      let s₂ = unlike (a₁ .within .sign) (b₀ .within .sign) in
-      let e : pos (d .exact) ≡ signed s₁ (c₁ .within .size) -ℤ signed s₂ (c₂ .within .size) =
-      ap (λ (s : Bool). signed s (d .exact)) (sym (unlike-false (d .sign) (t .0))) ∙ d .is ∙ ap₂ (λ (y z : ℤ). y -ℤ z) (prod-units c₁) (prod-units c₂) in
+      let d = sub-law (prod-within c₁) (prod-within c₂) tt tt in
+      let fits = room (d .size) (n .y) (small d (c₁ .small) (c₂ .small)) (n .low) in
+      let r = div-law crossF lengthsF (d .sign) false (d .size) (n .y) (d .val) (n .val) (positive (n .y) (n .low)) fits in
+      let t = above-sin20 (crossF ⊘ lengthsF) (unlike (d .sign) false) (r .size) (r .val) ts in
+      let z₁ = signed (unlike (sign a₀) (sign b₁)) (c₁ .size) in
+      let z₂ = signed (unlike (sign a₁) (sign b₀)) (c₂ .size) in
+      let e : pos (d .exact) ≡ z₁ -ℤ z₂ =
+      ap (λ (s : Bool). signed s (d .exact)) (sym (unlike-false (d .sign) (t .0))) ∙ d .is
+      ∙ ap₂ (λ (y z : ℤ). y -ℤ z) (within-units (prod-within c₁)) (within-units (prod-within c₂)) in
+      let near₁ = product-law (a₀ .exact) (b₁ .exact) (size a₀) (size b₁) (c₁ .size) (a₀ .near) (b₁ .near) (c₁ .near) in
+      let near₂ = product-law (a₁ .exact) (b₀ .exact) (size a₁) (size b₀) (c₂ .size) (a₁ .near) (b₀ .near) (c₂ .near) in
+      let near = rel-and (r .size * n .y) (d .size * W) (n .y) (r .near) in
+      let quotient = quotient-law (p .L) (q .L) (n .y) (d .size) (r .size) Sin20 (n .near) far near (t .1) sin20-low in
+      let below = products-below (a₀ .exact) (a₁ .exact) (b₀ .exact) (b₁ .exact) (p .L) (q .L) (p .near) (q .near) in
       record {
         L = p .L;
         M = q .L;
-        some = some-of N far;
+        some = some-of (p .L * q .L) far;
         above =
-            cross-law product₁ product₂ (signed s₁ (c₁ .within .size)) (signed s₂ (c₂ .within .size)) (a₀ .exact * b₁ .exact) (a₁ .exact * b₀ .exact) (d .exact) (d .size) N
-            (signed-near s₁ (a₀ .exact * b₁ .exact) (c₁ .within .size) (product-law (a₀ .exact) (b₁ .exact) (a₀ .within .size) (b₁ .within .size) (c₁ .within .size) (a₀ .near) (b₁ .near) (c₁ .near)) .0)
-            (signed-near s₂ (a₁ .exact * b₀ .exact) (c₂ .within .size) (product-law (a₁ .exact) (b₀ .exact) (a₁ .within .size) (b₀ .within .size) (c₂ .within .size) (a₁ .near) (b₀ .near) (c₂ .near)) .1)
-            (rel (d .size) (d .exact) (d .near) .0)
-            (quotient-law (p .L) (q .L) (n .y) (d .size) (r .size) Sin20 (n .near) far (rel-and (r .size * n .y) (d .size * W) (n .y) (r .near)) (t .1) sin20-low)
-            (products-below (a₀ .exact) (a₁ .exact) (b₀ .exact) (b₁ .exact) (p .L) (q .L) (p .near) (q .near)) (weaken N far) e;
+            cross-law product₁ product₂ z₁ z₂ (a₀ .exact * b₁ .exact) (a₁ .exact * b₀ .exact) (d .exact) (d .size) (p .L * q .L)
+            (signed-near (unlike (sign a₀) (sign b₁)) (a₀ .exact * b₁ .exact) (c₁ .size) near₁ .0)
+            (signed-near (unlike (sign a₁) (sign b₀)) (a₁ .exact * b₀ .exact) (c₂ .size) near₂ .1)
+            (rel (d .size) (d .exact) (d .near) .0) quotient below (weaken (p .L * q .L) far) e;
         nearL = p .near;
         nearM = q .near;
       }
@@ -250,7 +277,8 @@ module _ {ux uy vx vy : Float} {X Y X' Y' : ℤ} (a₀ : Step ux X) (a₁ : Step
       small {z} {a} {b} d h k = sum-small 64128066 d (both a b h k)
 
       room : (d y : ℕ) → d ≤ 128256132 * W → W ≤ 2 * 10 ^ 26 * y → d ≤ 2 ^ 400 * y
-      room d y h k = le-trans h (le-trans (mul-le-mul-left 128256132 k) (le-trans (le-of-eq (sym (mul-assoc 128256132 (2 * 10 ^ 26) y))) (mul-le-mul-right y (lit≤ tt))))
+      room d y h k =
+          le-trans h (le-trans (mul-le-mul-left 128256132 k) (le-trans (le-of-eq (sym (mul-assoc 128256132 (2 * 10 ^ 26) y))) (mul-le-mul-right y (lit≤ tt))))
 
       positive : (y : ℕ) → W ≤ 2 * 10 ^ 26 * y → 0 < y
       positive y h = omega (arith, W-pos)
@@ -265,9 +293,13 @@ module _ {ux uy vx vy : Float} {X Y X' Y' : ℤ} (a₀ : Step ux X) (a₁ : Step
 turn-sine : (u v : Vector) (P : ℤ) (Q R : ℕ) → Turn P Q R → cross u v ≡ P → squaredLength u ≡ pos Q → squaredLength v ≡ pos R → T (sineAboveThird u v)
 turn-sine u v P Q R t e f g =
     let N = t .L * t .M in
-    let n = nonneg-is (cross-nonneg P N (t .above)) in
+    let n = nonneg-is (not-negative N (t .above)) in
     let least : 340 * N ≤ 1000 * n .0 = to-le (340 * N) (1000 * n .0) (subst (λ (z : ℤ). Nonneg (pos 1000 *ℤ z -ℤ pos 340 *ℤ pos N)) (n .1) (t .above)) in
     sine-test u v (n .0) Q R (e ∙ n .1) f g (sine-law (n .0) (t .L) (t .M) Q R (t .some) least (t .nearL) (t .nearM))
+  where
+    not-negative : (N : ℕ) → Nonneg (pos 1000 *ℤ P -ℤ pos 340 *ℤ pos N) → Nonneg P
+    not-negative N h =
+        prove (P ∷ pos N ∷ []) ((num 1000 *ᵉ var 0 -ᵉ num 340 *ᵉ var 1) ∷ var 1 ∷ []) (h, (nonneg N, tt)) [] tt 999 (var 0) (hyp 0 ⊞ nat 340 ⊠ hyp 1) tt
 
 -- ---- the theorems
 
@@ -293,9 +325,10 @@ side-long ax ay bx by Ax Ay Bx By t =
     let q = step-of Ay By in
     side-test (step ax ay bx by) (p .exact * p .exact + q .exact * q .exact) (exact-length {v = step ax ay bx by} p q) (length p q t .far)
 
--- THE SINE THEOREM. For places a, b and c within 1,001: where the f64 test of the corner a, b, c passes, the exact sine between the steps a to b and b to c is above 1/3.
-pub sine-theorem : (ax ay bx by cx cy : Float) → Within 1001 ax → Within 1001 ay → Within 1001 bx → Within 1001 by → Within 1001 cx → Within 1001 cy
-    → T (cornerOk ax ay bx by cx cy) → T (sineAboveThird (step ax ay bx by) (step bx by cx cy))
+-- THE SINE THEOREM. For places a, b and c within 1,001: where the f64 test of the corner passes, the exact sine between the step from a to b
+-- and the step from b to c is above 1/3.
+pub sine-theorem : (ax ay bx by cx cy : Float) → Within 1001 ax → Within 1001 ay → Within 1001 bx → Within 1001 by → Within 1001 cx
+    → Within 1001 cy → T (cornerOk ax ay bx by cx cy) → T (sineAboveThird (step ax ay bx by) (step bx by cx cy))
 unfolding cornerOk step cross
 sine-theorem ax ay bx by cx cy Ax Ay Bx By Cx Cy t =
     let a₀ = step-of Ax Bx in
@@ -305,6 +338,7 @@ sine-theorem ax ay bx by cx cy Ax Ay Bx By Cx Cy t =
     let test = corner-tests ax ay bx by cx cy t in
     let u = step ax ay bx by in
     let v = step bx by cx cy in
-    turn-sine u v (product₁ a₀ a₁ b₀ b₁ -ℤ product₂ a₀ a₁ b₀ b₁) (a₀ .exact * a₀ .exact + a₁ .exact * a₁ .exact) (b₀ .exact * b₀ .exact + b₁ .exact * b₁ .exact)
+    turn-sine u v (product₁ a₀ a₁ b₀ b₁ -ℤ product₂ a₀ a₁ b₀ b₁)
+    (a₀ .exact * a₀ .exact + a₁ .exact * a₁ .exact) (b₀ .exact * b₀ .exact + b₁ .exact * b₁ .exact)
     (turn a₀ a₁ b₀ b₁ (test .into) (test .out) (test .sine))
     (ap₂ (λ (y z : ℤ). y -ℤ z) (exact-product a₀ b₁) (exact-product a₁ b₀)) (exact-length {v = u} a₀ a₁) (exact-length {v = v} b₀ b₁)

@@ -1,6 +1,7 @@
--- The arithmetic of the sine theorem, in whole numbers: from how close each rounded step is to the exact one, that the exact cross product is above a third of the product of the exact lengths.
--- Errors are taken crudely, 10 ^ -4 for each 2 ^ -53: sin 20 degrees is 0.342, so there is room. No numeral is above 38 digits, which is as far as `omega` reads. Assumes nothing.
-use mathlib.Core.Path.{_≡_, refl, sym, ap, _∙_, subst}
+-- The arithmetic of the sine theorem, in whole numbers: from how close each rounded step is to the exact one, that the exact cross product is
+-- above a third of the product of the exact lengths. Errors are taken crudely, 10 ^ -4 for each 2 ^ -53: sin 20 degrees is 0.342, so there is
+-- room. No numeral is above 38 digits, which is as far as `omega` reads. Assumes nothing.
+use mathlib.Core.Path.{_≡_, sym, ap, _∙_, subst}
 use mathlib.Core.List.{List, [], _∷_}
 use mathlib.Core.Bool.{Bool, true, false}
 use Prim.Native.Nat.{ℕ, suc, _+_, _*_, _^_, _≤_, _<_}
@@ -88,12 +89,13 @@ pub side-law : (w₀ w₁ g₀ g₁ p₀ p₁ s L : ℕ) → Rel g₀ w₀ → R
     → Close s (p₀ + p₁) (p₀ + p₁) → L * L ≤ 2 * (s * W) → Long L → W * W ≤ 10 ^ 28 * (w₀ * w₀ + w₁ * w₁)
 side-law w₀ w₁ g₀ g₁ p₀ p₁ s L r₀ r₁ c₀ c₁ cs q l =
     last (W * W) (L * L) (w₀ * w₀ + w₁ * w₁) (le-trans (mul-le-mul l l) (le-of-eq (mul-mul-mul-comm (10 ^ 13) L (10 ^ 13) L)))
-    (rounded (w₀ * w₀) (w₁ * w₁) (g₀ * g₀) (g₁ * g₁) (p₀ * W) (p₁ * W) (s * W) (L * L) (mul-le g₀ w₀ g₀ w₀ 10000 10001 10000 10001 (r₀ .0) (r₀ .0)) (mul-le g₁ w₁ g₁ w₁ 10000 10001 10000 10001 (r₁ .0) (r₁ .0))
+    (rounded (w₀ * w₀) (w₁ * w₁) (g₀ * g₀) (g₁ * g₁) (p₀ * W) (p₁ * W) (s * W) (L * L)
+    (mul-le g₀ w₀ g₀ w₀ 10000 10001 10000 10001 (r₀ .0) (r₀ .0)) (mul-le g₁ w₁ g₁ w₁ 10000 10001 10000 10001 (r₁ .0) (r₁ .0))
     (c₀ .0) (c₁ .0) (rel (s * W) (p₀ * W + p₁ * W) (scaled-sum s p₀ p₁ cs) .0) q)
     (mul-le-mul-right W W-big)
   where
-    rounded : (B₀ B₁ A₀ A₁ P₀ P₁ S Q : ℕ) → 100000000 * A₀ ≤ 100020001 * B₀ → 100000000 * A₁ ≤ 100020001 * B₁ → 10000 * P₀ ≤ 10001 * A₀ + 10000 * W → 10000 * P₁ ≤ 10001 * A₁ + 10000 * W
-        → 10000 * S ≤ 10001 * (P₀ + P₁) → Q ≤ 2 * S → Q ≤ 4 * (B₀ + B₁) + 8 * W
+    rounded : (B₀ B₁ A₀ A₁ P₀ P₁ S Q : ℕ) → 100000000 * A₀ ≤ 100020001 * B₀ → 100000000 * A₁ ≤ 100020001 * B₁
+        → 10000 * P₀ ≤ 10001 * A₀ + 10000 * W → 10000 * P₁ ≤ 10001 * A₁ + 10000 * W → 10000 * S ≤ 10001 * (P₀ + P₁) → Q ≤ 2 * S → Q ≤ 4 * (B₀ + B₁) + 8 * W
     rounded B₀ B₁ A₀ A₁ P₀ P₁ S Q a b c d e f = omega arith
 
     last : (X Q Z : ℕ) → X ≤ 10 ^ 26 * Q → Q ≤ 4 * Z + 8 * W → 10 ^ 36 * W ≤ X → X ≤ 10 ^ 28 * Z
@@ -112,26 +114,34 @@ quotient-law L M y d r K a b c h k =
 
 -- ---- the cross product. w and k are two exact sides, g and h the rounded ones, c their rounded product
 
-pub product-law : (w k g h c : ℕ) → Rel g w → Rel h k → RelAnd (c * W) (g * h) W → (10000 * (c * W) ≤ 10004 * (w * k) + 10000 * W) × (9996 * (w * k) ≤ 10000 * (c * W) + 10000 * W)
-product-law w k g h c r q l = go (w * k) (g * h) (c * W) (mul-le g w h k 10000 10001 10000 10001 (r .0) (q .0)) (mul-le w g k h 9999 10000 9999 10000 (r .1) (q .1)) l
+-- c * W is x within 4 * 10 ^ -4, and within W besides
+abbrev pub Apart : ℕ → ℕ → Type 0
+Apart x c = (10000 * (c * W) ≤ 10004 * x + 10000 * W) × (9996 * x ≤ 10000 * (c * W) + 10000 * W)
+
+pub product-law : (w k g h c : ℕ) → Rel g w → Rel h k → RelAnd (c * W) (g * h) W → Apart (w * k) c
+product-law w k g h c r q l =
+    go (w * k) (g * h) (c * W) (mul-le g w h k 10000 10001 10000 10001 (r .0) (q .0)) (mul-le w g k h 9999 10000 9999 10000 (r .1) (q .1)) l
   where
-    go : (x y z : ℕ) → 100000000 * y ≤ 100020001 * x → 99980001 * x ≤ 100000000 * y → RelAnd z y W → (10000 * z ≤ 10004 * x + 10000 * W) × (9996 * x ≤ 10000 * z + 10000 * W)
+    go : (x y z : ℕ) → 100000000 * y ≤ 100020001 * x → 99980001 * x ≤ 100000000 * y → RelAnd z y W
+        → (10000 * z ≤ 10004 * x + 10000 * W) × (9996 * x ≤ 10000 * z + 10000 * W)
     go x y z a b c = omega arith
 
 -- the two products together are below twice the product of the lengths
-pub products-below : (w₀ w₁ k₀ k₁ L M : ℕ) → 9985 * (w₀ * w₀ + w₁ * w₁) ≤ 10000 * (L * L) → 9985 * (k₀ * k₀ + k₁ * k₁) ≤ 10000 * (M * M) → w₀ * k₁ + w₁ * k₀ ≤ 2 * (L * M)
+pub products-below : (w₀ w₁ k₀ k₁ L M : ℕ) → 9985 * (w₀ * w₀ + w₁ * w₁) ≤ 10000 * (L * L) → 9985 * (k₀ * k₀ + k₁ * k₁) ≤ 10000 * (M * M)
+    → w₀ * k₁ + w₁ * k₀ ≤ 2 * (L * M)
 products-below w₀ w₁ k₀ k₁ L M h k =
     le-of-sq (w₀ * k₁ + w₁ * k₀) (2 * (L * M))
     (le-trans (cauchy w₀ k₁ w₁ k₀)
     (go ((w₀ * w₀ + w₁ * w₁) * (k₁ * k₁ + k₀ * k₀)) (L * L * (M * M)) (2 * (L * M) * (2 * (L * M)))
     (mul-mul-mul-comm 2 (L * M) 2 (L * M) ∙ ap (λ (z : ℕ). 4 * z) (mul-mul-mul-comm L M L M))
-    (mul-le (w₀ * w₀ + w₁ * w₁) (L * L) (k₁ * k₁ + k₀ * k₀) (M * M) 9985 10000 9985 10000 h (le-trans (le-of-eq (ap (λ (z : ℕ). 9985 * z) (add-comm (k₁ * k₁) (k₀ * k₀)))) k))))
+    (mul-le (w₀ * w₀ + w₁ * w₁) (L * L) (k₁ * k₁ + k₀ * k₀) (M * M) 9985 10000 9985 10000 h
+    (le-trans (le-of-eq (ap (λ (z : ℕ). 9985 * z) (add-comm (k₁ * k₁) (k₀ * k₀)))) k))))
   where
     go : (a b c : ℕ) → c ≡ 4 * b → 99700225 * a ≤ 100000000 * b → a ≤ c
     go a b c e h = omega arith
 
 -- with its sign: x is the exact size of a product, c the rounded one
-pub signed-near : (s : Bool) (x c : ℕ) → (10000 * (c * W) ≤ 10004 * x + 10000 * W) × (9996 * x ≤ 10000 * (c * W) + 10000 * W)
+pub signed-near : (s : Bool) (x c : ℕ) → Apart x c
     → Nonneg (pos 4 *ℤ pos x +ℤ pos 10000 *ℤ pos W +ℤ pos 10000 *ℤ (signed s x -ℤ signed s c *ℤ pos W))
     × Nonneg (pos 4 *ℤ pos x +ℤ pos 10000 *ℤ pos W +ℤ pos 10000 *ℤ (signed s c *ℤ pos W -ℤ signed s x))
 signed-near s x c h = go s
@@ -140,7 +150,9 @@ signed-near s x c h = go s
     ρ = pos x ∷ pos c ∷ pos W ∷ []
 
     hs : List Expr
-    hs = (num 10004 *ᵉ var 0 +ᵉ num 10000 *ᵉ var 2 -ᵉ num 10000 *ᵉ (var 1 *ᵉ var 2)) ∷ (num 10000 *ᵉ (var 1 *ᵉ var 2) +ᵉ num 10000 *ᵉ var 2 -ᵉ num 9996 *ᵉ var 0) ∷ []
+    hs =
+        (num 10004 *ᵉ var 0 +ᵉ num 10000 *ᵉ var 2 -ᵉ num 10000 *ᵉ (var 1 *ᵉ var 2))
+        ∷ (num 10000 *ᵉ (var 1 *ᵉ var 2) +ᵉ num 10000 *ᵉ var 2 -ᵉ num 9996 *ᵉ var 0) ∷ []
 
     by : (goal : Expr) (c : Certificate) → T (same (con (pos 1) *ᵉ goal) (exprOf hs [] c)) → Nonneg (eval ρ goal)
     by goal c t = prove ρ hs (of-le (h .0), (of-le (h .1), tt)) [] tt 0 goal c t
@@ -156,14 +168,16 @@ signed-near s x c h = go s
     go false = (by (over (var 0) (var 1)) (hyp 0) tt, by (under (var 0) (var 1)) (hyp 1) tt)
     go true = (by (over (neg (var 0)) (neg (var 1))) (hyp 1) tt, by (under (neg (var 0)) (neg (var 1))) (hyp 0) tt)
 
--- X and Y are the exact products, of the sizes x and y, and c₁ and c₂ the rounded ones; w is the exact difference of those and d the rounded one; N is the product of the lengths
+-- X and Y are the exact products, of the sizes x and y, and c₁ and c₂ the rounded ones; w is the exact difference of those and d the
+-- rounded one; N is the product of the lengths
 pub cross-law : (X Y c₁ c₂ : ℤ) (x y w d N : ℕ)
     → Nonneg (pos 4 *ℤ pos x +ℤ pos 10000 *ℤ pos W +ℤ pos 10000 *ℤ (X -ℤ c₁ *ℤ pos W))
     → Nonneg (pos 4 *ℤ pos y +ℤ pos 10000 *ℤ pos W +ℤ pos 10000 *ℤ (c₂ *ℤ pos W -ℤ Y))
     → 10000 * d ≤ 10001 * w → 3418 * N ≤ 10000 * (d * W) → x + y ≤ 2 * N → 10000 * W ≤ N → pos w ≡ c₁ -ℤ c₂
     → Nonneg (pos 1000 *ℤ (X -ℤ Y) -ℤ pos 340 *ℤ pos N)
 cross-law X Y c₁ c₂ x y w d N h₀ h₁ h₂ h₃ h₄ h₅ e =
-    let eX = var 0 in let eY = var 1 in let e₁ = var 2 in let e₂ = var 3 in let eW = var 4 in let ex = var 5 in let ey = var 6 in let ew = var 7 in let ed = var 8 in let eN = var 9 in
+    let eX = var 0 in let eY = var 1 in let e₁ = var 2 in let e₂ = var 3 in let eW = var 4 in
+    let ex = var 5 in let ey = var 6 in let ew = var 7 in let ed = var 8 in let eN = var 9 in
     prove (X ∷ Y ∷ c₁ ∷ c₂ ∷ pos W ∷ pos x ∷ pos y ∷ pos w ∷ pos d ∷ pos N ∷ [])
     ((num 4 *ᵉ ex +ᵉ num 10000 *ᵉ eW +ᵉ num 10000 *ᵉ (eX -ᵉ e₁ *ᵉ eW))
     ∷ (num 4 *ᵉ ey +ᵉ num 10000 *ᵉ eW +ᵉ num 10000 *ᵉ (e₂ *ᵉ eW -ᵉ eY))
@@ -177,7 +191,8 @@ cross-law X Y c₁ c₂ x y w d N h₀ h₁ h₂ h₃ h₄ h₅ e =
 
 -- ---- the claim, from a cross product p of at least 0.34 L M
 
-pub sine-law : (p L M Q R : ℕ) → 0 < L * M → 340 * (L * M) ≤ 1000 * p → 9985 * Q ≤ 10000 * (L * L) → 9985 * R ≤ 10000 * (M * M) → (0 < p) × (Q * R < 9 * (p * p))
+pub sine-law : (p L M Q R : ℕ) → 0 < L * M → 340 * (L * M) ≤ 1000 * p → 9985 * Q ≤ 10000 * (L * L) → 9985 * R ≤ 10000 * (M * M)
+    → (0 < p) × (Q * R < 9 * (p * p))
 sine-law p L M Q R some h q r =
     let P = positive p (L * M) some h in (
       P,

@@ -1,5 +1,6 @@
 -- A double as a whole number of units. A unit is the smallest double above 0, 2 ^ -1074 (document 01, "The exact books").
--- `units x` computes; `Val x s a` says that x is finite, has the sign s, and is a units in size, for proofs; `Within K x` bounds it by K either way. Assumes nothing.
+-- `units x` computes. For proofs, `Val x s a` says that x is finite, has the sign s, and is a units in size; `Within K x` bounds it by K
+-- either way. Assumes nothing.
 use mathlib.Core.Path.{_≡_, refl, sym, ap, ap₂, _∙_, subst}
 use mathlib.Core.Bool.{Bool, true, false, not, _&&_}
 use Prim.Native.Nat.{ℕ, zero, suc, _-_, _+_, _*_, _/_, _%_, _^_, _≤_, _<_}

@@ -3,10 +3,9 @@ use Prim.Native.Nat.{ℕ, _+_, _-_, _*_, _<_, _≤_}
 use mathlib.Core.List.{List}
 use mathlib.Core.Path.{_≡_, refl, sym, _∙_, ap}
 use native.Mathlib.Omega.{arith}
-use lib.ListN.{length, getD, set, take, drop, length-set}
+use lib.ListN.{getD, set, take, drop, length-set}
 use lib.Seq.{take-set-le, drop-set-lt, take-take, drop-drop, getD-take}
 use lib.Ieee.{nan}
-use Rattle.domain.specs.Outline.{point}
 use Rattle.front.specs.State.{State, nodeIn, node, nodePlaces, quadPlaces, edgePlaces}
 use Rattle.front.specs.Sound.{Extends, Frame}
 

@@ -1,10 +1,10 @@
 -- Worked uses of `ring` and `prove`, each with the call of tools/ring.py that wrote it. They show the form, and the check computes them. Assumes nothing.
-use mathlib.Core.Path.{_≡_, refl}
-use mathlib.Core.List.{List, [], _∷_}
+use mathlib.Core.Path.{_≡_}
+use mathlib.Core.List.{[], _∷_}
 use Prim.Native.Nat.{ℕ, _+_, _*_, _^_, _≤_}
-use lib.IntN.{ℤ, pos, negsuc, negℤ, _+ℤ_, _*ℤ_, _-ℤ_}
+use lib.IntN.{ℤ, pos, _+ℤ_, _*ℤ_, _-ℤ_}
 use lib.Signed.{_≤ℤ_}
-use Rattle.laws.specs.Ring.{Expr, var, num, _+ᵉ_, _*ᵉ_, _-ᵉ_, neg, ring}
+use Rattle.laws.specs.Ring.{var, num, _+ᵉ_, _*ᵉ_, _-ᵉ_, ring}
 use Rattle.laws.specs.Certificate.{Nonneg, of-≤ℤ, to-≤ℤ, to-le, hyp, nat, _⊞_, _⊠_, sq, eqn, prove, zero-of}
 
 -- Lagrange's identity: the cross product and the dot product of two vectors.

@@ -1,7 +1,7 @@
 -- Laws of ℤ that the library's lib.IntN leaves out: associativity and distributivity of the product, and what follows. Assumes nothing.
-use mathlib.Core.Path.{_≡_, refl, sym, ap, ap₂, _∙_, subst}
-use Prim.Native.Nat.{ℕ, zero, suc, _+_, _*_}
-use lib.IntN.{ℤ, pos, negsuc, sucℤ, predℤ, negℤ, one, _+ℤ_, _*ℤ_, _-ℤ_, +ℤ-idl, +ℤ-idr, +ℤ-one, -ℤ-one, +ℤ-assoc, +ℤ-comm, +ℤ-invr, +ℤ-invl, sucℤ-+ℤ, predℤ-+ℤ, ℤ-ind, negℤ-+ℤ, negℤ-negℤ, +ℤ-negℤ-cancel, -ℤ-+ℤ-cancel, *ℤ-one, zero-*ℤ, *ℤ-zero, sucℤ-*ℤ, predℤ-*ℤ, *ℤ-comm}
+use mathlib.Core.Path.{_≡_, sym, ap, ap₂, _∙_, subst}
+use Prim.Native.Nat.{zero, suc}
+use lib.IntN.{ℤ, pos, sucℤ, predℤ, negℤ, one, _+ℤ_, _*ℤ_, _-ℤ_, +ℤ-idl, +ℤ-idr, +ℤ-one, -ℤ-one, +ℤ-assoc, +ℤ-comm, +ℤ-invr, +ℤ-invl, sucℤ-+ℤ, predℤ-+ℤ, ℤ-ind, -ℤ-+ℤ-cancel, *ℤ-one, zero-*ℤ, sucℤ-*ℤ, predℤ-*ℤ, *ℤ-comm}
 
 -- ---- sums rearranged
 
@@ -14,29 +14,29 @@ pub +ℤ-left-comm : (a b c : ℤ) → a +ℤ (b +ℤ c) ≡ b +ℤ (a +ℤ c)
 pub +ℤ-swap : (a b c d : ℤ) → (a +ℤ b) +ℤ (c +ℤ d) ≡ (a +ℤ c) +ℤ (b +ℤ d)
 +ℤ-swap a b c d = +ℤ-assoc a b (c +ℤ d) ∙ ap (λ (x : ℤ). a +ℤ x) (+ℤ-left-comm b c d) ∙ sym (+ℤ-assoc a c (b +ℤ d))
 
--- ---- distributivity, by induction on the first summand: up and down by one
+-- ---- induction up and down by one
+
+stepwise : (P : ℤ → Type 0) → P (pos zero) → ((x : ℤ) → P x → P (sucℤ x)) → ((x : ℤ) → P x → P (predℤ x)) → (x : ℤ) → P x
+stepwise P base up down =
+    ℤ-ind P base (λ n h. subst P (sym (+ℤ-one (pos n))) (up (pos n) h)) (λ n h. subst P (sym (-ℤ-one (negℤ (pos n)))) (down (negℤ (pos n)) h))
+
+-- ---- distributivity
 
 pub +ℤ-*ℤ : (a b c : ℤ) → (a +ℤ b) *ℤ c ≡ a *ℤ c +ℤ b *ℤ c
-+ℤ-*ℤ a b c = ℤ-ind (λ (x : ℤ). (x +ℤ b) *ℤ c ≡ x *ℤ c +ℤ b *ℤ c) base up down a
++ℤ-*ℤ a b c = stepwise (λ (x : ℤ). (x +ℤ b) *ℤ c ≡ x *ℤ c +ℤ b *ℤ c) base up down a
   where
     base : (pos zero +ℤ b) *ℤ c ≡ pos zero *ℤ c +ℤ b *ℤ c
     base = ap (λ (x : ℤ). x *ℤ c) (+ℤ-idl b) ∙ sym (ap (λ (x : ℤ). x +ℤ b *ℤ c) (zero-*ℤ c) ∙ +ℤ-idl (b *ℤ c))
 
-    step-up : (x : ℤ) → (x +ℤ b) *ℤ c ≡ x *ℤ c +ℤ b *ℤ c → (sucℤ x +ℤ b) *ℤ c ≡ sucℤ x *ℤ c +ℤ b *ℤ c
-    step-up x h =
+    up : (x : ℤ) → (x +ℤ b) *ℤ c ≡ x *ℤ c +ℤ b *ℤ c → (sucℤ x +ℤ b) *ℤ c ≡ sucℤ x *ℤ c +ℤ b *ℤ c
+    up x h =
         ap (λ (y : ℤ). y *ℤ c) (sucℤ-+ℤ x b) ∙ sucℤ-*ℤ (x +ℤ b) c ∙ ap (λ (y : ℤ). y +ℤ c) h ∙ +ℤ-right-comm (x *ℤ c) (b *ℤ c) c
         ∙ ap (λ (y : ℤ). y +ℤ b *ℤ c) (sym (sucℤ-*ℤ x c))
 
-    step-down : (x : ℤ) → (x +ℤ b) *ℤ c ≡ x *ℤ c +ℤ b *ℤ c → (predℤ x +ℤ b) *ℤ c ≡ predℤ x *ℤ c +ℤ b *ℤ c
-    step-down x h =
+    down : (x : ℤ) → (x +ℤ b) *ℤ c ≡ x *ℤ c +ℤ b *ℤ c → (predℤ x +ℤ b) *ℤ c ≡ predℤ x *ℤ c +ℤ b *ℤ c
+    down x h =
         ap (λ (y : ℤ). y *ℤ c) (predℤ-+ℤ x b) ∙ predℤ-*ℤ (x +ℤ b) c ∙ ap (λ (y : ℤ). y -ℤ c) h ∙ +ℤ-right-comm (x *ℤ c) (b *ℤ c) (negℤ c)
         ∙ ap (λ (y : ℤ). y +ℤ b *ℤ c) (sym (predℤ-*ℤ x c))
-
-    up : (n : ℕ) → (pos n +ℤ b) *ℤ c ≡ pos n *ℤ c +ℤ b *ℤ c → (pos n +ℤ pos (suc zero) +ℤ b) *ℤ c ≡ (pos n +ℤ pos (suc zero)) *ℤ c +ℤ b *ℤ c
-    up n h = subst (λ (x : ℤ). (x +ℤ b) *ℤ c ≡ x *ℤ c +ℤ b *ℤ c) (sym (+ℤ-one (pos n))) (step-up (pos n) h)
-
-    down : (n : ℕ) → (negℤ (pos n) +ℤ b) *ℤ c ≡ negℤ (pos n) *ℤ c +ℤ b *ℤ c → (negℤ (pos n) +ℤ negℤ (pos (suc zero)) +ℤ b) *ℤ c ≡ (negℤ (pos n) +ℤ negℤ (pos (suc zero))) *ℤ c +ℤ b *ℤ c
-    down n h = subst (λ (x : ℤ). (x +ℤ b) *ℤ c ≡ x *ℤ c +ℤ b *ℤ c) (sym (-ℤ-one (negℤ (pos n)))) (step-down (negℤ (pos n)) h)
 
 pub *ℤ-+ℤ : (a b c : ℤ) → a *ℤ (b +ℤ c) ≡ a *ℤ b +ℤ a *ℤ c
 *ℤ-+ℤ a b c = *ℤ-comm a (b +ℤ c) ∙ +ℤ-*ℤ b c a ∙ ap₂ (λ (x y : ℤ). x +ℤ y) (*ℤ-comm b a) (*ℤ-comm c a)
@@ -56,23 +56,17 @@ pub *ℤ-negℤ : (a b : ℤ) → a *ℤ negℤ b ≡ negℤ (a *ℤ b)
 -- ---- products rearranged
 
 pub *ℤ-assoc : (a b c : ℤ) → (a *ℤ b) *ℤ c ≡ a *ℤ (b *ℤ c)
-*ℤ-assoc a b c = ℤ-ind (λ (x : ℤ). (x *ℤ b) *ℤ c ≡ x *ℤ (b *ℤ c)) base up down a
+*ℤ-assoc a b c = stepwise (λ (x : ℤ). (x *ℤ b) *ℤ c ≡ x *ℤ (b *ℤ c)) base up down a
   where
     base : (pos zero *ℤ b) *ℤ c ≡ pos zero *ℤ (b *ℤ c)
     base = ap (λ (x : ℤ). x *ℤ c) (zero-*ℤ b) ∙ zero-*ℤ c ∙ sym (zero-*ℤ (b *ℤ c))
 
-    step-up : (x : ℤ) → (x *ℤ b) *ℤ c ≡ x *ℤ (b *ℤ c) → (sucℤ x *ℤ b) *ℤ c ≡ sucℤ x *ℤ (b *ℤ c)
-    step-up x h = ap (λ (y : ℤ). y *ℤ c) (sucℤ-*ℤ x b) ∙ +ℤ-*ℤ (x *ℤ b) b c ∙ ap (λ (y : ℤ). y +ℤ b *ℤ c) h ∙ sym (sucℤ-*ℤ x (b *ℤ c))
+    up : (x : ℤ) → (x *ℤ b) *ℤ c ≡ x *ℤ (b *ℤ c) → (sucℤ x *ℤ b) *ℤ c ≡ sucℤ x *ℤ (b *ℤ c)
+    up x h = ap (λ (y : ℤ). y *ℤ c) (sucℤ-*ℤ x b) ∙ +ℤ-*ℤ (x *ℤ b) b c ∙ ap (λ (y : ℤ). y +ℤ b *ℤ c) h ∙ sym (sucℤ-*ℤ x (b *ℤ c))
 
-    step-down : (x : ℤ) → (x *ℤ b) *ℤ c ≡ x *ℤ (b *ℤ c) → (predℤ x *ℤ b) *ℤ c ≡ predℤ x *ℤ (b *ℤ c)
-    step-down x h =
+    down : (x : ℤ) → (x *ℤ b) *ℤ c ≡ x *ℤ (b *ℤ c) → (predℤ x *ℤ b) *ℤ c ≡ predℤ x *ℤ (b *ℤ c)
+    down x h =
         ap (λ (y : ℤ). y *ℤ c) (predℤ-*ℤ x b) ∙ +ℤ-*ℤ (x *ℤ b) (negℤ b) c ∙ ap₂ (λ (y z : ℤ). y +ℤ z) h (negℤ-*ℤ b c) ∙ sym (predℤ-*ℤ x (b *ℤ c))
-
-    up : (n : ℕ) → (pos n *ℤ b) *ℤ c ≡ pos n *ℤ (b *ℤ c) → ((pos n +ℤ pos (suc zero)) *ℤ b) *ℤ c ≡ (pos n +ℤ pos (suc zero)) *ℤ (b *ℤ c)
-    up n h = subst (λ (x : ℤ). (x *ℤ b) *ℤ c ≡ x *ℤ (b *ℤ c)) (sym (+ℤ-one (pos n))) (step-up (pos n) h)
-
-    down : (n : ℕ) → (negℤ (pos n) *ℤ b) *ℤ c ≡ negℤ (pos n) *ℤ (b *ℤ c) → ((negℤ (pos n) +ℤ negℤ (pos (suc zero))) *ℤ b) *ℤ c ≡ (negℤ (pos n) +ℤ negℤ (pos (suc zero))) *ℤ (b *ℤ c)
-    down n h = subst (λ (x : ℤ). (x *ℤ b) *ℤ c ≡ x *ℤ (b *ℤ c)) (sym (-ℤ-one (negℤ (pos n)))) (step-down (negℤ (pos n)) h)
 
 pub *ℤ-swap : (a b c d : ℤ) → (a *ℤ b) *ℤ (c *ℤ d) ≡ (a *ℤ c) *ℤ (b *ℤ d)
 *ℤ-swap a b c d =

@@ -49,6 +49,14 @@ forUp-same zero turn other a same = refl
 forUp-same (suc n) turn other a same =
     same n (forUp n turn a) (omega arith) ∙ ap (other n) (forUp-same n turn other a (λ i s h. same i s (omega arith)))
 
+-- two loops whose turns keep their states related, each turn of one with the same turn of the other
+pub forUp-related {ℓ m} : {A B : Type ℓ} (R : A → B → Type m) (n : ℕ) (turn : ℕ → A → A) (other : ℕ → B → B) (a : A) (b : B)
+    → R a b → ((i : ℕ) (s : A) (t : B) → R s t → R (turn i s) (other i t)) → R (forUp n turn a) (forUp n other b)
+unfolding forUp
+forUp-related R zero turn other a b start keeps = start
+forUp-related R (suc n) turn other a b start keeps =
+    keeps n (forUp n turn a) (forUp n other b) (forUp-related R n turn other a b start keeps)
+
 -- a state that no later turn changes is the loop's answer
 pub forUp-stays {ℓ} : {A : Type ℓ} (n i : ℕ) (turn : ℕ → A → A) (a s : A) → i ≤ n
     → forUp i turn a ≡ s → ((j : ℕ) → turn j s ≡ s) → forUp n turn a ≡ s
@@ -98,6 +106,25 @@ module _ {S R : Type 0} (turn : ℕ → S → Turn S R) (end : S → R) (a : S) 
   pub run-end : {n i : ℕ} {s : S} → Run n i s → n ≤ i → end s ≡ run n turn end a
   unfolding run
   run-end l h = ap (answer end) (loop-end (onwards turn) (go a) l h)
+
+-- what the turns keep: P of every state that goes on, and Q of every answer
+abbrev pub Kept : {S R : Type 0} → (S → Type 0) → (R → Type 0) → Turn S R → Type 0
+Kept P Q (go s) = P s
+Kept P Q (out r) = Q r
+
+pub run-keeps : {S R : Type 0} (P : S → Type 0) (Q : R → Type 0) (n : ℕ) (turn : ℕ → S → Turn S R) (end : S → R) (s : S)
+    → P s → ((i : ℕ) (t : S) → i < n → P t → Kept P Q (turn i t)) → ((t : S) → P t → Q (end t)) → Q (run n turn end s)
+unfolding run
+run-keeps {S} {R} P Q n turn end s start keeps ends =
+    last (forUp n (onwards turn) (go s)) (forUp-keeps (λ i t. Kept P Q t) n (onwards turn) (go s) start next)
+  where
+    next : (i : ℕ) (t : Turn S R) → i < n → Kept P Q t → Kept P Q (onwards turn i t)
+    next i (go t) h p = keeps i t h p
+    next i (out r) h q = q
+
+    last : (t : Turn S R) → Kept P Q t → Q (answer end t)
+    last (go t) p = ends t p
+    last (out r) q = q
 
 -- ---- a search: whether the test holds at some index below n
 

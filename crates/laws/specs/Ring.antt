@@ -4,10 +4,10 @@
 -- Only equality of monomials matters for soundness: the order of terms decides no more than whether like terms meet.
 use mathlib.Core.Path.{_≡_, refl, sym, ap, ap₂, _∙_, subst}
 use mathlib.Core.List.{List, [], _∷_}
-use mathlib.Core.Bool.{Bool, true, false, _&&_}
+use mathlib.Core.Bool.{Bool, true, false}
 use Prim.Native.Nat.{ℕ, zero, suc, compare, Ordering, Ordering·lt, Ordering·eq, Ordering·gt}
-use lib.Dec.{T, leb, eqb, isEq, eqb→eq}
-use lib.IntN.{ℤ, pos, negsuc, negℤ, _+ℤ_, _*ℤ_, _-ℤ_, +ℤ-idl, +ℤ-idr, +ℤ-assoc, +ℤ-comm, negℤ-+ℤ, zero-*ℤ, *ℤ-zero, *ℤ-comm}
+use lib.Dec.{T, leb, isEq, eqb→eq}
+use lib.IntN.{ℤ, pos, negsuc, negℤ, _+ℤ_, _*ℤ_, +ℤ-idl, +ℤ-idr, +ℤ-assoc, negℤ-+ℤ, zero-*ℤ, *ℤ-zero, *ℤ-comm}
 use Rattle.laws.specs.Integer.{+ℤ-left-comm, +ℤ-swap, +ℤ-*ℤ, *ℤ-+ℤ, negℤ-*ℤ, *ℤ-assoc, *ℤ-swap, one-*ℤ, eq-of-sub}
 
 infixl 6 _+ᵉ_ _-ᵉ_
@@ -155,17 +155,19 @@ module _ (ρ : List ℤ) where
   insertM-ok x [] = refl
   insertM-ok x (y ∷ ys) = step (leb x y) (insertM-ok x ys)
     where
-      step : (b : Bool) → evalM (insertM x ys) ≡ valueAt ρ x *ℤ evalM ys → evalM (elim b [ true ↦ x ∷ y ∷ ys | false ↦ y ∷ insertM x ys ]) ≡ valueAt ρ x *ℤ (valueAt ρ y *ℤ evalM ys)
+      step : (b : Bool) → evalM (insertM x ys) ≡ valueAt ρ x *ℤ evalM ys
+          → evalM (elim b [ true ↦ x ∷ y ∷ ys | false ↦ y ∷ insertM x ys ]) ≡ valueAt ρ x *ℤ (valueAt ρ y *ℤ evalM ys)
       step true h = refl
       step false h =
-          ap (λ (z : ℤ). valueAt ρ y *ℤ z) h ∙ sym (*ℤ-assoc (valueAt ρ y) (valueAt ρ x) (evalM ys)) ∙ ap (λ (z : ℤ). z *ℤ evalM ys) (*ℤ-comm (valueAt ρ y) (valueAt ρ x))
-          ∙ *ℤ-assoc (valueAt ρ x) (valueAt ρ y) (evalM ys)
+          ap (λ (z : ℤ). valueAt ρ y *ℤ z) h ∙ sym (*ℤ-assoc (valueAt ρ y) (valueAt ρ x) (evalM ys))
+          ∙ ap (λ (z : ℤ). z *ℤ evalM ys) (*ℤ-comm (valueAt ρ y) (valueAt ρ x)) ∙ *ℤ-assoc (valueAt ρ x) (valueAt ρ y) (evalM ys)
 
   mulM-ok : (m n : List ℕ) → evalM (mulM m n) ≡ evalM m *ℤ evalM n
   mulM-ok [] n = sym (one-*ℤ (evalM n))
   mulM-ok (x ∷ xs) n = insertM-ok x (mulM xs n) ∙ ap (λ (z : ℤ). valueAt ρ x *ℤ z) (mulM-ok xs n) ∙ sym (*ℤ-assoc (valueAt ρ x) (evalM xs) (evalM n))
 
-  into-ok : (c : ℤ) (m : List ℕ) (k : Poly → Poly) (v : ℤ) → ((q : Poly) → evalP (k q) ≡ v +ℤ evalP q) → (q : Poly) → evalP (into c m k q) ≡ (c *ℤ evalM m +ℤ v) +ℤ evalP q
+  into-ok : (c : ℤ) (m : List ℕ) (k : Poly → Poly) (v : ℤ) → ((q : Poly) → evalP (k q) ≡ v +ℤ evalP q)
+      → (q : Poly) → evalP (into c m k q) ≡ (c *ℤ evalM m +ℤ v) +ℤ evalP q
   into-ok c m k v H nil = ap (λ (z : ℤ). c *ℤ evalM m +ℤ z) (H nil) ∙ sym (+ℤ-assoc (c *ℤ evalM m) v (pos 0))
   into-ok c m k v H (term d n q) = step (compareM m n Ordering·eq) refl (into-ok c m k v H q)
     where

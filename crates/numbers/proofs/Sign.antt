@@ -5,7 +5,6 @@ use Prim.Native.Nat.{ℕ, zero, suc, _+_, _*_, _^_, _≤_, _<_}
 use native.Mathlib.Nat.{not-le-of-lt}
 use native.Mathlib.Omega.{arith}
 use lib.Dec.{T, lit<, lit≤}
-use lib.IntN.{ℤ}
 use lib.Ieee.{Float, nan, inf, fin, binary64, neg, ne, fits, toBits}
 use lib.Ieee.Bits.{toBits-lt}
 use Rattle.numbers.specs.Float.{absF}

@@ -1,24 +1,37 @@
--- The cases of `sqrt_f64`, by the value's sign and bits, and the result that `assemble` puts together. Assumes nothing.
-use mathlib.Core.Path.{_≡_, refl, sym, ap, _∙_, subst}
-use mathlib.Core.Logic.{⊎-elim}
-use mathlib.Core.Bool.{Bool, true, false}
+-- The cases of `sqrt_f64`, by the value's sign and bits, and the pattern that `root_bits` puts together. Assumes nothing.
+use mathlib.Core.Path.{_≡_, refl, sym, ap, _∙_}
+use mathlib.Core.Logic.{_⊎_, inl, inr, ⊎-elim}
+use mathlib.Core.Bool.{true, false}
 use Prim.Native.Nat.{ℕ, suc, _+_, _-_, _*_, _/_, _%_, _^_, _≤_, _<_}
 use native.Mathlib.Nat.{le-trans, le-of-eq, le-of-suc-le-suc, lt-of-lt-of-le, lt-of-not-le, not-le-of-lt, mod-eq-of-lt, mul-assoc, mul-le-mul-right, mul-lt-mul-of-pos-right}
 use native.Mathlib.Omega.{arith}
 use lib.Dec.{T}
 use lib.Pow.{pow-pos, pow-mono, pow-add}
 use lib.Count.{leadingZeros, leading-top}
-use lib.Ieee.{Float, nan, inf, fin, binary64, ofBits, toBits, isNan, fits, ne, div}
+use lib.Ieee.{Float, nan, inf, binary64, ofBits, toBits, isNan, fits, ne, div}
 use lib.Ieee.Bits.{ofBits-toBits}
-use Rattle.numbers.specs.Root.{root, rootUnits, NearRoot}
-use Rattle.numbers.specs.RootUnits.{root-value, root-minus, Split, Rounds, rounds}
+use Rattle.numbers.specs.Root.{root, rootUnits, NearRoot, RootBits}
+use Rattle.numbers.specs.RootUnits.{root-value, root-minus, Split, rounds}
 use Rattle.numbers.specs.Whole.{sizeOf}
 use Rattle.numbers.proofs.Patterns.{is-nan, not-nan, size-low, size-high, size-pos, Pattern, plus, minus-sign, value, infinite, finite-or-not, units-bits}
 
 -- ---- the root's digits and its place, put together
 
-pub assembled : (sig p s Q : ℕ) → p ≤ 3067 → Split sig p s → NearRoot (s * 2 ^ 52) Q → ofBits binary64 (p / 2 * 2 ^ 52 + Q) ≡ rootUnits (sig * 2 ^ 52 * 2 ^ p)
-assembled sig p s Q h k n = let r = rounds sig p s Q h k n in sym (r .is ∙ units-bits Q (p / 2) (r .small) (r .reach) (r .under))
+pub root-bits : (sig p s Q : ℕ) → p ≤ 3067 → Split sig p s → NearRoot (s * 2 ^ 52) Q → RootBits (sig * 2 ^ 52 * 2 ^ p) (p / 2 * 2 ^ 52 + Q)
+root-bits sig p s Q h k n =
+    let r = rounds sig p s Q h k n in
+    let small = r .small in
+    let reach = r .reach in
+    let under = r .under in
+    record { is = sym (r .is ∙ units-bits Q (p / 2) small reach under); least = omega arith; finite = omega arith }
+
+-- a guess w whose bits are the root's is the root; v are w's bits, or 0 where w is no guess
+pub guessed : (n k v : ℕ) (w : Float) → T (fits binary64 w) → RootBits n k → (v ≡ toBits binary64 w) ⊎ (v ≡ 0) → v ≡ k → w ≡ rootUnits n
+guessed n k v w f r (inl e) h = sym (ofBits-toBits binary64 w f) ∙ ap (ofBits binary64) (sym e ∙ h) ∙ r .is
+guessed n k v w f r (inr e) h = absurd (no (r .least))
+  where
+    no : 2 ^ 52 ≤ k → ⊥
+    no l = omega arith
 
 -- ---- a value that is its own root
 
@@ -43,11 +56,18 @@ module _ (x : Float) (f : T (fits binary64 x)) where
 root-size : (x : Float) (b : ℕ) → Pattern x false b → 0 < b → b < 0x7ff0_0000_0000_0000 → root x ≡ rootUnits (sizeOf b * 2 ^ 1074)
 root-size x b p h k = root-value x (sizeOf b) (value x false b p k) (size-pos b h)
 
-pub of-normal : (x : Float) (b : ℕ) → Pattern x false b → 2 ^ 52 ≤ b → b < 0x7ff0_0000_0000_0000 → root x ≡ rootUnits ((b % 2 ^ 52 + 2 ^ 52) * 2 ^ 52 * 2 ^ (b / 2 ^ 52 + 1021))
-of-normal x b p h k = root-size x b p (omega arith) k ∙ ap (λ (y : ℕ). rootUnits (y * 2 ^ 1074)) (size-high b h) ∙ ap rootUnits (powers (b % 2 ^ 52 + 2 ^ 52) (b / 2 ^ 52 - 1) 1074 52 (b / 2 ^ 52 + 1021) (omega arith))
+pub of-normal : (x : Float) (b : ℕ) → Pattern x false b → 2 ^ 52 ≤ b → b < 0x7ff0_0000_0000_0000
+    → root x ≡ rootUnits ((b % 2 ^ 52 + 2 ^ 52) * 2 ^ 52 * 2 ^ (b / 2 ^ 52 + 1021))
+of-normal x b p h k =
+    root-size x b p (omega arith) k
+    ∙ ap (λ (y : ℕ). rootUnits (y * 2 ^ 1074)) (size-high b h)
+    ∙ ap rootUnits (powers (b % 2 ^ 52 + 2 ^ 52) (b / 2 ^ 52 - 1) 1074 52 (b / 2 ^ 52 + 1021) (omega arith))
   where
     powers : (a i j k l : ℕ) → i + j ≡ k + l → a * 2 ^ i * 2 ^ j ≡ a * 2 ^ k * 2 ^ l
-    powers a i j k l e = mul-assoc a (2 ^ i) (2 ^ j) ∙ ap (λ (y : ℕ). a * y) (sym (pow-add 2 i j) ∙ ap (λ (y : ℕ). 2 ^ y) e ∙ pow-add 2 k l) ∙ sym (mul-assoc a (2 ^ k) (2 ^ l))
+    powers a i j k l e =
+        mul-assoc a (2 ^ i) (2 ^ j)
+        ∙ ap (λ (y : ℕ). a * y) (sym (pow-add 2 i j) ∙ ap (λ (y : ℕ). 2 ^ y) e ∙ pow-add 2 k l)
+        ∙ sym (mul-assoc a (2 ^ k) (2 ^ l))
 
 -- the digits of a subnormal value, moved up by sh places, are 53
 pub record Moved (b sh : ℕ) : Type 0 where
@@ -67,17 +87,20 @@ leading b p h =
 
     go : (z j : ℕ) → z + suc j ≡ 64 → j < 52 → 2 ^ j ≤ b → b < 2 ^ suc j → (11 ≤ z) × Moved b (z - 11)
     go z j e J lo hi =
-        let u : b * 2 ^ (z - 11) < 2 ^ 53 = lt-of-lt-of-le (mul-lt-mul-of-pos-right hi (pow-pos (z - 11))) (le-of-eq (sym (pow-add 2 (suc j) (z - 11)) ∙ ap (λ (y : ℕ). 2 ^ y) (places z (suc j) 53 (omega arith) (omega arith)))) in (
+        let t : 2 ^ suc j * 2 ^ (z - 11) ≡ 2 ^ 53 = sym (pow-add 2 (suc j) (z - 11)) ∙ ap (λ (y : ℕ). 2 ^ y) (places z (suc j) 53 (omega arith) (omega arith)) in
+        let l : 2 ^ 52 ≡ 2 ^ j * 2 ^ (z - 11) = sym (ap (λ (y : ℕ). 2 ^ y) (places z j 52 (omega arith) (omega arith))) ∙ pow-add 2 j (z - 11) in
+        let u : b * 2 ^ (z - 11) < 2 ^ 53 = lt-of-lt-of-le (mul-lt-mul-of-pos-right hi (pow-pos (z - 11))) (le-of-eq t) in (
           omega arith,
           record {
             few = omega arith;
-            reach = le-trans (le-of-eq (sym (ap (λ (y : ℕ). 2 ^ y) (places z j 52 (omega arith) (omega arith))) ∙ pow-add 2 j (z - 11))) (mul-le-mul-right (2 ^ (z - 11)) lo);
+            reach = le-trans (le-of-eq l) (mul-le-mul-right (2 ^ (z - 11)) lo);
             under = u;
             exact = mod-eq-of-lt (omega arith);
           },
         )
 
-pub of-subnormal : (x : Float) (b sh : ℕ) → Pattern x false b → 0 < b → b < 2 ^ 52 → Moved b sh → root x ≡ rootUnits (b * 2 ^ sh % 2 ^ 64 * 2 ^ 52 * 2 ^ (1022 - sh))
+pub of-subnormal : (x : Float) (b sh : ℕ) → Pattern x false b → 0 < b → b < 2 ^ 52 → Moved b sh
+    → root x ≡ rootUnits (b * 2 ^ sh % 2 ^ 64 * 2 ^ 52 * 2 ^ (1022 - sh))
 of-subnormal x b sh p h k m =
     root-size x b p h (omega arith)
     ∙ ap (λ (y : ℕ). rootUnits (y * 2 ^ 1074)) (size-low b k)
@@ -108,11 +131,14 @@ below-zero x m p n h = ⊎-elim (λ v. root-minus x (sizeOf m) v (size-pos m h))
     at-inf = unfold root in refl
 
 -- what is left: neither a number from 0 on nor -0
-pub of-rest : (x : Float) → T (fits binary64 x) → ne x x ≡ false → 0x7ff0_0000_0000_0000 ≤ toBits binary64 x → (toBits binary64 x ≡ 0x7ff0_0000_0000_0000 → ⊥) → (toBits binary64 x ≡ 2 ^ 63 → ⊥) → root x ≡ nan
+pub of-rest : (x : Float) → T (fits binary64 x) → ne x x ≡ false → 0x7ff0_0000_0000_0000 ≤ toBits binary64 x
+    → (toBits binary64 x ≡ 0x7ff0_0000_0000_0000 → ⊥) → (toBits binary64 x ≡ 2 ^ 63 → ⊥) → root x ≡ nan
 of-rest x f n h k z = below-zero x (toBits binary64 x - 2 ^ 63) (minus-sign x f above) (not-nan x n) (omega (arith, above))
   where
     above : 2 ^ 63 ≤ toBits binary64 x
-    above = le-of-suc-le-suc (lt-of-not-le (λ (g : suc (toBits binary64 x) ≤ 2 ^ 63). k (ap (toBits binary64) (infinite x false (toBits binary64 x) (plus x f g) h (not-nan x n)) ∙ inf-bits)))
+    above =
+        le-of-suc-le-suc
+        (lt-of-not-le (λ (g : suc (toBits binary64 x) ≤ 2 ^ 63). k (ap (toBits binary64) (infinite x false (toBits binary64 x) (plus x f g) h (not-nan x n)) ∙ inf-bits)))
 
 pub quotient : (x : Float) → root x ≡ nan → div binary64 (ofBits binary64 0) (ofBits binary64 0) ≡ root x
 quotient x h = rw h (unfold div ofBits in refl)

@@ -1,8 +1,10 @@
--- The square root of an f64 as IEEE 754 has it: the exact root rounded once, to the nearest double. Definitions only; specs/Nearest.antt proves that it is the nearest, specs/Table.antt computes some.
+-- The square root of an f64 as IEEE 754 has it: the exact root rounded once, to the nearest double. Definitions only; specs/Nearest.antt
+-- proves that it is the nearest, and specs/Table.antt computes some.
+use mathlib.Core.Path.{_≡_}
 use mathlib.Core.Bool.{true, false, cond}
 use Prim.Native.Nat.{ℕ, zero, suc, _+_, _-_, _*_, _/_, _^_, _≤_, _<_, compare}
 use lib.Dec.{leb}
-use lib.Ieee.{Float, nan, inf, fin, binary64, up, down, size, nearest, units}
+use lib.Ieee.{Float, nan, inf, fin, binary64, up, down, size, nearest, units, ofBits}
 
 -- one more binary digit of a root: r is the whole part of √(n / 4)
 abbrev pub digit : ℕ → ℕ → ℕ
@@ -21,8 +23,8 @@ rootSize n = (size n + 1) / 2
 abbrev pub isqrt : ℕ → ℕ
 isqrt n = isqrtIn (rootSize n) n
 
--- √n units, rounded; a unit is the smallest double above 0, 2 ^ -1074. The 53 leading digits of the root are kept and k are dropped. q is the whole part of √n / 2 ^ k, which is compared with q + 1/2
--- by the squares of their doubles.
+-- √n units, rounded; a unit is the smallest double above 0, 2 ^ -1074. The 53 leading digits of the root are kept and k are dropped.
+-- q is the whole part of √n / 2 ^ k, which is compared with q + 1/2 by the squares of their doubles.
 unfoldable pub rootUnits : ℕ → Float
 rootUnits n =
     let k = rootSize n - 53 in
@@ -42,3 +44,9 @@ root (fin false (suc m) e) = rootUnits (suc m * up e * 2 ^ 2148 / down e)
 pub record NearRoot (n q : ℕ) : Type 0 where
   pub below : q * q < n + q
   pub above : n ≤ q * q + q
+
+-- k are the bits of √n units, rounded, which is a normal number
+pub record RootBits (n k : ℕ) : Type 0 where
+  pub is : ofBits binary64 k ≡ rootUnits n
+  pub least : 2 ^ 52 ≤ k
+  pub finite : k < 0x7ff0_0000_0000_0000

@@ -1,7 +1,7 @@
 -- Document 01's table "Edges worth a table", its lines of this layer marked P: each computed from the definitions, with the code's literals.
 use mathlib.Core.Path.{_≡_, refl}
 use lib.Ieee.{div, ofBits, size, units}
-use lib.IntN.{pos, negsuc}
+use lib.IntN.{negsuc}
 use Rattle.numbers.specs.Root.{isqrtIn, rootUnits, root}
 use Rattle.numbers.specs.Float.{bits, zeroF, oneF, twoF, fourF}
 use Rattle.numbers.specs.Whole.{floorInt, floorQuotient}

@@ -1,7 +1,7 @@
 // Number routines that Rattle lacks, each equal to a definition of specs/ on every input.
 ghost use mathlib.Core.Path.{_≡_};
-ghost use Prim.Native.Nat.{_*_, _/_, _^_, _≤_, _<_};
-ghost use Rattle.numbers.specs.Root.{NearRoot, rootUnits, root};
+ghost use Prim.Native.Nat.{_+_, _*_, _/_, _%_, _^_, _≤_, _<_};
+ghost use Rattle.numbers.specs.Root.{NearRoot, RootBits, rootUnits, root};
 ghost use Rattle.numbers.specs.Float.{isFinite, absF, minF, maxF, clampF};
 ghost use Rattle.numbers.specs.Whole.{ceilDiv, sizeOf, floorInt, floorQuotient, ceilCount};
 
@@ -59,33 +59,47 @@ fn nearest_root(s: u64, q: u64) -> u64
     root_by_digits(s)
 }
 
-// The root of sig * 2^52 * 2^p squares of the smallest f64 above 0, rounded, from a guess q at its digits.
-fn assemble(sig: u64, p: u64, q: u64) -> f64
+// The bits of the root of sig * 2^52 * 2^p squares of the smallest f64 above 0, rounded, from a guess q at its digits.
+fn root_bits(sig: u64, p: u64, q: u64) -> u64
     requires { ⌜ (2 ^ 52 ≤ sig) × (sig < 2 ^ 53) × (p ≤ 3067) × (q < 2 ^ 53) ⌝ }
-    ensures { λ r. ⌜ r ≡ rootUnits (sig * 2 ^ 52 * 2 ^ p) ⌝ }
+    ensures { λ r. ⌜ RootBits (sig * 2 ^ 52 * 2 ^ p) r ⌝ }
 {
     let s = if p % 2 == 0 { sig } else { sig * 2 };
     let r = nearest_root(s, q);
-    f64::from_bits(p / 2 * 4503599627370496 + r)
+    p / 2 * 4503599627370496 + r
 }
 
-// The digits of a number near the root of x, whose bits are b: Newton's steps. Nothing rests on how near it is.
-fn guess_root(x: f64, b: u64) -> u64
+// A number near the root of x, whose bits are b: two of Newton's steps for 1 / x.sqrt(), then one of the third order.
+// Nothing rests on how near it is.
+fn guess_root(x: f64, b: u64) -> f64
     requires { ⌜ b < 2 ^ 63 ⌝ }
-    ensures { λ r. ⌜ r < 2 ^ 53 ⌝ }
 {
     let h = x * 0.5;
-    let y0 = f64::from_bits(0x5fe6_eb50_c7b5_37a9 - b / 2);
-    let y1 = y0 * (1.5 - h * y0 * y0);
-    let y2 = y1 * (1.5 - h * y1 * y1);
-    let y3 = y2 * (1.5 - h * y2 * y2);
-    let z = x * y3;
-    let w = z + 0.5 * y3 * (x - z * z);
-    if w > 0.0 {
-        f64::to_bits(w) % 4503599627370496 + 4503599627370496
-    } else {
-        0
+    let y0 = f64::from_bits(0x5fe6_ed21_02dc_bfda - b / 2);
+    let y1 = 1.500878955116334 * y0 - h * y0 * (y0 * y0);
+    let y2 = 1.5000005796762577 * y1 - h * y1 * (y1 * y1);
+    let z = x * y2;
+    let r = x - z * z;
+    z + y2 * r * (0.5 + 0.375 * y2 * y2 * r)
+}
+
+// The root of x, a normal number above 0, whose bits are b.
+fn root_of_normal(x: f64, b: u64) -> f64
+    requires { ⌜ (2 ^ 52 ≤ b) × (b < 0x7ff0_0000_0000_0000) ⌝ }
+    ensures { λ r. ⌜ r ≡ rootUnits ((b % 2 ^ 52 + 2 ^ 52) * 2 ^ 52 * 2 ^ (b / 2 ^ 52 + 1021)) ⌝ }
+{
+    let w = guess_root(x, b);
+    let v: u64 = if w > 0.0 { f64::to_bits(w) } else { 0 };
+    let k = root_bits(
+        b % 4503599627370496 + 4503599627370496,
+        b / 4503599627370496 + 1021,
+        v % 4503599627370496 + 4503599627370496,
+    );
+    // w is at hand before k is, and mostly it is the root
+    if v == k {
+        return w;
     }
+    f64::from_bits(k)
 }
 
 // `x.sqrt()`, as IEEE 754 has it.
@@ -102,15 +116,10 @@ pub extern "C" fn sqrt_f64(x: f64) -> f64
             return x;
         }
         let sh = u64::leading_zeros(b) as u64 - 11;
-        return assemble(b << sh, 1022 - sh, 0);
+        return f64::from_bits(root_bits(b << sh, 1022 - sh, 0));
     }
     if b < 0x7ff0_0000_0000_0000 {
-        let g = guess_root(x, b);
-        return assemble(
-            b % 4503599627370496 + 4503599627370496,
-            b / 4503599627370496 + 1021,
-            g,
-        );
+        return root_of_normal(x, b);
     }
     if b == 0x7ff0_0000_0000_0000 {
         return x;

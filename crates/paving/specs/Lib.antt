@@ -3,4 +3,5 @@ pub mod Attempt
 pub mod Advance
 pub mod Loops
 pub mod Reach
+pub mod ReachLaws
 pub mod Run

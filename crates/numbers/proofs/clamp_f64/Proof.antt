@@ -1,5 +1,5 @@
 -- `numbers::clamp_f64` meets its contract. Assumes nothing.
-use mathlib.Core.Path.{_≡_, sym, _∙_}
+use mathlib.Core.Path.{_≡_}
 use mathlib.Core.Logic.{⊎-elim}
 use mathlib.Core.Bool.{cond}
 use lib.Ieee.{lt}

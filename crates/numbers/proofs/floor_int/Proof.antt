@@ -1,16 +1,15 @@
 -- `numbers::floor_int` meets its contract: each way out is a case of `Casts`. Assumes nothing.
 use borrow.Author.Needs.{needs}
-use mathlib.Core.Path.{_≡_, sym, ap, _∙_, subst}
-use Prim.Native.Nat.{ℕ, _-_, _/_, _^_, _≤_, _<_}
+use mathlib.Core.Path.{_≡_, sym, _∙_, subst}
+use Prim.Native.Nat.{ℕ, _-_, _^_, _≤_, _<_}
 use native.Mathlib.Nat.{le-of-lt}
-use native.Mathlib.Omega.{arith}
 use lib.Dec.{T}
 use lib.IntN.{pos, negℤ}
 use lib.Ieee.{binary64, fits, toBits}
 use mir.Syntax.{w64}
 use mir.ValLaws.{toZ-pos}
 use Rattle.std.proofs.num.Truncating.{one-less-fits, negated-fits, negated}
-use Rattle.numbers.specs.Whole.{ceilDiv, sizeOf, floorInt}
+use Rattle.numbers.specs.Whole.{floorInt}
 use Rattle.numbers.proofs.Patterns.{no-nan, plus, minus-sign}
 use Rattle.numbers.proofs.Casts.{floor-nan, floor-in, floor-over, floor-minus-zero, floor-minus-in, floor-under}
 use Rattle.numbers.proofs.floor_int.Statement.{statement}
@@ -31,15 +30,19 @@ bits c = toBits binary64 (c .args .x)
 abbrev low : tie.Start → ℕ
 low c = toBits binary64 (c .args .x) - 2 ^ 63
 
-plus-in : (c : tie.After-floor-bits) → (c .floor-bits .result < 2 ^ 63) × (pos (c .floor-bits .result) ≡ floorInt (c .before .before .before .before .args .x))
+plus-in : (c : tie.After-floor-bits)
+    → (c .floor-bits .result < 2 ^ 63) × (pos (c .floor-bits .result) ≡ floorInt (c .before .before .before .before .args .x))
 plus-in c =
     let s = c .before .before .before .before in
     rw (c .floor-bits .ensures) (floor-in (s .args .x) (bits s) (plus (s .args .x) (held s) (c .before .before .if2 .taken)) (c .before .if3 .taken))
 
-minus-in : (c : tie.After-ceil-bits) → (1 ≤ c .ceil-bits .result) × (c .ceil-bits .result ≤ 2 ^ 63) × (negℤ (pos (c .ceil-bits .result)) ≡ floorInt (c .before .before .before .before .before .args .x))
+minus-in : (c : tie.After-ceil-bits)
+    → (1 ≤ c .ceil-bits .result) × (c .ceil-bits .result ≤ 2 ^ 63)
+    × (negℤ (pos (c .ceil-bits .result)) ≡ floorInt (c .before .before .before .before .before .args .x))
 minus-in c =
     let s = c .before .before .before .before .before in
-    rw (c .ceil-bits .ensures) (floor-minus-in (s .args .x) (low s) (minus-sign (s .args .x) (held s) (c .before .before .before .if2 .left)) (c .before .before .if4 .left) (c .before .if5 .taken))
+    rw (c .ceil-bits .ensures)
+    (floor-minus-in (s .args .x) (low s) (minus-sign (s .args .x) (held s) (c .before .before .before .if2 .left)) (c .before .before .if4 .left) (c .before .if5 .taken))
 
 returns : tie.Need-returns
 returns c = floor-nan _ (c .if1 .taken)
@@ -84,7 +87,8 @@ returns-5 c = negated (c .ceil-bits .result) (minus-in c .0) (minus-in c .1) ∙
 returns-6 : tie.Need-returns-6
 returns-6 c =
     let s = c .before .before .before .before in
-    floor-under (s .args .x) (low s) (minus-sign (s .args .x) (held s) (c .before .before .if2 .left)) (c .before .before .before .if1 .left) (le-of-lt (c .if5 .left))
+    floor-under (s .args .x) (low s) (minus-sign (s .args .x) (held s) (c .before .before .if2 .left))
+    (c .before .before .before .if1 .left) (le-of-lt (c .if5 .left))
 
 pub floor-int-spec : {M : Type 1} → statement M
 floor-int-spec =

@@ -1,19 +1,19 @@
 -- Two nodes are joined, and then all of a path: the links are those of the edges added, and each is a new edge of the mesh.
-use mathlib.Core.Path.{_≡_, refl, sym, _∙_, ap}
+use mathlib.Core.Path.{_≡_, refl, _∙_, ap}
 use mathlib.Core.Bool.{Bool, true, false}
 use mathlib.Core.Logic.{_≢_}
 use mathlib.Core.List.{List, [], _∷_}
-use Prim.Native.Nat.{ℕ, suc, _+_, _*_, _<_, _≤_, min, max}
+use Prim.Native.Nat.{ℕ, _+_, _<_, _≤_, min, max}
 use native.Mathlib.Omega.{arith}
 use lib.Dec.{eqb}
 use lib.ListN.{length, set}
 use borrow.Author.Tests.{eqb-true, eq-eqb}
 use Rattle.topology.specs.Sums.{All}
-use Rattle.topology.specs.Links.{off, linkOf, update, link-set}
+use Rattle.topology.specs.Links.{off, update, link-set}
 use Rattle.topology.specs.Changes.{Change, add, stored, reversed, Valid, Within}
 use Rattle.topology.specs.Laying.{joins}
 use Rattle.front.specs.State.{State, nextOf, hasEdge, withFront, addFront, pushEdge, addEdge}
-use Rattle.front.specs.Sound.{Extends, Frame}
+use Rattle.front.specs.Sound.{Frame}
 use Rattle.front.specs.FrameLaws.{frame-trans, frame-link, frame-edge}
 use Rattle.sampled.specs.Nodes.{Room, room-kept}
 use Rattle.sampled.specs.Edges.{edge-pushed, edge-other}

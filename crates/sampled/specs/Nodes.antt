@@ -1,10 +1,10 @@
 -- The nodes of a state as one list of points, and what pushing nodes does to a state.
 use mathlib.Core.Path.{_≡_, refl, sym, _∙_, ap₂}
 use mathlib.Core.List.{List, [], _∷_, _++_, append-assoc, append-nil, map}
-use Prim.Native.Nat.{ℕ, suc, _+_, _*_, _<_, _≤_}
+use Prim.Native.Nat.{ℕ, _+_, _*_, _<_, _≤_}
 use native.Mathlib.Numerals.{add-one}
 use native.Mathlib.Omega.{arith}
-use lib.ListN.{length, getD, set, take, length-append}
+use lib.ListN.{length, getD, take, length-append}
 use lib.Seq.{getD-set-same, getD-set-other}
 use lib.Ieee.{nan}
 use Rattle.laws.specs.Tabulate.{tabulate, tabulate-suc, tabulate-length, tabulate-same, tabulate-at, tabulate-take, tabulate-map}

@@ -71,9 +71,10 @@ pub record Start (o : Outline) (size : Float) (s : State) (ls : List (List ℕ))
   pub matches : Matches s ls (startBook o size)
   pub none : s .counts .quads ≡ 0
 
--- t is the state after k quads of a run that began with the loops ls and left the state `final`
-pub record Stage (o : Outline) (size : Float) (ls : List (List ℕ)) (final : State) (k : ℕ) (t : State) : Type 0 where
+-- t is the state after k quads of a run that began with s, whose front had the loops ls, and left the state `final`
+pub record Stage (o : Outline) (size : Float) (s : State) (ls : List (List ℕ)) (final : State) (k : ℕ) (t : State) : Type 0 where
   pub quads : t .counts .quads ≡ k
+  pub earlier : Frame s t
   pub later : Frame t final
   -- the loops of its front, as many as at the start
   pub loops : List (List ℕ)
@@ -93,12 +94,13 @@ answers-more : (m n : ℕ) (final : State) (q : Quad) → m ≤ n → Answers m 
 answers-more m n final q h A =
     record { a = omega (arith, A .a); b = omega (arith, A .b); d = omega (arith, A .d); c = omega (arith, A .c); turns = A .turns }
 
-module _ (o : Outline) (size : Float) (ls : List (List ℕ)) (final : State) where
-  start-stage : (s : State) → Start o size s ls → Frame s final → Stage o size ls final 0 s
+module _ (o : Outline) (size : Float) (s : State) (ls : List (List ℕ)) (final : State) where
+  start-stage : Start o size s ls → Frame s final → Stage o size s ls final 0 s
   unfolding bookAfter quadsSum forUp
-  start-stage s S F =
+  start-stage S F =
       record {
         quads = S .none;
+        earlier = frame-same s;
         later = F;
         loops = ls;
         sound = S .sound;
@@ -110,11 +112,12 @@ module _ (o : Outline) (size : Float) (ls : List (List ℕ)) (final : State) whe
         each = λ i h. absurd (omega arith);
       }
 
-  snapshot-stage : (k : ℕ) (t : State) → Stage o size ls final k t → Frame (withSnapshot t) final → Stage o size ls final k (withSnapshot t)
+  snapshot-stage : (k : ℕ) (t : State) → Stage o size s ls final k t → Frame (withSnapshot t) final → Stage o size s ls final k (withSnapshot t)
   unfolding withSnapshot
   snapshot-stage k t S F =
       record {
         quads = S .quads;
+        earlier = frame-trans s t (withSnapshot t) (S .earlier) (snapshot-frame t);
         later = F;
         loops = S .loops;
         sound = snapshot-sound (sampledCount o size) t (S .loops) (S .sound);
@@ -126,7 +129,7 @@ module _ (o : Outline) (size : Float) (ls : List (List ℕ)) (final : State) whe
         each = S .each;
       }
 
-  module _ (k : ℕ) (t : State) (a b : ℕ) (c d : Corner) (S : Stage o size ls final k t) (P : Placement o size t a b c d)
+  module _ (k : ℕ) (t : State) (a b : ℕ) (c d : Corner) (S : Stage o size s ls final k t) (P : Placement o size t a b c d)
       (turns : Turns (cornersOf t a b c d)) (F : Frame (place a b c d t) final) where
     abbrev quad : Quad
     quad = record { a = a; b = b; d = idD t c d; c = idC t c }
@@ -176,12 +179,13 @@ module _ (o : Outline) (size : Float) (ls : List (List ℕ)) (final : State) whe
             let last : k ≡ i = omega (arith, leb-false (suc i) k e) in
             subst (λ (j : ℕ). Answers (place a b c d t .counts .nodes) final (quadAt final j)) last last-answers
 
-    placed-stage : Stage o size ls final (suc k) (place a b c d t)
+    placed-stage : Stage o size s ls final (suc k) (place a b c d t)
     unfolding bookAfter quadsSum forUp
     placed-stage =
         let B = booked (sampledCount o size) t (S .loops) o size a b c d (place a b c d t) final (S .sound) P after F (S .book) (S .matches) in
         record {
           quads = omega (arith, after .quads, S .quads);
+          earlier = frame-trans s t (place a b c d t) (S .earlier) (after .frame);
           later = F;
           loops = after .loops;
           sound = after .sound;
@@ -213,9 +217,9 @@ QuadsTurn o size s =
     (k : ℕ) (t : State) (a b : ℕ) (c d : Corner) → Reaches o size s k t → Placement o size t a b c d → Turns (cornersOf t a b c d)
 
 -- some state of a run, after k quads
-pub record StageOf (o : Outline) (size : Float) (ls : List (List ℕ)) (final : State) (k : ℕ) : Type 0 where
+pub record StageOf (o : Outline) (size : Float) (s : State) (ls : List (List ℕ)) (final : State) (k : ℕ) : Type 0 where
   pub state : State
-  pub stage : Stage o size ls final k state
+  pub stage : Stage o size s ls final k state
 
 module _ (o : Outline) (size : Float) (s : State) (ls : List (List ℕ)) (S : Start o size s ls) where
   pub standing : {k : ℕ} {t : State} → Reaches o size s k t → Standing o size s t
@@ -240,26 +244,26 @@ module _ (o : Outline) (size : Float) (s : State) (ls : List (List ℕ)) (S : St
 
   module _ (turns : QuadsTurn o size s) (final : State) where
     -- the state reached by k quads
-    pub stage-at : {k : ℕ} {t : State} → Reaches o size s k t → Frame t final → Stage o size ls final k t
-    stage-at begin F = start-stage o size ls final s S F
+    pub stage-at : {k : ℕ} {t : State} → Reaches o size s k t → Frame t final → Stage o size s ls final k t
+    stage-at begin F = start-stage o size s ls final S F
     stage-at (snapshot {k = k} {t = t} r) F =
-        snapshot-stage o size ls final k t (stage-at r (frame-trans t (withSnapshot t) final (snapshot-frame t) F)) F
+        snapshot-stage o size s ls final k t (stage-at r (frame-trans t (withSnapshot t) final (snapshot-frame t) F)) F
     stage-at (placed {k = k} {t = t} {a = a} {b = b} {c = c} {d = d} r P) F =
-        placed-stage o size ls final k t a b c d (stage-at r (frame-trans t (place a b c d t) final (place-frame r P) F)) P
+        placed-stage o size s ls final k t a b c d (stage-at r (frame-trans t (place a b c d t) final (place-frame r P) F)) P
         (turns k t a b c d r P) F
 
     -- and that by any number of quads before
-    pub stage-before : {k : ℕ} {t : State} → Reaches o size s k t → Frame t final → (j : ℕ) → j ≤ k → StageOf o size ls final j
+    pub stage-before : {k : ℕ} {t : State} → Reaches o size s k t → Frame t final → (j : ℕ) → j ≤ k → StageOf o size s ls final j
     stage-before begin F j h =
         let none : 0 ≡ j = omega arith in
-        record { state = s; stage = subst (λ (i : ℕ). Stage o size ls final i s) none (start-stage o size ls final s S F) }
+        record { state = s; stage = subst (λ (i : ℕ). Stage o size s ls final i s) none (start-stage o size s ls final S F) }
     stage-before (snapshot {t = t} r) F j h = stage-before r (frame-trans t (withSnapshot t) final (snapshot-frame t) F) j h
     stage-before (placed {k = k} {t = t} {a = a} {b = b} {c = c} {d = d} r P) F j h =
         by (stage-at (placed r P) F) (λ i l. stage-before r (frame-trans t (place a b c d t) final (place-frame r P) F) i l) (leb j k) refl
       where
-        by : Stage o size ls final (suc k) (place a b c d t) → ((i : ℕ) → i ≤ k → StageOf o size ls final i) → (old : Bool) → leb j k ≡ old
-            → StageOf o size ls final j
+        by : Stage o size s ls final (suc k) (place a b c d t) → ((i : ℕ) → i ≤ k → StageOf o size s ls final i) → (old : Bool) → leb j k ≡ old
+            → StageOf o size s ls final j
         by last before true e = before j (leb-true j k e)
         by last before false e =
             let all : suc k ≡ j = omega (arith, leb-false j k e) in
-            record { state = place a b c d t; stage = subst (λ (i : ℕ). Stage o size ls final i (place a b c d t)) all last }
+            record { state = place a b c d t; stage = subst (λ (i : ℕ). Stage o size s ls final i (place a b c d t)) all last }

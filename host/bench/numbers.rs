@@ -84,7 +84,11 @@ impl Random {
                 f64::from_bits((r * r).to_bits() + self.bits() % 5 - 2)
             }
             // beside a power of two
-            4 => f64::from_bits((b & 0xfff << 52).wrapping_add(self.bits() % 5).wrapping_sub(2)),
+            4 => f64::from_bits(
+                (b & 0xfff << 52)
+                    .wrapping_add(self.bits() % 5)
+                    .wrapping_sub(2),
+            ),
             // a coordinate
             _ => (b >> 11) as f64 * (2000.0 / 9007199254740992.0) - 1000.0,
         }
@@ -101,12 +105,24 @@ fn differences(x: f64, y: f64) -> u64 {
     // of equal zeros ours is the first; Rust may take either
     let (least, greatest) = if x == y { (x, x) } else { (x.min(y), x.max(y)) };
     // bounds with which Rust doesn't panic
-    let (lo, hi) = if y <= 3.0 { (y, 3.0) } else if y > 3.0 { (3.0, y) } else { (-1.0, 3.0) };
+    let (lo, hi) = if y <= 3.0 {
+        (y, 3.0)
+    } else if y > 3.0 {
+        (3.0, y)
+    } else {
+        (-1.0, 3.0)
+    };
     let agree = unsafe {
         [
             ("sqrt_f64", same(sqrt_f64(x), x.sqrt())),
-            ("floor_quotient", floor_quotient(x, y) == (x / y).floor() as i64),
-            ("floor_quotient by 1", floor_quotient(x, 1.0) == x.floor() as i64),
+            (
+                "floor_quotient",
+                floor_quotient(x, y) == (x / y).floor() as i64,
+            ),
+            (
+                "floor_quotient by 1",
+                floor_quotient(x, 1.0) == x.floor() as i64,
+            ),
             ("ceil_count", ceil_count(x) == x.ceil() as usize as u64),
             ("min_f64", same(min_f64(x, y), least)),
             ("max_f64", same(max_f64(x, y), greatest)),
@@ -118,7 +134,11 @@ fn differences(x: f64, y: f64) -> u64 {
     let mut count = 0;
     for (name, equal) in agree {
         if !equal {
-            println!("{name} differs at x = {x:e} ({:016x}), y = {y:e} ({:016x})", x.to_bits(), y.to_bits());
+            println!(
+                "{name} differs at x = {x:e} ({:016x}), y = {y:e} ({:016x})",
+                x.to_bits(),
+                y.to_bits()
+            );
             count += 1;
         }
     }
@@ -137,7 +157,10 @@ fn compare(random: &mut Random, cases: u64) -> u64 {
         let x = random.float();
         count += differences(x, random.float());
     }
-    println!("compared: 9 answers for each of {} special and {cases} random pairs; {count} differ", SPECIAL.len() * SPECIAL.len());
+    println!(
+        "compared: 9 answers for each of {} special and {cases} random pairs; {count} differ",
+        SPECIAL.len() * SPECIAL.len()
+    );
     count
 }
 
@@ -151,71 +174,70 @@ fn hardware(x: f64) -> f64 {
     x.sqrt()
 }
 
-const REPEATS: usize = 15;
-const ROUNDS: usize = 500;
-const CHAIN: usize = 2_000_000;
+const SLICES: usize = 3001;
+const CALLS: usize = 1024;
 
 /// Nanoseconds a call, where no call waits for another.
 fn independent(root: impl Fn(f64) -> f64, xs: &[f64]) -> f64 {
     let start = Instant::now();
-    for _ in 0..ROUNDS {
-        let mut sum = 0.0;
-        for &x in xs {
-            sum += root(x);
-        }
-        black_box(sum);
+    let mut sum = 0.0;
+    for &x in xs {
+        sum += root(x);
     }
-    start.elapsed().as_nanos() as f64 / (ROUNDS * xs.len()) as f64
+    black_box(sum);
+    start.elapsed().as_nanos() as f64 / xs.len() as f64
 }
 
 /// Nanoseconds a call, where each waits for the last; an addition is with it.
-fn dependent(root: impl Fn(f64) -> f64) -> f64 {
+fn dependent(root: impl Fn(f64) -> f64, xs: &[f64]) -> f64 {
     let start = Instant::now();
-    let mut x = 3.0;
-    for _ in 0..CHAIN {
-        x = root(x + 1000.0);
+    let mut last = 0.0;
+    for &x in xs {
+        last = root(last + x);
     }
-    black_box(x);
-    start.elapsed().as_nanos() as f64 / CHAIN as f64
+    black_box(last);
+    start.elapsed().as_nanos() as f64 / xs.len() as f64
 }
 
-/// The least and the median.
-fn spread(mut times: Vec<f64>) -> (f64, f64) {
-    times.sort_by(f64::total_cmp);
-    (times[0], times[times.len() / 2])
-}
-
-fn report(name: &str, ours: Vec<f64>, theirs: Vec<f64>) {
-    let (ours, theirs) = (spread(ours), spread(theirs));
+/// Prints the least and the median of each.
+fn report(name: &str, mut ours: Vec<f64>, mut theirs: Vec<f64>) {
+    ours.sort_by(f64::total_cmp);
+    theirs.sort_by(f64::total_cmp);
+    let mid = ours.len() / 2;
     println!(
         "{name}: proved {:.2} ns (median {:.2}), hardware {:.2} ns (median {:.2}), ratio {:.2} (of medians {:.2})",
-        ours.0,
-        ours.1,
-        theirs.0,
-        theirs.1,
-        ours.0 / theirs.0,
-        ours.1 / theirs.1
+        ours[0],
+        ours[mid],
+        theirs[0],
+        theirs[mid],
+        ours[0] / theirs[0],
+        ours[mid] / theirs[mid]
     );
 }
 
-/// The two roots in turn, so that both meet the machine's other work alike.
+/// Short slices on fresh numbers from 1 to 1,001, the two roots in turn, so that both meet the machine's other work alike
+/// and nothing can be learnt from one slice to the next.
 fn time(random: &mut Random) {
-    let xs: Vec<f64> = (0..4096).map(|_| 1.0 + (random.bits() >> 11) as f64 / 9007199254740992.0 * 1000.0).collect();
     let mut times: [Vec<f64>; 4] = Default::default();
-    for _ in 0..REPEATS {
+    for _ in 0..SLICES {
+        let xs: Vec<f64> = (0..CALLS)
+            .map(|_| 1.0 + (random.bits() >> 11) as f64 / 9007199254740992.0 * 1000.0)
+            .collect();
         times[0].push(independent(proved, &xs));
         times[1].push(independent(hardware, &xs));
-        times[2].push(dependent(proved));
-        times[3].push(dependent(hardware));
+        times[2].push(dependent(proved, &xs));
+        times[3].push(dependent(hardware, &xs));
     }
     let [a, b, c, d] = times;
-    println!("{REPEATS} repeats, the least of each:");
+    println!("root: the least of {SLICES} slices of {CALLS} calls, each called out of line");
     report("independent calls", a, b);
     report("a chain of calls", c, d);
 }
 
 fn main() {
-    let cases = std::env::args().nth(1).map_or(20_000_000, |n| n.parse().expect("CASES is a number"));
+    let cases = std::env::args()
+        .nth(1)
+        .map_or(20_000_000, |n| n.parse().expect("CASES is a number"));
     let mut random = Random(88172645463325252);
     let differ = compare(&mut random, cases);
     time(&mut random);

@@ -1,3 +1,4 @@
 pub mod Book
 pub mod Matches
 pub mod Holds
+pub mod BookLaws

@@ -133,10 +133,12 @@ fn is_misshapen(outer: &[f64], holes: &[f64], lens: &[usize]) -> bool
 fn loop_refusal(s: &[f64]) -> u32
     ensures { λ r. ⌜ r ≡ loopRefusal (now (s .entry)) ⌝ }
 {
-    if s.len() / 2 < 3 {
+    let few = s.len() / 2 < 3;
+    let infinite = any_not_finite(s);
+    if few {
         return 2;
     }
-    if any_not_finite(s) { 3 } else { 0 }
+    if infinite { 3 } else { 0 }
 }
 
 // The points of loop k, a part of one of the two slices: loop 0 is the outer one, and `start` hole points stand before loop k.

@@ -2,3 +2,4 @@ pub mod State
 pub mod Sampling
 pub mod Place
 pub mod Sound
+pub mod FrameLaws

@@ -107,6 +107,25 @@ module _ {S R : Type 0} (turn : ℕ → S → Turn S R) (end : S → R) (a : S) 
   unfolding run
   run-end l h = ap (answer end) (loop-end (onwards turn) (go a) l h)
 
+-- what the turns keep: P of every state that goes on, and Q of every answer
+abbrev pub Kept : {S R : Type 0} → (S → Type 0) → (R → Type 0) → Turn S R → Type 0
+Kept P Q (go s) = P s
+Kept P Q (out r) = Q r
+
+pub run-keeps : {S R : Type 0} (P : S → Type 0) (Q : R → Type 0) (n : ℕ) (turn : ℕ → S → Turn S R) (end : S → R) (s : S)
+    → P s → ((i : ℕ) (t : S) → i < n → P t → Kept P Q (turn i t)) → ((t : S) → P t → Q (end t)) → Q (run n turn end s)
+unfolding run
+run-keeps {S} {R} P Q n turn end s start keeps ends =
+    last (forUp n (onwards turn) (go s)) (forUp-keeps (λ i t. Kept P Q t) n (onwards turn) (go s) start next)
+  where
+    next : (i : ℕ) (t : Turn S R) → i < n → Kept P Q t → Kept P Q (onwards turn i t)
+    next i (go t) h p = keeps i t h p
+    next i (out r) h q = q
+
+    last : (t : Turn S R) → Kept P Q t → Q (answer end t)
+    last (go t) p = ends t p
+    last (out r) q = q
+
 -- ---- a search: whether the test holds at some index below n
 
 abbrev pub anyTurn : (ℕ → Bool) → ℕ → Bool → Bool

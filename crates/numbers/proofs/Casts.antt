@@ -69,7 +69,8 @@ pub floor-nan : (x : Float) → ne x x ≡ true → pos 0 ≡ floorInt x
 floor-nan x h = rw (is-nan x h) (unfold floorInt in refl)
 
 -- below 2 ^ 63
-pub floor-in : (x : Float) (m : ℕ) → Pattern x false m → m < 0x43e0_0000_0000_0000 → (sizeOf m / 2 ^ 1074 < 2 ^ 63) × (pos (sizeOf m / 2 ^ 1074) ≡ floorInt x)
+pub floor-in : (x : Float) (m : ℕ) → Pattern x false m → m < 0x43e0_0000_0000_0000
+    → (sizeOf m / 2 ^ 1074 < 2 ^ 63) × (pos (sizeOf m / 2 ^ 1074) ≡ floorInt x)
 floor-in x m p h =
     let r : sizeOf m / 2 ^ 1074 < 2 ^ 63 = div-lt-iff-lt-mul unit .1 (size-under m 63 (omega arith)) in
     (r, ap pos (fits (sizeOf m / 2 ^ 1074) r) ∙ sym (floor-plus x (sizeOf m) (value x false m p (omega arith))))
@@ -80,7 +81,8 @@ floor-in x m p h =
 -- from 2 ^ 63 on
 pub floor-over : (x : Float) (m : ℕ) → Pattern x false m → ne x x ≡ false → 0x43e0_0000_0000_0000 ≤ m → pos (2 ^ 63 - 1) ≡ floorInt x
 floor-over x m p n h =
-    ⊎-elim (λ v. ap pos (cut (sizeOf m / 2 ^ 1074) (le-div-iff-mul-le unit .1 (size-over m 63 (omega arith)))) ∙ sym (floor-plus x (sizeOf m) v)) (λ e. at-inf ∙ ap floorInt (sym e))
+    ⊎-elim (λ v. ap pos (cut (sizeOf m / 2 ^ 1074) (le-div-iff-mul-le unit .1 (size-over m 63 (omega arith)))) ∙ sym (floor-plus x (sizeOf m) v))
+    (λ e. at-inf ∙ ap floorInt (sym e))
     (finite-or-not x false m p (not-nan x n))
   where
     at-inf : pos (2 ^ 63 - 1) ≡ floorInt (inf false)
@@ -90,9 +92,9 @@ floor-over x m p n h =
     cut a h = omega arith
 
 pub floor-minus-zero : (x : Float) (m : ℕ) → Pattern x true m → m ≡ 0 → pos 0 ≡ floorInt x
-floor-minus-zero x m p e = at-zero ∙ sym (floor-minus x (sizeOf m) (value x true m p (omega arith)) ∙ ap (λ (y : ℕ). negℤ (pos (min (ceilDiv (sizeOf y) (2 ^ 1074)) (2 ^ 63)))) e)
+floor-minus-zero x m p e = sym (floor-minus x (sizeOf m) (value x true m p (omega arith)) ∙ rw e at-zero)
   where
-    at-zero : pos 0 ≡ negℤ (pos (min (ceilDiv (sizeOf 0) (2 ^ 1074)) (2 ^ 63)))
+    at-zero : negℤ (pos (min (ceilDiv (sizeOf 0) (2 ^ 1074)) (2 ^ 63))) ≡ pos 0
     at-zero = unfold sizeOf in refl
 
 -- from -2 ^ 63 on
@@ -112,7 +114,9 @@ floor-minus-in x m p n h =
 -- up to -2 ^ 63
 pub floor-under : (x : Float) (m : ℕ) → Pattern x true m → ne x x ≡ false → 0x43e0_0000_0000_0000 ≤ m → negsuc (2 ^ 63 - 1) ≡ floorInt x
 floor-under x m p n h =
-    ⊎-elim (λ v. ap (λ (y : ℕ). negℤ (pos y)) (cut (ceilDiv (sizeOf m) (2 ^ 1074)) (ceil-ge (sizeOf m) (2 ^ 1074) (2 ^ 63) unit (size-over m 63 (omega arith)))) ∙ sym (floor-minus x (sizeOf m) v)) (λ e. at-inf ∙ ap floorInt (sym e))
+    let r = ceilDiv (sizeOf m) (2 ^ 1074) in
+    let l : 2 ^ 63 ≤ r = ceil-ge (sizeOf m) (2 ^ 1074) (2 ^ 63) unit (size-over m 63 (omega arith)) in
+    ⊎-elim (λ v. ap (λ (y : ℕ). negℤ (pos y)) (cut r l) ∙ sym (floor-minus x (sizeOf m) v)) (λ e. at-inf ∙ ap floorInt (sym e))
     (finite-or-not x true m p (not-nan x n))
   where
     at-inf : negsuc (2 ^ 63 - 1) ≡ floorInt (inf true)
@@ -127,7 +131,8 @@ pub count-nan : (x : Float) → ne x x ≡ true → 0 ≡ ceilCount x
 count-nan x h = rw (is-nan x h) (unfold ceilCount in refl)
 
 -- below 2 ^ 64
-pub count-in : (x : Float) (m : ℕ) → Pattern x false m → m < 0x43f0_0000_0000_0000 → ceilDiv (sizeOf m) (2 ^ 1074) < 2 ^ 64 → ceilDiv (sizeOf m) (2 ^ 1074) ≡ ceilCount x
+pub count-in : (x : Float) (m : ℕ) → Pattern x false m → m < 0x43f0_0000_0000_0000
+    → ceilDiv (sizeOf m) (2 ^ 1074) < 2 ^ 64 → ceilDiv (sizeOf m) (2 ^ 1074) ≡ ceilCount x
 count-in x m p h f = fits (ceilDiv (sizeOf m) (2 ^ 1074)) f ∙ sym (count-plus x (sizeOf m) (value x false m p (omega arith)))
   where
     fits : (a : ℕ) → a < 2 ^ 64 → a ≡ min a (2 ^ 64 - 1)
@@ -136,7 +141,9 @@ count-in x m p h f = fits (ceilDiv (sizeOf m) (2 ^ 1074)) f ∙ sym (count-plus 
 -- from 2 ^ 64 on
 pub count-over : (x : Float) (m : ℕ) → Pattern x false m → ne x x ≡ false → 0x43f0_0000_0000_0000 ≤ m → 2 ^ 64 - 1 ≡ ceilCount x
 count-over x m p n h =
-    ⊎-elim (λ v. cut (ceilDiv (sizeOf m) (2 ^ 1074)) (ceil-ge (sizeOf m) (2 ^ 1074) (2 ^ 64) unit (size-over m 64 (omega arith))) ∙ sym (count-plus x (sizeOf m) v)) (λ e. at-inf ∙ ap ceilCount (sym e))
+    let r = ceilDiv (sizeOf m) (2 ^ 1074) in
+    let l : 2 ^ 64 ≤ r = ceil-ge (sizeOf m) (2 ^ 1074) (2 ^ 64) unit (size-over m 64 (omega arith)) in
+    ⊎-elim (λ v. cut r l ∙ sym (count-plus x (sizeOf m) v)) (λ e. at-inf ∙ ap ceilCount (sym e))
     (finite-or-not x false m p (not-nan x n))
   where
     at-inf : 2 ^ 64 - 1 ≡ ceilCount (inf false)

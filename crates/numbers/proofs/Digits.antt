@@ -20,7 +20,8 @@ more s i = ap (λ (k : ℕ). s * 4 ^ k) (add-one i) ∙ ap (λ (x : ℕ). s * x)
 twice : (i : ℕ) → 2 ^ (i + 1) ≡ 2 * 2 ^ i
 twice i = ap (λ (k : ℕ). 2 ^ k) (add-one i) ∙ pow-succ' 2 i
 
-pub turn-zero : (s i root rem rest : ℕ) → Turn s i root rem rest → rem * 4 + rest / 2 ^ 52 < root * 4 + 1 → Turn s (i + 1) (root * 2) (rem * 4 + rest / 2 ^ 52) (rest % 2 ^ 52 * 4)
+pub turn-zero : (s i root rem rest : ℕ) → Turn s i root rem rest → rem * 4 + rest / 2 ^ 52 < root * 4 + 1
+    → Turn s (i + 1) (root * 2) (rem * 4 + rest / 2 ^ 52) (rest % 2 ^ 52 * 4)
 turn-zero s i root rem rest t h = record {
   whole = omega (arith, more s i);
   small = omega arith;
@@ -28,7 +29,8 @@ turn-zero s i root rem rest t h = record {
   left = omega arith;
 }
 
-pub turn-one : (s i root rem rest : ℕ) → Turn s i root rem rest → root * 4 + 1 ≤ rem * 4 + rest / 2 ^ 52 → Turn s (i + 1) (root * 2 + 1) (rem * 4 + rest / 2 ^ 52 - (root * 4 + 1)) (rest % 2 ^ 52 * 4)
+pub turn-one : (s i root rem rest : ℕ) → Turn s i root rem rest → root * 4 + 1 ≤ rem * 4 + rest / 2 ^ 52
+    → Turn s (i + 1) (root * 2 + 1) (rem * 4 + rest / 2 ^ 52 - (root * 4 + 1)) (rest % 2 ^ 52 * 4)
 turn-one s i root rem rest t h = record {
   whole = omega (arith, more s i);
   small = omega arith;

@@ -13,6 +13,7 @@ use lib.Ieee.{Float, nan, inf, fin, binary64, odd, units, ofFields, ofBits, toBi
 use lib.Ieee.Bits.{is-true, is-false, cond-no, ofBits-toBits, toBits-lt, nanBits-above}
 use lib.Ieee.Compare.{nan-differs, differs-from-itself}
 use lib.Ieee.Exact.{HasValue, odd-sign}
+use Rattle.numbers.specs.RootUnits.{below-top, units-odd}
 use Rattle.numbers.specs.Whole.{sizeOf}
 
 -- ---- NaN
@@ -60,15 +61,19 @@ ofBits-is b = refl
 fields : (s : Bool) (m : ℕ) → m < 2 ^ 63 → ofBits binary64 (bitsOf s m) ≡ ofFields binary64 s (m / 2 ^ 52) (m % 2 ^ 52)
 fields false m h =
     ofBits-is m
-    ∙ ap₂ (λ (s : Bool) (x : ℕ). ofFields binary64 s (x / 2 ^ 52) (m % 2 ^ 52)) (is-false (leb (2 ^ 63) m) (not-T (leb (2 ^ 63) m) (λ (u : T (leb (2 ^ 63) m)). not-le-of-lt h (leb→le (2 ^ 63) m u)))) (mod-eq-of-lt h)
+    ∙ ap₂ (λ (s : Bool) (x : ℕ). ofFields binary64 s (x / 2 ^ 52) (m % 2 ^ 52))
+    (is-false (leb (2 ^ 63) m) (not-T (leb (2 ^ 63) m) (λ (u : T (leb (2 ^ 63) m)). not-le-of-lt h (leb→le (2 ^ 63) m u)))) (mod-eq-of-lt h)
 fields true m h =
     ofBits-is (2 ^ 63 + m)
-    ∙ ap₂ (λ (s : Bool) (x : ℕ). ofFields binary64 s x ((2 ^ 63 + m) % 2 ^ 52)) (is-true (leb (2 ^ 63) (2 ^ 63 + m)) (le→leb (2 ^ 63) (2 ^ 63 + m) (omega arith))) (omega arith)
+    ∙ ap₂ (λ (s : Bool) (x : ℕ). ofFields binary64 s x ((2 ^ 63 + m) % 2 ^ 52))
+    (is-true (leb (2 ^ 63) (2 ^ 63 + m)) (le→leb (2 ^ 63) (2 ^ 63 + m) (omega arith))) (omega arith)
     ∙ ap (λ (y : ℕ). ofFields binary64 true (m / 2 ^ 52) y) (omega arith)
 
 normal : (s : Bool) (t x : ℕ) → suc x < 2047 → ofFields binary64 s (suc x) t ≡ odd 53 s (2 ^ 52 + t) x 1074
 unfolding ofFields
-normal s t x h = cond-no (eqb (suc x) 2047) (cond (eqb t 0) (inf s) nan) (odd 53 s (2 ^ 52 + t) x 1074) (not-T (eqb (suc x) 2047) (λ (u : T (eqb (suc x) 2047)). differ (eqb→eq (suc x) 2047 u)))
+normal s t x h =
+    cond-no (eqb (suc x) 2047) (cond (eqb t 0) (inf s) nan) (odd 53 s (2 ^ 52 + t) x 1074)
+    (not-T (eqb (suc x) 2047) (λ (u : T (eqb (suc x) 2047)). differ (eqb→eq (suc x) 2047 u)))
   where
     differ : suc x ≡ 2047 → ⊥
     differ e = omega arith
@@ -102,12 +107,15 @@ size-pos m h = go (below-or-not m (2 ^ 52))
     go (inr g) = rw (size-high m g) (mul-pos (omega arith) (pow-pos (m / 2 ^ 52 - 1)))
 
 field-value : (s : Bool) (x t m : ℕ) → x < 2047 → m / 2 ^ 52 ≡ x → m % 2 ^ 52 ≡ t → HasValue (ofFields binary64 s x t) s (sizeOf m) (2 ^ 1074)
-field-value s zero t m h e f = rw (subnormal s t, size-low m (omega arith)) (subst (λ (y : ℕ). HasValue (odd 53 s t 0 1074) s y (2 ^ 1074)) same (odd-sign 53 s t 0 1074))
+field-value s zero t m h e f =
+    rw (subnormal s t, size-low m (omega arith))
+    (subst (λ (y : ℕ). HasValue (odd 53 s t 0 1074) s y (2 ^ 1074)) same (odd-sign 53 s t 0 1074))
   where
     same : t * 2 ^ 0 ≡ m
     same = omega arith
 field-value s (suc x) t m h e f =
-    rw (normal s t x h, size-high m (omega arith)) (subst (λ (y : ℕ). HasValue (odd 53 s (2 ^ 52 + t) x 1074) s y (2 ^ 1074)) same (odd-sign 53 s (2 ^ 52 + t) x 1074))
+    rw (normal s t x h, size-high m (omega arith))
+    (subst (λ (y : ℕ). HasValue (odd 53 s (2 ^ 52 + t) x 1074) s y (2 ^ 1074)) same (odd-sign 53 s (2 ^ 52 + t) x 1074))
   where
     one-less : (y : ℕ) → y ≡ suc x → x ≡ y - 1
     one-less y e = omega arith
@@ -132,7 +140,10 @@ pub plus : (x : Float) → T (fits binary64 x) → toBits binary64 x < 2 ^ 63 �
 plus x f h = record { is = sym (ofBits-toBits binary64 x f); small = h }
 
 pub minus-sign : (x : Float) → T (fits binary64 x) → 2 ^ 63 ≤ toBits binary64 x → Pattern x true (toBits binary64 x - 2 ^ 63)
-minus-sign x f h = record { is = sym (ofBits-toBits binary64 x f) ∙ ap (ofBits binary64) (rejoin (toBits binary64 x) h); small = omega (arith, toBits-lt binary64 x f) }
+minus-sign x f h = record {
+  is = sym (ofBits-toBits binary64 x f) ∙ ap (ofBits binary64) (rejoin (toBits binary64 x) h);
+  small = omega (arith, toBits-lt binary64 x f);
+}
   where
     rejoin : (b : ℕ) → 2 ^ 63 ≤ b → b ≡ 2 ^ 63 + (b - 2 ^ 63)
     rejoin b h = omega arith
@@ -171,7 +182,8 @@ zeros-more zero q h k = absurd (none k)
     none k = omega arith
 zeros-more (suc d) q h k = go (q % 2) refl (λ (e : q % 2 ≡ 0). zeros-more d (q / 2) (omega arith) (omega arith))
   where
-    go : (r : ℕ) → q % 2 ≡ r → (q % 2 ≡ 0 → trailingZeros (suc d) (q / 2) ≡ trailingZeros d (q / 2)) → under r (trailingZeros (suc d) (q / 2)) ≡ under r (trailingZeros d (q / 2))
+    go : (r : ℕ) → q % 2 ≡ r → (q % 2 ≡ 0 → trailingZeros (suc d) (q / 2) ≡ trailingZeros d (q / 2))
+        → under r (trailingZeros (suc d) (q / 2)) ≡ under r (trailingZeros d (q / 2))
     go zero e ih = ap suc (ih e)
     go (suc r) e ih = refl
 
@@ -180,24 +192,14 @@ unfolding odd
 odd-more zero k h l = absurd (lt-irrefl 0 h)
 odd-more (suc q) k h l = ap (λ (t : ℕ). fin false (suc q / 2 ^ t) (minus (k + t) 1074)) (zeros-more 53 (suc q) h l)
 
-units-in : (q k : ℕ) → q * 2 ^ k < 2 ^ 2098 → units binary64 false q k ≡ odd 54 false q k 1074
-unfolding units
-units-in q k h = rw (is-true (ltb (q * 2 ^ k) (2 ^ 2098)) (lt→ltb (q * 2 ^ k) (2 ^ 2098) h))
-
-pub pattern-lt : (q k : ℕ) → k < 2046 → q < 2 ^ 53 → k * 2 ^ 52 + q < 0x7ff0_0000_0000_0000
-pattern-lt q k h l = omega arith
-
 pub units-bits : (q k : ℕ) → k < 2046 → 2 ^ 52 ≤ q → q < 2 ^ 53 → units binary64 false q k ≡ ofBits binary64 (k * 2 ^ 52 + q)
 units-bits q k h a b =
-    units-in q k (lt-of-lt-of-le (shl-lt 53 k b) (pow-mono room))
+    units-odd q k (below-top q k h b)
     ∙ odd-more q k (omega arith) b
     ∙ ap (λ (y : ℕ). odd 53 false y k 1074) digits
     ∙ sym (normal false (q - 2 ^ 52) k (omega arith))
     ∙ ap₂ (λ (y z : ℕ). ofFields binary64 false y z) (omega arith) (omega arith)
     ∙ sym (fields false (k * 2 ^ 52 + q) (omega arith))
   where
-    room : 53 + k ≤ 2098
-    room = omega arith
-
     digits : q ≡ 2 ^ 52 + (q - 2 ^ 52)
     digits = omega arith

@@ -56,11 +56,18 @@ module _ (x : Float) (f : T (fits binary64 x)) where
 root-size : (x : Float) (b : ℕ) → Pattern x false b → 0 < b → b < 0x7ff0_0000_0000_0000 → root x ≡ rootUnits (sizeOf b * 2 ^ 1074)
 root-size x b p h k = root-value x (sizeOf b) (value x false b p k) (size-pos b h)
 
-pub of-normal : (x : Float) (b : ℕ) → Pattern x false b → 2 ^ 52 ≤ b → b < 0x7ff0_0000_0000_0000 → root x ≡ rootUnits ((b % 2 ^ 52 + 2 ^ 52) * 2 ^ 52 * 2 ^ (b / 2 ^ 52 + 1021))
-of-normal x b p h k = root-size x b p (omega arith) k ∙ ap (λ (y : ℕ). rootUnits (y * 2 ^ 1074)) (size-high b h) ∙ ap rootUnits (powers (b % 2 ^ 52 + 2 ^ 52) (b / 2 ^ 52 - 1) 1074 52 (b / 2 ^ 52 + 1021) (omega arith))
+pub of-normal : (x : Float) (b : ℕ) → Pattern x false b → 2 ^ 52 ≤ b → b < 0x7ff0_0000_0000_0000
+    → root x ≡ rootUnits ((b % 2 ^ 52 + 2 ^ 52) * 2 ^ 52 * 2 ^ (b / 2 ^ 52 + 1021))
+of-normal x b p h k =
+    root-size x b p (omega arith) k
+    ∙ ap (λ (y : ℕ). rootUnits (y * 2 ^ 1074)) (size-high b h)
+    ∙ ap rootUnits (powers (b % 2 ^ 52 + 2 ^ 52) (b / 2 ^ 52 - 1) 1074 52 (b / 2 ^ 52 + 1021) (omega arith))
   where
     powers : (a i j k l : ℕ) → i + j ≡ k + l → a * 2 ^ i * 2 ^ j ≡ a * 2 ^ k * 2 ^ l
-    powers a i j k l e = mul-assoc a (2 ^ i) (2 ^ j) ∙ ap (λ (y : ℕ). a * y) (sym (pow-add 2 i j) ∙ ap (λ (y : ℕ). 2 ^ y) e ∙ pow-add 2 k l) ∙ sym (mul-assoc a (2 ^ k) (2 ^ l))
+    powers a i j k l e =
+        mul-assoc a (2 ^ i) (2 ^ j)
+        ∙ ap (λ (y : ℕ). a * y) (sym (pow-add 2 i j) ∙ ap (λ (y : ℕ). 2 ^ y) e ∙ pow-add 2 k l)
+        ∙ sym (mul-assoc a (2 ^ k) (2 ^ l))
 
 -- the digits of a subnormal value, moved up by sh places, are 53
 pub record Moved (b sh : ℕ) : Type 0 where
@@ -80,17 +87,20 @@ leading b p h =
 
     go : (z j : ℕ) → z + suc j ≡ 64 → j < 52 → 2 ^ j ≤ b → b < 2 ^ suc j → (11 ≤ z) × Moved b (z - 11)
     go z j e J lo hi =
-        let u : b * 2 ^ (z - 11) < 2 ^ 53 = lt-of-lt-of-le (mul-lt-mul-of-pos-right hi (pow-pos (z - 11))) (le-of-eq (sym (pow-add 2 (suc j) (z - 11)) ∙ ap (λ (y : ℕ). 2 ^ y) (places z (suc j) 53 (omega arith) (omega arith)))) in (
+        let t : 2 ^ suc j * 2 ^ (z - 11) ≡ 2 ^ 53 = sym (pow-add 2 (suc j) (z - 11)) ∙ ap (λ (y : ℕ). 2 ^ y) (places z (suc j) 53 (omega arith) (omega arith)) in
+        let l : 2 ^ 52 ≡ 2 ^ j * 2 ^ (z - 11) = sym (ap (λ (y : ℕ). 2 ^ y) (places z j 52 (omega arith) (omega arith))) ∙ pow-add 2 j (z - 11) in
+        let u : b * 2 ^ (z - 11) < 2 ^ 53 = lt-of-lt-of-le (mul-lt-mul-of-pos-right hi (pow-pos (z - 11))) (le-of-eq t) in (
           omega arith,
           record {
             few = omega arith;
-            reach = le-trans (le-of-eq (sym (ap (λ (y : ℕ). 2 ^ y) (places z j 52 (omega arith) (omega arith))) ∙ pow-add 2 j (z - 11))) (mul-le-mul-right (2 ^ (z - 11)) lo);
+            reach = le-trans (le-of-eq l) (mul-le-mul-right (2 ^ (z - 11)) lo);
             under = u;
             exact = mod-eq-of-lt (omega arith);
           },
         )
 
-pub of-subnormal : (x : Float) (b sh : ℕ) → Pattern x false b → 0 < b → b < 2 ^ 52 → Moved b sh → root x ≡ rootUnits (b * 2 ^ sh % 2 ^ 64 * 2 ^ 52 * 2 ^ (1022 - sh))
+pub of-subnormal : (x : Float) (b sh : ℕ) → Pattern x false b → 0 < b → b < 2 ^ 52 → Moved b sh
+    → root x ≡ rootUnits (b * 2 ^ sh % 2 ^ 64 * 2 ^ 52 * 2 ^ (1022 - sh))
 of-subnormal x b sh p h k m =
     root-size x b p h (omega arith)
     ∙ ap (λ (y : ℕ). rootUnits (y * 2 ^ 1074)) (size-low b k)
@@ -121,11 +131,14 @@ below-zero x m p n h = ⊎-elim (λ v. root-minus x (sizeOf m) v (size-pos m h))
     at-inf = unfold root in refl
 
 -- what is left: neither a number from 0 on nor -0
-pub of-rest : (x : Float) → T (fits binary64 x) → ne x x ≡ false → 0x7ff0_0000_0000_0000 ≤ toBits binary64 x → (toBits binary64 x ≡ 0x7ff0_0000_0000_0000 → ⊥) → (toBits binary64 x ≡ 2 ^ 63 → ⊥) → root x ≡ nan
+pub of-rest : (x : Float) → T (fits binary64 x) → ne x x ≡ false → 0x7ff0_0000_0000_0000 ≤ toBits binary64 x
+    → (toBits binary64 x ≡ 0x7ff0_0000_0000_0000 → ⊥) → (toBits binary64 x ≡ 2 ^ 63 → ⊥) → root x ≡ nan
 of-rest x f n h k z = below-zero x (toBits binary64 x - 2 ^ 63) (minus-sign x f above) (not-nan x n) (omega (arith, above))
   where
     above : 2 ^ 63 ≤ toBits binary64 x
-    above = le-of-suc-le-suc (lt-of-not-le (λ (g : suc (toBits binary64 x) ≤ 2 ^ 63). k (ap (toBits binary64) (infinite x false (toBits binary64 x) (plus x f g) h (not-nan x n)) ∙ inf-bits)))
+    above =
+        le-of-suc-le-suc
+        (lt-of-not-le (λ (g : suc (toBits binary64 x) ≤ 2 ^ 63). k (ap (toBits binary64) (infinite x false (toBits binary64 x) (plus x f g) h (not-nan x n)) ∙ inf-bits)))
 
 pub quotient : (x : Float) → root x ≡ nan → div binary64 (ofBits binary64 0) (ofBits binary64 0) ≡ root x
 quotient x h = rw h (unfold div ofBits in refl)

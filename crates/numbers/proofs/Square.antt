@@ -7,21 +7,21 @@ use native.Mathlib.Omega.{arith}
 use Rattle.numbers.specs.Root.{NearRoot}
 
 -- the digits of q, in base 2 ^ 27
-pub up-le : (q : ℕ) → q < 2 ^ 53 → q / 2 ^ 27 ≤ 2 ^ 26 - 1
+up-le : (q : ℕ) → q < 2 ^ 53 → q / 2 ^ 27 ≤ 2 ^ 26 - 1
 up-le q h = omega arith
 
-pub down-le : (q : ℕ) → q % 2 ^ 27 ≤ 2 ^ 27 - 1
+down-le : (q : ℕ) → q % 2 ^ 27 ≤ 2 ^ 27 - 1
 down-le q = omega arith
 
 -- the three products
-pub pp : (q : ℕ) → q < 2 ^ 53 → q / 2 ^ 27 * (q / 2 ^ 27) ≤ (2 ^ 26 - 1) * (2 ^ 26 - 1)
-pp q h = mul-le-mul (up-le q h) (up-le q h)
+pub high-square : (q : ℕ) → q < 2 ^ 53 → q / 2 ^ 27 * (q / 2 ^ 27) ≤ (2 ^ 26 - 1) * (2 ^ 26 - 1)
+high-square q h = mul-le-mul (up-le q h) (up-le q h)
 
-pub pr : (q : ℕ) → q < 2 ^ 53 → q / 2 ^ 27 * (q % 2 ^ 27) ≤ (2 ^ 26 - 1) * (2 ^ 27 - 1)
-pr q h = mul-le-mul (up-le q h) (down-le q)
+pub cross-product : (q : ℕ) → q < 2 ^ 53 → q / 2 ^ 27 * (q % 2 ^ 27) ≤ (2 ^ 26 - 1) * (2 ^ 27 - 1)
+cross-product q h = mul-le-mul (up-le q h) (down-le q)
 
-pub rr : (q : ℕ) → q % 2 ^ 27 * (q % 2 ^ 27) ≤ (2 ^ 27 - 1) * (2 ^ 27 - 1)
-rr q = mul-le-mul (down-le q) (down-le q)
+pub low-square : (q : ℕ) → q % 2 ^ 27 * (q % 2 ^ 27) ≤ (2 ^ 27 - 1) * (2 ^ 27 - 1)
+low-square q = mul-le-mul (down-le q) (down-le q)
 
 -- the upper and the lower half
 abbrev pub hi : ℕ → ℕ
@@ -37,7 +37,7 @@ square q = go (q / 2 ^ 27) (q % 2 ^ 27) (omega arith)
     go a b e = omega (arith, ap (λ (x : ℕ). x * x) e)
 
 pub lo-lt : (q : ℕ) → lo q < 2 ^ 55
-lo-lt q = omega (arith, rr q)
+lo-lt q = omega (arith, low-square q)
 
 -- e is s * 2 ^ 52 - q * q, moved up by 3 * 2 ^ 56
 abbrev pub moved : ℕ → ℕ → ℕ
@@ -49,13 +49,13 @@ moved-is s q h = go (hi q) (lo q) h (square q) (lo-lt q)
     go : (h l : ℕ) → h ≤ s + 16 → q * q ≡ h * 2 ^ 52 + l → l < 2 ^ 55 → (s + 16 - h) * 2 ^ 52 + 2 ^ 57 - l + q * q ≡ s * 2 ^ 52 + 3 * 2 ^ 56
     go h l a e b = omega arith
 
-pub this : (n q e : ℕ) → e + q * q ≡ n + 3 * 2 ^ 56 → e ≤ 3 * 2 ^ 56 + q → 3 * 2 ^ 56 < e + q → NearRoot n q
+this : (n q e : ℕ) → e + q * q ≡ n + 3 * 2 ^ 56 → e ≤ 3 * 2 ^ 56 + q → 3 * 2 ^ 56 < e + q → NearRoot n q
 this n q e h a b = record { below = omega arith; above = omega arith }
 
 pub next : (n q e : ℕ) → e + q * q ≡ n + 3 * 2 ^ 56 → 3 * 2 ^ 56 + q < e → e ≤ 3 * 2 ^ 56 + 3 * q + 2 → NearRoot n (q + 1)
 next n q e h a b = record { below = omega arith; above = omega arith }
 
-pub prev : (n q e : ℕ) → e + q * q ≡ n + 3 * 2 ^ 56 → e + q ≤ 3 * 2 ^ 56 → 3 * 2 ^ 56 + 2 < e + 3 * q → NearRoot n (q - 1)
+prev : (n q e : ℕ) → e + q * q ≡ n + 3 * 2 ^ 56 → e + q ≤ 3 * 2 ^ 56 → 3 * 2 ^ 56 + 2 < e + 3 * q → NearRoot n (q - 1)
 prev n zero e h a b = absurd (no e a b)
   where
     no : (e : ℕ) → e + 0 ≤ 3 * 2 ^ 56 → 3 * 2 ^ 56 + 2 < e + 3 * 0 → ⊥
@@ -81,11 +81,19 @@ minus-one : (q : ℕ) → q - 1 ≡ q + 0 - 1
 minus-one q = omega arith
 
 module _ (n q e : ℕ) (h : e + q * q ≡ n + 3 * 2 ^ 56) (top : e ≤ 3 * 2 ^ 56 + 3 * q + 2) (low : 3 * 2 ^ 56 + 2 < e + 3 * q) where
-  pub choose : (up down : ℕ) → ((3 * 2 ^ 56 + q < e) × (up ≡ 1)) ⊎ ((e ≤ 3 * 2 ^ 56 + q) × (up ≡ 0)) → ((e + q ≤ 3 * 2 ^ 56) × (down ≡ 1)) ⊎ ((3 * 2 ^ 56 < e + q) × (down ≡ 0)) → Chosen n q up down
+  pub choose : (up down : ℕ) → ((3 * 2 ^ 56 + q < e) × (up ≡ 1)) ⊎ ((e ≤ 3 * 2 ^ 56 + q) × (up ≡ 0))
+      → ((e + q ≤ 3 * 2 ^ 56) × (down ≡ 1)) ⊎ ((3 * 2 ^ 56 < e + q) × (down ≡ 0))
+      → Chosen n q up down
   choose up down (inl a) (inl b) = absurd (no (a .0) (b .0))
     where
       no : 3 * 2 ^ 56 + q < e → e + q ≤ 3 * 2 ^ 56 → ⊥
       no x y = omega arith
-  choose up down (inl a) (inr b) = rw (a .1, b .1) (record { few = omega arith; less = omega arith; near = subst (NearRoot n) (plus-one q) (next n q e h (a .0) top) })
-  choose up down (inr a) (inl b) = rw (a .1, b .1) (record { few = omega arith; less = omega arith; near = subst (NearRoot n) (minus-one q) (prev n q e h (b .0) low) })
-  choose up down (inr a) (inr b) = rw (a .1, b .1) (record { few = omega arith; less = omega arith; near = subst (NearRoot n) (plain q) (this n q e h (a .0) (b .0)) })
+  choose up down (inl a) (inr b) =
+      rw (a .1, b .1)
+      (record { few = omega arith; less = omega arith; near = subst (NearRoot n) (plus-one q) (next n q e h (a .0) top) })
+  choose up down (inr a) (inl b) =
+      rw (a .1, b .1)
+      (record { few = omega arith; less = omega arith; near = subst (NearRoot n) (minus-one q) (prev n q e h (b .0) low) })
+  choose up down (inr a) (inr b) =
+      rw (a .1, b .1)
+      (record { few = omega arith; less = omega arith; near = subst (NearRoot n) (plain q) (this n q e h (a .0) (b .0)) })

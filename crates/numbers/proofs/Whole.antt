@@ -60,7 +60,9 @@ size-lt b k K h = go (below-or-not b (2 ^ 52))
 pub size-over : (b k : ℕ) → 1023 + k ≤ b / 2 ^ 52 → 2 ^ k * 2 ^ 1074 ≤ sizeOf b
 size-over b k h =
     rw (size-high b (omega arith))
-    (le-trans (le-of-eq (sym (pow-add 2 k 1074))) (le-trans (pow-mono (less (b / 2 ^ 52) h)) (le-trans (le-of-eq (pow-add 2 52 (b / 2 ^ 52 - 1))) (mul-le-mul-right (2 ^ (b / 2 ^ 52 - 1)) (omega arith)))))
+    (le-trans (le-of-eq (sym (pow-add 2 k 1074)))
+    (le-trans (pow-mono (less (b / 2 ^ 52) h))
+    (le-trans (le-of-eq (pow-add 2 52 (b / 2 ^ 52 - 1))) (mul-le-mul-right (2 ^ (b / 2 ^ 52 - 1)) (omega arith)))))
   where
     less : (e : ℕ) → 1023 + k ≤ e → k + 1074 ≤ 52 + (e - 1)
     less e h = omega arith
@@ -83,7 +85,9 @@ pub ceil-zero : (b : ℕ) → b ≡ 0 → 0 ≡ ceilDiv (sizeOf b) (2 ^ 1074)
 ceil-zero b e = sym (ap (λ (y : ℕ). ceilDiv (sizeOf y) (2 ^ 1074)) e ∙ (unfold sizeOf in refl))
 
 pub ceil-part : (b : ℕ) → (b ≡ 0 → ⊥) → b / 2 ^ 52 < 1023 → 1 ≡ ceilDiv (sizeOf b) (2 ^ 1074)
-ceil-part b n h = le-antisymm (ceil-over (sizeOf b) (2 ^ 1074) 0 (pow-pos 1074) (size-pos b (omega arith))) (ceil-le (sizeOf b) (2 ^ 1074) 1 (pow-pos 1074) (le-of-lt (below-one b h)))
+ceil-part b n h =
+    le-antisymm (ceil-over (sizeOf b) (2 ^ 1074) 0 (pow-pos 1074) (size-pos b (omega arith)))
+    (ceil-le (sizeOf b) (2 ^ 1074) 1 (pow-pos 1074) (le-of-lt (below-one b h)))
 
 -- ---- from 1 on, from the digits and the exponent field
 
@@ -101,12 +105,14 @@ module _ (b : ℕ) (lo : 1023 ≤ b / 2 ^ 52) (hi : b < 0x43f0_0000_0000_0000) w
       join e l h = omega arith
 
   pub floor-down : b / 2 ^ 52 < 1075 → (b % 2 ^ 52 + 2 ^ 52) / 2 ^ (1075 - b / 2 ^ 52) ≡ sizeOf b / 2 ^ 1074
-  floor-down h = sym (div-same (sizeOf b) (2 ^ 1074) (b % 2 ^ 52 + 2 ^ 52) (2 ^ (1075 - b / 2 ^ 52)) (pow-pos 1074) (pow-pos (1075 - b / 2 ^ 52)) (scaled h))
+  floor-down h =
+      sym (div-same (sizeOf b) (2 ^ 1074) (b % 2 ^ 52 + 2 ^ 52) (2 ^ (1075 - b / 2 ^ 52)) (pow-pos 1074) (pow-pos (1075 - b / 2 ^ 52)) (scaled h))
 
   one-up : b / 2 ^ 52 < 1075 → 1 * 2 ^ (1075 - b / 2 ^ 52) % 2 ^ 64 ≡ 2 ^ (1075 - b / 2 ^ 52)
   one-up h = shl-exact 1 (1075 - b / 2 ^ 52) 64 (lit< tt) (omega arith) ∙ one-mul (2 ^ (1075 - b / 2 ^ 52))
 
-  pub ceil-down : b / 2 ^ 52 < 1075 → (b % 2 ^ 52 + 2 ^ 52 + (1 * 2 ^ (1075 - b / 2 ^ 52) % 2 ^ 64 - 1)) / 2 ^ (1075 - b / 2 ^ 52) ≡ ceilDiv (sizeOf b) (2 ^ 1074)
+  pub ceil-down : b / 2 ^ 52 < 1075
+      → (b % 2 ^ 52 + 2 ^ 52 + (1 * 2 ^ (1075 - b / 2 ^ 52) % 2 ^ 64 - 1)) / 2 ^ (1075 - b / 2 ^ 52) ≡ ceilDiv (sizeOf b) (2 ^ 1074)
   ceil-down h =
       let d = b % 2 ^ 52 + 2 ^ 52 in
       ap (λ (y : ℕ). (d + (y - 1)) / 2 ^ (1075 - b / 2 ^ 52)) (one-up h)
@@ -120,7 +126,11 @@ module _ (b : ℕ) (lo : 1023 ≤ b / 2 ^ 52) (hi : b < 0x43f0_0000_0000_0000) w
   whole h =
       let d = b % 2 ^ 52 + 2 ^ 52 in
       let e = b / 2 ^ 52 in
-      mul-one (sizeOf b) ∙ size-high b (omega arith) ∙ ap (λ (y : ℕ). d * 2 ^ y) (join e h) ∙ ap (λ (y : ℕ). d * y) (pow-add 2 (e - 1075) 1074) ∙ sym (mul-assoc d (2 ^ (e - 1075)) (2 ^ 1074))
+      mul-one (sizeOf b)
+      ∙ size-high b (omega arith)
+      ∙ ap (λ (y : ℕ). d * 2 ^ y) (join e h)
+      ∙ ap (λ (y : ℕ). d * y) (pow-add 2 (e - 1075) 1074)
+      ∙ sym (mul-assoc d (2 ^ (e - 1075)) (2 ^ 1074))
     where
       join : (e : ℕ) → 1075 ≤ e → e - 1 ≡ e - 1075 + 1074
       join e h = omega arith

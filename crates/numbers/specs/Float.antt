@@ -1,4 +1,5 @@
--- Floats: the operations of f64 under circled signs, the constants that all layers share, and the functions of f64 that Rattle lacks. Document 01, "What stands in the way". Definitions only.
+-- Floats: the operations of f64 under circled signs, the constants that all layers share, and the functions of f64 that Rattle lacks
+-- (document 01, "What stands in the way"). Definitions only.
 -- Each sign is lib.Ieee's operation, rounded once, so a definition shows the Rust's operations in the Rust's order.
 use mathlib.Core.Bool.{Bool, true, false, cond}
 use Prim.Native.Nat.{ℕ}
@@ -90,6 +91,7 @@ minF x y = cond (isNan x) y (cond (lt y x) y x)
 unfoldable pub maxF : Float → Float → Float
 maxF x y = cond (isNan x) y (cond (lt x y) y x)
 
--- `x.clamp(lo, hi)`: a NaN stays. Rust panics where lo > hi, or lo or hi is a NaN; this is hi where lo > hi and x is a number, and a bound that is a NaN bounds nothing.
+-- `x.clamp(lo, hi)`: a NaN stays. Rust panics where lo > hi, or lo or hi is a NaN; this is hi where lo > hi and x is a number, and a
+-- bound that is a NaN bounds nothing.
 unfoldable pub clampF : Float → Float → Float → Float
 clampF x lo hi = let y = cond (lt x lo) lo x in cond (lt hi y) hi y

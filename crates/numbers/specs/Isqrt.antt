@@ -98,7 +98,8 @@ pick n zero c N C r o x = absurd (none (r .under))
 pick n (suc q) c N C r Ordering·lt x =
     let k : 4 * n < (2 * suc q + 1) * (2 * suc q + 1) = lt-of-mul-lt-mul-right c (rw (mul-assoc 4 n c) x) in
     record { below = omega arith; above = omega arith }
-pick n (suc q) c N C r Ordering·eq x = absurd (no-tie n (suc q) (eq-of-mul-eq-mul-right c C (4 * n) ((2 * suc q + 1) * (2 * suc q + 1)) (mul-assoc 4 n c ∙ x)))
+pick n (suc q) c N C r Ordering·eq x =
+    absurd (no-tie n (suc q) (eq-of-mul-eq-mul-right c C (4 * n) ((2 * suc q + 1) * (2 * suc q + 1)) (mul-assoc 4 n c ∙ x)))
 pick n (suc q) c N C r Ordering·gt x =
     let k : (2 * suc q + 1) * (2 * suc q + 1) < 4 * n = lt-of-mul-lt-mul-right c (rw (mul-assoc 4 n c) x) in
     record { below = omega arith; above = omega arith }
@@ -108,4 +109,6 @@ abbrev pub picked : ℕ → ℕ → ℕ
 picked n c = let q = isqrt n in nearest q (compare (4 * (n * c)) ((2 * q + 1) * (2 * q + 1) * c))
 
 pub picked-near : (n c : ℕ) → 0 < n → 0 < c → NearRoot n (picked n c)
-picked-near n c N C = let q = isqrt n in pick n q c N C (isqrt-root n) (compare (4 * (n * c)) ((2 * q + 1) * (2 * q + 1) * c)) (compared (4 * (n * c)) ((2 * q + 1) * (2 * q + 1) * c))
+picked-near n c N C =
+    let q = isqrt n in
+    pick n q c N C (isqrt-root n) (compare (4 * (n * c)) ((2 * q + 1) * (2 * q + 1) * c)) (compared (4 * (n * c)) ((2 * q + 1) * (2 * q + 1) * c))

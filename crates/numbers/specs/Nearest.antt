@@ -1,5 +1,6 @@
--- `root x` is the double nearest to the exact root of x, with no tie: `nearest-root`, at the end. Values are counted in units of the smallest double above 0, 2 ^ -1074: if x is n units, its exact root
--- is √(n * 2 ^ 1074) units, and everything is said in squares of whole numbers. Assumes nothing.
+-- `root x` is the double nearest to the exact root of x, with no tie: `nearest-root`, at the end. Values are counted in units of the
+-- smallest double above 0, 2 ^ -1074: if x is n units, its exact root is √(n * 2 ^ 1074) units, and everything is said in squares of
+-- whole numbers. Assumes nothing.
 use mathlib.Core.Path.{_≡_, refl, sym, ap, _∙_, subst}
 use mathlib.Core.Logic.{_⊎_, inl, inr}
 use mathlib.Core.Bool.{Bool, true, false, not, _&&_}
@@ -17,7 +18,7 @@ use lib.Ieee.Fits.{down-pos, up-pos, odd-fits, and-l, and-r}
 use lib.Ieee.Positive.{first-pos}
 use Rattle.numbers.specs.Root.{rootUnits, root, NearRoot}
 use Rattle.numbers.specs.Isqrt.{four-is, four-pos, picked, picked-near}
-use Rattle.numbers.specs.RootUnits.{zero-units, root-value, Split, split-even, split-odd, rounds}
+use Rattle.numbers.specs.RootUnits.{zero-units, root-value, Split, split-even, split-odd, rounds, below-top, units-odd}
 
 -- x is n units, and has no minus sign
 abbrev pub IsUnits : Float → ℕ → Type 0
@@ -41,15 +42,19 @@ whole-up m a n h = sym (mul-one n) ∙ sym h ∙ mul-assoc m (2 ^ a) (2 ^ 1074) 
 whole-down : (m a n : ℕ) → suc a ≤ 1074 → m * 1 * 2 ^ 1074 ≡ n * 2 ^ suc a → n ≡ m * 2 ^ (1074 - suc a)
 whole-down m a n l h =
     eq-of-mul-eq-mul-right (2 ^ suc a) (pow-pos (suc a)) n (m * 2 ^ (1074 - suc a))
-    (sym h ∙ ap (λ (y : ℕ). y * 2 ^ 1074) (mul-one m) ∙ ap (λ (y : ℕ). m * 2 ^ y) e ∙ ap (λ (y : ℕ). m * y) (pow-add 2 (1074 - suc a) (suc a)) ∙ sym (mul-assoc m (2 ^ (1074 - suc a)) (2 ^ suc a)))
+    (sym h
+    ∙ ap (λ (y : ℕ). y * 2 ^ 1074) (mul-one m)
+    ∙ ap (λ (y : ℕ). m * 2 ^ y) e
+    ∙ ap (λ (y : ℕ). m * y) (pow-add 2 (1074 - suc a) (suc a))
+    ∙ sym (mul-assoc m (2 ^ (1074 - suc a)) (2 ^ suc a)))
   where
     e : 1074 ≡ 1074 - suc a + suc a
     e = omega arith
 
-below-top : (v d n : ℕ) → v < 2 ^ 1024 * d → v * 2 ^ 1074 ≡ n * d → n < 2 ^ 2098
-below-top v d n h e =
-    lt-of-mul-lt-mul-right d
-    (lt-of-le-of-lt (le-of-eq (sym e)) (lt-of-lt-of-le (mul-lt-mul-of-pos-right h (pow-pos 1074)) (le-of-eq (mul-right-comm (2 ^ 1024) d (2 ^ 1074) ∙ ap (λ (y : ℕ). y * d) (sym (pow-add 2 1024 1074))))))
+under-top : (v d n : ℕ) → v < 2 ^ 1024 * d → v * 2 ^ 1074 ≡ n * d → n < 2 ^ 2098
+under-top v d n h e =
+    let t : 2 ^ 1024 * d * 2 ^ 1074 ≡ 2 ^ 2098 * d = mul-right-comm (2 ^ 1024) d (2 ^ 1074) ∙ ap (λ (y : ℕ). y * d) (sym (pow-add 2 1024 1074)) in
+    lt-of-mul-lt-mul-right d (lt-of-le-of-lt (le-of-eq (sym e)) (lt-of-lt-of-le (mul-lt-mul-of-pos-right h (pow-pos 1074)) (le-of-eq t)))
 
 pub digits-of : (x : Float) (n : ℕ) → T (fits binary64 x) → IsUnits x n → Digits n
 unfolding fits
@@ -64,7 +69,7 @@ digits-of (fin s (suc m) e) n f v =
     let D = ltb (suc m * up e) (2 ^ 1024 * down e) in
     go e (v .1) (leb→le (down e) (2 ^ 1074) (and-r (A && B) C (and-l (A && B && C) D f)))
     (ltb→lt (suc m) (2 ^ 53) (and-r A B (and-l (A && B) C (and-l (A && B && C) D f))))
-    (below-top (suc m * up e) (down e) n (ltb→lt (suc m * up e) (2 ^ 1024 * down e) (and-r (A && B && C) D f)) (v .1))
+    (under-top (suc m * up e) (down e) n (ltb→lt (suc m * up e) (2 ^ 1024 * down e) (and-r (A && B && C) D f)) (v .1))
   where
     go : (e : ℤ) → suc m * up e * 2 ^ 1074 ≡ n * down e → down e ≤ 2 ^ 1074 → suc m < 2 ^ 53 → n < 2 ^ 2098 → Digits n
     go (pos a) h c b t = record { m = suc m; j = a + 1074; is = whole-up (suc m) a n h; small = b; top = t }
@@ -75,11 +80,16 @@ multiple : (n k : ℕ) → Digits n → 2 ^ (52 + k) ≤ n → (B : ℕ) × (n �
 multiple n k d h =
     let m = d .m in
     let j = d .j in
-    let J : k ≤ j = le-of-suc-le-suc (lt-of-not-le (λ (g : suc j ≤ k). not-le-of-lt (lt-of-le-of-lt (le-of-eq (d .is)) (lt-of-lt-of-le (shl-lt 53 j (d .small)) (pow-mono (more j k g)))) h)) in
-    (m * 2 ^ (j - k), d .is ∙ ap (λ (y : ℕ). m * 2 ^ y) (back j k J) ∙ ap (λ (y : ℕ). m * y) (pow-add 2 (j - k) k) ∙ sym (mul-assoc m (2 ^ (j - k)) (2 ^ k)))
+    let J : k ≤ j = le-of-suc-le-suc (lt-of-not-le (λ (g : suc j ≤ k). not-le-of-lt (under m j g (d .small) (d .is)) h)) in (
+      m * 2 ^ (j - k),
+      d .is ∙ ap (λ (y : ℕ). m * 2 ^ y) (back j k J) ∙ ap (λ (y : ℕ). m * y) (pow-add 2 (j - k) k) ∙ sym (mul-assoc m (2 ^ (j - k)) (2 ^ k)),
+    )
   where
-    more : (j k : ℕ) → suc j ≤ k → 53 + j ≤ 52 + k
-    more j k g = omega arith
+    more : (j : ℕ) → suc j ≤ k → 53 + j ≤ 52 + k
+    more j g = omega arith
+
+    under : (m j : ℕ) → suc j ≤ k → m < 2 ^ 53 → n ≡ m * 2 ^ j → n < 2 ^ (52 + k)
+    under m j g b e = rw e (lt-of-lt-of-le (shl-lt 53 j b) (pow-mono (more j g)))
 
     back : (j k : ℕ) → k ≤ j → j ≡ j - k + k
     back j k h = omega arith
@@ -117,19 +127,27 @@ normalize n h d =
     cap j z h k = omega arith
 
     go : (m j z : ℕ) → 0 < z → z ≤ 53 → 2 ^ (z - 1) ≤ m → m < 2 ^ z → n ≡ m * 2 ^ j → Normal n
-    go m j z Z K lo hi e = record {
-      sig = m * 2 ^ (53 - z);
-      p = j + z + 969;
-      reach = le-trans (le-of-eq (sym (ap (λ (y : ℕ). 2 ^ y) (low-part z Z K)) ∙ pow-add 2 (z - 1) (53 - z))) (mul-le-mul-right (2 ^ (53 - z)) lo);
-      under = lt-of-lt-of-le (mul-lt-mul-of-pos-right hi (pow-pos (53 - z))) (le-of-eq (sym (pow-add 2 z (53 - z)) ∙ ap (λ (y : ℕ). 2 ^ y) (high-part z K)));
-      low = cap j z Z (lt-of-not-le (λ (g : 2098 ≤ z - 1 + j). not-le-of-lt (d .top) (le-trans (pow-mono g) (le-trans (le-of-eq (pow-add 2 (z - 1) j)) (le-trans (mul-le-mul-right (2 ^ j) lo) (le-of-eq (sym e)))))));
-      same =
-          ap (λ (y : ℕ). y * 2 ^ 1074) e
-          ∙ mul-assoc m (2 ^ j) (2 ^ 1074)
-          ∙ ap (λ (y : ℕ). m * y) (sym (pow-add 2 j 1074) ∙ ap (λ (y : ℕ). 2 ^ y) (all j z K) ∙ pow-add 2 (53 - z) (52 + (j + z + 969)) ∙ ap (λ (y : ℕ). 2 ^ (53 - z) * y) (pow-add 2 52 (j + z + 969)))
-          ∙ sym (mul-assoc m (2 ^ (53 - z)) (2 ^ 52 * 2 ^ (j + z + 969)))
-          ∙ sym (mul-assoc (m * 2 ^ (53 - z)) (2 ^ 52) (2 ^ (j + z + 969)));
-    }
+    go m j z Z K lo hi e =
+        let reached : 2 ^ (z - 1 + j) ≤ n = le-trans (le-of-eq (pow-add 2 (z - 1) j)) (le-trans (mul-le-mul-right (2 ^ j) lo) (le-of-eq (sym e))) in
+        record {
+          sig = m * 2 ^ (53 - z);
+          p = j + z + 969;
+          reach = le-trans (le-of-eq (sym (ap (λ (y : ℕ). 2 ^ y) (low-part z Z K)) ∙ pow-add 2 (z - 1) (53 - z))) (mul-le-mul-right (2 ^ (53 - z)) lo);
+          under =
+              lt-of-lt-of-le (mul-lt-mul-of-pos-right hi (pow-pos (53 - z)))
+              (le-of-eq (sym (pow-add 2 z (53 - z)) ∙ ap (λ (y : ℕ). 2 ^ y) (high-part z K)));
+          low = cap j z Z (lt-of-not-le (λ (g : 2098 ≤ z - 1 + j). not-le-of-lt (d .top) (le-trans (pow-mono g) reached)));
+          same =
+              ap (λ (y : ℕ). y * 2 ^ 1074) e
+              ∙ mul-assoc m (2 ^ j) (2 ^ 1074)
+              ∙ ap (λ (y : ℕ). m * y)
+              (sym (pow-add 2 j 1074)
+              ∙ ap (λ (y : ℕ). 2 ^ y) (all j z K)
+              ∙ pow-add 2 (53 - z) (52 + (j + z + 969))
+              ∙ ap (λ (y : ℕ). 2 ^ (53 - z) * y) (pow-add 2 52 (j + z + 969)))
+              ∙ sym (mul-assoc m (2 ^ (53 - z)) (2 ^ 52 * 2 ^ (j + z + 969)))
+              ∙ sym (mul-assoc (m * 2 ^ (53 - z)) (2 ^ 52) (2 ^ (j + z + 969)));
+        }
 
 either-split : (sig p : ℕ) → 2 ^ 52 ≤ sig → sig < 2 ^ 53 → (s : ℕ) × Split sig p s
 either-split sig p a b = go (p % 2) refl
@@ -154,15 +172,8 @@ pub record Rounded (x : Float) (n : ℕ) : Type 0 where
   pub value : IsUnits (root x) (Q * 2 ^ k)
   pub held : T (fits binary64 (root x))
 
-under-top : (q k : ℕ) → k < 2046 → q < 2 ^ 53 → q * 2 ^ k < 2 ^ 2098
-under-top q k h l = lt-of-lt-of-le (shl-lt 53 k l) (pow-mono room)
-  where
-    room : 53 + k ≤ 2098
-    room = omega arith
-
 units-fits : (q k : ℕ) → q < 2 ^ 53 → q * 2 ^ k < 2 ^ 2098 → T (fits binary64 (units binary64 false q k))
-unfolding units
-units-fits q k h t = rw (is-true (ltb (q * 2 ^ k) (2 ^ 2098)) (lt→ltb (q * 2 ^ k) (2 ^ 2098) t)) (odd-fits binary64 54 false q k (omega arith) (le-of-lt h) t)
+units-fits q k h t = rw (units-odd q k t) (odd-fits binary64 54 false q k (omega arith) (le-of-lt h) t)
 
 pub rounded : (x : Float) (n : ℕ) → T (fits binary64 x) → IsUnits x n → 0 < n → Rounded x n
 rounded x n f v h =
@@ -175,7 +186,7 @@ rounded x n f v h =
     let Q = picked N 1 in
     let near = picked-near N 1 (omega arith) (pow-pos 0) in
     let r = rounds (w .sig) (w .p) (sp .0) Q (w .low) (sp .1) near in
-    let top = under-top Q k (r .small) (r .under) in
+    let top = below-top Q k (r .small) (r .under) in
     let e : root x ≡ units binary64 false Q k = root-value x n v h ∙ ap rootUnits (w .same) ∙ r .is in
     record {
       N = N;
@@ -248,20 +259,23 @@ nigh N Q h = omega arith
 step-over : (N Q U c B : ℕ) → U * U ≡ c → 0 < c → NearRoot N Q → Q < B → 4 * (N * c) < (Q * U + B * U) * (Q * U + B * U)
 step-over N Q U c B e C near h =
     let l : (2 * Q + 1) * U ≤ Q * U + B * U = omega (arith, mul-le-mul-right U h) in
-    lt-of-lt-of-le (lt-of-le-of-lt (le-of-eq (sym (mul-assoc 4 N c))) (mul-lt-mul-of-pos-right (far N Q near) C)) (le-trans (le-of-eq (sym (times (2 * Q + 1) U c e))) (mul-le-mul l l))
+    lt-of-lt-of-le (lt-of-le-of-lt (le-of-eq (sym (mul-assoc 4 N c))) (mul-lt-mul-of-pos-right (far N Q near) C))
+    (le-trans (le-of-eq (sym (times (2 * Q + 1) U c e))) (mul-le-mul l l))
 
 -- b is at least one step of U below
 step-under : (N P U c b : ℕ) → U * U ≡ c → 0 < c → NearRoot N (suc P) → b ≤ P * U → (suc P * U + b) * (suc P * U + b) < 4 * (N * c)
 step-under N P U c b e C near h =
     let l : suc P * U + b ≤ (2 * P + 1) * U = omega arith in
-    lt-of-le-of-lt (mul-le-mul l l) (lt-of-le-of-lt (le-of-eq (times (2 * P + 1) U c e)) (lt-of-lt-of-le (mul-lt-mul-of-pos-right (nigh N P near) C) (le-of-eq (mul-assoc 4 N c))))
+    lt-of-le-of-lt (mul-le-mul l l)
+    (lt-of-le-of-lt (le-of-eq (times (2 * P + 1) U c e)) (lt-of-lt-of-le (mul-lt-mul-of-pos-right (nigh N P near) C) (le-of-eq (mul-assoc 4 N c))))
 
 -- below the least number of 53 digits, where the steps are finer
 least-under : (N U c b : ℕ) → U * U ≡ c → 2 ^ 104 ≤ N → b < 2 ^ 52 * U → (2 ^ 52 * U + b) * (2 ^ 52 * U + b) < 4 * (N * c)
 least-under N U c b e L h =
     let l : suc (2 ^ 52 * U + b) ≤ 2 ^ 53 * U = omega arith in
     let four-L : 2 ^ 53 * 2 ^ 53 ≤ 4 * N = omega arith in
-    lt-of-lt-of-le (more (2 ^ 52 * U + b) (mul-le-mul l l)) (le-trans (le-of-eq (times (2 ^ 53) U c e)) (le-trans (mul-le-mul-right c four-L) (le-of-eq (mul-assoc 4 N c))))
+    lt-of-lt-of-le (more (2 ^ 52 * U + b) (mul-le-mul l l))
+    (le-trans (le-of-eq (times (2 ^ 53) U c e)) (le-trans (mul-le-mul-right c four-L) (le-of-eq (mul-assoc 4 N c))))
   where
     more : (a : ℕ) {d : ℕ} → suc a * suc a ≤ d → a * a < d
     more a h = omega arith

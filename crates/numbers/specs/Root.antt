@@ -1,4 +1,5 @@
--- The square root of an f64 as IEEE 754 has it: the exact root rounded once, to the nearest double. Definitions only; specs/Nearest.antt proves that it is the nearest, specs/Table.antt computes some.
+-- The square root of an f64 as IEEE 754 has it: the exact root rounded once, to the nearest double. Definitions only; specs/Nearest.antt
+-- proves that it is the nearest, and specs/Table.antt computes some.
 use mathlib.Core.Path.{_≡_}
 use mathlib.Core.Bool.{true, false, cond}
 use Prim.Native.Nat.{ℕ, zero, suc, _+_, _-_, _*_, _/_, _^_, _≤_, _<_, compare}
@@ -22,8 +23,8 @@ rootSize n = (size n + 1) / 2
 abbrev pub isqrt : ℕ → ℕ
 isqrt n = isqrtIn (rootSize n) n
 
--- √n units, rounded; a unit is the smallest double above 0, 2 ^ -1074. The 53 leading digits of the root are kept and k are dropped. q is the whole part of √n / 2 ^ k, which is compared with q + 1/2
--- by the squares of their doubles.
+-- √n units, rounded; a unit is the smallest double above 0, 2 ^ -1074. The 53 leading digits of the root are kept and k are dropped.
+-- q is the whole part of √n / 2 ^ k, which is compared with q + 1/2 by the squares of their doubles.
 unfoldable pub rootUnits : ℕ → Float
 rootUnits n =
     let k = rootSize n - 53 in

@@ -1,11 +1,14 @@
--- How `root` and `rootUnits` round: √(N * 4 ^ k) units, for an N of 105 or 106 digits, are Q * 2 ^ k units, where Q is the whole number nearest to √N. Assumes nothing.
+-- How `root` and `rootUnits` round: √(N * 4 ^ k) units, for an N of 105 or 106 digits, are Q * 2 ^ k units, where Q is the whole
+-- number nearest to √N. Assumes nothing.
 use mathlib.Core.Path.{_≡_, refl, sym, ap, _∙_, subst}
 use mathlib.Core.Bool.{true, false, true≢false, false≢true}
 use Prim.Native.Nat.{ℕ, zero, suc, _+_, _-_, _*_, _/_, _%_, _^_, _≤_, _<_, compare}
 use native.Mathlib.Nat.{le-trans, le-of-eq, le-of-suc-le-suc, lt-of-lt-of-le, lt-of-not-le, lt-irrefl, not-le-of-lt, zero-mul, mul-assoc, mul-pos, mul-right-comm, mul-div-cancel, mul-le-mul-right, mul-lt-mul-of-pos-right, pow-succ'}
 use native.Mathlib.Omega.{arith}
-use lib.Pow.{pow-add, pow-mono}
-use lib.Ieee.{Float, nan, inf, fin, binary64, up, down, size, nearest, units}
+use lib.Dec.{ltb, lt→ltb}
+use lib.Pow.{pow-add, pow-mono, shl-lt}
+use lib.Ieee.{Float, nan, inf, fin, binary64, up, down, odd, size, nearest, units}
+use lib.Ieee.Bits.{is-true}
 use lib.Ieee.Digits.{size-lt, size-le}
 use lib.Ieee.Exact.{HasValue}
 use lib.Ieee.Fits.{down-pos}
@@ -29,7 +32,10 @@ root-value (fin s zero e) a v h = absurd (zero-units a (down e) (up e) (down-pos
 root-value (fin true (suc m) e) a v h = absurd (true≢false (v .0))
 root-value (fin false (suc m) e) a v h =
     ap (λ (y : ℕ). rootUnits (y / down e))
-    (ap (λ (y : ℕ). suc m * up e * y) (pow-add 2 1074 1074) ∙ sym (mul-assoc (suc m * up e) (2 ^ 1074) (2 ^ 1074)) ∙ ap (λ (y : ℕ). y * 2 ^ 1074) (v .1) ∙ mul-right-comm a (down e) (2 ^ 1074))
+    (ap (λ (y : ℕ). suc m * up e * y) (pow-add 2 1074 1074)
+    ∙ sym (mul-assoc (suc m * up e) (2 ^ 1074) (2 ^ 1074))
+    ∙ ap (λ (y : ℕ). y * 2 ^ 1074) (v .1)
+    ∙ mul-right-comm a (down e) (2 ^ 1074))
     ∙ ap rootUnits (mul-div-cancel (a * 2 ^ 1074) (down-pos e))
 
 pub root-minus : (x : Float) (a : ℕ) → HasValue x true a (2 ^ 1074) → 0 < a → root x ≡ nan
@@ -58,15 +64,19 @@ dropped N k lo hi =
     halved : (z k : ℕ) → 104 + (k + k) < z → z ≤ 106 + (k + k) → (z + 1) / 2 - 53 ≡ k
     halved z k a b = omega arith
 
-rootUnits-is : (n k : ℕ) → rootSize n - 53 ≡ k → rootUnits n ≡ units binary64 false (nearest (isqrt (n / 4 ^ k)) (compare (4 * n) ((2 * isqrt (n / 4 ^ k) + 1) * (2 * isqrt (n / 4 ^ k) + 1) * 4 ^ k))) k
+-- `rootUnits n`, with k digits dropped, from the whole number m whose root is kept
+abbrev keeping : ℕ → ℕ → ℕ → Float
+keeping n k m = let q = isqrt m in units binary64 false (nearest q (compare (4 * n) ((2 * q + 1) * (2 * q + 1) * 4 ^ k))) k
+
+rootUnits-is : (n k : ℕ) → rootSize n - 53 ≡ k → rootUnits n ≡ keeping n k (n / 4 ^ k)
 unfolding rootUnits
-rootUnits-is n k e = ap (λ (j : ℕ). units binary64 false (nearest (isqrt (n / 4 ^ j)) (compare (4 * n) ((2 * isqrt (n / 4 ^ j) + 1) * (2 * isqrt (n / 4 ^ j) + 1) * 4 ^ j))) j) e
+rootUnits-is n k e = ap (λ (j : ℕ). keeping n j (n / 4 ^ j)) e
 
 pub root-near : (N k Q : ℕ) → 2 ^ 104 ≤ N → N < 2 ^ 106 → NearRoot N Q → rootUnits (N * 4 ^ k) ≡ units binary64 false Q k
 root-near N k Q lo hi near =
     let c = 4 ^ k in
     rootUnits-is (N * c) k (dropped N k lo hi)
-    ∙ ap (λ (y : ℕ). units binary64 false (nearest (isqrt y) (compare (4 * (N * c)) ((2 * isqrt y + 1) * (2 * isqrt y + 1) * c))) k) (mul-div-cancel N (four-pos k))
+    ∙ ap (keeping (N * c) k) (mul-div-cancel N (four-pos k))
     ∙ ap (λ (y : ℕ). units binary64 false y k) (near-unique N (picked N c) Q (picked-near N c (omega arith) (four-pos k)) near)
 
 -- ---- N is s * 2 ^ 52: s are the digits of a normal double, doubled where the power of two is odd
@@ -78,7 +88,11 @@ pub record Split (sig p s : ℕ) : Type 0 where
   pub same : sig * 2 ^ 52 * 2 ^ p ≡ s * 2 ^ 52 * 4 ^ (p / 2)
 
 pub split-even : (sig p : ℕ) → 2 ^ 52 ≤ sig → sig < 2 ^ 53 → p % 2 ≡ 0 → Split sig p sig
-split-even sig p a b h = record { least = a; most = omega arith; same = ap (λ (x : ℕ). sig * 2 ^ 52 * x) (ap (λ (x : ℕ). 2 ^ x) (e p h) ∙ four-pow (p / 2)) }
+split-even sig p a b h = record {
+  least = a;
+  most = omega arith;
+  same = ap (λ (x : ℕ). sig * 2 ^ 52 * x) (ap (λ (x : ℕ). 2 ^ x) (e p h) ∙ four-pow (p / 2));
+}
   where
     e : (p : ℕ) → p % 2 ≡ 0 → p ≡ p / 2 + p / 2
     e p h = omega arith
@@ -87,7 +101,9 @@ pub split-odd : (sig p : ℕ) → 2 ^ 52 ≤ sig → sig < 2 ^ 53 → (p % 2 ≡
 split-odd sig p a b h = record {
   least = omega arith;
   most = omega arith;
-  same = ap (λ (x : ℕ). sig * 2 ^ 52 * x) (ap (λ (x : ℕ). 2 ^ x) (e p h) ∙ pow-succ' 2 (p / 2 + p / 2) ∙ ap (λ (x : ℕ). 2 * x) (four-pow (p / 2))) ∙ shift (4 ^ (p / 2));
+  same =
+      ap (λ (x : ℕ). sig * 2 ^ 52 * x) (ap (λ (x : ℕ). 2 ^ x) (e p h) ∙ pow-succ' 2 (p / 2 + p / 2) ∙ ap (λ (x : ℕ). 2 * x) (four-pow (p / 2)))
+      ∙ shift (4 ^ (p / 2));
 }
   where
     e : (p : ℕ) → (p % 2 ≡ 0 → ⊥) → p ≡ suc (p / 2 + p / 2)
@@ -120,4 +136,20 @@ pub rounds : (sig p s Q : ℕ) → p ≤ 3067 → Split sig p s → NearRoot (s 
 rounds sig p s Q h k n =
     let a = k .least in
     let b = k .most in
-    record { is = ap rootUnits (k .same) ∙ root-near (s * 2 ^ 52) (p / 2) Q (omega arith) (omega arith) n; small = omega arith; reach = at-least s Q a n; under = below s Q b n }
+    record {
+      is = ap rootUnits (k .same) ∙ root-near (s * 2 ^ 52) (p / 2) Q (omega arith) (omega arith) n;
+      small = omega arith;
+      reach = at-least s Q a n;
+      under = below s Q b n;
+    }
+
+-- such digits at such a place are no infinity
+pub below-top : (q k : ℕ) → k < 2046 → q < 2 ^ 53 → q * 2 ^ k < 2 ^ 2098
+below-top q k h l = lt-of-lt-of-le (shl-lt 53 k l) (pow-mono room)
+  where
+    room : 53 + k ≤ 2098
+    room = omega arith
+
+pub units-odd : (q k : ℕ) → q * 2 ^ k < 2 ^ 2098 → units binary64 false q k ≡ odd 54 false q k 1074
+unfolding units
+units-odd q k h = rw (is-true (ltb (q * 2 ^ k) (2 ^ 2098)) (lt→ltb (q * 2 ^ k) (2 ^ 2098) h))

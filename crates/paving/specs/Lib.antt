@@ -4,4 +4,5 @@ pub mod Attempted
 pub mod Advance
 pub mod Loops
 pub mod Reach
+pub mod ReachLaws
 pub mod Run

@@ -6,8 +6,8 @@ use mathlib.Core.Path.{_≡_, refl, sym, _∙_, ap, ap₂}
 use native.Mathlib.Omega.{arith}
 use lib.IntN.{ℤ, pos, negsuc, negℤ, _+ℤ_, +ℤ-assoc, +ℤ-comm, +ℤ-idl, +ℤ-idr, +ℤ-invr, negℤ-+ℤ, pos-+ℤ-pos}
 use Rattle.topology.specs.Sums.{total, pathSum, loopSum, frontSum}
-use Rattle.topology.specs.Changes.{removed, added}
-use Rattle.topology.specs.Placing.{Kind, reused, fresh, placing, After}
+use Rattle.topology.specs.Changes.{removed, added, Changed}
+use Rattle.topology.specs.Placing.{Kind, reused, fresh, placing}
 
 -- ---- sums over ℤ
 
@@ -38,7 +38,8 @@ Antisymmetric w = (u v : ℕ) → w v u ≡ negℤ (w u v)
 
 -- ---- differences of natural numbers
 
-difference : ℕ → ℕ → ℤ
+-- a − b
+unfoldable pub difference : ℕ → ℕ → ℤ
 difference a b = pos a +ℤ negℤ (pos b)
 
 swap : (a b c d : ℤ) → (a +ℤ b) +ℤ (c +ℤ d) ≡ (a +ℤ c) +ℤ (b +ℤ d)
@@ -47,7 +48,7 @@ swap a b c d =
     ∙ (ap (λ (z : ℤ). a +ℤ z) (sym (+ℤ-assoc b c d) ∙ (ap (λ (z : ℤ). z +ℤ d) (+ℤ-comm b c) ∙ +ℤ-assoc c b d))
     ∙ sym (+ℤ-assoc a c (b +ℤ d)))
 
-difference-add : (a b c d : ℕ) → difference a b +ℤ difference c d ≡ difference (a + c) (b + d)
+pub difference-add : (a b c d : ℕ) → difference a b +ℤ difference c d ≡ difference (a + c) (b + d)
 unfolding difference
 difference-add a b c d =
     swap (pos a) (negℤ (pos b)) (pos c) (negℤ (pos d))
@@ -67,7 +68,7 @@ difference-same a b c d e =
     ∙ (ap (λ (n : ℕ). difference n (b + d)) e ∙ (ap (λ (n : ℕ). difference (c + b) n) (omega arith) ∙ cancel c d b))
 
 -- the part above 0
-above : ℤ → ℕ
+unfoldable pub above : ℤ → ℕ
 above (pos n) = n
 above (negsuc n) = 0
 
@@ -77,9 +78,15 @@ parts (pos zero) y e = rw e
 parts (pos (suc n)) y e = rw e (sym (+ℤ-idr (pos (suc n))))
 parts (negsuc n) y e = rw e (sym (+ℤ-idl (negsuc n)))
 
--- ---- the theorem
+-- ---- an antisymmetric weight is a difference of two weights
 
-abbrev flip : (ℕ → ℕ → ℕ) → ℕ → ℕ → ℕ
+-- what w has above 0
+unfoldable pub gain : (ℕ → ℕ → ℤ) → ℕ → ℕ → ℕ
+unfolding above
+gain w u v = above (w u v)
+
+-- the weight of the edge reversed
+abbrev pub flip : (ℕ → ℕ → ℕ) → ℕ → ℕ → ℕ
 flip p u v = p v u
 
 abbrev quadSum : (ℕ → ℕ → ℕ) → ℕ → ℕ → ℕ → ℕ → ℕ
@@ -94,41 +101,40 @@ sides fresh reused p a b c d = omega arith
 sides fresh fresh p a b c d = omega arith
 
 module _ (w : ℕ → ℕ → ℤ) (anti : Antisymmetric w) where
-  gain : ℕ → ℕ → ℕ
-  gain u v = above (w u v)
-
-  weight-is : (u v : ℕ) → w u v ≡ difference (gain u v) (gain v u)
+  pub weight-is : (u v : ℕ) → w u v ≡ difference (gain w u v) (flip (gain w) u v)
   unfolding gain
   weight-is u v = parts (w u v) (w v u) (anti u v)
 
-  path-is : (u : ℕ) (vs : List ℕ) (z : ℕ) → pathSumℤ w u vs z ≡ difference (pathSum gain u vs z) (pathSum (flip gain) u vs z)
+  path-is : (u : ℕ) (vs : List ℕ) (z : ℕ) → pathSumℤ w u vs z ≡ difference (pathSum (gain w) u vs z) (pathSum (flip (gain w)) u vs z)
   unfolding pathSumℤ pathSum
   path-is u [] z = weight-is u z
   path-is u (v ∷ vs) z = rw (weight-is u v, path-is v vs z) (difference-add _ _ _ _)
 
-  loop-is : (l : List ℕ) → loopSumℤ w l ≡ difference (loopSum gain l) (loopSum (flip gain) l)
+  loop-is : (l : List ℕ) → loopSumℤ w l ≡ difference (loopSum (gain w) l) (loopSum (flip (gain w)) l)
   unfolding loopSumℤ loopSum
   loop-is [] = sym difference-zero
   loop-is (x ∷ xs) = path-is x xs x
 
-  front-is : (ls : List (List ℕ)) → frontSumℤ w ls ≡ difference (frontSum gain ls) (frontSum (flip gain) ls)
+  pub front-is : (ls : List (List ℕ)) → frontSumℤ w ls ≡ difference (frontSum (gain w) ls) (frontSum (flip (gain w)) ls)
   unfolding frontSumℤ total
   front-is [] = sym difference-zero
   front-is (l ∷ ls) = rw (loop-is l, front-is ls) (difference-add _ _ _ _)
 
-  quad-is : (a b d c : ℕ) → quadSumℤ w a b d c ≡ difference (quadSum gain a b d c) (quadSum (flip gain) a b d c)
+  quad-is : (a b d c : ℕ) → quadSumℤ w a b d c ≡ difference (quadSum (gain w) a b d c) (quadSum (flip (gain w)) a b d c)
   quad-is a b d c = rw (weight-is a b, weight-is b d, weight-is d c, weight-is c a, difference-add, difference-add, difference-add) refl
 
+  -- ---- the theorem
+
   -- the front before is the quad and the front after
-  pub balance : (kc kd : Kind) (n a b c d : ℕ) (ls : List (List ℕ)) (next prev : List ℕ) (A : After kc kd n a b c d ls next prev)
-      → frontSumℤ w ls ≡ quadSumℤ w a b d c +ℤ frontSumℤ w (A .loops)
-  balance kc kd n a b c d ls next prev A =
-      rw (front-is ls, quad-is a b d c, front-is (A .loops), difference-add)
+  pub balance : (kc kd : Kind) (n a b c d : ℕ) (next prev : List ℕ) (ls ms : List (List ℕ))
+      → Changed n next prev ls ms (placing kc kd a b c d) → frontSumℤ w ls ≡ quadSumℤ w a b d c +ℤ frontSumℤ w ms
+  balance kc kd n a b c d next prev ls ms H =
+      rw (front-is ls, quad-is a b d c, front-is ms, difference-add)
       (difference-same _ _ _ _
       (omega (
         arith,
-        A .sums gain,
-        A .sums (flip gain),
-        sides kc kd gain a b c d,
-        sides kc kd (flip gain) a b c d,
+        H .sums (gain w),
+        H .sums (flip (gain w)),
+        sides kc kd (gain w) a b c d,
+        sides kc kd (flip (gain w)) a b c d,
       )))

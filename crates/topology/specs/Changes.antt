@@ -1,14 +1,15 @@
 -- Changes of the front: edges are removed and added one by one, as `remove_front` and `add_front` do, and links that matched the
 -- loops before match other loops after, where the sums over the edges say so.
-use Prim.Native.Nat.{ℕ, zero, suc, _+_, _<_, _≤_}
+use Prim.Native.Nat.{ℕ, _+_, _<_, _≤_}
 use mathlib.Core.List.{List, [], _∷_}
-use mathlib.Core.Path.{_≡_, refl, sym, _∙_, ap}
+use mathlib.Core.Path.{_≡_, refl, _∙_, ap}
 use mathlib.Core.Logic.{_≢_}
 use native.Mathlib.Omega.{arith}
-use lib.ListN.{length, set, length-set}
-use Rattle.topology.specs.Sums.{All, total, frontSum, Even}
+use lib.ListN.{length, set, drop, length-set}
+use lib.Seq.{drop-set-lt}
+use Rattle.topology.specs.Sums.{All, frontSum, Even}
 use Rattle.topology.specs.Links.{off, delta, at, linkOf, update, at-other, at-off, at-flip, update-law, link-set, link-more, link-out}
-use Rattle.topology.specs.Front.{Loops, Front, FrontOf}
+use Rattle.topology.specs.Front.{Front, FrontOf}
 
 -- ---- definitions
 
@@ -92,7 +93,18 @@ stored-links n l (remove u v ∷ cs) i h =
 stored-links n l (add u v ∷ cs) i h =
     stored-links n (set l u v) cs (i .1) (rw length-set h) ∙ ap (stored update cs) (link-set n l u v (i .0 .0) h)
 
--- ---- the theorem
+pub stored-length : (cs : List Change) (l : List ℕ) → length (stored set cs l) ≡ length l
+stored-length [] l = refl
+stored-length (remove u v ∷ cs) l = stored-length cs (set l u off) ∙ length-set l u off
+stored-length (add u v ∷ cs) l = stored-length cs (set l u v) ∙ length-set l u v
+
+-- places past the first n keep their contents
+pub stored-past : (n : ℕ) (cs : List Change) (l : List ℕ) → All (Within n) cs → drop n (stored set cs l) ≡ drop n l
+stored-past n [] l i = refl
+stored-past n (remove u v ∷ cs) l i = stored-past n cs (set l u off) (i .1) ∙ drop-set-lt n l u off (i .0 .0)
+stored-past n (add u v ∷ cs) l i = stored-past n cs (set l u v) (i .1) ∙ drop-set-lt n l u v (i .0 .0)
+
+-- ---- nodes off the front
 
 -- a node of the first n that has no link, to it or from it
 pub record OffFront (n : ℕ) (f g : ℕ → ℕ) (u : ℕ) : Type 0 where
@@ -100,7 +112,7 @@ pub record OffFront (n : ℕ) (f g : ℕ → ℕ) (u : ℕ) : Type 0 where
   pub next : f u ≡ off
   pub prev : g u ≡ off
 
--- one node more, off the front
+-- one node more: the front stays as it is
 pub grown : (n : ℕ) (next prev : List ℕ) (ls : List (List ℕ)) → FrontOf n next prev ls → n < off → n < length next → n < length prev
     → FrontOf (n + 1) (set next n off) (set prev n off) ls
 grown n next prev ls F few hn hp =
@@ -111,18 +123,37 @@ grown n next prev ls F few hn hp =
       prevs = F .prevs;
     })
 
+-- and that node is off it
 pub grown-off : (n : ℕ) (next prev : List ℕ) → n < length next → n < length prev
     → OffFront (n + 1) (linkOf (n + 1) (set next n off)) (linkOf (n + 1) (set prev n off)) n
 grown-off n next prev hn hp =
     rw (link-more n next hn, link-more n prev hp)
     (record { node = omega arith; next = link-out n next n (omega arith); prev = link-out n prev n (omega arith) })
 
--- loops whose edges are those of ls but for the changes are the loops of the changed links
-pub changed : (n : ℕ) (f g : ℕ → ℕ) (ls ms : List (List ℕ)) (cs : List Change) → Front n f g ls
+-- as any other that was off it
+pub off-kept : (n : ℕ) (next prev : List ℕ) (u : ℕ) → n < length next → n < length prev
+    → OffFront n (linkOf n next) (linkOf n prev) u
+    → OffFront (n + 1) (linkOf (n + 1) (set next n off)) (linkOf (n + 1) (set prev n off)) u
+off-kept n next prev u hn hp o =
+    rw (link-more n next hn, link-more n prev hp) (record { node = omega (arith, o .node); next = o .next; prev = o .prev })
+
+-- ---- the theorem
+
+-- What changes leave: the loops ms where ls were.
+pub record Changed (n : ℕ) (next prev : List ℕ) (ls ms : List (List ℕ)) (cs : List Change) : Type 0 where
+  -- each change is of nodes, and can be made at its turn
+  pub within : All (Within n) cs
+  pub steps : Valid (linkOf n next) cs
+  -- whatever is summed over the edges: the loops after and what came off are the loops before and what went on
+  pub sums : (w : ℕ → ℕ → ℕ) → frontSum w ms + removed w cs ≡ frontSum w ls + added w cs
+  -- the links after are inverse to each other, and are those of the loops after, which are even
+  pub front : FrontOf n (stored set cs next) (stored set (reversed cs) prev) ms
+
+links-changed : (n : ℕ) (f g : ℕ → ℕ) (ls ms : List (List ℕ)) (cs : List Change) → Front n f g ls
     → All (Within n) cs → Valid f cs → Valid g (reversed cs) → All Even ms
     → ((w : ℕ → ℕ → ℕ) → frontSum w ms + removed w cs ≡ frontSum w ls + added w cs)
     → Front n (stored update cs f) (stored update (reversed cs) g) ms
-changed n f g ls ms cs F i vf vg evens sums =
+links-changed n f g ls ms cs F i vf vg evens sums =
     let L = F .loops in
     record {
       loops = record {
@@ -142,12 +173,18 @@ changed n f g ls ms cs F i vf vg evens sums =
           );
     }
 
--- the same for lists of links
-pub changed-lists : (n : ℕ) (next prev : List ℕ) (ls ms : List (List ℕ)) (cs : List Change) → FrontOf n next prev ls
+-- even loops whose edges are those of ls but for the changes are the loops of the changed links
+pub changed : (n : ℕ) (next prev : List ℕ) (ls ms : List (List ℕ)) (cs : List Change) → FrontOf n next prev ls
     → n ≤ length next → n ≤ length prev
     → All (Within n) cs → Valid (linkOf n next) cs → Valid (linkOf n prev) (reversed cs) → All Even ms
     → ((w : ℕ → ℕ → ℕ) → frontSum w ms + removed w cs ≡ frontSum w ls + added w cs)
-    → FrontOf n (stored set cs next) (stored set (reversed cs) prev) ms
-changed-lists n next prev ls ms cs F hn hp i vf vg evens sums =
-    rw (stored-links n next cs i hn, stored-links n prev (reversed cs) (within-reversed n cs i) hp)
-    (changed n (linkOf n next) (linkOf n prev) ls ms cs F i vf vg evens sums)
+    → Changed n next prev ls ms cs
+changed n next prev ls ms cs F hn hp i vf vg evens sums =
+    record {
+      within = i;
+      steps = vf;
+      sums = sums;
+      front =
+          rw (stored-links n next cs i hn, stored-links n prev (reversed cs) (within-reversed n cs i) hp)
+          (links-changed n (linkOf n next) (linkOf n prev) ls ms cs F i vf vg evens sums);
+    }

@@ -1,12 +1,12 @@
 -- The front: links to the next node and to the one before, and the loops whose edges are exactly these links. The loops stand in
 -- the specification alone: nothing stores them. What a link says of the loops, and what an edge of the loops says of the links.
-use Prim.Native.Nat.{ℕ, zero, suc, _+_, _<_, _≤_, _%_}
+use Prim.Native.Nat.{ℕ, zero, suc, _+_, _<_, _≤_}
 use mathlib.Core.List.{List, [], _∷_, _++_}
 use mathlib.Core.Path.{_≡_, refl, sym, _∙_, ap}
 use mathlib.Core.Bool.{Bool, true, false}
 use mathlib.Core.Logic.{_≢_}
 use native.Mathlib.Omega.{arith}
-use lib.ListN.{length, length-append}
+use lib.ListN.{length}
 use lib.Dec.{eqb, ltb}
 use borrow.Author.Tests.{eqb-true, eqb-false, ltb-true, ltb-false}
 use Rattle.topology.specs.Sums.{All, total, pathSum, loopSum, frontSum, one, Even, path-append, rotate, loop-one}
@@ -115,6 +115,19 @@ edge-first a b (l ∷ ls) e h = by (loopSum (at a b) l) refl (edge-first a b ls 
           evens = (record { even = rw long at (e .0 .even); two = omega arith }, e .1);
         }
 
+-- a list is empty, or has a last entry
+pub data Last : List ℕ → Type 0 where
+  empty : Last []
+  last : (xs : List ℕ) (x : ℕ) → Last (xs ++ x ∷ [])
+
+pub lastOf : (xs : List ℕ) → Last xs
+lastOf [] = empty
+lastOf (x ∷ xs) = by (lastOf xs)
+  where
+    by : {xs : List ℕ} → Last xs → Last (x ∷ xs)
+    by empty = last [] x
+    by (last ys y) = last (x ∷ ys) y
+
 -- from the first node of a path an edge goes out, and into the last one comes in
 pub out-edge : (u : ℕ) (vs : List ℕ) (z : ℕ) → 0 < pathSum (at u (headOr z vs)) u vs z
 unfolding pathSum
@@ -139,6 +152,7 @@ loops-same n f ls ms same evens L =
     }
 
 module _ (n : ℕ) (f : ℕ → ℕ) (ls : List (List ℕ)) (L : Loops n f ls) where
+  -- an edge begins and ends at nodes
   pub source : (u v : ℕ) → 0 < frontSum (at u v) ls → u < n
   source u v h = by (ltb u n) refl
     where
@@ -157,16 +171,19 @@ module _ (n : ℕ) (f : ℕ → ℕ) (ls : List (List ℕ)) (L : Loops n f ls) w
   pub target : (u v : ℕ) → 0 < frontSum (at u v) ls → v < n
   target u v h = let e = onward u v h in source v (e .0) (e .1)
 
+  -- an edge is a link
   pub edge-next : (u v : ℕ) → 0 < frontSum (at u v) ls → f u ≡ v
   edge-next u v h = delta-is (f u) v (omega (arith, L .nexts u v (omega (arith, target u v h, L .few))))
 
+  -- and stands in the loops once
   pub edge-once : (u v : ℕ) → v ≢ off → frontSum (at u v) ls ≤ 1
   edge-once u v h = omega (arith, L .nexts u v h, delta-le (f u) v)
 
+  -- a link is an edge
   pub next-edge : (u v : ℕ) → v ≢ off → f u ≡ v → frontSum (at u v) ls ≡ 1
   next-edge u v h e = L .nexts u v h ∙ delta-same (f u) v e
 
-  -- a link is `off` or a node
+  -- a link that is not `off` is a node
   pub next-in : (u : ℕ) → f u ≢ off → f u < n
   next-in u h = target u (f u) (omega (arith, next-edge u (f u) h refl))
 
@@ -177,6 +194,7 @@ module _ (n : ℕ) (f : ℕ → ℕ) (ls : List (List ℕ)) (L : Loops n f ls) w
       let o = onward u v (omega (arith, next-edge u v h refl)) in
       omega (arith, e, edge-next v (o .0) (o .1), target v (o .0) (o .1), L .few)
 
+  -- links are ids or `off`
   pub next-le : (u : ℕ) → f u ≤ off
   next-le u = by (eqb (f u) off) refl
     where
@@ -206,21 +224,9 @@ module _ (n : ℕ) (f : ℕ → ℕ) (ls : List (List ℕ)) (L : Loops n f ls) w
       let s = edge-first u (f u) ls (L .evens) (omega (arith, next-edge u (f u) h refl)) in
       omega (arith, s .same one, loop-one (u ∷ f u ∷ s .rest))
 
-  -- the links are the only ones with these loops
-  pub links-same : (h : ℕ → ℕ) → ((u v : ℕ) → v ≢ off → frontSum (at u v) ls ≡ delta (h u) v) → (u : ℕ) → h u ≡ f u
-  links-same h nexts u = by (eqb (f u) off) refl (eqb (h u) off) refl
-    where
-      by : (s : Bool) → eqb (f u) off ≡ s → (t : Bool) → eqb (h u) off ≡ t → h u ≡ f u
-      by true p true q = eqb-true (h u) off q ∙ sym (eqb-true (f u) off p)
-      by true p false q =
-          let no = eqb-false (h u) off q in
-          sym (delta-is (f u) (h u) (omega (arith, nexts u (h u) no, L .nexts u (h u) no, delta-same (h u) (h u) refl)))
-      by false p t q =
-          let no = eqb-false (f u) off p in
-          delta-is (h u) (f u) (omega (arith, nexts u (f u) no, L .nexts u (f u) no, delta-same (f u) (f u) refl))
-
 -- ---- the links and the links back are inverse to each other
 
+-- loops with the same edges are as good
 pub front-same : (n : ℕ) (f g : ℕ → ℕ) (ls ms : List (List ℕ)) → ((w : ℕ → ℕ → ℕ) → frontSum w ls ≡ frontSum w ms) → All Even ms
     → Front n f g ls → Front n f g ms
 front-same n f g ls ms same evens F =
@@ -236,7 +242,22 @@ module _ (n : ℕ) (f g : ℕ → ℕ) (ls : List (List ℕ)) (F : Front n f g l
   pub next-of-prev : (u v : ℕ) → u ≢ off → g v ≡ u → f u ≡ v
   next-of-prev u v h e = edge-next n f ls (F .loops) u v (omega (arith, F .prevs u v h, delta-same (g v) u e))
 
+  -- a link back that is not `off` is a node, and goes from a node
   pub prev-in : (v : ℕ) → g v ≢ off → (g v < n) × (v < n)
   prev-in v h =
       let p : 0 < frontSum (at (g v) v) ls = omega (arith, F .prevs (g v) v h, delta-same (g v) (g v) refl) in
       (source n f ls (F .loops) (g v) v p, target n f ls (F .loops) (g v) v p)
+
+  -- a node with a link has a link to it
+  pub prev-next : (u : ℕ) → f u ≢ off → g u ≢ off
+  unfolding total loopSum pathSum
+  prev-next u h =
+      let s = edge-first u (f u) ls (F .loops .evens) (omega (arith, next-edge n f ls (F .loops) u (f u) h refl)) in
+      by (lastOf (s .rest)) (s .others) (s .same)
+    where
+      into : (v : ℕ) → 0 < frontSum (at v u) ls → g u ≢ off
+      into v p e = omega (arith, e, edge-prev v u p, source n f ls (F .loops) v u p, F .loops .few)
+
+      by : {R : List ℕ} → Last R → (LS : List (List ℕ)) → ((w : ℕ → ℕ → ℕ) → frontSum w ls ≡ frontSum w ((u ∷ f u ∷ R) ∷ LS)) → g u ≢ off
+      by empty LS same = into (f u) (omega (arith, same (at (f u) u), at-self (f u) u))
+      by (last M m) LS same = into m (omega (arith, same (at m u), in-edge (f u) M m u))

@@ -11,8 +11,8 @@ use borrow.Author.Tests.{eqb-true, eqb-false, ltb-true, ltb-false, lt-ltb, le-lt
 use Rattle.laws.specs.Loop.{forUp}
 use Rattle.topology.specs.Sums.{All, total, loopSum, frontSum, Even, total-ext}
 use Rattle.topology.specs.Front.{Loops, loops-same}
-use Rattle.topology.specs.Walk.{walkBy, count, least, turnTo, loopFrom, Ring}
-use Rattle.topology.specs.Walk.{least-counts, turn-sum, turn-length, rings, once, nodes, from-none, walk-loop}
+use Rattle.topology.specs.Walk.{walkBy, count, least, turnTo, loopFrom, Cycle}
+use Rattle.topology.specs.Walk.{least-counts, turn-sum, turn-length, cycles, once, nodes, from-none, walk-loop}
 
 -- ---- definitions
 
@@ -76,7 +76,7 @@ below-suc x n a = by (ltb x n) refl (eqb x n) refl
 
 -- p of the loop from u is p of the loops whose smallest id is u: there is one at most
 total-from : (f : ℕ → ℕ) (p : List ℕ → ℕ) → p [] ≡ 0 → ((u : ℕ) (l : List ℕ) → p (turnTo u l) ≡ p l) → (u : ℕ) (ls : List (List ℕ))
-    → All (Ring f) ls → total (count u) ls ≤ 1 → p (loopFrom u ls) ≡ total (λ l. cond (eqb (least l) u) (p l) 0) ls
+    → All (Cycle f) ls → total (count u) ls ≤ 1 → p (loopFrom u ls) ≡ total (λ l. cond (eqb (least l) u) (p l) 0) ls
 unfolding loopFrom total
 total-from f p z turn u [] r c = z
 total-from f p z turn u (l ∷ ls) r c = by (eqb (least l) u) refl (total-from f p z turn u ls (r .1) (omega arith))
@@ -90,7 +90,7 @@ total-from f p z turn u (l ∷ ls) r c = by (eqb (least l) u) refl (total-from f
     by false e later = omega (arith, later)
 
 module _ (f : ℕ → ℕ) (k : ℕ) (r : List ℕ → ℕ) (turn : (u : ℕ) (l : List ℕ) → r (turnTo u l) ≡ r l)
-    (ls : List (List ℕ)) (R : All (Ring f) ls) where
+    (ls : List (List ℕ)) (R : All (Cycle f) ls) where
   listed-turn : (u : ℕ) (l : List ℕ) → ifListed (suc k) r (turnTo u l) ≡ ifListed (suc k) r l
   unfolding ifListed
   listed-turn u l = rw (turn-length u l, turn u l)
@@ -117,7 +117,7 @@ module _ (f : ℕ → ℕ) (k : ℕ) (r : List ℕ → ℕ) (turn : (u : ℕ) (l
       )
 
 -- and that is every loop, where all ids are below n
-total-within : (f : ℕ → ℕ) (n : ℕ) (p : List ℕ → ℕ) (ls : List (List ℕ)) → All (Ring f) ls → ((v : ℕ) → 0 < total (count v) ls → v < n)
+total-within : (f : ℕ → ℕ) (n : ℕ) (p : List ℕ → ℕ) (ls : List (List ℕ)) → All (Cycle f) ls → ((v : ℕ) → 0 < total (count v) ls → v < n)
     → total (λ l. cond (ltb (least l) n) (p l) 0) ls ≡ total p ls
 unfolding total
 total-within f n p [] R nodes = refl
@@ -127,8 +127,8 @@ total-within f n p (l ∷ ls) R nodes =
 
 -- ---- what is listed
 
--- every loop of a ring has a node
-listed-all : (f : ℕ → ℕ) (r : List ℕ → ℕ) (ls : List (List ℕ)) → All (Ring f) ls → total (ifListed 1 r) ls ≡ total r ls
+-- every cycle has a node, so none is too short to be listed among those of one or more
+listed-all : (f : ℕ → ℕ) (r : List ℕ → ℕ) (ls : List (List ℕ)) → All (Cycle f) ls → total (ifListed 1 r) ls ≡ total r ls
 unfolding total ifListed
 listed-all f r [] R = refl
 listed-all f r ([] ∷ ls) R = absurd (R .0)
@@ -166,14 +166,22 @@ unfolding total ifListed
 short [] E z = tt
 short (l ∷ ls) E z = by (leb 3 (length l)) refl (short ls (E .1))
   where
-    by : (b : Bool) → leb 3 (length l) ≡ b → (total (ifListed 3 (λ l. 1)) ls ≡ 0 → All (λ l. length l ≡ 2) ls) → All (λ l. length l ≡ 2) (l ∷ ls)
+    by : (b : Bool) → leb 3 (length l) ≡ b → (total (ifListed 3 (λ l. 1)) ls ≡ 0 → All (λ l. length l ≡ 2) ls)
+        → All (λ l. length l ≡ 2) (l ∷ ls)
     by true e later = absurd (omega (arith, rw e at z))
     by false e later = (omega (arith, leb-false 3 (length l) e, E .0 .two), later (omega (arith, z)))
 
--- ---- the theorems: ls are the loops of the links f, and have m edges at most
+-- ---- the theorems
 
+-- ms lists the loops ls of the links f: as many, of the same edges, and loops of the links themselves
+pub record Listed (n : ℕ) (f : ℕ → ℕ) (ls ms : List (List ℕ)) : Type 0 where
+  pub number : length ms ≡ length ls
+  pub sums : (w : ℕ → ℕ → ℕ) → frontSum w ms ≡ frontSum w ls
+  pub loops : Loops n f ms
+
+-- ls are the loops of the links f, and have m edges at most
 module _ (n : ℕ) (f : ℕ → ℕ) (ls : List (List ℕ)) (L : Loops n f ls) (m : ℕ) (few : total length ls ≤ m) where
-  -- the walks list the loops, each from its smallest id
+  -- the walks list the loops, each from its smallest id, in the order of these ids
   pub walks-list : (k : ℕ) → walks k n m f ≡ listing k n (λ u. loopFrom u ls)
   walks-list k = ap (listing k n) (fun-ext (λ u. walk-loop n f ls L m u few))
 
@@ -181,26 +189,27 @@ module _ (n : ℕ) (f : ℕ → ℕ) (ls : List (List ℕ)) (L : Loops n f ls) (
   pub walks-total : (k : ℕ) (r : List ℕ → ℕ) → ((u : ℕ) (l : List ℕ) → r (turnTo u l) ≡ r l)
       → total r (walks (suc k) n m f) ≡ total (ifListed (suc k) r) ls
   walks-total k r turn =
-      let R = rings n f ls L in
+      let C = cycles n f ls L in
       ap (total r) (walks-list (suc k))
-      ∙ (total-listing f k r turn ls R (once n f ls L) n ∙ total-within f n (ifListed (suc k) r) ls R (nodes n f ls L))
+      ∙ (total-listing f k r turn ls C (once n f ls L) n ∙ total-within f n (ifListed (suc k) r) ls C (nodes n f ls L))
 
-  -- all loops are listed: as many as ls,
-  pub walks-number : length (walks 1 n m f) ≡ length ls
-  walks-number =
-      sym (total-one (walks 1 n m f)) ∙ (walks-total 0 (λ l. 1) (λ u l. refl) ∙ (listed-all f (λ l. 1) ls (rings n f ls L) ∙ total-one ls))
-
-  -- of the same edges,
-  pub walks-sums : (w : ℕ → ℕ → ℕ) → frontSum w (walks 1 n m f) ≡ frontSum w ls
-  walks-sums w = walks-total 0 (loopSum w) (turn-sum w) ∙ listed-all f (loopSum w) ls (rings n f ls L)
-
-  -- each even
+  -- each loop listed is even
   pub walks-even : (k : ℕ) → All Even (walks (suc k) n m f)
   walks-even k = rw (walks-list (suc k)) (listing-even k n (λ u. loopFrom u ls) (λ u. even-from u ls (L .evens)))
 
-  -- so what is listed are the loops of the links
-  pub walks-loops : Loops n f (walks 1 n m f)
-  walks-loops = loops-same n f ls (walks 1 n m f) (λ w. sym (walks-sums w)) (walks-even 0) L
+  walks-sums : (w : ℕ → ℕ → ℕ) → frontSum w (walks 1 n m f) ≡ frontSum w ls
+  walks-sums w = walks-total 0 (loopSum w) (turn-sum w) ∙ listed-all f (loopSum w) ls (cycles n f ls L)
+
+  -- those of one node or more are all loops
+  pub walks-all : Listed n f ls (walks 1 n m f)
+  walks-all =
+      record {
+        number =
+            sym (total-one (walks 1 n m f))
+            ∙ (walks-total 0 (λ l. 1) (λ u l. refl) ∙ (listed-all f (λ l. 1) ls (cycles n f ls L) ∙ total-one ls));
+        sums = walks-sums;
+        loops = loops-same n f ls (walks 1 n m f) (λ w. sym (walks-sums w)) (walks-even 0) L;
+      }
 
   -- where none of three nodes or more is listed, each loop has two
   pub walks-none : walks 3 n m f ≡ [] → All (λ l. length l ≡ 2) ls

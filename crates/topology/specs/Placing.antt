@@ -1,18 +1,19 @@
 -- One placing: quad a b d c on the front edge a to b. Each far corner, c beside a and d beside b, is reused or fresh. The edges of
 -- the quad that are on the front come off, and the others go on, reversed; the loops go on to be closed and even.
-use Prim.Native.Nat.{ℕ, zero, suc, _+_, _*_, _<_, _≤_, _%_}
+use Prim.Native.Nat.{ℕ, suc, _+_, _*_, _<_, _≤_}
 use mathlib.Core.List.{List, [], _∷_, _++_}
 use mathlib.Core.Path.{_≡_, refl, sym, _∙_, ap}
-use mathlib.Core.Bool.{Bool, true, false}
+use mathlib.Core.Bool.{true}
 use mathlib.Core.Logic.{_≢_}
 use native.Mathlib.Omega.{arith}
-use lib.ListN.{length, length-append, set}
+use lib.ListN.{length, length-append}
 use lib.Dec.{eqb}
 use borrow.Author.Tests.{eq-eqb, ne-eqb}
 use Rattle.topology.specs.Sums.{All, total, pathSum, loopSum, frontSum, one, Even, path-append}
-use Rattle.topology.specs.Links.{off, at, linkOf, update, at-self}
-use Rattle.topology.specs.Front.{Loops, Front, FrontOf, EdgeFirst, edge-first, front-same, source, target, edge-next, next-edge, next-in, no-self, edge-prev, prev-of-next, next-of-prev, in-edge, headOr, out-edge}
-use Rattle.topology.specs.Changes.{Change, remove, add, stored, reversed, removed, added, Valid, Within, OffFront, changed-lists}
+use Rattle.topology.specs.Links.{off, at, linkOf, at-self}
+use Rattle.topology.specs.Front.{Front, FrontOf, edge-first, front-same, source, target, edge-next, next-edge, no-self}
+use Rattle.topology.specs.Front.{edge-prev, prev-of-next, in-edge, Last, empty, last, lastOf}
+use Rattle.topology.specs.Changes.{Change, remove, add, reversed, removed, added, Valid, Within, OffFront, Changed, changed}
 
 -- ---- definitions
 
@@ -34,6 +35,7 @@ onIf fresh u v cs = add u v ∷ cs
 abbrev pub placing : Kind → Kind → ℕ → ℕ → ℕ → ℕ → List Change
 placing kc kd a b c d = remove a b ∷ offIf kc c a (offIf kd b d (onIf kc a c (add c d ∷ onIf kd d b [])))
 
+-- how many nodes a corner adds
 abbrev pub newNodes : Kind → ℕ
 newNodes reused = 0
 newNodes fresh = 1
@@ -45,55 +47,18 @@ ByKind fresh A B = B
 
 -- What the checks before a placing have shown. A reused corner is the neighbour of an end of the edge and not its other end; a
 -- fresh one is a node off the front, among the n.
-pub record Placing (kc kd : Kind) (n : ℕ) (f g : ℕ → ℕ) (a b c d : ℕ) : Type 0 where
+pub record Placeable (kc kd : Kind) (n : ℕ) (f g : ℕ → ℕ) (a b c d : ℕ) : Type 0 where
   pub edge : f a ≡ b
   pub node : b ≢ off
   pub corner-c : ByKind kc ((g a ≡ c) × (c ≢ b)) (OffFront n f g c)
   pub corner-d : ByKind kd ((f b ≡ d) × (d ≢ a)) (OffFront n f g d)
   pub apart : c ≢ d
 
--- What a placing leaves: the new lists of links, and loops for them.
-pub record After (kc kd : Kind) (n a b c d : ℕ) (ls : List (List ℕ)) (next prev : List ℕ) : Type 0 where
-  -- the changes can be made one by one, and are of nodes
-  pub steps : Valid (linkOf n next) (placing kc kd a b c d)
-  pub within : All (Within n) (placing kc kd a b c d)
-  -- the loops after
+-- What a placing leaves: other loops, as many as before, where the changes have been made.
+pub record After (n : ℕ) (next prev : List ℕ) (ls : List (List ℕ)) (cs : List Change) : Type 0 where
   pub loops : List (List ℕ)
-  -- the links are those of the loops, inverse to each other; each loop is even
-  pub front : FrontOf n (stored set (placing kc kd a b c d) next) (stored set (reversed (placing kc kd a b c d)) prev) loops
-  -- there are as many loops as before
   pub count : length loops ≡ length ls
-  -- whatever is summed over the edges: the front after and what came off are the front before and what went on
-  pub sums : (w : ℕ → ℕ → ℕ) → frontSum w loops + removed w (placing kc kd a b c d) ≡ frontSum w ls + added w (placing kc kd a b c d)
-
--- ---- the changes can be made, one by one
-
-ids-within : (kc kd : Kind) (n a b c d : ℕ) → a < n → b < n → c < n → d < n → All (Within n) (placing kc kd a b c d)
-ids-within reused reused n a b c d ha hb hc hd = ((ha, hb), ((hc, ha), ((hb, hd), ((hc, hd), tt))))
-ids-within reused fresh n a b c d ha hb hc hd = ((ha, hb), ((hc, ha), ((hc, hd), ((hd, hb), tt))))
-ids-within fresh reused n a b c d ha hb hc hd = ((ha, hb), ((hb, hd), ((ha, hc), ((hc, hd), tt))))
-ids-within fresh fresh n a b c d ha hb hc hd = ((ha, hb), ((ha, hc), ((hc, hd), ((hd, hb), tt))))
-
-eqb-self : (x : ℕ) → eqb x x ≡ true
-eqb-self x = eq-eqb x x refl
-
-module _ (a b c d : ℕ) (ab : a ≢ b) (ac : a ≢ c) (ad : a ≢ d) (bc : b ≢ c) (bd : b ≢ d) (cd : c ≢ d) where
-  valid-next : (kc kd : Kind) (f : ℕ → ℕ) → f a ≡ b → ByKind kc (f c ≡ a) (f c ≡ off) → ByKind kd (f b ≡ d) (f d ≡ off)
-      → Valid f (placing kc kd a b c d)
-  valid-next reused reused f e hc hd = (e, (simp ne-eqb hc, (simp (ne-eqb, ne-eqb c b (λ q. bc (sym q))) hd, (simp (ne-eqb, eqb-self), tt))))
-  valid-next reused fresh f e hc hd = (e, (simp ne-eqb hc, (simp (ne-eqb, eqb-self), (simp ne-eqb hd, tt))))
-  valid-next fresh reused f e hc hd = (e, (simp ne-eqb hd, (simp (ne-eqb b a (λ q. ab (sym q)), eqb-self), (simp ne-eqb hc, tt))))
-  valid-next fresh fresh f e hc hd = (e, (simp eqb-self, (simp ne-eqb hc, (simp ne-eqb hd, tt))))
-
-  valid-prev : (kc kd : Kind) (g : ℕ → ℕ) → g b ≡ a → ByKind kc (g a ≡ c) (g c ≡ off) → ByKind kd (g d ≡ b) (g d ≡ off)
-      → Valid g (reversed (placing kc kd a b c d))
-  valid-prev reused reused g e hc hd = (e, (simp (ne-eqb b a (λ q. ab (sym q))) hc, (simp ne-eqb hd, (simp (eqb-self), tt))))
-  valid-prev reused fresh g e hc hd =
-      (e, (simp (ne-eqb b a (λ q. ab (sym q))) hc, (simp ne-eqb hd, (simp (ne-eqb, ne-eqb d b (λ q. bd (sym q)), eqb-self), tt))))
-  valid-prev fresh reused g e hc hd =
-      (e, (simp ne-eqb hd, (simp (ne-eqb, ne-eqb d c (λ q. cd (sym q))) hc, (simp (ne-eqb, eqb-self), tt))))
-  valid-prev fresh fresh g e hc hd =
-      (e, (simp ne-eqb hc, (simp ne-eqb hd, (simp (ne-eqb c b (λ q. bc (sym q)), ne-eqb d b (λ q. bd (sym q)), eqb-self), tt))))
+  pub changes : Changed n next prev ls loops cs
 
 -- ---- the loop after
 
@@ -104,18 +69,20 @@ record Reshaped (kc kd : Kind) (a b c d : ℕ) (l : List ℕ) : Type 0 where
   sums : (w : ℕ → ℕ → ℕ) → loopSum w loop + removed w (placing kc kd a b c d) ≡ loopSum w l + added w (placing kc kd a b c d)
 
 -- the rest R of the loop a b R: a reused c is its last node, a reused d its first
-reshaped : (kc kd : Kind) (a b c d : ℕ) (R : List ℕ) → Even (a ∷ b ∷ R) → c ≢ d → ByKind kc ((M : List ℕ) × (R ≡ M ++ c ∷ [])) (Unit {0})
-    → ByKind kd ((Q : List ℕ) × (R ≡ d ∷ Q)) (Unit {0}) → Reshaped kc kd a b c d (a ∷ b ∷ R)
+reshaped : (kc kd : Kind) (a b c d : ℕ) (R : List ℕ) → Even (a ∷ b ∷ R) → c ≢ d
+    → ByKind kc ((M : List ℕ) × (R ≡ M ++ c ∷ [])) (Unit {0}) → ByKind kd ((Q : List ℕ) × (R ≡ d ∷ Q)) (Unit {0})
+    → Reshaped kc kd a b c d (a ∷ b ∷ R)
 unfolding loopSum pathSum
 reshaped fresh fresh a b c d R E cd hc hd =
     record { loop = a ∷ c ∷ d ∷ b ∷ R; even = record { even = omega (arith, E .even); two = omega arith }; sums = λ w. omega arith }
 reshaped reused fresh a b c d R E cd hc hd =
     let M = hc .0 in
-    let long : length (M ++ c ∷ d ∷ []) ≡ suc (length R) =
-    omega (arith, ap length (hc .1), length-append M (c ∷ []), length-append M (c ∷ d ∷ [])) in
+    let whole = ap length (hc .1) in
+    let short = length-append M (c ∷ []) in
+    let long = length-append M (c ∷ d ∷ []) in
     record {
       loop = b ∷ (M ++ c ∷ d ∷ []);
-      even = record { even = omega (arith, E .even, long); two = omega (arith, long) };
+      even = record { even = omega (arith, E .even); two = omega arith };
       sums = λ w.
           omega (
             arith,
@@ -152,43 +119,52 @@ reshaped reused reused a b c d R E cd hc hd = by (hc .0) (hd .0) (hc .1) (hd .1)
               );
         }
 
+-- ---- the changes can be made, one by one
+
+ids-within : (kc kd : Kind) (n a b c d : ℕ) → a < n → b < n → c < n → d < n → All (Within n) (placing kc kd a b c d)
+ids-within reused reused n a b c d ha hb hc hd = ((ha, hb), ((hc, ha), ((hb, hd), ((hc, hd), tt))))
+ids-within reused fresh n a b c d ha hb hc hd = ((ha, hb), ((hc, ha), ((hc, hd), ((hd, hb), tt))))
+ids-within fresh reused n a b c d ha hb hc hd = ((ha, hb), ((hb, hd), ((ha, hc), ((hc, hd), tt))))
+ids-within fresh fresh n a b c d ha hb hc hd = ((ha, hb), ((ha, hc), ((hc, hd), ((hd, hb), tt))))
+
+eqb-self : (x : ℕ) → eqb x x ≡ true
+eqb-self x = eq-eqb x x refl
+
+module _ (a b c d : ℕ) (ab : a ≢ b) (ac : a ≢ c) (ad : a ≢ d) (bc : b ≢ c) (bd : b ≢ d) (cd : c ≢ d) where
+  valid-next : (kc kd : Kind) (f : ℕ → ℕ) → f a ≡ b → ByKind kc (f c ≡ a) (f c ≡ off) → ByKind kd (f b ≡ d) (f d ≡ off)
+      → Valid f (placing kc kd a b c d)
+  valid-next reused reused f e hc hd =
+      (e, (simp ne-eqb hc, (simp (ne-eqb, ne-eqb c b (λ q. bc (sym q))) hd, (simp (ne-eqb, eqb-self), tt))))
+  valid-next reused fresh f e hc hd = (e, (simp ne-eqb hc, (simp (ne-eqb, eqb-self), (simp ne-eqb hd, tt))))
+  valid-next fresh reused f e hc hd = (e, (simp ne-eqb hd, (simp (ne-eqb b a (λ q. ab (sym q)), eqb-self), (simp ne-eqb hc, tt))))
+  valid-next fresh fresh f e hc hd = (e, (simp eqb-self, (simp ne-eqb hc, (simp ne-eqb hd, tt))))
+
+  valid-prev : (kc kd : Kind) (g : ℕ → ℕ) → g b ≡ a → ByKind kc (g a ≡ c) (g c ≡ off) → ByKind kd (g d ≡ b) (g d ≡ off)
+      → Valid g (reversed (placing kc kd a b c d))
+  valid-prev reused reused g e hc hd = (e, (simp (ne-eqb b a (λ q. ab (sym q))) hc, (simp ne-eqb hd, (simp eqb-self, tt))))
+  valid-prev reused fresh g e hc hd =
+      (e, (simp (ne-eqb b a (λ q. ab (sym q))) hc, (simp ne-eqb hd, (simp (ne-eqb, ne-eqb d b (λ q. bd (sym q)), eqb-self), tt))))
+  valid-prev fresh reused g e hc hd =
+      (e, (simp ne-eqb hd, (simp (ne-eqb, ne-eqb d c (λ q. cd (sym q))) hc, (simp (ne-eqb, eqb-self), tt))))
+  valid-prev fresh fresh g e hc hd =
+      (e, (simp ne-eqb hc, (simp ne-eqb hd, (simp (ne-eqb c b (λ q. bc (sym q)), ne-eqb d b (λ q. bd (sym q)), eqb-self), tt))))
+
 -- ---- the corners
 
--- a list is empty, or has a last entry
-data Last : List ℕ → Type 0 where
-  empty : Last []
-  last : (M : List ℕ) (m : ℕ) → Last (M ++ m ∷ [])
-
-lastOf : (R : List ℕ) → Last R
-lastOf [] = empty
-lastOf (r ∷ R) = by (lastOf R)
-  where
-    by : {R : List ℕ} → Last R → Last (r ∷ R)
-    by empty = last [] r
-    by (last M m) = last (r ∷ M) m
-
--- the corner c of a placing on the loop a b R
-record KnownC (kc : Kind) (n : ℕ) (f g : ℕ → ℕ) (a b c : ℕ) (R : List ℕ) : Type 0 where
-  node : c < n
-  other-a : a ≢ c
-  other-b : b ≢ c
-  next : ByKind kc (f c ≡ a) (f c ≡ off)
-  prev : ByKind kc (g a ≡ c) (g c ≡ off)
-  place : ByKind kc ((M : List ℕ) × (R ≡ M ++ c ∷ [])) (Unit {0})
-
-record KnownD (kd : Kind) (n : ℕ) (f g : ℕ → ℕ) (a b d : ℕ) (R : List ℕ) : Type 0 where
-  node : d < n
-  other-a : a ≢ d
-  other-b : b ≢ d
-  next : ByKind kd (f b ≡ d) (f d ≡ off)
-  prev : ByKind kd (g d ≡ b) (g d ≡ off)
-  place : ByKind kd ((Q : List ℕ) × (R ≡ d ∷ Q)) (Unit {0})
+-- What is known of the far corner x on the loop a b R: N and P are its links where it is reused, and S its place in R.
+record Corner (k : Kind) (n : ℕ) (f g : ℕ → ℕ) (a b x : ℕ) (N P S : Type 0) : Type 0 where
+  node : x < n
+  other-a : a ≢ x
+  other-b : b ≢ x
+  next : ByKind k N (f x ≡ off)
+  prev : ByKind k P (g x ≡ off)
+  place : ByKind k S (Unit {0})
 
 module _ (n : ℕ) (f g : ℕ → ℕ) (a b : ℕ) (LS : List (List ℕ)) (fa : f a ≡ b) (node : b ≢ off) where
-  known-c : (kc : Kind) (c : ℕ) (R : List ℕ) → Front n f g ((a ∷ b ∷ R) ∷ LS) → ByKind kc ((g a ≡ c) × (c ≢ b)) (OffFront n f g c)
-      → KnownC kc n f g a b c R
+  fresh-corner : (x : ℕ) (R : List ℕ) (N P S : Type 0) → Front n f g ((a ∷ b ∷ R) ∷ LS) → OffFront n f g x
+      → Corner fresh n f g a b x N P S
   unfolding total loopSum pathSum
-  known-c fresh c R F h =
+  fresh-corner x R N P S F h =
       let gb = prev-of-next n f g _ F a b node fa in
       let an = source n f _ (F .loops) a b (omega (arith, at-self a b)) in
       record {
@@ -199,16 +175,21 @@ module _ (n : ℕ) (f g : ℕ → ℕ) (a b : ℕ) (LS : List (List ℕ)) (fa : 
         prev = h .prev;
         place = tt;
       }
-  known-c reused c R F h = by (lastOf R) F
+
+  corner-c : (k : Kind) (c : ℕ) (R : List ℕ) → Front n f g ((a ∷ b ∷ R) ∷ LS) → ByKind k ((g a ≡ c) × (c ≢ b)) (OffFront n f g c)
+      → Corner k n f g a b c (f c ≡ a) (g a ≡ c) ((M : List ℕ) × (R ≡ M ++ c ∷ []))
+  unfolding total loopSum pathSum
+  corner-c fresh c R F h = fresh-corner c R _ _ _ F h
+  corner-c reused c R F h = by (lastOf R) F
     where
-      by : {R : List ℕ} → Last R → Front n f g ((a ∷ b ∷ R) ∷ LS) → KnownC reused n f g a b c R
+      by : {R : List ℕ} → Last R → Front n f g ((a ∷ b ∷ R) ∷ LS)
+          → Corner reused n f g a b c (f c ≡ a) (g a ≡ c) ((M : List ℕ) × (R ≡ M ++ c ∷ []))
       by empty F = absurd (h .1 (sym (h .0) ∙ edge-prev n f g _ F b a (omega (arith, at-self b a))))
       by (last M m) F =
           let there : 0 < frontSum (at m a) ((a ∷ b ∷ (M ++ m ∷ [])) ∷ LS) = omega (arith, in-edge b M m a) in
-          let fm = edge-next n f _ (F .loops) m a there in
           let mn = source n f _ (F .loops) m a there in
           let e : c ≡ m = sym (h .0) ∙ edge-prev n f g _ F m a there in
-          let fc : f c ≡ a = ap f e ∙ fm in
+          let fc : f c ≡ a = ap f e ∙ edge-next n f _ (F .loops) m a there in
           record {
             node = omega arith;
             other-a = λ q. no-self n f _ (F .loops) c (omega arith) (fc ∙ q);
@@ -218,17 +199,15 @@ module _ (n : ℕ) (f g : ℕ → ℕ) (a b : ℕ) (LS : List (List ℕ)) (fa : 
             place = (M, ap (λ (k : ℕ). M ++ k ∷ []) (sym e));
           }
 
-  known-d : (kd : Kind) (d : ℕ) (R : List ℕ) → Front n f g ((a ∷ b ∷ R) ∷ LS) → ByKind kd ((f b ≡ d) × (d ≢ a)) (OffFront n f g d)
-      → KnownD kd n f g a b d R
+  corner-d : (k : Kind) (d : ℕ) (R : List ℕ) → Front n f g ((a ∷ b ∷ R) ∷ LS) → ByKind k ((f b ≡ d) × (d ≢ a)) (OffFront n f g d)
+      → Corner k n f g a b d (f b ≡ d) (g d ≡ b) ((Q : List ℕ) × (R ≡ d ∷ Q))
   unfolding total loopSum pathSum
-  known-d fresh d R F h =
-      let C = known-c fresh d R F h in
-      record { node = C .node; other-a = C .other-a; other-b = C .other-b; next = C .next; prev = C .prev; place = tt }
-  known-d reused d [] F h = absurd (h .1 (sym (h .0) ∙ edge-next n f _ (F .loops) b a (omega (arith, at-self b a))))
-  known-d reused d (r ∷ R) F h =
+  corner-d fresh d R F h = fresh-corner d R _ _ _ F h
+  corner-d reused d [] F h = absurd (h .1 (sym (h .0) ∙ edge-next n f _ (F .loops) b a (omega (arith, at-self b a))))
+  corner-d reused d (r ∷ R) F h =
       let there : 0 < frontSum (at b r) ((a ∷ b ∷ r ∷ R) ∷ LS) = omega (arith, at-self b r) in
-      let e : d ≡ r = sym (h .0) ∙ edge-next n f _ (F .loops) b r there in
       let rn = target n f _ (F .loops) b r there in
+      let e : d ≡ r = sym (h .0) ∙ edge-next n f _ (F .loops) b r there in
       record {
         node = omega arith;
         other-a = λ q. h .1 (sym q);
@@ -240,44 +219,57 @@ module _ (n : ℕ) (f g : ℕ → ℕ) (a b : ℕ) (LS : List (List ℕ)) (fa : 
 
 -- ---- the theorem
 
-pub placed : (kc kd : Kind) (n : ℕ) (next prev : List ℕ) (ls : List (List ℕ)) (a b c d : ℕ) → FrontOf n next prev ls
-    → n ≤ length next → n ≤ length prev → Placing kc kd n (linkOf n next) (linkOf n prev) a b c d
-    → After kc kd n a b c d ls next prev
-unfolding total
-placed kc kd n next prev ls a b c d F hn hp p =
+-- on the loops turned so that the edge a to b comes first
+placed-first : (kc kd : Kind) (n : ℕ) (next prev : List ℕ) (R : List ℕ) (LS : List (List ℕ)) (a b c d : ℕ)
+    → FrontOf n next prev ((a ∷ b ∷ R) ∷ LS) → n ≤ length next → n ≤ length prev
+    → Placeable kc kd n (linkOf n next) (linkOf n prev) a b c d → After n next prev ((a ∷ b ∷ R) ∷ LS) (placing kc kd a b c d)
+unfolding total loopSum pathSum
+placed-first kc kd n next prev R LS a b c d F hn hp p =
     let f = linkOf n next in
     let g = linkOf n prev in
     let L = F .loops in
-    let there : 0 < frontSum (at a b) ls = omega (arith, next-edge n f ls L a b (p .node) (p .edge)) in
-    let an = source n f ls L a b there in
-    let bn = target n f ls L a b there in
-    let gb = edge-prev n f g ls F a b there in
-    let ab : a ≢ b = λ e. no-self n f ls L a an (p .edge ∙ sym e) in
-    let s = edge-first a b ls (L .evens) there in
-    let ts = (a ∷ b ∷ s .rest) ∷ s .others in
-    let G = front-same n f g ls ts (s .same) (s .evens) F in
-    let C = known-c n f g a b (s .others) (p .edge) (p .node) kc c (s .rest) G (p .corner-c) in
-    let D = known-d n f g a b (s .others) (p .edge) (p .node) kd d (s .rest) G (p .corner-d) in
-    let r = reshaped kc kd a b c d (s .rest) (s .evens .0) (p .apart) (C .place) (D .place) in
-    let ms = r .loop ∷ s .others in
-    let sums : (w : ℕ → ℕ → ℕ) → frontSum w ms + removed w (placing kc kd a b c d) ≡ frontSum w ls + added w (placing kc kd a b c d) =
-    λ w. omega (arith, s .same w, r .sums w) in
-    let within = ids-within kc kd n a b c d an bn (C .node) (D .node) in
-    let steps = valid-next a b c d ab (C .other-a) (D .other-a) (C .other-b) (D .other-b) (p .apart) kc kd f (p .edge) (C .next) (D .next) in
-    let back = valid-prev a b c d ab (C .other-a) (D .other-a) (C .other-b) (D .other-b) (p .apart) kc kd g gb (C .prev) (D .prev) in
+    let there : 0 < frontSum (at a b) ((a ∷ b ∷ R) ∷ LS) = omega (arith, at-self a b) in
+    let an = source n f _ L a b there in
+    let bn = target n f _ L a b there in
+    let ab : a ≢ b = λ e. no-self n f _ L a an (p .edge ∙ sym e) in
+    let C = corner-c n f g a b LS (p .edge) (p .node) kc c R F (p .corner-c) in
+    let D = corner-d n f g a b LS (p .edge) (p .node) kd d R F (p .corner-d) in
+    let r = reshaped kc kd a b c d R (L .evens .0) (p .apart) (C .place) (D .place) in
     record {
-      steps = steps;
-      within = within;
-      loops = ms;
-      front = changed-lists n next prev ls ms (placing kc kd a b c d) F hn hp within steps back (r .even, s .evens .1) sums;
-      count = sym (s .count);
-      sums = sums;
+      loops = r .loop ∷ LS;
+      count = refl;
+      changes =
+          changed n next prev _ (r .loop ∷ LS) (placing kc kd a b c d) F hn hp
+          (ids-within kc kd n a b c d an bn (C .node) (D .node))
+          (valid-next a b c d ab (C .other-a) (D .other-a) (C .other-b) (D .other-b) (p .apart)
+          kc kd f (p .edge) (C .next) (D .next))
+          (valid-prev a b c d ab (C .other-a) (D .other-a) (C .other-b) (D .other-b) (p .apart)
+          kc kd g (edge-prev n f g _ F a b there) (C .prev) (D .prev))
+          (r .even, L .evens .1) (λ w. omega (arith, r .sums w));
+    }
+
+-- a quad is placed: the loops stay closed and even, and there are as many
+pub placed : (kc kd : Kind) (n : ℕ) (next prev : List ℕ) (ls : List (List ℕ)) (a b c d : ℕ) → FrontOf n next prev ls
+    → n ≤ length next → n ≤ length prev → Placeable kc kd n (linkOf n next) (linkOf n prev) a b c d
+    → After n next prev ls (placing kc kd a b c d)
+placed kc kd n next prev ls a b c d F hn hp p =
+    let f = linkOf n next in
+    let g = linkOf n prev in
+    let s = edge-first a b ls (F .loops .evens) (omega (arith, next-edge n f ls (F .loops) a b (p .node) (p .edge))) in
+    let ts = (a ∷ b ∷ s .rest) ∷ s .others in
+    let A = placed-first kc kd n next prev (s .rest) (s .others) a b c d (front-same n f g ls ts (s .same) (s .evens) F) hn hp p in
+    let H = A .changes in
+    record {
+      loops = A .loops;
+      count = A .count ∙ sym (s .count);
+      changes =
+          record { within = H .within; steps = H .steps; sums = λ w. omega (arith, s .same w, H .sums w); front = H .front };
     }
 
 -- each new node adds two edges to the front, and the quad takes two
-pub placed-edges : (kc kd : Kind) (n a b c d : ℕ) (ls : List (List ℕ)) (next prev : List ℕ) (A : After kc kd n a b c d ls next prev)
-    → frontSum one (A .loops) + 2 ≡ frontSum one ls + 2 * (newNodes kc + newNodes kd)
-placed-edges reused reused n a b c d ls next prev A = omega (arith, A .sums one)
-placed-edges reused fresh n a b c d ls next prev A = omega (arith, A .sums one)
-placed-edges fresh reused n a b c d ls next prev A = omega (arith, A .sums one)
-placed-edges fresh fresh n a b c d ls next prev A = omega (arith, A .sums one)
+pub placed-edges : (kc kd : Kind) (n a b c d : ℕ) (next prev : List ℕ) (ls ms : List (List ℕ))
+    → Changed n next prev ls ms (placing kc kd a b c d) → frontSum one ms + 2 ≡ frontSum one ls + 2 * (newNodes kc + newNodes kd)
+placed-edges reused reused n a b c d next prev ls ms H = omega (arith, H .sums one)
+placed-edges reused fresh n a b c d next prev ls ms H = omega (arith, H .sums one)
+placed-edges fresh reused n a b c d next prev ls ms H = omega (arith, H .sums one)
+placed-edges fresh fresh n a b c d next prev ls ms H = omega (arith, H .sums one)

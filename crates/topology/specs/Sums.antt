@@ -1,8 +1,8 @@
 -- Loops and sums over their edges. A loop is the list of its node ids, in order; its edges go from each id to the next and from
 -- the last to the first. What is said of the edges of loops is said by sums of a weight over them.
-use Prim.Native.Nat.{ℕ, zero, suc, _+_, _≤_, _%_}
+use Prim.Native.Nat.{ℕ, suc, _+_, _≤_, _%_}
 use mathlib.Core.List.{List, [], _∷_, _++_, append-nil}
-use mathlib.Core.Path.{_≡_, refl, ap}
+use mathlib.Core.Path.{_≡_, refl}
 use native.Mathlib.Nat.{add-assoc, add-comm}
 use native.Mathlib.Omega.{arith}
 use lib.ListN.{length}

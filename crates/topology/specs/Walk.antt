@@ -35,7 +35,7 @@ unfoldable pub count : ℕ → List ℕ → ℕ
 count u [] = 0
 count u (x ∷ xs) = delta x u + count u xs
 
--- the smallest id of the loop x ∷ xs, and of any
+-- the smallest of x and xs; the smallest id of a loop
 unfoldable pub leastFrom : ℕ → List ℕ → ℕ
 leastFrom x [] = x
 leastFrom x (y ∷ ys) = min x (leastFrom y ys)
@@ -66,10 +66,10 @@ abbrev pub Linked : (ℕ → ℕ) → ℕ → List ℕ → ℕ → Type 0
 Linked f u [] z = f u ≡ z
 Linked f u (v ∷ vs) z = (f u ≡ v) × Linked f v vs z
 
--- f goes round the loop
-abbrev pub Ring : (ℕ → ℕ) → List ℕ → Type 0
-Ring f [] = ⊥
-Ring f (x ∷ xs) = Linked f x xs x
+-- the loop is a cycle of f
+abbrev pub Cycle : (ℕ → ℕ) → List ℕ → Type 0
+Cycle f [] = ⊥
+Cycle f (x ∷ xs) = Linked f x xs x
 
 -- ---- counts
 
@@ -110,7 +110,7 @@ least-le v x (y ∷ ys) h = by (delta x v) refl (least-le v y ys)
     by (suc k) e later = let q = delta-is x v (omega (arith, e)) in omega arith
 
 -- the smallest id of a loop stands in it
-pub least-counts : (f : ℕ → ℕ) (u : ℕ) (l : List ℕ) → Ring f l → least l ≡ u → 0 < count u l
+pub least-counts : (f : ℕ → ℕ) (u : ℕ) (l : List ℕ) → Cycle f l → least l ≡ u → 0 < count u l
 unfolding least
 least-counts f u [] r e = absurd r
 least-counts f u (x ∷ xs) r e = rw e at (least-in x xs)
@@ -177,9 +177,9 @@ linked-join : (f : ℕ → ℕ) (u : ℕ) (xs : List ℕ) (v : ℕ) (ys : List �
 linked-join f u [] v ys z h k = (h, k)
 linked-join f u (x ∷ xs) v ys z h k = (h .0, linked-join f x xs v ys z (h .1) k)
 
-ring-turn : (f : ℕ → ℕ) (u : ℕ) (P Q : List ℕ) → Ring f (P ++ u ∷ Q) → Linked f u (Q ++ P) u
-ring-turn f u [] Q h = rw append-nil h
-ring-turn f u (x ∷ P) Q h = let s = linked-split f x P u Q x h in linked-join f u Q x P u (s .1) (s .0)
+cycle-turn : (f : ℕ → ℕ) (u : ℕ) (P Q : List ℕ) → Cycle f (P ++ u ∷ Q) → Linked f u (Q ++ P) u
+cycle-turn f u [] Q h = rw append-nil h
+cycle-turn f u (x ∷ P) Q h = let s = linked-split f x P u Q x h in linked-join f u Q x P u (s .1) (s .0)
 
 -- ---- one walk
 
@@ -225,22 +225,25 @@ walk-off f (suc k) z u e = rw (e, eq-eqb off off refl) (by (ltb u z))
 
 -- ---- the walk round one loop
 
+split-count : (v u : ℕ) (l P Q : List ℕ) → l ≡ P ++ u ∷ Q → count v l ≡ count v (Q ++ P) + delta u v
+unfolding count
+split-count v u l P Q e = omega (arith, ap (count v) e, count-append v P (u ∷ Q), count-append v Q P)
+
 -- u stands once in the loop: the walk from u is the loop, where u is its smallest id, and [] where it is not
-walk-ring : (f : ℕ → ℕ) (n : ℕ) → n ≤ off → (u k : ℕ) (l : List ℕ) → Ring f l → count u l ≡ 1 → ((v : ℕ) → 0 < count v l → v < n)
-    → length l ≤ k → walkBy f k u u ≡ cond (eqb (least l) u) (turnTo u l) []
+walk-cycle : (f : ℕ → ℕ) (n : ℕ) → n ≤ off → (u k : ℕ) (l : List ℕ) → Cycle f l → count u l ≡ 1
+    → ((v : ℕ) → 0 < count v l → v < n) → length l ≤ k → walkBy f k u u ≡ cond (eqb (least l) u) (turnTo u l) []
 unfolding least turnTo count
-walk-ring f n few u k [] r c nodes h = absurd r
-walk-ring f n few u k (x ∷ xs) r c nodes h =
+walk-cycle f n few u k [] r c nodes h = absurd r
+walk-cycle f n few u k (x ∷ xs) r c nodes h =
     let s = placeIn u (x ∷ xs) (omega arith) in
     let vs = s .Q ++ s .P in
-    let long : length vs < k =
-    omega (arith, length-append (s .Q) (s .P), length-append (s .P) (u ∷ s .Q), ap length (s .whole)) in
-    let counts : (v : ℕ) → count v (x ∷ xs) ≡ count v vs + delta u v =
-    λ v. omega (arith, ap (count v) (s .whole), count-append v (s .P) (u ∷ s .Q), count-append v (s .Q) (s .P)) in
-    let linked = ring-turn f u (s .P) (s .Q) (subst (Ring f) (s .whole) r) in
-    let once : count u vs ≡ 0 = omega (arith, counts u, delta-same u u refl) in
+    let whole = ap length (s .whole) in
+    let parts = length-append (s .P) (u ∷ s .Q) in
+    let long : length vs < k = omega (arith, length-append (s .Q) (s .P)) in
+    let linked = cycle-turn f u (s .P) (s .Q) (subst (Cycle f) (s .whole) r) in
+    let once : count u vs ≡ 0 = omega (arith, split-count u u (x ∷ xs) (s .P) (s .Q) (s .whole), delta-same u u refl) in
     let turned : fromOn u (x ∷ xs) ++ before u (x ∷ xs) ≡ u ∷ vs = rw (s .from, s .up) in
-    by (eqb (leastFrom x xs) u) refl vs long counts linked once turned
+    by (eqb (leastFrom x xs) u) refl vs long (λ v. split-count v u (x ∷ xs) (s .P) (s .Q) (s .whole)) linked once turned
   where
     by : (b : Bool) → eqb (leastFrom x xs) u ≡ b → (vs : List ℕ) → length vs < k → ((v : ℕ) → count v (x ∷ xs) ≡ count v vs + delta u v)
         → Linked f u vs u → count u vs ≡ 0 → fromOn u (x ∷ xs) ++ before u (x ∷ xs) ≡ u ∷ vs
@@ -266,12 +269,12 @@ unfolding pathSum
 linked f u [] z h = h u z (omega (arith, at-self u z))
 linked f u (v ∷ vs) z h = (h u v (omega (arith, at-self u v)), linked f v vs z (λ x y q. h x y (omega (arith, q))))
 
-all-rings : (f : ℕ → ℕ) (ls : List (List ℕ)) → All Even ls → ((x y : ℕ) → 0 < frontSum (at x y) ls → f x ≡ y) → All (Ring f) ls
+all-cycles : (f : ℕ → ℕ) (ls : List (List ℕ)) → All Even ls → ((x y : ℕ) → 0 < frontSum (at x y) ls → f x ≡ y) → All (Cycle f) ls
 unfolding total loopSum
-all-rings f [] E h = tt
-all-rings f ([] ∷ ls) E h = absurd (omega (arith, E .0 .two))
-all-rings f ((x ∷ xs) ∷ ls) E h =
-    (linked f x xs x (λ u v q. h u v (omega (arith, q))), all-rings f ls (E .1) (λ u v q. h u v (omega (arith, q))))
+all-cycles f [] E h = tt
+all-cycles f ([] ∷ ls) E h = absurd (omega (arith, E .0 .two))
+all-cycles f ((x ∷ xs) ∷ ls) E h =
+    (linked f x xs x (λ u v q. h u v (omega (arith, q))), all-cycles f ls (E .1) (λ u v q. h u v (omega (arith, q))))
 
 -- a node stands in the loops as often as its link does
 at-link : (f : ℕ → ℕ) (u x y : ℕ) → f x ≡ y → at u (f u) x y ≡ delta x u
@@ -287,7 +290,7 @@ unfolding pathSum count
 path-count f w u [] z l = omega (arith, at-link f w u z l)
 path-count f w u (v ∷ vs) z l = omega (arith, at-link f w u v (l .0), path-count f w v vs z (l .1))
 
-link-count : (f : ℕ → ℕ) (w : ℕ) (ls : List (List ℕ)) → All (Ring f) ls → frontSum (at w (f w)) ls ≡ total (count w) ls
+link-count : (f : ℕ → ℕ) (w : ℕ) (ls : List (List ℕ)) → All (Cycle f) ls → frontSum (at w (f w)) ls ≡ total (count w) ls
 unfolding total loopSum
 link-count f w [] r = refl
 link-count f w ([] ∷ ls) r = absurd (r .0)
@@ -295,22 +298,22 @@ link-count f w ((x ∷ xs) ∷ ls) r = omega (arith, path-count f w x xs x (r .0
 
 module _ (n : ℕ) (f : ℕ → ℕ) (ls : List (List ℕ)) (L : Loops n f ls) where
   -- the links go round each loop
-  pub rings : All (Ring f) ls
-  rings = all-rings f ls (L .evens) (edge-next n f ls L)
+  pub cycles : All (Cycle f) ls
+  cycles = all-cycles f ls (L .evens) (edge-next n f ls L)
 
   -- no node stands in the loops twice
   pub once : (u : ℕ) → total (count u) ls ≤ 1
   once u = by (frontSum (at u (f u)) ls) refl
     where
       by : (k : ℕ) → frontSum (at u (f u)) ls ≡ k → total (count u) ls ≤ 1
-      by zero e = omega (arith, e, link-count f u ls rings)
+      by zero e = omega (arith, e, link-count f u ls cycles)
       by (suc k) e =
           let v = target n f ls L u (f u) (omega (arith, e)) in
-          omega (arith, link-count f u ls rings, edge-once n f ls L u (f u) (omega (arith, L .few)))
+          omega (arith, link-count f u ls cycles, edge-once n f ls L u (f u) (omega (arith, L .few)))
 
   -- what stands in them is a node
   pub nodes : (u : ℕ) → 0 < total (count u) ls → u < n
-  nodes u h = source n f ls L u (f u) (omega (arith, link-count f u ls rings))
+  nodes u h = source n f ls L u (f u) (omega (arith, link-count f u ls cycles))
 
   -- a node that does not has no link
   pub outside : (u : ℕ) → total (count u) ls ≡ 0 → f u ≡ off
@@ -319,23 +322,23 @@ module _ (n : ℕ) (f : ℕ → ℕ) (ls : List (List ℕ)) (L : Loops n f ls) w
       by : (b : Bool) → eqb (f u) off ≡ b → f u ≡ off
       by true e = eqb-true (f u) off e
       by false e =
-          absurd (omega (arith, link-count f u ls rings, next-edge n f ls L u (f u) (eqb-false (f u) off e) refl))
+          absurd (omega (arith, link-count f u ls cycles, next-edge n f ls L u (f u) (eqb-false (f u) off e) refl))
 
 -- ---- what the walk finds
 
 -- a node that is on no loop is the smallest of none
-pub from-none : (f : ℕ → ℕ) (u : ℕ) (ls : List (List ℕ)) → All (Ring f) ls → total (count u) ls ≡ 0 → loopFrom u ls ≡ []
+pub from-none : (f : ℕ → ℕ) (u : ℕ) (ls : List (List ℕ)) → All (Cycle f) ls → total (count u) ls ≡ 0 → loopFrom u ls ≡ []
 unfolding loopFrom total
 from-none f u [] r c = refl
 from-none f u (l ∷ ls) r c =
     rw (ne-eqb (least l) u (λ e. omega (arith, c, least-counts f u l (r .0) e))) (from-none f u ls (r .1) (omega (arith, c)))
 
-walks-in : (f : ℕ → ℕ) (n : ℕ) → n ≤ off → (u k : ℕ) (ls : List (List ℕ)) → All (Ring f) ls → total (count u) ls ≡ 1
+walks-in : (f : ℕ → ℕ) (n : ℕ) → n ≤ off → (u k : ℕ) (ls : List (List ℕ)) → All (Cycle f) ls → total (count u) ls ≡ 1
     → ((v : ℕ) → 0 < total (count v) ls → v < n) → total length ls ≤ k → walkBy f k u u ≡ loopFrom u ls
 unfolding loopFrom total
 walks-in f n few u k [] r c nodes h = absurd (omega (arith, c))
 walks-in f n few u k (l ∷ ls) r c nodes h =
-    by (count u l) refl (λ e. walk-ring f n few u k l (r .0) e (λ v q. nodes v (omega (arith, q))) (omega (arith, h)))
+    by (count u l) refl (λ e. walk-cycle f n few u k l (r .0) e (λ v q. nodes v (omega (arith, q))) (omega (arith, h)))
     (λ e. walks-in f n few u k ls (r .1) e (λ v q. nodes v (omega (arith, q))) (omega (arith, h)))
   where
     by : (j : ℕ) → count u l ≡ j → (count u l ≡ 1 → walkBy f k u u ≡ cond (eqb (least l) u) (turnTo u l) [])
@@ -346,9 +349,10 @@ walks-in f n few u k (l ∷ ls) r c nodes h =
     by (suc j) e here later = rw (from-none f u ls (r .1) (omega (arith, c, e))) (here (omega (arith, c, e)))
 
 -- where the loops have k edges at most, the walk from u finds the loop whose smallest id is u, from u on, and [] where there is none
-pub walk-loop : (n : ℕ) (f : ℕ → ℕ) (ls : List (List ℕ)) → Loops n f ls → (k u : ℕ) → total length ls ≤ k → walkBy f k u u ≡ loopFrom u ls
+pub walk-loop : (n : ℕ) (f : ℕ → ℕ) (ls : List (List ℕ)) → Loops n f ls
+    → (k u : ℕ) → total length ls ≤ k → walkBy f k u u ≡ loopFrom u ls
 walk-loop n f ls L k u h = by (total (count u) ls) refl
   where
     by : (j : ℕ) → total (count u) ls ≡ j → walkBy f k u u ≡ loopFrom u ls
-    by zero e = walk-off f k u u (outside n f ls L u e) ∙ sym (from-none f u ls (rings n f ls L) e)
-    by (suc j) e = walks-in f n (L .few) u k ls (rings n f ls L) (omega (arith, once n f ls L u)) (nodes n f ls L) h
+    by zero e = walk-off f k u u (outside n f ls L u e) ∙ sym (from-none f u ls (cycles n f ls L) e)
+    by (suc j) e = walks-in f n (L .few) u k ls (cycles n f ls L) (omega (arith, once n f ls L u)) (nodes n f ls L) h

@@ -29,13 +29,15 @@ ceil-bits-requires c κs = search needs
 returns-2 : tie.Need-returns-2
 returns-2 c =
     let s = c .before .before .before in
-    let b = toBits binary64 (s .args .x) in
-    c .ceil-bits .ensures ∙ count-in (s .args .x) b (plus (s .args .x) (held s) (omega arith)) (c .before .if2 .taken) (rw (c .ceil-bits .ensures) at (c .ceil-bits .ok))
+    c .ceil-bits .ensures
+    ∙ count-in (s .args .x) (toBits binary64 (s .args .x)) (plus (s .args .x) (held s) (omega arith)) (c .before .if2 .taken)
+    (rw (c .ceil-bits .ensures) at (c .ceil-bits .ok))
 
 returns-3 : tie.Need-returns-3
 returns-3 c =
     let s = c .before .before .before in
-    count-over (s .args .x) (toBits binary64 (s .args .x)) (plus (s .args .x) (held s) (c .if3 .taken)) (c .before .before .if1 .left) (c .before .if2 .left)
+    count-over (s .args .x) (toBits binary64 (s .args .x)) (plus (s .args .x) (held s) (c .if3 .taken))
+    (c .before .before .if1 .left) (c .before .if2 .left)
 
 returns-4 : tie.Need-returns-4
 returns-4 c =

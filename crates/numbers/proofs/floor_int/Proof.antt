@@ -30,15 +30,19 @@ bits c = toBits binary64 (c .args .x)
 abbrev low : tie.Start → ℕ
 low c = toBits binary64 (c .args .x) - 2 ^ 63
 
-plus-in : (c : tie.After-floor-bits) → (c .floor-bits .result < 2 ^ 63) × (pos (c .floor-bits .result) ≡ floorInt (c .before .before .before .before .args .x))
+plus-in : (c : tie.After-floor-bits)
+    → (c .floor-bits .result < 2 ^ 63) × (pos (c .floor-bits .result) ≡ floorInt (c .before .before .before .before .args .x))
 plus-in c =
     let s = c .before .before .before .before in
     rw (c .floor-bits .ensures) (floor-in (s .args .x) (bits s) (plus (s .args .x) (held s) (c .before .before .if2 .taken)) (c .before .if3 .taken))
 
-minus-in : (c : tie.After-ceil-bits) → (1 ≤ c .ceil-bits .result) × (c .ceil-bits .result ≤ 2 ^ 63) × (negℤ (pos (c .ceil-bits .result)) ≡ floorInt (c .before .before .before .before .before .args .x))
+minus-in : (c : tie.After-ceil-bits)
+    → (1 ≤ c .ceil-bits .result) × (c .ceil-bits .result ≤ 2 ^ 63)
+    × (negℤ (pos (c .ceil-bits .result)) ≡ floorInt (c .before .before .before .before .before .args .x))
 minus-in c =
     let s = c .before .before .before .before .before in
-    rw (c .ceil-bits .ensures) (floor-minus-in (s .args .x) (low s) (minus-sign (s .args .x) (held s) (c .before .before .before .if2 .left)) (c .before .before .if4 .left) (c .before .if5 .taken))
+    rw (c .ceil-bits .ensures)
+    (floor-minus-in (s .args .x) (low s) (minus-sign (s .args .x) (held s) (c .before .before .before .if2 .left)) (c .before .before .if4 .left) (c .before .if5 .taken))
 
 returns : tie.Need-returns
 returns c = floor-nan _ (c .if1 .taken)
@@ -83,7 +87,8 @@ returns-5 c = negated (c .ceil-bits .result) (minus-in c .0) (minus-in c .1) ∙
 returns-6 : tie.Need-returns-6
 returns-6 c =
     let s = c .before .before .before .before in
-    floor-under (s .args .x) (low s) (minus-sign (s .args .x) (held s) (c .before .before .if2 .left)) (c .before .before .before .if1 .left) (le-of-lt (c .if5 .left))
+    floor-under (s .args .x) (low s) (minus-sign (s .args .x) (held s) (c .before .before .if2 .left))
+    (c .before .before .before .if1 .left) (le-of-lt (c .if5 .left))
 
 pub floor-int-spec : {M : Type 1} → statement M
 floor-int-spec =

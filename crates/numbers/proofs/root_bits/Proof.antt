@@ -28,7 +28,8 @@ nearest-root-requires c κs = omega (arith, parts c .least, parts c .most)
 mul-result : tie.Need-mul-result
 mul-result c = search needs
 
-bits : (c : tie.After-nearest-root) → RootBits (c .before .before .args .sig * 2 ^ 52 * 2 ^ c .before .before .args .p) (c .before .before .args .p / 2 * 2 ^ 52 + c .nearest-root .result)
+bits : (c : tie.After-nearest-root)
+    → RootBits (c .before .before .args .sig * 2 ^ 52 * 2 ^ c .before .before .args .p) (c .before .before .args .p / 2 * 2 ^ 52 + c .nearest-root .result)
 bits c =
     let s = c .before .before in
     root-bits (s .args .sig) (s .args .p) (c .before .if1 .s) (c .nearest-root .result) (s .pre .2) (parts (c .before)) (c .nearest-root .ensures)

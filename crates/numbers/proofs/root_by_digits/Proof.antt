@@ -1,4 +1,5 @@
--- `numbers::root_by_digits` meets its contract: each turn is one of `Digits`, and after 53 turns the remainder says whether the root is nearer to `root` or to the next number. Assumes nothing.
+-- `numbers::root_by_digits` meets its contract: each turn is one of `Digits`, and after 53 turns the remainder says whether the
+-- root is nearer to `root` or to the next number. Assumes nothing.
 use mathlib.Core.Logic.{⊎-elim}
 use mathlib.Core.Path.{_≡_}
 use Prim.Native.Nat.{_*_, _^_, _≤_, _<_, _-_}
@@ -73,12 +74,16 @@ add-result c = omega (arith, done (c .before) .short)
 returns : tie.Need-returns Inv-loop μ-loop
 returns c =
     let at = c .before .before in
-    near-next (at .before .args .s * 2 ^ 52) (at .loop .root) (at .loop .rem) (all (at .before .args .s) (at .loop .root) (at .loop .rem) (at .loop .rest) (done (c .before))) (at .loop .inv .0 .small) (c .if2 .taken)
+    near-next (at .before .args .s * 2 ^ 52) (at .loop .root) (at .loop .rem)
+    (all (at .before .args .s) (at .loop .root) (at .loop .rem) (at .loop .rest) (done (c .before)))
+    (at .loop .inv .0 .small) (c .if2 .taken)
 
 returns-2 : tie.Need-returns-2 Inv-loop μ-loop
 returns-2 c =
     let at = c .before .before in
-    near-this (at .before .args .s * 2 ^ 52) (at .loop .root) (at .loop .rem) (all (at .before .args .s) (at .loop .root) (at .loop .rem) (at .loop .rest) (done (c .before))) (omega arith) (at .loop .inv .0 .small) (c .if2 .left)
+    near-this (at .before .args .s * 2 ^ 52) (at .loop .root) (at .loop .rem)
+    (all (at .before .args .s) (at .loop .root) (at .loop .rem) (at .loop .rest) (done (c .before)))
+    (omega arith) (at .loop .inv .0 .small) (c .if2 .left)
 
 pub root-by-digits-spec : {M : Type 1} → statement M
 root-by-digits-spec =

@@ -1,7 +1,7 @@
 -- `numbers::sqrt_f64` meets its contract: each way out is a case of `Sqrt`. Assumes nothing.
 use borrow.Author.Needs.{needs}
 use mathlib.Core.Path.{sym, _∙_, subst}
-use Prim.Native.Nat.{_-_, _≤_}
+use Prim.Native.Nat.{ℕ, _-_, _≤_}
 use native.Mathlib.Omega.{arith}
 use lib.Dec.{T}
 use lib.Count.{leadingZeros, leading-le}
@@ -19,8 +19,11 @@ use Rattle.numbers.proofs.root_of_normal.Reads as root-of-normal-reads
 held : (c : tie.Start) → T (fits binary64 (c .args .x))
 held c = subst T (sym (c .good .0 .1)) tt
 
-moved : (c : tie.Else3) → (11 ≤ leadingZeros 64 (toBits binary64 (c .before .before .before .args .x))) × Moved (toBits binary64 (c .before .before .before .args .x)) (leadingZeros 64 (toBits binary64 (c .before .before .before .args .x)) - 11)
-moved c = leading (toBits binary64 (c .before .before .before .args .x)) (omega (arith, c .if3 .left)) (c .before .if2 .taken)
+abbrev bits : tie.Start → ℕ
+bits c = toBits binary64 (c .args .x)
+
+moved : (c : tie.Else3) → (11 ≤ leadingZeros 64 (bits (c .before .before .before))) × Moved (bits (c .before .before .before)) (leadingZeros 64 (bits (c .before .before .before)) - 11)
+moved c = leading (bits (c .before .before .before)) (omega (arith, c .if3 .left)) (c .before .if2 .taken)
 
 returns : tie.Need-returns
 returns c = of-nan (c .before .args .x) (c .if1 .taken)
@@ -32,7 +35,7 @@ returns-2 : tie.Need-returns-2
 returns-2 c = of-zero (c .before .before .before .args .x) (held (c .before .before .before)) (c .if3 .taken)
 
 cast-sh : tie.Need-cast-sh
-cast-sh c = omega (arith, leading-le 64 (toBits binary64 (c .before .before .before .args .x)))
+cast-sh c = omega (arith, leading-le 64 (bits (c .before .before .before)))
 
 sub-sh : tie.Need-sub-sh
 sub-sh c = moved c .0
@@ -74,7 +77,8 @@ returns-6 c = let s = c .before .before .before .before .before in of-minus-zero
 returns-7 : tie.Need-returns-7
 returns-7 c =
     let s = c .before .before .before .before .before in
-    quotient (s .args .x) (of-rest (s .args .x) (held s) (c .before .before .before .before .if1 .left) (c .before .before .if4 .left) (c .before .if5 .left) (c .if6 .left))
+    quotient (s .args .x)
+    (of-rest (s .args .x) (held s) (c .before .before .before .before .if1 .left) (c .before .before .if4 .left) (c .before .if5 .left) (c .if6 .left))
 
 pub sqrt-f64-spec : {M : Type 1} → statement M
 sqrt-f64-spec =

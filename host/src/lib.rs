@@ -1,0 +1,35 @@
+//! Sitjorbe for Rust: safe functions over the proved library.
+//!
+//! Everything that is computed is computed by the library, which is written in Rattle and proved: each entry equals its
+//! definition on every input, ends, and writes nothing but what its contract names. This crate only takes slices apart, since
+//! each crosses as a pointer and a length ([`ffi`]), and gives the refusals' numbers their words ([`Refusal`]).
+//!
+//! ```
+//! use sitjorbe::{contains, distance_to_boundary, nearest_segment, Outline, Refusal};
+//!
+//! // A square with a square hole.
+//! let outline = Outline {
+//!     outer: &[0.0, 0.0, 8.0, 0.0, 8.0, 8.0, 0.0, 8.0],
+//!     holes: &[2.0, 2.0, 2.0, 4.0, 4.0, 4.0, 4.0, 2.0],
+//!     hole_lengths: &[4],
+//! };
+//! assert_eq!(contains(&outline, [1.0, 1.0]), Ok(true));
+//! assert_eq!(contains(&outline, [3.0, 3.0]), Ok(false));
+//! assert_eq!(distance_to_boundary(&outline, [5.5, 3.0]), Ok(1.5));
+//!
+//! let nearest = nearest_segment(&outline, [7.0, 5.0])?;
+//! assert_eq!((nearest.a, nearest.b, nearest.distance), ([8.0, 0.0], [8.0, 8.0], 1.0));
+//!
+//! // A refusal says what is wrong and what to do about it.
+//! let refusal = contains(&outline, [f64::NAN, 0.0]).unwrap_err();
+//! assert_eq!(refusal, Refusal::NotFinite);
+//! println!("{refusal}");
+//! # Ok::<(), Refusal>(())
+//! ```
+
+pub mod ffi;
+mod queries;
+mod refusal;
+
+pub use queries::{contains, distance_to_boundary, nearest_segment, NearestSegment, Outline};
+pub use refusal::Refusal;

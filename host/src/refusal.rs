@@ -1,0 +1,157 @@
+//! The refusals of document 01, with words for people.
+
+use std::{error, fmt};
+
+/// Why the library refused. A refusal is its number alone ([`Refusal::number`]); the words are this crate's.
+///
+/// A refused call has changed none of the memory lent to it.
+#[derive(Clone, Copy, Debug, PartialEq, Eq, Hash)]
+#[repr(u32)]
+pub enum Refusal {
+    /// A coordinate list of odd length, hole lengths that don't add up to the hole points, or more than 65,535 points.
+    Lists = 1,
+    /// A loop of fewer than three points.
+    ShortLoop = 2,
+    /// A coordinate not finite, in the outline or in a query's point.
+    NotFinite = 3,
+    /// A coordinate beyond 1,000 either way, in the outline or in a query's point.
+    TooFar = 4,
+    /// A size not finite, or not above 0.
+    NoSize = 5,
+    /// A size below 0.01 or above 100.
+    SizeOutOfRange = 6,
+    /// An outline whose bounding box has no width or no height.
+    Flat = 7,
+    /// More than 1,000 sweeps.
+    TooManySweeps = 8,
+    /// The field has more nodes than were lent.
+    FieldNeedsSpace = 9,
+    /// The sampled outline has more nodes than the lent node places or edge places.
+    FrontNeedsSpace = 10,
+    /// A field record that isn't one.
+    NoFieldRecord = 11,
+    /// A file's block has a wrong check.
+    WrongCheck = 12,
+    /// A file with a wrong length, count or fill.
+    WrongFile = 13,
+}
+
+impl Refusal {
+    /// Every refusal, in the order of the numbers.
+    pub const ALL: [Refusal; 13] = [
+        Refusal::Lists,
+        Refusal::ShortLoop,
+        Refusal::NotFinite,
+        Refusal::TooFar,
+        Refusal::NoSize,
+        Refusal::SizeOutOfRange,
+        Refusal::Flat,
+        Refusal::TooManySweeps,
+        Refusal::FieldNeedsSpace,
+        Refusal::FrontNeedsSpace,
+        Refusal::NoFieldRecord,
+        Refusal::WrongCheck,
+        Refusal::WrongFile,
+    ];
+
+    /// Document 01's number, 1 to 13.
+    pub fn number(self) -> u32 {
+        self as u32
+    }
+
+    /// The refusal with this number, if document 01 has one.
+    pub fn of_number(number: u32) -> Option<Refusal> {
+        Refusal::ALL.into_iter().find(|refusal| refusal.number() == number)
+    }
+
+    /// What an answer's `refusal` says: nothing refused for 0, else the refusal.
+    ///
+    /// # Panics
+    ///
+    /// On a number that document 01 doesn't have. The library never answers one, so this is a bug: most likely an archive
+    /// that doesn't belong to this crate.
+    pub(crate) fn check(number: u32) -> Result<(), Refusal> {
+        match (number, Refusal::of_number(number)) {
+            (0, _) => Ok(()),
+            (_, Some(refusal)) => Err(refusal),
+            (_, None) => panic!("a bug: the library answered refusal {number}, which document 01 doesn't have"),
+        }
+    }
+
+    /// What is wrong, and what to do about it.
+    fn words(self) -> &'static str {
+        match self {
+            Refusal::Lists => {
+                "the outline's lists don't fit together: lend x and y for every point, hole lengths that add up to the hole \
+                 points, and at most 65,535 points in all"
+            }
+            Refusal::ShortLoop => "a loop has fewer than three points: draw at least three, or leave the loop out",
+            Refusal::NotFinite => {
+                "a coordinate is infinite or not a number: look for a division by zero or a missing reading where the \
+                 outline and the point come from"
+            }
+            Refusal::TooFar => {
+                "a coordinate is beyond 1,000 either way: move the drawing nearer to the origin or use a larger unit"
+            }
+            Refusal::NoSize => "the element size isn't a number above 0: set one from 0.01 to 100",
+            Refusal::SizeOutOfRange => "the element size is below 0.01 or above 100: set one between them, or change the unit",
+            Refusal::Flat => "the outline has no width or no height: draw points that aren't all in one row or column",
+            Refusal::TooManySweeps => "more than 1,000 sweeps are asked for: ask for 1,000 or fewer",
+            Refusal::FieldNeedsSpace => "the field has more nodes than were lent: lend longer lists, or set a larger size",
+            Refusal::FrontNeedsSpace => {
+                "the sampled outline has more nodes than the lent node or edge places: lend longer lists, or set a larger size"
+            }
+            Refusal::NoFieldRecord => {
+                "the field record isn't one: hand over the record, values and marks as the field entry answered them"
+            }
+            Refusal::WrongCheck => "a block of the file has a wrong check: the file is damaged, so fetch it again",
+            Refusal::WrongFile => {
+                "the file has a wrong length, a wrong count, or something where zeros belong: write it anew from the outline"
+            }
+        }
+    }
+}
+
+/// For example `refused (2): a loop has fewer than three points: draw at least three, or leave the loop out`.
+impl fmt::Display for Refusal {
+    fn fmt(&self, f: &mut fmt::Formatter<'_>) -> fmt::Result {
+        write!(f, "refused ({}): {}", self.number(), self.words())
+    }
+}
+
+impl error::Error for Refusal {}
+
+#[cfg(test)]
+mod tests {
+    use super::Refusal;
+
+    #[test]
+    fn numbers_are_document_01s() {
+        let numbers: Vec<u32> = Refusal::ALL.into_iter().map(Refusal::number).collect();
+        assert_eq!(numbers, (1..=13).collect::<Vec<u32>>());
+        for refusal in Refusal::ALL {
+            assert_eq!(Refusal::of_number(refusal.number()), Some(refusal));
+            assert_eq!(Refusal::check(refusal.number()), Err(refusal));
+        }
+        assert_eq!(Refusal::check(0), Ok(()));
+        assert_eq!([0, 14, u32::MAX].map(Refusal::of_number), [None; 3]);
+    }
+
+    #[test]
+    fn each_has_words_of_its_own() {
+        let texts: Vec<String> = Refusal::ALL.iter().map(Refusal::to_string).collect();
+        for (k, text) in texts.iter().enumerate() {
+            assert!(text.starts_with(&format!("refused ({}): ", k + 1)), "{text}");
+            assert_eq!(text.matches(": ").count(), 2, "what is wrong, then what to do: {text}");
+            assert!(!text.contains("  ") && text.is_ascii(), "{text}");
+        }
+        let words: std::collections::HashSet<&str> = Refusal::ALL.iter().map(|refusal| refusal.words()).collect();
+        assert_eq!(words.len(), 13);
+    }
+
+    #[test]
+    #[should_panic(expected = "a bug: the library answered refusal 14")]
+    fn an_unknown_number_is_a_bug() {
+        let _ = Refusal::check(14);
+    }
+}

@@ -1,0 +1,222 @@
+//! What the tests share: outlines that own their lists, lists lent with guards round them, and the raw answers.
+#![allow(dead_code)] // each test uses a part of it
+
+use std::hint::black_box;
+
+use sitjorbe::{ffi, Outline};
+
+/// An outline that owns its lists.
+#[derive(Clone, Debug, Default)]
+pub struct Drawing {
+    pub outer: Vec<f64>,
+    pub holes: Vec<f64>,
+    pub hole_lengths: Vec<usize>,
+}
+
+impl Drawing {
+    /// The drawing of these loops, the outer one first.
+    pub fn of_loops(loops: &[Vec<[f64; 2]>]) -> Drawing {
+        Drawing {
+            outer: loops[0].concat(),
+            holes: loops[1..].concat().concat(),
+            hole_lengths: loops[1..].iter().map(Vec::len).collect(),
+        }
+    }
+
+    pub fn square(side: f64) -> Drawing {
+        Drawing::of_loops(&[vec![[0.0, 0.0], [side, 0.0], [side, side], [0.0, side]]])
+    }
+
+    pub fn outline(&self) -> Outline<'_> {
+        Outline { outer: &self.outer, holes: &self.holes, hole_lengths: &self.hole_lengths }
+    }
+}
+
+/// What a list's places hold: a value to guard with, and the bits to compare.
+pub trait Place: Copy {
+    const GUARD: Self;
+    fn bits(self) -> u64;
+}
+
+impl Place for f64 {
+    // A NaN: were it ever read, an answer would show it.
+    const GUARD: f64 = f64::from_bits(0x7ff8_5afe_5afe_5afe);
+    fn bits(self) -> u64 {
+        self.to_bits()
+    }
+}
+
+impl Place for usize {
+    const GUARD: usize = 0x5afe_5afe_5afe_5afe;
+    fn bits(self) -> u64 {
+        self as u64
+    }
+}
+
+/// A list with guards before and after it.
+pub struct Guarded<T> {
+    places: Vec<T>,
+    before: Vec<u64>,
+}
+
+impl<T: Place> Guarded<T> {
+    const GUARDS: usize = 8;
+
+    pub fn new(list: &[T]) -> Guarded<T> {
+        let guards = [T::GUARD; 8];
+        let places = [&guards[..], list, &guards[..]].concat();
+        let before = places.iter().map(|place| place.bits()).collect();
+        Guarded { places, before }
+    }
+
+    pub fn list(&self) -> &[T] {
+        &self.places[Self::GUARDS..self.places.len() - Self::GUARDS]
+    }
+
+    /// The list's pointer and length. The pointer may be written through, so that a write would be seen.
+    pub fn parts(&mut self) -> (*const T, usize) {
+        let length = self.list().len();
+        (self.places[Self::GUARDS..].as_mut_ptr(), length)
+    }
+
+    /// Whether every bit of the list and its guards is what it was.
+    pub fn kept(&self) -> bool {
+        let places = black_box(&self.places);
+        places.iter().map(|place| place.bits()).eq(self.before.iter().copied())
+    }
+}
+
+/// A drawing lent list by list, each with its guards.
+pub struct Lent {
+    pub outer: Guarded<f64>,
+    pub holes: Guarded<f64>,
+    pub hole_lengths: Guarded<usize>,
+}
+
+impl Lent {
+    pub fn new(drawing: &Drawing) -> Lent {
+        Lent {
+            outer: Guarded::new(&drawing.outer),
+            holes: Guarded::new(&drawing.holes),
+            hole_lengths: Guarded::new(&drawing.hole_lengths),
+        }
+    }
+
+    pub fn outline(&self) -> Outline<'_> {
+        Outline { outer: self.outer.list(), holes: self.holes.list(), hole_lengths: self.hole_lengths.list() }
+    }
+
+    pub fn kept(&self) -> bool {
+        self.outer.kept() && self.holes.kept() && self.hole_lengths.kept()
+    }
+}
+
+/// The three entries' answers, as they cross.
+#[derive(Clone, Copy, Debug)]
+pub struct Raw {
+    pub contains: ffi::ContainsAnswer,
+    pub nearest: ffi::NearestAnswer,
+    pub distance: ffi::DistanceAnswer,
+}
+
+impl Raw {
+    /// Asks all three entries.
+    ///
+    /// # Safety
+    ///
+    /// Each pointer must come with the length of its list.
+    pub unsafe fn ask(
+        (outer, outer_len): (*const f64, usize),
+        (holes, holes_len): (*const f64, usize),
+        (lens, lens_len): (*const usize, usize),
+        [x, y]: [f64; 2],
+    ) -> Raw {
+        Raw {
+            contains: ffi::sitjorbe_contains(outer, outer_len, holes, holes_len, lens, lens_len, x, y),
+            nearest: ffi::sitjorbe_nearest_segment(outer, outer_len, holes, holes_len, lens, lens_len, x, y),
+            distance: ffi::sitjorbe_distance_to_boundary(outer, outer_len, holes, holes_len, lens, lens_len, x, y),
+        }
+    }
+
+    /// The three refusals.
+    pub fn refusals(&self) -> [u32; 3] {
+        [self.contains.refusal, self.nearest.refusal, self.distance.refusal]
+    }
+
+    /// Every value beside the refusals, as bits.
+    pub fn values(&self) -> [u64; 7] {
+        let ffi::NearestAnswer { ax, ay, bx, by, distance, .. } = self.nearest;
+        let [ax, ay, bx, by, near, far] = [ax, ay, bx, by, distance, self.distance.distance].map(f64::to_bits);
+        [u64::from(self.contains.inside), ax, ay, bx, by, near, far]
+    }
+}
+
+/// Drawings and points that are refused, with the number: each of 1 to 4 for each of its causes, and the order among them.
+pub fn refused() -> Vec<(&'static str, Drawing, [f64; 2], u32)> {
+    let square = || Drawing::square(4.0);
+    let hole = |points: &[f64], lengths: &[usize]| Drawing {
+        holes: points.to_vec(),
+        hole_lengths: lengths.to_vec(),
+        ..Drawing::square(4.0)
+    };
+    let with = |place: usize, x: f64| {
+        let mut drawing = Drawing::square(4.0);
+        drawing.outer[place] = x;
+        drawing
+    };
+    let triangle = [1.0, 1.0, 2.0, 1.0, 1.0, 2.0];
+    let broken = [1.0, 1.0, f64::NAN, 1.0, 1.0, 2.0];
+    let above = 1_000.0f64.next_up();
+    let points = |n: usize| Drawing { outer: vec![0.5; 2 * n], ..Drawing::default() };
+    let inside = [1.0, 1.0];
+    vec![
+        ("an odd outer list", Drawing { outer: vec![0.0; 7], ..square() }, inside, 1),
+        ("an odd list of holes", hole(&[1.0; 7], &[3]), inside, 1),
+        ("lengths for no points", hole(&[], &[3]), inside, 1),
+        ("points without lengths", hole(&triangle, &[]), inside, 1),
+        ("a length too few", hole(&triangle, &[2]), inside, 1),
+        ("a length too many", hole(&triangle, &[4]), inside, 1),
+        ("lengths whose sum wraps round to the points", hole(&triangle, &[usize::MAX, 4]), inside, 1),
+        (
+            "many lengths whose sum wraps round",
+            hole(&triangle, &[usize::MAX / 2 + 1, 3, usize::MAX / 2 + 1]),
+            inside,
+            1,
+        ),
+        ("a length whose double wraps round", hole(&triangle, &[usize::MAX / 2 + 4]), inside, 1),
+        ("65,536 points", points(65_536), inside, 1),
+        ("1 before 2 and 3", hole(&broken, &[2]), [f64::NAN, 0.0], 1),
+        ("no points", points(0), inside, 2),
+        ("two points", points(2), inside, 2),
+        ("a hole of two points", hole(&triangle[..4], &[2]), inside, 2),
+        ("a hole of no points", hole(&triangle, &[0, 3]), inside, 2),
+        ("a short hole after a good one", hole(&triangle, &[3, 0]), inside, 2),
+        ("a short hole before one not finite", hole(&[triangle, broken].concat(), &[1, 5]), inside, 2),
+        ("not a number", with(0, f64::NAN), inside, 3),
+        ("infinite", with(7, f64::INFINITY), inside, 3),
+        ("infinite downwards", with(2, f64::NEG_INFINITY), inside, 3),
+        ("a hole not finite", hole(&broken, &[3]), inside, 3),
+        (
+            "the outer loop's 3 before a hole's 2",
+            Drawing { holes: vec![], hole_lengths: vec![0], ..with(3, f64::NAN) },
+            inside,
+            3,
+        ),
+        ("a hole's 3 before the next one's 2", hole(&[broken, triangle].concat(), &[3, 2, 1]), inside, 3),
+        (
+            "a hole's 3 before the outer loop's 4",
+            Drawing { holes: broken.to_vec(), hole_lengths: vec![3], ..with(0, above) },
+            inside,
+            3,
+        ),
+        ("beyond 1,000", with(4, above), inside, 4),
+        ("beyond 1,000 downwards", with(5, -above), inside, 4),
+        ("a hole beyond 1,000", hole(&[1.0, 1.0, 2e3, 1.0, 1.0, 2.0], &[3]), inside, 4),
+        ("the outline's 4 before the point's 3", with(4, above), [f64::NAN, 0.0], 4),
+        ("the point not a number", square(), [f64::NAN, 1.0], 3),
+        ("the point infinite", square(), [1.0, f64::INFINITY], 3),
+        ("the point's 3 before its 4", square(), [2e3, f64::NEG_INFINITY], 3),
+        ("the point beyond 1,000", square(), [above, 1.0], 4),
+        ("the point beyond 1,000 downwards", square(), [1.0, -above], 4),
+    ]
+}

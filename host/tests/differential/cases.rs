@@ -1,0 +1,179 @@
+//! Outlines and points to ask about, random and hostile; the same for a seed on every machine.
+
+use crate::common::Drawing;
+
+/// SplitMix64.
+pub struct Rng(pub u64);
+
+impl Rng {
+    fn next(&mut self) -> u64 {
+        self.0 = self.0.wrapping_add(0x9e37_79b9_7f4a_7c15);
+        let z = (self.0 ^ (self.0 >> 30)).wrapping_mul(0xbf58_476d_1ce4_e5b9);
+        let z = (z ^ (z >> 27)).wrapping_mul(0x94d0_49bb_1331_11eb);
+        z ^ (z >> 31)
+    }
+
+    pub fn below(&mut self, n: usize) -> usize {
+        (self.next() % n as u64) as usize
+    }
+
+    fn once_in(&mut self, n: usize) -> bool {
+        self.below(n) == 0
+    }
+
+    fn pick<T: Copy>(&mut self, list: &[T]) -> T {
+        list[self.below(list.len())]
+    }
+
+    /// From -1 up to 1.
+    fn unit(&mut self) -> f64 {
+        (self.next() >> 10) as f64 / (1u64 << 53) as f64 - 1.0
+    }
+}
+
+/// Accepted coordinates where something ends: the zeros, the smallest floats, squares that vanish, the bound and its neighbour.
+const EDGES: [f64; 14] = [
+    0.0,
+    -0.0,
+    f64::from_bits(1),
+    -f64::from_bits(1),
+    f64::from_bits(0x000f_ffff_ffff_ffff),
+    f64::MIN_POSITIVE,
+    2.3e-162,
+    -1.5e-162,
+    1e-150,
+    1.0,
+    1e3,
+    -1e3,
+    1e3f64.next_down(),
+    -(1e3f64.next_down()),
+];
+
+/// Coordinates that are refused.
+const REFUSED: [f64; 7] =
+    [f64::NAN, f64::INFINITY, f64::NEG_INFINITY, 1e3f64.next_up(), -(1e3f64.next_up()), f64::MAX, -1e9];
+
+/// How the coordinates of an outline are drawn.
+#[derive(Clone, Copy)]
+enum Shape {
+    /// Anywhere in a box.
+    Scattered { centre: [f64; 2], reach: f64 },
+    /// On few whole numbers: repeated points, level and upright edges, equal distances.
+    Lattice,
+    /// Where something ends.
+    Edges,
+    /// So near to 0 that squares vanish.
+    Tiny,
+}
+
+impl Shape {
+    fn any(rng: &mut Rng) -> Shape {
+        match rng.below(6) {
+            0 | 1 => {
+                let reach = rng.pick(&[1e-3, 0.5, 10.0, 90.0, 400.0]);
+                Shape::Scattered { centre: [500.0 * rng.unit(), 500.0 * rng.unit()], reach }
+            }
+            2 | 3 => Shape::Lattice,
+            4 => Shape::Edges,
+            _ => Shape::Tiny,
+        }
+    }
+
+    fn point(self, rng: &mut Rng) -> [f64; 2] {
+        match self {
+            Shape::Scattered { centre, reach } => centre.map(|c| c + reach * rng.unit()),
+            Shape::Lattice => [0, 0].map(|_| rng.below(7) as f64 - 3.0),
+            Shape::Edges => [0, 0].map(|_| rng.pick(&EDGES)),
+            Shape::Tiny => [0, 0].map(|_| rng.unit() * rng.pick(&[1e-320, 1e-162, 1e-160, 1e-150])),
+        }
+    }
+}
+
+/// An outline, spoilt once in four.
+pub fn drawing(rng: &mut Rng) -> Drawing {
+    let shape = Shape::any(rng);
+    let loops: Vec<Vec<[f64; 2]>> =
+        (0..rng.pick(&[1, 1, 2, 3, 6])).map(|_| (0..3 + rng.below(14)).map(|_| shape.point(rng)).collect()).collect();
+    let mut drawing = Drawing::of_loops(&loops);
+    if rng.once_in(4) {
+        spoil(rng, &mut drawing);
+    }
+    drawing
+}
+
+/// Makes one thing wrong: lists and lengths (1), a short loop (2), a coordinate (3, 4).
+fn spoil(rng: &mut Rng, drawing: &mut Drawing) {
+    let Drawing { outer, holes, hole_lengths: lengths } = drawing;
+    match rng.below(10) {
+        0 => outer.push(1.0),
+        1 => drop(outer.pop()),
+        2 => holes.push(1.0),
+        3 => lengths.push(rng.pick(&[0, 1, 3, usize::MAX])),
+        4 => drop(lengths.pop()),
+        5 => {
+            // The lengths' sum wraps round to what it was.
+            let big = rng.pick(&[usize::MAX / 2, usize::MAX - 1, 1 << 63, 5]);
+            let at = rng.below(lengths.len() + 1);
+            lengths.splice(at..at, [big, 0usize.wrapping_sub(big)]);
+        }
+        6 => outer.truncate(2 * rng.below(3)),
+        7 if !lengths.is_empty() => {
+            // A hole shorter, the next longer.
+            let k = rng.below(lengths.len());
+            let moved = rng.below(lengths[k] + 1);
+            lengths[k] -= moved;
+            lengths.insert(k + 1, moved);
+        }
+        _ => {
+            let list = if holes.is_empty() || rng.once_in(2) { outer } else { holes };
+            let at = rng.below(list.len());
+            list[at] = rng.pick(&REFUSED);
+        }
+    }
+}
+
+/// An outline of many points in a ring of steps, some of them in a hole.
+pub fn large(rng: &mut Rng, points: usize) -> Drawing {
+    let step = |k: usize| [(k % 256) as f64 * 3.0 - 400.0, (k / 256) as f64 * 3.0 - 400.0 + (k % 2) as f64];
+    let all: Vec<[f64; 2]> = (0..points).map(step).collect();
+    let (outer, hole) = all.split_at(rng.below(points / 2) + 3);
+    Drawing::of_loops(&[outer.to_vec(), hole.to_vec()])
+}
+
+/// A point on or near the outline, on a ray through its points, at a bound, or anywhere.
+pub fn point(rng: &mut Rng, drawing: &Drawing) -> [f64; 2] {
+    let loops: Vec<&[f64]> =
+        [&drawing.outer[..], &drawing.holes[..]].into_iter().filter(|list| list.len() >= 4).collect();
+    if loops.is_empty() {
+        return [rng.unit(), rng.unit()];
+    }
+    let list = rng.pick(&loops);
+    let vertex = |i: usize| [list[2 * i], list[2 * i + 1]];
+    let n = list.len() / 2;
+    let i = rng.below(n);
+    let (a, b) = (vertex(i), vertex((i + 1) % n));
+    match rng.below(10) {
+        0 => a,
+        1 => {
+            let t = rng.pick(&[0.5, 0.25, 0.1, 1.0 / 3.0]);
+            [a[0] + t * (b[0] - a[0]), a[1] + t * (b[1] - a[1])]
+        }
+        2 => [rng.unit() * rng.pick(&[1.0, 10.0, 1e3]), a[1]],
+        3 => [a[0], rng.unit() * rng.pick(&[1.0, 10.0, 1e3])],
+        4 => [near(rng, a[0]), near(rng, a[1])],
+        5 => [rng.pick(&EDGES), rng.pick(&EDGES)],
+        6 if rng.once_in(2) => [rng.pick(&REFUSED), rng.pick(&EDGES)],
+        6 => [a[0], rng.pick(&REFUSED)],
+        7 => [rng.below(9) as f64 - 4.0, (rng.below(17) as f64 - 8.0) / 2.0],
+        8 => {
+            let c = vertex(rng.below(n));
+            [(a[0] + b[0] + c[0]) / 3.0, (a[1] + b[1] + c[1]) / 3.0]
+        }
+        _ => [rng.unit() * 1e3, rng.unit() * 1e3],
+    }
+}
+
+/// The float itself, its neighbours, or its opposite.
+fn near(rng: &mut Rng, x: f64) -> f64 {
+    rng.pick(&[x, x.next_up(), x.next_down(), -x])
+}

@@ -1,0 +1,18 @@
+//! The oracle: the reference's own text, cut out of its source by oracle/cut, and a driver that answers in document 01's terms.
+//!
+//! `patched` has document 01's stand-ins for the angle functions, and is what the port must equal bit for bit; `plain` has the
+//! Rust's own. Both offer the same functions and types (driver.rs).
+
+pub mod compare;
+pub mod file;
+pub mod generate;
+pub mod stand_ins;
+pub mod terms;
+
+#[path = "../target/patched.rs"]
+#[allow(dead_code)]
+pub mod patched;
+
+#[path = "../target/plain.rs"]
+#[allow(dead_code)]
+pub mod plain;

@@ -3,6 +3,7 @@ pub mod Nodes
 pub mod Cuts
 pub mod Rings
 pub mod OneWay
+pub mod RingJoins
 pub mod Edges
 pub mod Joins
 pub mod Laid

@@ -1,10 +1,9 @@
 -- What the sampled nodes are: each is a cut of a segment of a loop, or the midpoint of two such points.
-use mathlib.Core.Path.{_≡_, sym, subst}
+use mathlib.Core.Path.{_≡_, subst}
 use mathlib.Core.Bool.{Bool, true, false, cond}
-use mathlib.Core.List.{List, [], _∷_, _++_}
+use mathlib.Core.List.{[], _∷_}
 use Prim.Native.Nat.{ℕ, zero, suc, _+_, _-_, _<_, _≤_}
 use native.Mathlib.Omega.{arith}
-use lib.ListN.{length}
 use lib.Ieee.{Float, nan}
 use Rattle.laws.specs.Loop.{forUp}
 use Rattle.numbers.specs.Float.{_⊕_, _⊘_, twoF}
@@ -12,7 +11,7 @@ use Rattle.domain.specs.declared.Point.{Point}
 use Rattle.domain.specs.Outline.{Outline, loopAt, points, point, pointAt, pointAfter, after}
 use Rattle.topology.specs.Sums.{All}
 use Rattle.front.specs.declared.Ring.{Ring}
-use Rattle.front.specs.State.{State, nodeIn, node, cleared}
+use Rattle.front.specs.State.{State, node, cleared}
 use Rattle.front.specs.Sampling.{parts, loopCount, sampledCount, frontRefusal, cut, sampleLoop, ringOf, sampledAt, midpoint, ringIn, fromBoundary}
 use Rattle.sampled.specs.Lists.{all-append, all-at}
 use Rattle.sampled.specs.Nodes.{nodesOf, nodes-length, nodes-at}
@@ -20,7 +19,7 @@ use Rattle.sampled.specs.Cuts.{loopCuts, cuts-length, cuts-least, cuts-a
 use Rattle.sampled.specs.Rings.{ring-longest, ordered-in, after-in}
 use Rattle.sampled.specs.Turn.{splitPoints, addedPoints, turnPoints, turn-sampled}
 use Rattle.sampled.specs.Outlines.{Threes}
-use Rattle.sampled.specs.Begun.{Begun, Places, refusal-places, no-nodes, stateAt, Ready, ready, fits, turn-at, begun-in}
+use Rattle.sampled.specs.Begun.{Places, refusal-places, no-nodes, stateAt, ready, fits, turn-at, begun-in}
 
 -- ---- definitions
 

@@ -1,16 +1,16 @@
 -- The ids of a ring: each of the nodes sampled and the midpoint, where there is one, stands in it once.
 use mathlib.Core.Path.{_≡_, refl, sym, _∙_}
-use mathlib.Core.Bool.{Bool, true, false, true≢false, _&&_, cond}
+use mathlib.Core.Bool.{Bool, true, false, true≢false, cond}
 use mathlib.Core.Logic.{_≢_}
 use mathlib.Core.List.{List}
-use Prim.Native.Nat.{ℕ, suc, _+_, _-_, _<_, _≤_}
+use Prim.Native.Nat.{ℕ, _+_, _-_, _<_, _≤_}
 use native.Mathlib.Omega.{arith}
 use lib.Dec.{ltb, eqb}
 use lib.Ieee.{Float, lt}
 use lib.ListN.{length}
 use borrow.Author.Tests.{eqb-true, eqb-false, ltb-true, ltb-false}
-use Rattle.laws.specs.Loop.{forUp, forUp-keeps}
-use Rattle.laws.specs.Tabulate.{tabulate, tabulate-length}
+use Rattle.laws.specs.Loop.{forUp-keeps}
+use Rattle.laws.specs.Tabulate.{tabulate-length}
 use Rattle.domain.specs.Outline.{after}
 use Rattle.topology.specs.Sums.{All}
 use Rattle.topology.specs.Laying.{Distinct}

@@ -4,7 +4,7 @@ use mathlib.Core.Bool.{Bool, true, false, cond}
 use mathlib.Core.List.{List, [], _∷_, _++_}
 use Prim.Native.Nat.{ℕ, zero, suc, _+_, _-_, _<_, _≤_}
 use native.Mathlib.Omega.{arith}
-use lib.Dec.{ltb, eqb}
+use lib.Dec.{eqb}
 use lib.ListN.{length, getD}
 use lib.Ieee.{Float, nan, lt, unlike}
 use Rattle.laws.specs.Loop.{forUp, forUp-same, forUp-keeps}
@@ -15,13 +15,13 @@ use Rattle.domain.specs.Outline.{Outline, point, loopAt, after}
 use Rattle.geometry.specs.Plane.{areaTerm}
 use Rattle.front.specs.declared.Ring.{Ring}
 use Rattle.front.specs.State.{State, nodeIn, node, cleared}
-use Rattle.front.specs.Sampling.{loopCount, loopNodes, sampledCount, sampleLoop, areaTurn, signedArea, orderedAt, edgeLength, longestTurn, longestEdge, ringOf, sampledAt, midpoint, ringIds, ringIn, fromBoundary, loopIds, boundaryLoops}
+use Rattle.front.specs.Sampling.{loopCount, sampledCount, sampleLoop, areaTurn, signedArea, orderedAt, edgeLength, longestTurn, longestEdge, ringOf, sampledAt, midpoint, ringIds, ringIn, fromBoundary, loopIds, boundaryLoops}
 use Rattle.sampled.specs.Nodes.{nodesOf, nodes-length, nodes-at, Pushed}
 use Rattle.sampled.specs.Cuts.{loopCuts, cuts-length, cuts-least}
 use Rattle.sampled.specs.Rings.{ring-longest, ordered-in, after-in}
 use Rattle.sampled.specs.Turn.{splitPoints, addedPoints, turnPoints, turn-sampled}
 use Rattle.sampled.specs.Outlines.{Threes}
-use Rattle.sampled.specs.Begun.{Places, no-nodes, stateAt, loopsAt, Ready, ready, fits, turn-at}
+use Rattle.sampled.specs.Begun.{Places, no-nodes, stateAt, loopsAt, ready, fits, turn-at}
 
 -- ---- a ring is read off the nodes from its base on
 

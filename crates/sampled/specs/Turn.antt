@@ -2,7 +2,7 @@
 use mathlib.Core.Path.{_≡_, refl, sym, _∙_, ap}
 use mathlib.Core.Bool.{Bool, true, false, cond}
 use mathlib.Core.List.{List, [], _∷_, _++_}
-use Prim.Native.Nat.{ℕ, suc, _+_, _-_, _<_, _≤_, _%_}
+use Prim.Native.Nat.{ℕ, _+_, _-_, _<_, _≤_, _%_}
 use native.Mathlib.Omega.{arith}
 use lib.Dec.{eqb}
 use lib.ListN.{length, length-append}
@@ -13,11 +13,11 @@ use Rattle.domain.specs.Outline.{Outline, loopAt, points}
 use Rattle.topology.specs.Changes.{stored}
 use Rattle.front.specs.declared.Ring.{Ring}
 use Rattle.front.specs.State.{State, pushNode}
-use Rattle.front.specs.Sampling.{loopParts, loopNodes, sampleLoop, ringOf, ringCount, ringAt, ringIds, midpoint, splitLongest, joinRing, ringIn, closeLoop, boundaryTurn, loopIds}
+use Rattle.front.specs.Sampling.{loopNodes, sampleLoop, ringOf, ringCount, ringAt, ringIds, midpoint, splitLongest, joinRing, ringIn, closeLoop, boundaryTurn, loopIds}
 use Rattle.sampled.specs.Nodes.{Room, room-kept, Pushed, push-none, push-one, push-more}
 use Rattle.sampled.specs.Cuts.{loopCuts, cuts-length, cuts-least, loop-pushed}
 use Rattle.sampled.specs.Rings.{ring-longest, ring-in, ids-distinct, ids-length, ids-all}
-use Rattle.sampled.specs.OneWay.{loopJoins, ring-stored}
+use Rattle.sampled.specs.RingJoins.{loopJoins, ring-stored}
 use Rattle.sampled.specs.Joins.{join}
 use Rattle.sampled.specs.Laid.{Laid, Added, lay}
 

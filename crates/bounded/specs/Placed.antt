@@ -26,7 +26,7 @@ use Rattle.front.specs.Sound.{Sound, Frame}
 use Rattle.front.specs.FrameLaws.{frame-node}
 use Rattle.paving.specs.Checks.{nodeOk, cornerFree, cornersApart, cornersOf, quadOk, quadFits}
 use Rattle.paving.specs.Attempt.{isReused, cornerAt, ideal, cornerC, cornerD}
-use Rattle.paving.specs.Attempted.{Attempted, attempted}
+use Rattle.paving.specs.AttemptLaws.{QuadChosen, quad-chosen}
 use Rattle.paving.specs.Advance.{withSnapshot}
 use Rattle.paving.specs.Reach.{Placement, Reaches, begin, snapshot, placed}
 use Rattle.books.specs.Book.{Book, Quad, quadAt}
@@ -97,19 +97,19 @@ module _ (o : Outline) (fits : OutlineFits o) (taken : outlineRefusal o ≡ 0) w
   corner-bounded size s (Fresh x y) f e = node-bounded size s (point x y) f e
 
   module _ {size : Float} {s : State} {a b : ℕ} {c d : Corner} (P : Placement o size s a b c d) where
-    attempt : Attempted o size s a b (P .da) (P .db) c d
-    attempt = attempted o size s a b (P .da) (P .db) c d (P .answered)
+    chosen : QuadChosen o size s a b (P .da) (P .db) c d
+    chosen = quad-chosen o size s a b (P .da) (P .db) c d (P .answered)
 
     checks : Checked o size s a b c d
-    checks = checked o size s a b c d (attempt .checks)
+    checks = checked o size s a b c d (chosen .checks)
 
     new-c : IfNew Bounded c
     unfolding cornerC
-    new-c = corner-bounded size s c (subst (IfNew PointFits) (attempt .at-c) (corner-fits size s b (prevOf s a) (node s a) (P .da))) (checks .free-c)
+    new-c = corner-bounded size s c (subst (IfNew PointFits) (chosen .at-c) (corner-fits size s b (prevOf s a) (node s a) (P .da))) (checks .free-c)
 
     new-d : IfNew Bounded d
     unfolding cornerD
-    new-d = corner-bounded size s d (subst (IfNew PointFits) (attempt .at-d) (corner-fits size s a (nextOf s b) (node s b) (P .db))) (checks .free-d)
+    new-d = corner-bounded size s d (subst (IfNew PointFits) (chosen .at-d) (corner-fits size s a (nextOf s b) (node s b) (P .db))) (checks .free-d)
 
     room : AllNodes Bounded s → Roomy Bounded (added c + added d) s
     unfolding isFull nodePlaces

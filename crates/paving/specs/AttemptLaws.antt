@@ -12,18 +12,18 @@ use Rattle.paving.specs.declared.Attempt.the-variants.{Quad}
 use Rattle.paving.specs.Checks.{quadFits}
 use Rattle.paving.specs.Attempt.{cornerC, cornerD, quadIf, attemptQuad}
 
-pub record Attempted (o : Outline) (size : Float) (s : State) (a b : ℕ) (da db : Point) (c d : Corner) : Type 0 where
+pub record QuadChosen (o : Outline) (size : Float) (s : State) (a b : ℕ) (da db : Point) (c d : Corner) : Type 0 where
   pub at-c : cornerC size s a b da ≡ c
   pub at-d : cornerD size s a b db ≡ d
   pub checks : quadFits o size s a b c d ≡ true
 
-pub attempted : (o : Outline) (size : Float) (s : State) (a b : ℕ) (da db : Point) (c d : Corner)
-    → attemptQuad o size s a b da db ≡ Quad c d → Attempted o size s a b da db c d
+pub quad-chosen : (o : Outline) (size : Float) (s : State) (a b : ℕ) (da db : Point) (c d : Corner)
+    → attemptQuad o size s a b da db ≡ Quad c d → QuadChosen o size s a b da db c d
 unfolding attemptQuad
-attempted o size s a b da db c d = by (quadFits o size s a b (cornerC size s a b da) (cornerD size s a b db)) refl
+quad-chosen o size s a b da db c d = by (quadFits o size s a b (cornerC size s a b da) (cornerD size s a b db)) refl
   where
     by : (t : Bool) → quadFits o size s a b (cornerC size s a b da) (cornerD size s a b db) ≡ t
-        → quadIf t (cornerC size s a b da) (cornerD size s a b db) ≡ Quad c d → Attempted o size s a b da db c d
+        → quadIf t (cornerC size s a b da) (cornerD size s a b db) ≡ Quad c d → QuadChosen o size s a b da db c d
     by true e h =
         let p : cornerC size s a b da ≡ c = cc in
         let q : cornerD size s a b db ≡ d = cc in

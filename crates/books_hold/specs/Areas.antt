@@ -23,7 +23,8 @@ use Rattle.books.specs.Book.{Edge, Book, quadAt, startBook, areaOf, edgesArea, 
 use Rattle.books.specs.Matches.{edgesSum, Matches}
 use Rattle.books.specs.BookLaws.{area-anti, matches-area}
 use Rattle.books.specs.Holds.{QuadHolds}
-use Rattle.books_hold.specs.Stages.{pointOf, pointsOf, pointsIn, quadsSum, Start, Stage}
+use Rattle.bounded.specs.Corners.{nodeOf}
+use Rattle.books_hold.specs.Stages.{quadsSum, Start, Stage}
 
 -- ---- the nodes of a book
 
@@ -33,7 +34,7 @@ module _ (t final : State) (ls : List (List ℕ)) (b : Book) (F : Frame t final)
       → getD book id nan ≡ getD all id nan
   coordinate all book e id h = ap (λ (l : List Float). getD l id nan) (sym e) ∙ getD-take (t .counts .nodes) all id nan h
 
-  pub book-node : (id : ℕ) → id < t .counts .nodes → pointOf b id ≡ node final id
+  pub book-node : (id : ℕ) → id < t .counts .nodes → nodeOf b id ≡ node final id
   unfolding nodeIn
   book-node id h =
       rw (
@@ -62,6 +63,7 @@ module _ (o : Outline) (size : Float) (s : State) (ls : List (List ℕ)) (S : St
     (Y : Stage o size s ls final k t) where
   -- an edge of the start has the same area in both books
   edge-area : (u v : ℕ) → 0 < edgesSum (at u v) (startBook o size .front) → areaOf (startBook o size) u v ≡ areaOf (Y .book) u v
+  unfolding nodeIn
   edge-area u v h =
       let n = s .counts .nodes in
       let L = S .sound .front .loops in

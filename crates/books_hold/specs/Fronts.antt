@@ -1,18 +1,17 @@
 -- What a sound state and its book give of the front: the book's loops and counts; and where the run stops, its nodes, its front edge for
 -- edge, its counts and its listed loops.
 use Prim.Native.Nat.{ℕ, zero, suc, _+_, _*_, _<_, _≤_}
-use mathlib.Core.List.{List, [], _∷_, _++_}
+use mathlib.Core.List.{List, [], _∷_}
 use mathlib.Core.Path.{_≡_, refl, sym, _∙_, ap, fun-ext}
-use mathlib.Core.Bool.{Bool, true, false, cond}
+use mathlib.Core.Bool.{Bool, true, false}
 use native.Mathlib.Omega.{arith}
 use lib.Dec.{eqb}
 use lib.ListN.{length}
-use lib.Ieee.{Float}
 use borrow.Author.Tests.{eqb-true, eqb-false}
 use Rattle.domain.specs.Outline.{Outline}
-use Rattle.topology.specs.Sums.{total, pathSum, loopSum, frontSum}
+use Rattle.topology.specs.Sums.{frontSum}
 use Rattle.topology.specs.Links.{off, at, at-self, at-other, linkOf}
-use Rattle.topology.specs.Front.{headOr, Loops, target, edge-next, edge-once}
+use Rattle.topology.specs.Front.{Loops, target, edge-next, edge-once}
 use Rattle.topology.specs.Follow as topology
 use Rattle.topology.specs.Follow.{Follows, follows-links}
 use Rattle.topology.specs.Listing.{walks}
@@ -20,29 +19,11 @@ use Rattle.front.specs.State.{State, nextOf}
 use Rattle.front.specs.Sampling.{loopCount, sampledCount}
 use Rattle.front.specs.Sound.{Sound}
 use Rattle.paving.specs.Loops.{frontLoops}
-use Rattle.books.specs.Book.{Edge, edge, Book, edgesTo, loopEdges, follow}
+use Rattle.books.specs.Book.{Edge, Book, loopEdges, follow}
 use Rattle.books.specs.Matches.{edgesSum, Matches}
 use Rattle.books.specs.BookLaws.{count-sum, matches-nodes, matches-edges}
 use Rattle.books.specs.Holds.{countEdge, LoopsHold, Closes}
-
--- ---- the edges of loops
-
-edges-append : (w : ℕ → ℕ → ℕ) (es ds : List Edge) → edgesSum w (es ++ ds) ≡ edgesSum w es + edgesSum w ds
-unfolding edgesSum
-edges-append w [] ds = omega arith
-edges-append w (e ∷ es) ds = omega (arith, edges-append w es ds)
-
-path-edges : (w : ℕ → ℕ → ℕ) (u : ℕ) (vs : List ℕ) (z : ℕ) → edgesSum w (edgesTo (u ∷ vs) z) ≡ pathSum w u vs z
-unfolding edgesSum edgesTo pathSum
-path-edges w u [] z = omega arith
-path-edges w u (v ∷ vs) z = omega (arith, path-edges w v vs z)
-
--- a weight over the edges of loops is that over the loops
-pub loops-sum : (w : ℕ → ℕ → ℕ) (ls : List (List ℕ)) → edgesSum w (loopEdges ls) ≡ frontSum w ls
-unfolding edgesSum edgesTo loopEdges total loopSum
-loops-sum w [] = refl
-loops-sum w ([] ∷ ls) = omega (arith, loops-sum w ls)
-loops-sum w ((u ∷ vs) ∷ ls) = omega (arith, edges-append w (edgesTo (u ∷ vs) u) (loopEdges ls), path-edges w u vs u, loops-sum w ls)
+use Rattle.sampled.specs.Starts.{sum-loops}
 
 -- ---- following edges
 
@@ -94,7 +75,7 @@ module _ (n : ℕ) (s : State) (ls : List (List ℕ)) (b : Book) (S : Sound n s 
         loops = ls;
         number = number;
         even = L .evens;
-        edges = λ u v. count-sum u v (loopEdges ls) ∙ (loops-sum (at u v) ls ∙ sym (book-count u v));
+        edges = λ u v. count-sum u v (loopEdges ls) ∙ (sum-loops (at u v) ls ∙ sym (book-count u v));
         once = count-once;
         single = λ u v w h g. sym (book-next u v h) ∙ book-next u w g;
       }

@@ -4,3 +4,4 @@ pub mod Stages
 pub mod Areas
 pub mod Fronts
 pub mod Assembled
+pub mod Theorem

@@ -12,8 +12,7 @@ use lib.ListN.{length}
 use lib.Ieee.{Float}
 use borrow.Author.Tests.{leb-true, leb-false}
 use Rattle.laws.specs.Loop.{forUp}
-use Rattle.domain.specs.declared.Point.{Point}
-use Rattle.domain.specs.Outline.{Outline, point}
+use Rattle.domain.specs.Outline.{Outline}
 use Rattle.geometry.specs.declared.Corners.{Corners}
 use Rattle.topology.specs.Balance.{frontSumℤ, quadSumℤ, Antisymmetric}
 use Rattle.front.specs.declared.Corner.{Corner}
@@ -25,10 +24,11 @@ use Rattle.front.specs.FrameLaws.{frame-same, frame-trans, frame-node}
 use Rattle.paving.specs.Checks.{cornersOf}
 use Rattle.paving.specs.Advance.{withSnapshot}
 use Rattle.paving.specs.Reach.{Placement, Reaches, begin, snapshot, placed}
-use Rattle.books.specs.Book.{Book, Quad, quadAt, andThen, bookQuad, startBook, bookAfter, xOf, yOf}
+use Rattle.books.specs.Book.{Book, Quad, quadAt, andThen, bookQuad, startBook, bookAfter}
 use Rattle.books.specs.BookLaws.{frame-quad}
 use Rattle.books.specs.Matches.{Matches}
 use Rattle.books.specs.Holds.{QuadHolds}
+use Rattle.bounded.specs.Corners.{cornersIn}
 use Rattle.placed.specs.Step.{Stepped, step}
 use Rattle.placed.specs.Booked.{booked}
 use Rattle.placed.specs.Snapshot.{snapshot-frame, snapshot-sound, snapshot-matches}
@@ -42,20 +42,13 @@ sidesSum w q = quadSumℤ w (q .a) (q .b) (q .d) (q .c)
 unfoldable pub quadsSum : (ℕ → ℕ → ℤ) → State → ℕ → ℤ
 quadsSum w s k = forUp k (λ i sum. sum +ℤ sidesSum w (quadAt s i)) (pos 0)
 
--- where a book has node id
-abbrev pub pointOf : Book → ℕ → Point
-pointOf b id = point (xOf b id) (yOf b id)
-
--- where a book has the nodes of a quad, and where a state has them
-abbrev pub pointsOf : Book → Quad → Corners
-pointsOf b q = record { a = pointOf b (q .a); b = pointOf b (q .b); d = pointOf b (q .d); c = pointOf b (q .c) }
-
+-- where a state has the nodes of a quad
 abbrev pub pointsIn : State → Quad → Corners
 pointsIn s q = record { a = node s (q .a); b = node s (q .b); d = node s (q .d); c = node s (q .c) }
 
 -- four points at which every book's quad turns left as demand 3 has it
 abbrev pub Turns : Corners → Type 0
-Turns p = (b : Book) (q : Quad) → pointsOf b q ≡ p → QuadHolds b q
+Turns p = (b : Book) (q : Quad) → cornersIn b q ≡ p → QuadHolds b q
 
 -- a quad of the run's answer: its ids are below n, and its points turn left
 pub record Answers (n : ℕ) (final : State) (q : Quad) : Type 0 where

@@ -51,18 +51,12 @@ neither true b e = absurd (true≢false e)
 neither false b e = (refl, e)
 
 cond-zero : (b : Bool) (m n : ℕ) → cond b (suc m) n ≡ 0 → (b ≡ false) × (n ≡ 0)
-cond-zero true m n e = absurd (no m e)
-  where
-    no : (m : ℕ) → suc m ≡ 0 → ⊥
-    no m e = omega arith
+cond-zero true m n e = absurd (omega arith)
 cond-zero false m n e = (refl, e)
 
-first-zero : (a b : ℕ) → firstOf a b ≡ 0 → (a ≡ 0) × (b ≡ 0)
+pub first-zero : (a b : ℕ) → firstOf a b ≡ 0 → (a ≡ 0) × (b ≡ 0)
 first-zero zero b e = (refl, e)
-first-zero (suc a) b e = absurd (no a e)
-  where
-    no : (a : ℕ) → suc a ≡ 0 → ⊥
-    no a e = omega arith
+first-zero (suc a) b e = absurd (omega arith)
 
 -- no loop is refused
 loops-zero : (o : Outline) → loopsRefusal o ≡ 0 → (k : ℕ) → k ≤ length (o .lens) → loopRefusal (loopAt o k) ≡ 0

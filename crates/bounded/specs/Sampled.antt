@@ -16,7 +16,7 @@ use Rattle.numbers.specs.Whole.{ceilCount}
 use Rattle.exact.specs.Rounding.{Close, rounded, round-close-whole, close-cancel}
 use Rattle.exact.specs.Units.{W, W-pos, Val}
 use Rattle.exact.specs.Operations.{round-val}
-use Rattle.exact.specs.Blend.{Rel, rel, Fraction, fraction, blend}
+use Rattle.exact.specs.Blend.{Millionth, millionth, Fraction, fraction, blend}
 use Rattle.exact.specs.Monotone.{mean-within}
 use Rattle.domain.specs.declared.Point.{Point}
 use Rattle.domain.specs.Outline.{Outline, loopAt, points, point, pointAt, pointAfter, outlineRefusal}
@@ -30,12 +30,12 @@ use Rattle.bounded.specs.Point.{Bounded}
 record Count (k : ℕ) : Type 0 where
   size : ℕ
   val : Val (toFloat k) false size
-  near : Rel size (k * W)
+  near : Millionth size (k * W)
 
 count : (k : ℕ) → k < 2 ^ 64 → Count k
 unfolding ofInt
 count k h =
-    let near = rel (rounded (k * W) 1) (k * W) close in
+    let near = millionth (rounded (k * W) 1) (k * W) close in
     record { size = rounded (k * W) 1; val = round-val false k 1 (room near (mul-le-mul-right W (le-of-lt h))); near = near }
   where
     close : Close (rounded (k * W) 1) (k * W) (k * W)
@@ -43,10 +43,10 @@ count k h =
         subst (λ (n : ℕ). Close (rounded n 1) (k * W) (k * W)) (mul-one (k * W))
         (close-cancel (rounded (k * W * 1) 1) (k * W) (k * W) 1 (lit< tt) (round-close-whole (k * W) 1 (lit< tt)))
 
-    twice : {n m : ℕ} → Rel n (k * W) → k * W ≤ m → n ≤ 2 * m
+    twice : {n m : ℕ} → Millionth n (k * W) → k * W ≤ m → n ≤ 2 * m
     twice r h = omega arith
 
-    room : {n : ℕ} → Rel n (k * W) → k * W ≤ 2 ^ 64 * W → n < 2 ^ 1024 * W
+    room : {n : ℕ} → Millionth n (k * W) → k * W ≤ 2 ^ 64 * W → n < 2 ^ 1024 * W
     room r h =
         lt-of-le-of-lt (le-trans (twice r h) (le-of-eq (sym (mul-assoc 2 (2 ^ 64) W)))) (mul-lt-mul-of-pos-right (lit< tt) W-pos)
 

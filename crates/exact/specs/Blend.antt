@@ -24,17 +24,17 @@ use Rattle.exact.specs.SineBounds.{mul-le}
 -- ---- roundings
 
 -- x is n within a millionth
-abbrev pub Rel : ℕ → ℕ → Type 0
-Rel x n = (1000000 * x ≤ 1000001 * n) × (999999 * n ≤ 1000000 * x)
+abbrev pub Millionth : ℕ → ℕ → Type 0
+Millionth x n = (1000000 * x ≤ 1000001 * n) × (999999 * n ≤ 1000000 * x)
 
-pub rel : (x n : ℕ) → Close x n n → Rel x n
-rel x n h = omega arith
+pub millionth : (x n : ℕ) → Close x n n → Millionth x n
+millionth x n h = omega arith
 
 -- x is at most n and a millionth of it, and u besides
-abbrev pub Over : ℕ → ℕ → ℕ → Type 0
+abbrev Over : ℕ → ℕ → ℕ → Type 0
 Over x n u = 1000000 * x ≤ 1000001 * n + 1000000 * u
 
-pub over : (x n u : ℕ) → Close x n (n + 2 ^ 52 * u) → Over x n u
+over : (x n u : ℕ) → Close x n (n + 2 ^ 52 * u) → Over x n u
 over x n u h = go (h .0)
   where
     go : 2 ^ 53 * x ≤ 2 ^ 53 * n + (n + 2 ^ 52 * u) → 1000000 * x ≤ 1000001 * n + 1000000 * u
@@ -133,7 +133,7 @@ quotient-small t g k K h c =
     go x y z h l m = omega arith
 
 -- the quotient of two doubles that are n and d rounded
-pub fraction : (x y : Float) (u v : Bool) (n d g k : ℕ) → Val x u g → Val y v k → Rel g n → Rel k d → Part u v n d → Fraction (x ⊘ y)
+pub fraction : (x y : Float) (u v : Bool) (n d g k : ℕ) → Val x u g → Val y v k → Millionth g n → Millionth k d → Part u v n d → Fraction (x ⊘ y)
 fraction x y u v n d g k p q rn rd b =
     let K = positive (b .some) rd in
     let r = ratio (b .less) rn rd in
@@ -146,10 +146,10 @@ fraction x y u v n d g k p q rn rd b =
       plus = elim (b .same) [ inl e ↦ inl e | inr z ↦ inr (zero-close (t .size) k (g * W) K (nothing z) (t .near)) ];
     }
   where
-    positive : 0 < d → Rel k d → 0 < k
+    positive : 0 < d → Millionth k d → 0 < k
     positive h r = omega arith
 
-    ratio : n ≤ d → Rel g n → Rel k d → 1000000 * g ≤ 1000003 * k
+    ratio : n ≤ d → Millionth g n → Millionth k d → 1000000 * g ≤ 1000003 * k
     ratio h p q = omega arith
 
     nothing : n ≡ 0 → g * W ≡ 0
@@ -171,7 +171,7 @@ slope py ay by p a b h =
     let n = sub-law p a tt tt in
     let d = sub-law b a tt tt in
     fraction (py ⊖ ay) (by ⊖ ay) (n .sign) (d .sign) (n .exact) (d .exact) (n .size) (d .size) (n .val) (d .val)
-    (rel (n .size) (n .exact) (n .near)) (rel (d .size) (d .exact) (d .near)) (part n d (lt py ay) (lt py by) refl refl h)
+    (millionth (n .size) (n .exact) (n .near)) (millionth (d .size) (d .exact) (d .near)) (part n d (lt py ay) (lt py by) refl refl h)
   where
     P : ℤ
     P = units py
@@ -275,7 +275,7 @@ blend-between A B true w m K a b e h =
 
 -- ---- the product of t and a step that is w units exactly and g rounded
 
-product-over : (t g w m : ℕ) → 1000000 * t ≤ 1000005 * W → Rel g w → Over (m * W) (t * g) W → 1000000 * m ≤ 1000020 * w + 1000000
+product-over : (t g w m : ℕ) → 1000000 * t ≤ 1000005 * W → Millionth g w → Over (m * W) (t * g) W → 1000000 * m ≤ 1000020 * w + 1000000
 product-over t g w m h r c =
     let l = le-trans (mul-le t W g w 1000000 1000005 1000000 1000001 h (r .0)) (le-of-eq (ap (λ (z : ℕ). 1000006000005 * z) (mul-comm W w))) in
     let split = add-mul (1000020 * w) 1000000 W ∙ ap (λ (z : ℕ). z + 1000000 * W) (mul-assoc 1000020 w W) in
@@ -309,7 +309,7 @@ blend t a b f p q =
     let n = f .size * d .size in
     let none : f .size ≡ 0 → m .size ≡ 0 = λ e. zero-close (m .size) W n W-pos (ap (λ (z : ℕ). z * d .size) e ∙ zero-mul (d .size)) (m .near) in
     let same = sign-same (f .sign) (d .sign) (m .size) (elim (f .plus) [ inl e ↦ inl e | inr e ↦ inr (none e) ]) in
-    let near = rel (d .size) (d .exact) (d .near) in
+    let near = millionth (d .size) (d .exact) (d .near) in
     let product = product-over (f .size) (d .size) (d .exact) (m .size) (f .small) near (over (m .size * W) n W (m .near)) in
     let between =
     blend-between (units a) (units b) (d .sign) (d .exact) (m .size) (1000 * W) (between-within p) (between-within q) (d .is) product in
@@ -317,7 +317,7 @@ blend t a b f p q =
     ap (λ (z : ℤ). units a +ℤ z) (sym (within-units M ∙ same)) ∙ sym (s .is) in
     let c = 1000040 * (1000 * W) + 1000000 in
     let small = between-size (s .sign) (s .exact) c 1000000 (subst (λ (z : ℤ). Between c (pos 1000000 *ℤ z)) is between) in
-    record { sign = s .sign; size = s .size; val = s .val; small = last (s .exact) (s .size) small (rel (s .size) (s .exact) (s .near)) }
+    record { sign = s .sign; size = s .size; val = s .val; small = last (s .exact) (s .size) small (millionth (s .size) (s .exact) (s .near)) }
   where
     both : (a b : ℕ) → a ≤ 1000 * W → b ≤ 1000 * W → a + b ≤ 2000 * W
     both a b h k = omega arith
@@ -325,5 +325,5 @@ blend t a b f p q =
     two : (n : ℕ) → 1000000 * n ≤ 1000005 * W → n ≤ 2 * W
     two n h = omega arith
 
-    last : (w g : ℕ) → 1000000 * w ≤ 1000040 * (1000 * W) + 1000000 → Rel g w → g ≤ 1001 * W
+    last : (w g : ℕ) → 1000000 * w ≤ 1000040 * (1000 * W) + 1000000 → Millionth g w → g ≤ 1001 * W
     last w g h r = omega (arith, le-trans (lit≤ {m = 1000000} tt) W-big)

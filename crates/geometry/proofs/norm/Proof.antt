@@ -1,5 +1,5 @@
 -- `geometry::norm` meets its contract. Assumes nothing.
-use Rattle.geometry.specs.Plane.{norm}
+use Rattle.exact.specs.Corner.{norm}
 use borrow.Author.Needs.{needs}
 use Rattle.geometry.proofs.norm.Statement.{statement}
 use Rattle.geometry.proofs.norm.Tie as tie

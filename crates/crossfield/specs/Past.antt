@@ -32,7 +32,8 @@ module _ (g : Grid) where
   node-below : (i j : ℕ) → i < g .nx → j < g .ny → nodeAt g i j < gridNodes g
   node-below i j h l = let r = row-in j (g .ny) (g .nx) l in let e = mul-comm (g .nx) (g .ny) in omega arith
 
-  value-past : (before now : List Float) (id : ℕ) (v : Point) → id < gridNodes g → ValuesPast g before now → ValuesPast g before (setValue now id v)
+  value-past : (before now : List Float) (id : ℕ) (v : Point) → id < gridNodes g → ValuesPast g before now
+      → ValuesPast g before (setValue now id v)
   unfolding setValue
   value-past before now id v h p =
       drop-set-lt (2 * gridNodes g) (set now (2 * id) (v .x)) (2 * id + 1) (v .y) (omega arith)

@@ -2,7 +2,7 @@
 use mathlib.Core.Path.{_≡_}
 use mathlib.Core.Bool.{true}
 use mathlib.Core.Logic.{_≢_}
-use Prim.Native.Nat.{ℕ, zero, suc, min, _<_}
+use Prim.Native.Nat.{ℕ, suc, min, _<_}
 use lib.Ieee.{Float}
 use Rattle.laws.specs.Loop.{go}
 use Rattle.domain.specs.Outline.{Outline}

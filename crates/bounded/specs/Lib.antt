@@ -1,4 +1,4 @@
--- In reading order: what is claimed of a point; the points sampled; the corners of a quad in the book; the nodes of a placing; one placing; the run.
+-- In reading order: what is claimed of a point; the points sampled; a quad's corners in the book; the nodes that a placing leaves; one placing; a run.
 pub mod Point
 pub mod Sampled
 pub mod Corners

@@ -46,8 +46,8 @@ module _ (P : Point → Type 0) where
   unfolding pushNode nodeIn
   push-nodes p k s r h = record {
     nodes = λ id l. elim (eq-or-lt-of-le (below l)) [
-      | inl e ↦ subst P (ap₂ point (sym (last (s .xs) (p .x) e (omega (arith, r .xs)))) (sym (last (s .ys) (p .y) e (omega (arith, r .ys))))) h
-      | inr m ↦ subst P (ap₂ point (sym (getD-set-other (s .xs) n id (p .x) nan (other m))) (sym (getD-set-other (s .ys) n id (p .y) nan (other m)))) (r .nodes id m)
+      | inl e ↦ subst P (ap₂ point (last (s .xs) (p .x) e (omega (arith, r .xs))) (last (s .ys) (p .y) e (omega (arith, r .ys)))) h
+      | inr m ↦ subst P (ap₂ point (before (s .xs) (p .x) m) (before (s .ys) (p .y) m)) (r .nodes id m)
     ];
     xs = omega (arith, r .xs, length-set (s .xs) n (p .x));
     ys = omega (arith, r .ys, length-set (s .ys) n (p .y));
@@ -59,11 +59,11 @@ module _ (P : Point → Type 0) where
       below : {id : ℕ} → id < n + 1 → id ≤ n
       below l = omega arith
 
-      other : {id : ℕ} → id < n → id ≡ n → ⊥
-      other l e = omega arith
+      last : (xs : List Float) (x : Float) {id : ℕ} → id ≡ n → n < length xs → x ≡ getD (set xs n x) id nan
+      last xs x {id} e l = rw e (sym (getD-set-same xs n x nan l))
 
-      last : (xs : List Float) (x : Float) {id : ℕ} → id ≡ n → n < length xs → getD (set xs n x) id nan ≡ x
-      last xs x {id} e l = rw e (getD-set-same xs n x nan l)
+      before : (xs : List Float) (x : Float) {id : ℕ} → id < n → getD xs id nan ≡ getD (set xs n x) id nan
+      before xs x {id} l = sym (getD-set-other xs n id x nan (λ e. omega arith))
 
   push-corner : (c : Corner) (k : ℕ) (s : State) → Roomy P (added c + k) s → IfNew P c → Roomy P k (pushCorner c s)
   push-corner (Reused id) k s r h = less-room (omega arith) r

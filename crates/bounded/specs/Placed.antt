@@ -1,5 +1,5 @@
--- A placing keeps every node bounded, since a new corner is inside the outline: `place-bounded`, and along a run `reaches-bounded`. And the quad placed holds in the sense of the
--- book: `placement-holds`. Assumes nothing.
+-- A placing keeps every node bounded, since a new corner is inside the outline: `place-bounded`, and along a run `reaches-bounded`. And the quad
+-- placed holds in a book that has its corners: `placement-holds`, and `matched-holds` for a book that matches a later state. Assumes nothing.
 use mathlib.Core.Path.{_≡_, refl, sym, ap, ap₂, _∙_, subst}
 use mathlib.Core.Bool.{Bool, true, false, not, _&&_, _||_, cond}
 use mathlib.Core.List.{List}
@@ -105,11 +105,13 @@ module _ (o : Outline) (fits : OutlineFits o) (taken : outlineRefusal o ≡ 0) w
 
     new-c : IfNew Bounded c
     unfolding cornerC
-    new-c = corner-bounded size s c (subst (IfNew PointFits) (chosen .at-c) (corner-fits size s b (prevOf s a) (node s a) (P .da))) (checks .free-c)
+    new-c =
+        corner-bounded size s c (subst (IfNew PointFits) (chosen .at-c) (corner-fits size s b (prevOf s a) (node s a) (P .da))) (checks .free-c)
 
     new-d : IfNew Bounded d
     unfolding cornerD
-    new-d = corner-bounded size s d (subst (IfNew PointFits) (chosen .at-d) (corner-fits size s a (nextOf s b) (node s b) (P .db))) (checks .free-d)
+    new-d =
+        corner-bounded size s d (subst (IfNew PointFits) (chosen .at-d) (corner-fits size s a (nextOf s b) (node s b) (P .db))) (checks .free-d)
 
     room : AllNodes Bounded s → Roomy Bounded (added c + added d) s
     unfolding isFull nodePlaces

@@ -24,8 +24,10 @@ module _ (o : Outline) (size : Float) (fits : OutlineFits o) (taken : outlineRef
   -- every node sampled
   pub start-bounded : (lent : State) → frontRefusal o size lent ≡ 0 → AllNodes Bounded (fromBoundary o size lent)
   start-bounded lent none id h =
-      sampled-all Bounded o size lent samples (outline-three o taken) none id (omega (arith, begun o size lent (outline-three o taken) none .nodeCount))
+      let three = outline-three o taken in
+      sampled-all Bounded o size lent samples three none id (omega (arith, begun o size lent three none .nodeCount))
 
   -- every node of every state that a run from there goes through
-  pub run-bounded : {k : ℕ} {t : State} (lent : State) → frontRefusal o size lent ≡ 0 → Reaches o size (fromBoundary o size lent) k t → AllNodes Bounded t
+  pub run-bounded : {k : ℕ} {t : State} (lent : State) → frontRefusal o size lent ≡ 0 → Reaches o size (fromBoundary o size lent) k t
+      → AllNodes Bounded t
   run-bounded lent none r = reaches-bounded o fits taken (start-bounded lent none) r

@@ -1,5 +1,5 @@
--- The points sampled are bounded: a cut of a segment whose ends are within 1,000, `cut-bounded`, and the midpoint of two bounded points, `mean-bounded`; in one statement for the
--- segments of an accepted outline, `sample-bounded`. Assumes nothing.
+-- The points sampled are bounded: a cut of a segment whose ends are within 1,000, `cut-bounded`, so every cut of an accepted outline,
+-- `sample-bounded`; and the point halfway between two bounded ones, `mean-bounded`. Assumes nothing.
 use mathlib.Core.Path.{_≡_, refl, sym, subst}
 use mathlib.Core.Logic.{inl}
 use mathlib.Core.Bool.{true, false}
@@ -16,11 +16,11 @@ use Rattle.numbers.specs.Whole.{ceilCount}
 use Rattle.exact.specs.Rounding.{Close, rounded, round-close-whole, close-cancel}
 use Rattle.exact.specs.Units.{W, W-pos, Val}
 use Rattle.exact.specs.Operations.{round-val}
+use Rattle.exact.specs.Blend.{Millionth, millionth, Fraction, fraction, blend}
 use Rattle.exact.specs.Monotone.{mean-within}
 use Rattle.domain.specs.declared.Point.{Point}
 use Rattle.domain.specs.Outline.{Outline, loopAt, points, point, pointAt, pointAfter, outlineRefusal}
 use Rattle.domain.specs.Accepted.{OutlineFits, PointWithin, accepted, loop-within, after-within}
-use Rattle.domain.specs.Blend.{Rel, rel, Fraction, fraction, blend}
 use Rattle.geometry.specs.Plane.{distance}
 use Rattle.front.specs.Sampling.{stretch, cut, partsOf, parts}
 use Rattle.bounded.specs.Point.{Bounded}
@@ -30,12 +30,12 @@ use Rattle.bounded.specs.Point.{Bounded}
 record Count (k : ℕ) : Type 0 where
   size : ℕ
   val : Val (toFloat k) false size
-  near : Rel size (k * W)
+  near : Millionth size (k * W)
 
 count : (k : ℕ) → k < 2 ^ 64 → Count k
 unfolding ofInt
 count k h =
-    let near = rel (rounded (k * W) 1) (k * W) close in
+    let near = millionth (rounded (k * W) 1) (k * W) close in
     record { size = rounded (k * W) 1; val = round-val false k 1 (room near (mul-le-mul-right W (le-of-lt h))); near = near }
   where
     close : Close (rounded (k * W) 1) (k * W) (k * W)
@@ -43,11 +43,12 @@ count k h =
         subst (λ (n : ℕ). Close (rounded n 1) (k * W) (k * W)) (mul-one (k * W))
         (close-cancel (rounded (k * W * 1) 1) (k * W) (k * W) 1 (lit< tt) (round-close-whole (k * W) 1 (lit< tt)))
 
-    twice : {n m : ℕ} → Rel n (k * W) → k * W ≤ m → n ≤ 2 * m
+    twice : {n m : ℕ} → Millionth n (k * W) → k * W ≤ m → n ≤ 2 * m
     twice r h = omega arith
 
-    room : {n : ℕ} → Rel n (k * W) → k * W ≤ 2 ^ 64 * W → n < 2 ^ 1024 * W
-    room r h = lt-of-le-of-lt (le-trans (twice r h) (le-of-eq (sym (mul-assoc 2 (2 ^ 64) W)))) (mul-lt-mul-of-pos-right (lit< tt) W-pos)
+    room : {n : ℕ} → Millionth n (k * W) → k * W ≤ 2 ^ 64 * W → n < 2 ^ 1024 * W
+    room r h =
+        lt-of-le-of-lt (le-trans (twice r h) (le-of-eq (sym (mul-assoc 2 (2 ^ 64) W)))) (mul-lt-mul-of-pos-right (lit< tt) W-pos)
 
 -- k / n
 part : (n k : ℕ) → n < 2 ^ 64 → k < n → Fraction (toFloat k ⊘ toFloat n)
@@ -90,7 +91,8 @@ mean-bounded a b A B = record {
 }
 
 -- point j of segment i of loop k, of an accepted outline and any size
-pub sample-bounded : (o : Outline) (size : Float) → OutlineFits o → outlineRefusal o ≡ 0 → (k i j : ℕ) → k ≤ length (o .lens) → i < points (loopAt o k) → j < parts size (loopAt o k) i
+pub sample-bounded : (o : Outline) (size : Float) → OutlineFits o → outlineRefusal o ≡ 0
+    → (k i j : ℕ) → k ≤ length (o .lens) → i < points (loopAt o k) → j < parts size (loopAt o k) i
     → Bounded (cut (pointAt (loopAt o k) i) (pointAfter (loopAt o k) i) (parts size (loopAt o k) i) j)
 sample-bounded o size fits taken k i j h l m =
     let w = loop-within o fits (accepted o taken) k h in

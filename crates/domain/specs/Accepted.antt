@@ -1,4 +1,5 @@
--- What the refusals 1 to 4 leave of an outline: `Accepted`. For an outline of doubles, `loop-within`: every point of every loop is within 1,000. Assumes nothing.
+-- What the refusals 1 to 4 leave of an outline: `Accepted`. And `loop-within`: where the outline's floats are doubles, every point of every loop
+-- is within 1,000. Assumes nothing.
 use mathlib.Core.Bool.{Bool, true, false, _||_, cond, true≢false}
 use mathlib.Core.List.{List}
 use mathlib.Core.Logic.{inl, inr}
@@ -16,8 +17,9 @@ use Rattle.numbers.specs.Float.{isFinite, absF}
 use Rattle.exact.specs.Units.{W, Val, Within}
 use Rattle.exact.specs.Order.{within-abs}
 use Rattle.domain.specs.declared.Point.{Point}
-use Rattle.domain.specs.Outline.{Outline, holeLength, holeStart, holeAt, loopAt, points, pointAt, after, pointAfter}
-use Rattle.domain.specs.Outline.{firstOf, anyFloat, notFinite, farthest, beyond, misshapen, loopRefusal, holeRefusal, loopsRefusal, farRefusal, outlineRefusal}
+use Rattle.domain.specs.Outline.{Outline, holeLength, holeStart, holeAt, loopAt, points, pointAt, pointAfter}
+use Rattle.domain.specs.Outline.{firstOf, anyFloat, notFinite, farthest, beyond}
+use Rattle.domain.specs.Outline.{misshapen, loopRefusal, holeRefusal, loopsRefusal, farRefusal, outlineRefusal}
 
 -- ---- what owning floats of type f64 tells: they are doubles
 
@@ -92,11 +94,13 @@ unfolding holeAt
 in-holes o k i h =
     let m = 2 * holeLength (o .lens) k in
     let d = 2 * holeStart (o .lens) k in
-    let g : i < min m (length (o .holes) - d) = lt-of-lt-of-le h (le-of-eq (length-take m (drop d (o .holes)) ∙ ap (min m) (length-drop d (o .holes)))) in
+    let long = length-take m (drop d (o .holes)) ∙ ap (min m) (length-drop d (o .holes)) in
+    let g : i < min m (length (o .holes) - d) = lt-of-lt-of-le h (le-of-eq long) in
     record { there = omega arith; same = getD-take m (drop d (o .holes)) i nan (omega arith) ∙ getD-drop d (o .holes) i nan }
 
 -- what every coordinate of the lists has, every loop's has
-each : (o : Outline) (P : Float → Type 0) → ((i : ℕ) → i < length (o .outer) → P (getD (o .outer) i nan)) → ((i : ℕ) → i < length (o .holes) → P (getD (o .holes) i nan))
+each : (o : Outline) (P : Float → Type 0)
+    → ((i : ℕ) → i < length (o .outer) → P (getD (o .outer) i nan)) → ((i : ℕ) → i < length (o .holes) → P (getD (o .holes) i nan))
     → (k i : ℕ) → i < length (loopAt o k) → P (getD (loopAt o k) i nan)
 unfolding loopAt
 each o P outer holes zero i h = outer i h

@@ -1,6 +1,6 @@
--- What `contains` accepts, of an accepted outline of doubles, lies within 1,001 to both sides and within 1,000 up and down: `inside`, the last statement.
--- A point farther up or down straddles no edge, and one farther right meets none. One farther left meets every edge that straddles its height, and those of a
--- ring are even in number. Assumes nothing.
+-- What `contains` accepts, of an accepted outline of doubles, lies within 1,001 to both sides and within 1,000 up and down: `inside`, the last
+-- statement. No edge straddles the height of a point farther up or down, and the ray from one farther right meets none. The ray from one farther
+-- left meets every edge that straddles its height, and in a ring these are even in number. Assumes nothing.
 use mathlib.Core.Bool.{Bool, true, false, not, _&&_, true≢false}
 use mathlib.Core.List.{List}
 use mathlib.Core.Path.{_≡_, refl, sym, ap, ap₂, _∙_, subst}
@@ -12,12 +12,12 @@ use lib.Ieee.{Float, unlike, lt}
 use Rattle.numbers.specs.Float.{_⊕_, _⊖_, _⊗_, _⊘_, isFinite}
 use Rattle.exact.specs.Units.{W, Val, signOf, sizeOf, val-of, Within, within}
 use Rattle.exact.specs.Order.{beyond-lt}
+use Rattle.exact.specs.Blend.{slope, blend}
 use Rattle.domain.specs.declared.Point.{Point}
 use Rattle.domain.specs.Outline.{Outline, loopAt, points, pointAt, pointAfter, outlineRefusal}
 use Rattle.domain.specs.Queries.{rayCrosses, polygonTurn, pointInPolygon, contains}
 use Rattle.domain.specs.Parity.{oddUp, odd-same, odd-none, odd-ring}
 use Rattle.domain.specs.Accepted.{OutlineFits, PointFits, PointWithin, accepted, LoopWithin, loop-within, after-within}
-use Rattle.domain.specs.Blend.{slope, blend}
 
 -- ---- one edge from a to b
 
@@ -30,7 +30,8 @@ abbrev meet : Point → Point → Point → Float
 meet p a b = a .x ⊕ (p .y ⊖ a .y) ⊘ (b .y ⊖ a .y) ⊗ (b .x ⊖ a .x)
 
 -- p is too far up or down
-high-meets : (p a b : Point) (s : Bool) (n : ℕ) → Val (p .y) s n → 1000 * W < n → PointWithin 1000 1000 a → PointWithin 1000 1000 b → rayCrosses p a b ≡ false
+high-meets : (p a b : Point) (s : Bool) (n : ℕ) → Val (p .y) s n → 1000 * W < n → PointWithin 1000 1000 a → PointWithin 1000 1000 b
+    → rayCrosses p a b ≡ false
 unfolding rayCrosses
 high-meets p a b s n v h A B =
     ap (λ (z : Bool). z && lt (p .x) (meet p a b)) (ap₂ unlike (beyond-lt (p .y) s n v (A .y) h) (beyond-lt (p .y) s n v (B .y) h) ∙ own s)
@@ -40,13 +41,15 @@ high-meets p a b s n v h A B =
     own false = refl
 
 -- p is too far to a side, the left one where s is true
-side-meets : (p a b : Point) (s : Bool) (n : ℕ) → Val (p .x) s n → 1001 * W < n → Within 1000 (p .y) → PointWithin 1000 1000 a → PointWithin 1000 1000 b
-    → rayCrosses p a b ≡ (straddles p a b && s)
+side-meets : (p a b : Point) (s : Bool) (n : ℕ) → Val (p .x) s n → 1001 * W < n → Within 1000 (p .y)
+    → PointWithin 1000 1000 a → PointWithin 1000 1000 b → rayCrosses p a b ≡ (straddles p a b && s)
 unfolding rayCrosses
 side-meets p a b s n v h Y A B = go (straddles p a b) refl
   where
     go : (u : Bool) → straddles p a b ≡ u → (u && lt (p .x) (meet p a b)) ≡ (u && s)
-    go true e = beyond-lt (p .x) s n v (blend _ (a .x) (b .x) (slope (p .y) (a .y) (b .y) Y (A .y) (B .y) (subst T (sym e) tt)) (A .x) (B .x)) h
+    go true e =
+        let t = slope (p .y) (a .y) (b .y) Y (A .y) (B .y) (subst T (sym e) tt) in
+        beyond-lt (p .x) s n v (blend _ (a .x) (b .x) t (A .x) (B .x)) h
     go false e = refl
 
 -- ---- one loop
@@ -71,7 +74,9 @@ module _ (p : Point) (s : List Float) (w : LoopWithin s) where
       none false = refl
 
       even : (left : Bool) → oddUp (points s) (λ i. straddles p (pointAt s i) (pointAfter s i) && left) ≡ false
-      even true = odd-same (points s) _ _ (λ i l. both (straddles p (pointAt s i) (pointAfter s i))) ∙ odd-ring (points s) (λ i. lt (p .y) (pointAt s i .y))
+      even true =
+          odd-same (points s) _ _ (λ i l. both (straddles p (pointAt s i) (pointAfter s i)))
+          ∙ odd-ring (points s) (λ i. lt (p .y) (pointAt s i .y))
       even false = odd-none (points s) _ (λ i l. none (straddles p (pointAt s i) (pointAfter s i)))
 
   in-polygon : PointFits p → isFinite (p .x) ≡ true → isFinite (p .y) ≡ true → pointInPolygon p s ≡ true → PointWithin 1001 1000 p
@@ -93,7 +98,7 @@ module _ (p : Point) (s : List Float) (w : LoopWithin s) where
 
 -- ---- the theorem
 
--- INSIDE MEANS WITHIN 1,001. Of an outline that no refusal stops: what `contains` accepts is at most 1,001 to either side and at most 1,000 up or down.
+-- INSIDE MEANS WITHIN 1,001. Of an outline that no refusal stops, what `contains` accepts is at most 1,001 to either side and 1,000 up or down.
 pub inside : (o : Outline) (p : Point) → OutlineFits o → outlineRefusal o ≡ 0 → PointFits p → isFinite (p .x) ≡ true → isFinite (p .y) ≡ true
     → contains o p ≡ true → PointWithin 1001 1000 p
 unfolding contains loopAt

@@ -1,5 +1,4 @@
 pub mod Accepted
-pub mod Blend
 pub mod Inside
 pub mod Outline
 pub mod OutlineLaws

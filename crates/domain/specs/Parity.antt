@@ -38,7 +38,8 @@ unlike-between false true false = refl
 unlike-between false false true = refl
 unlike-between false false false = refl
 
--- Round a ring of n flags an even number change from one to the next: after i steps from flag 0 the parity of the changes is whether flag i differs from it, and the last step is back to flag 0.
+-- Round a ring of n flags, an even number differ from the next one. After i steps from flag 0 the number of changes is odd where the flag reached
+-- differs from flag 0, and the last step is back to flag 0.
 pub odd-ring : (n : ℕ) (flag : ℕ → Bool) → oddUp n (λ i. unlike (flag i) (flag (after n i))) ≡ false
 odd-ring n flag =
     forUp-keeps (λ i odd. odd ≡ unlike (flag 0) (at i)) n (oddTurn change) false (first (ltb 0 n)) step

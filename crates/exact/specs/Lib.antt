@@ -1,3 +1,4 @@
+pub mod Blend
 pub mod Corner
 pub mod Examples
 pub mod Monotone

@@ -1,11 +1,13 @@
--- A coordinate some part of the way from a to b as the code computes it, a + t·(b − a), for a and b within 1,000: `blend` says that it is within 1,001, for all
--- the rounding. `slope` says that a height between those of an edge's ends is such a part of the way. Roundings are taken crudely, at one in a million each. Assumes nothing.
+-- A coordinate some part of the way from a to b as the code computes it, a + t·(b − a), for a and b within 1,000: `blend` says that it is within
+-- 1,001, for all the rounding. `slope` says that a height between those of an edge's ends is such a part of the way. Roundings are taken
+-- crudely, at one in a million each. Assumes nothing.
 use mathlib.Core.Path.{_≡_, refl, sym, ap, ap₂, _∙_, subst}
 use mathlib.Core.Logic.{_⊎_, inl, inr}
 use mathlib.Core.List.{List, [], _∷_}
 use mathlib.Core.Bool.{Bool, true, false, not, true≢false}
 use Prim.Native.Nat.{ℕ, zero, suc, _+_, _*_, _^_, _≤_, _<_}
-use native.Mathlib.Nat.{le-trans, le-of-eq, mul-comm, mul-assoc, mul-mul-mul-comm, mul-le-mul, mul-le-mul-right, mul-le-mul-left, le-of-mul-le-mul-right, add-mul, zero-mul, suc-mul}
+use native.Mathlib.Nat.{le-trans, le-of-eq, add-mul, zero-mul, suc-mul, mul-comm, mul-assoc, mul-mul-mul-comm}
+use native.Mathlib.Nat.{mul-le-mul, mul-le-mul-right, mul-le-mul-left, le-of-mul-le-mul-right}
 use native.Mathlib.Omega.{arith}
 use lib.Dec.{T, lit≤}
 use lib.IntN.{ℤ, pos, negℤ, _+ℤ_, _*ℤ_, _-ℤ_, negℤ-negℤ}
@@ -13,26 +15,26 @@ use lib.Ieee.{Float, unlike, lt}
 use Rattle.laws.specs.Ring.{Expr, var, num, _+ᵉ_, _*ᵉ_, _-ᵉ_, neg, ring}
 use Rattle.laws.specs.Certificate.{Nonneg, nonneg, not-nonneg, of-le, to-le, of-≤ℤ, of-<ℤ, hyp, nat, eqn, _⊞_, _⊠_, Hyps, Eqns, prove, zero-of}
 use Rattle.numbers.specs.Float.{_⊕_, _⊖_, _⊗_, _⊘_}
 use Rattle.exact.specs.Rounding.{Close}
 use Rattle.exact.specs.Units.{W, W-pos, W-big, Val, signed, units, Within, within-units}
 use Rattle.exact.specs.Order.{lt-val, not-lt-val}
 use Rattle.exact.specs.Operations.{mul-law, product-within, Sum, add-law, sub-law, sum-within, div-law}
 use Rattle.exact.specs.SineBounds.{mul-le}
 
 -- ---- roundings
 
 -- x is n within a millionth
-abbrev pub Rel : ℕ → ℕ → Type 0
-Rel x n = (1000000 * x ≤ 1000001 * n) × (999999 * n ≤ 1000000 * x)
+abbrev pub Millionth : ℕ → ℕ → Type 0
+Millionth x n = (1000000 * x ≤ 1000001 * n) × (999999 * n ≤ 1000000 * x)
 
-pub rel : (x n : ℕ) → Close x n n → Rel x n
-rel x n h = omega arith
+pub millionth : (x n : ℕ) → Close x n n → Millionth x n
+millionth x n h = omega arith
 
 -- x is at most n and a millionth of it, and u besides
-abbrev pub Over : ℕ → ℕ → ℕ → Type 0
+abbrev Over : ℕ → ℕ → ℕ → Type 0
 Over x n u = 1000000 * x ≤ 1000001 * n + 1000000 * u
 
-pub over : (x n u : ℕ) → Close x n (n + 2 ^ 52 * u) → Over x n u
+over : (x n u : ℕ) → Close x n (n + 2 ^ 52 * u) → Over x n u
 over x n u h = go (h .0)
   where
     go : 2 ^ 53 * x ≤ 2 ^ 53 * n + (n + 2 ^ 52 * u) → 1000000 * x ≤ 1000001 * n + 1000000 * u
@@ -59,12 +61,16 @@ nonneg-sign false w h = (refl, inl refl)
 nonneg-sign true zero h = (refl, inr refl)
 nonneg-sign true (suc w) h = absurd (not-nonneg h)
 
+-- X < Y, so X ≤ Y
+weaken : (X Y : ℤ) → Nonneg (Y -ℤ X -ℤ pos 1) → Nonneg (Y -ℤ X)
+weaken X Y h = prove (X ∷ Y ∷ []) ((var 1 -ᵉ var 0 -ᵉ num 1) ∷ []) (h, tt) [] tt 0 (var 1 -ᵉ var 0) (hyp 0 ⊞ nat 1) tt
+
 -- A ≤ P ≤ B and A < B
-part-up : (P A B : ℤ) (u v : Bool) (n d : ℕ) → signed u n ≡ P -ℤ A → signed v d ≡ B -ℤ A → Nonneg (P -ℤ A) → Nonneg (B -ℤ P) → Nonneg (B -ℤ A -ℤ pos 1)
-    → Part u v n d
+part-up : (P A B : ℤ) (u v : Bool) (n d : ℕ) → signed u n ≡ P -ℤ A → signed v d ≡ B -ℤ A
+    → Nonneg (P -ℤ A) → Nonneg (B -ℤ P) → Nonneg (B -ℤ A -ℤ pos 1) → Part u v n d
 part-up P A B u v n d e f h k l =
     let x = nonneg-sign u n (subst Nonneg (sym e) h) in
-    let y = nonneg-sign v d (subst Nonneg (sym f) (prove (A ∷ B ∷ []) ((var 1 -ᵉ var 0 -ᵉ num 1) ∷ []) (l, tt) [] tt 0 (var 1 -ᵉ var 0) (hyp 0 ⊞ nat 1) tt)) in
+    let y = nonneg-sign v d (subst Nonneg (sym f) (weaken A B l)) in
     let ρ = P ∷ A ∷ B ∷ pos n ∷ pos d ∷ [] in
     let hs = (var 2 -ᵉ var 0) ∷ (var 2 -ᵉ var 1 -ᵉ num 1) ∷ [] in
     let es = (var 3 -ᵉ (var 0 -ᵉ var 1)) ∷ (var 4 -ᵉ (var 2 -ᵉ var 1)) ∷ [] in
@@ -82,8 +88,8 @@ part-up P A B u v n d e f h k l =
     signs (inr p) q s = inr p
 
 -- B ≤ P ≤ A and B < A: the same of the negated ones
-part-down : (P A B : ℤ) (u v : Bool) (n d : ℕ) → signed u n ≡ P -ℤ A → signed v d ≡ B -ℤ A → Nonneg (A -ℤ P) → Nonneg (P -ℤ B) → Nonneg (A -ℤ B -ℤ pos 1)
-    → Part u v n d
+part-down : (P A B : ℤ) (u v : Bool) (n d : ℕ) → signed u n ≡ P -ℤ A → signed v d ≡ B -ℤ A
+    → Nonneg (A -ℤ P) → Nonneg (P -ℤ B) → Nonneg (A -ℤ B -ℤ pos 1) → Part u v n d
 part-down P A B u v n d e f h k l =
     let p = part-up (negℤ P) (negℤ A) (negℤ B) (not u) (not v) n d (mirror P u n e) (mirror B v d f) (turn P A h) (turn B P k)
     (prove (A ∷ B ∷ []) ((var 0 -ᵉ var 1 -ᵉ num 1) ∷ []) (l, tt) [] tt 0 (neg (var 1) -ᵉ neg (var 0) -ᵉ num 1) (hyp 0) tt) in
@@ -127,7 +133,7 @@ quotient-small t g k K h c =
     go x y z h l m = omega arith
 
 -- the quotient of two doubles that are n and d rounded
-pub fraction : (x y : Float) (u v : Bool) (n d g k : ℕ) → Val x u g → Val y v k → Rel g n → Rel k d → Part u v n d → Fraction (x ⊘ y)
+pub fraction : (x y : Float) (u v : Bool) (n d g k : ℕ) → Val x u g → Val y v k → Millionth g n → Millionth k d → Part u v n d → Fraction (x ⊘ y)
 fraction x y u v n d g k p q rn rd b =
     let K = positive (b .some) rd in
     let r = ratio (b .less) rn rd in
@@ -137,17 +143,20 @@ fraction x y u v n d g k p q rn rd b =
       size = t .size;
       val = t .val;
       small = quotient-small (t .size) g k K r (over (t .size * k) (g * W) k (t .near));
-      plus = elim (b .same) [ inl e ↦ inl e | inr z ↦ inr (zero-close (t .size) k (g * W) K (ap (λ (z : ℕ). z * W) (none z rn) ∙ zero-mul W) (t .near)) ];
+      plus = elim (b .same) [ inl e ↦ inl e | inr z ↦ inr (zero-close (t .size) k (g * W) K (nothing z) (t .near)) ];
     }
   where
-    positive : 0 < d → Rel k d → 0 < k
+    positive : 0 < d → Millionth k d → 0 < k
     positive h r = omega arith
 
-    ratio : n ≤ d → Rel g n → Rel k d → 1000000 * g ≤ 1000003 * k
+    ratio : n ≤ d → Millionth g n → Millionth k d → 1000000 * g ≤ 1000003 * k
     ratio h p q = omega arith
 
-    none : n ≡ 0 → Rel g n → g ≡ 0
-    none e r = omega arith
+    nothing : n ≡ 0 → g * W ≡ 0
+    nothing e = ap (λ (z : ℕ). z * W) none ∙ zero-mul W
+      where
+        none : g ≡ 0
+        none = omega (arith, rn)
 
     room : 1000000 * g ≤ 1000003 * k → g ≤ 2 ^ 400 * k
     room h = le-trans two (mul-le-mul-right k (lit≤ tt))
@@ -156,12 +165,13 @@ fraction x y u v n d g k p q rn rd b =
         two = omega arith
 
 -- how far up the edge from height ay to height by the height py is
-pub slope : (py ay by : Float) → Within 1000 py → Within 1000 ay → Within 1000 by → T (unlike (lt py ay) (lt py by)) → Fraction ((py ⊖ ay) ⊘ (by ⊖ ay))
+pub slope : (py ay by : Float) → Within 1000 py → Within 1000 ay → Within 1000 by → T (unlike (lt py ay) (lt py by))
+    → Fraction ((py ⊖ ay) ⊘ (by ⊖ ay))
 slope py ay by p a b h =
     let n = sub-law p a tt tt in
     let d = sub-law b a tt tt in
     fraction (py ⊖ ay) (by ⊖ ay) (n .sign) (d .sign) (n .exact) (d .exact) (n .size) (d .size) (n .val) (d .val)
-    (rel (n .size) (n .exact) (n .near)) (rel (d .size) (d .exact) (d .near)) (part n d (lt py ay) (lt py by) refl refl h)
+    (millionth (n .size) (n .exact) (n .near)) (millionth (d .size) (d .exact) (d .near)) (part n d (lt py ay) (lt py by) refl refl h)
   where
     P : ℤ
     P = units py
@@ -174,19 +184,19 @@ slope py ay by p a b h =
 
     below : {x y : Float} (p : Within 1000 x) (q : Within 1000 y) → lt x y ≡ true → Nonneg (units y -ℤ units x -ℤ pos 1)
     below {x} {y} p q e =
-        rw (within-units p, within-units q) (of-<ℤ (lt-val x y (p .sign) (q .sign) (p .size) (q .size) (p .val) (q .val) .0 (subst T (sym e) tt)))
+        rw (within-units p, within-units q)
+        (of-<ℤ (lt-val x y (p .sign) (q .sign) (p .size) (q .size) (p .val) (q .val) .0 (subst T (sym e) tt)))
 
     above : {x y : Float} (p : Within 1000 x) (q : Within 1000 y) → lt x y ≡ false → Nonneg (units x -ℤ units y)
     above {x} {y} p q e =
         rw (within-units p, within-units q)
         (of-≤ℤ (not-lt-val x y (p .sign) (q .sign) (p .size) (q .size) (p .val) (q .val) .0 (subst (λ (c : Bool). T (not c)) (sym e) tt)))
 
-    weak : (X Y : ℤ) → Nonneg (Y -ℤ X -ℤ pos 1) → Nonneg (Y -ℤ X)
-    weak X Y h = prove (X ∷ Y ∷ []) ((var 1 -ᵉ var 0 -ᵉ num 1) ∷ []) (h, tt) [] tt 0 (var 1 -ᵉ var 0) (hyp 0 ⊞ nat 1) tt
-
     -- X ≤ Y < Z
     chain : (X Y Z : ℤ) → Nonneg (Y -ℤ X) → Nonneg (Z -ℤ Y -ℤ pos 1) → Nonneg (Z -ℤ X -ℤ pos 1)
-    chain X Y Z h k = prove (X ∷ Y ∷ Z ∷ []) ((var 1 -ᵉ var 0) ∷ (var 2 -ᵉ var 1 -ᵉ num 1) ∷ []) (h, (k, tt)) [] tt 0 (var 2 -ᵉ var 0 -ᵉ num 1) (hyp 0 ⊞ hyp 1) tt
+    chain X Y Z h k =
+        prove (X ∷ Y ∷ Z ∷ []) ((var 1 -ᵉ var 0) ∷ (var 2 -ᵉ var 1 -ᵉ num 1) ∷ []) (h, (k, tt)) [] tt 0 (var 2 -ᵉ var 0 -ᵉ num 1)
+        (hyp 0 ⊞ hyp 1) tt
 
     part : {m l : ℕ} {x y : Float} (n : Sum (P -ℤ A) m x) (d : Sum (B -ℤ A) l y) (f g : Bool) → lt py ay ≡ f → lt py by ≡ g → T (unlike f g)
         → Part (n .sign) (d .sign) (n .exact) (d .exact)
@@ -195,11 +205,11 @@ slope py ay by p a b h =
     part n d true false e e' h =
         let less = below p a e in
         let more = above p b e' in
-        part-down P A B (n .sign) (d .sign) (n .exact) (d .exact) (n .is) (d .is) (weak P A less) more (chain B P A more less)
+        part-down P A B (n .sign) (d .sign) (n .exact) (d .exact) (n .is) (d .is) (weaken P A less) more (chain B P A more less)
     part n d false true e e' h =
         let less = below p b e' in
         let more = above p a e in
-        part-up P A B (n .sign) (d .sign) (n .exact) (d .exact) (n .is) (d .is) more (weak P B less) (chain A P B more less)
+        part-up P A B (n .sign) (d .sign) (n .exact) (d .exact) (n .is) (d .is) more (weaken P B less) (chain A P B more less)
 
 -- ---- whole numbers from -c to c
 
@@ -223,7 +233,8 @@ between-within {K} {x} p = subst (Between (K * W)) (sym (within-units p)) (betwe
 between-size : (s : Bool) (n c k : ℕ) → Between c (pos k *ℤ signed s n) → k * n ≤ c
 between-size false n c k b = to-le (k * n) c (b .high)
 between-size true n c k b =
-    to-le (k * n) c (prove (pos c ∷ pos k ∷ pos n ∷ []) ((var 0 +ᵉ var 1 *ᵉ neg (var 2)) ∷ []) (b .low, tt) [] tt 0 (var 0 -ᵉ var 1 *ᵉ var 2) (hyp 0) tt)
+    to-le (k * n) c
+    (prove (pos c ∷ pos k ∷ pos n ∷ []) ((var 0 +ᵉ var 1 *ᵉ neg (var 2)) ∷ []) (b .low, tt) [] tt 0 (var 0 -ᵉ var 1 *ᵉ var 2) (hyp 0) tt)
 
 -- ---- the sum a + m, where m has the sign of b - a and is at most its size w, and a little
 
@@ -254,7 +265,8 @@ blend-between : (A B : ℤ) (s : Bool) (w m K : ℕ) → Between K A → Between
     → Between (1000040 * K + 1000000) (pos 1000000 *ℤ (A +ℤ signed s m))
 blend-between A B false w m K a b e h = blend-up A B w m K a b e h
 blend-between A B true w m K a b e h =
-    subst (Between (1000040 * K + 1000000)) (ring (A ∷ pos m ∷ []) (neg (num 1000000 *ᵉ (neg (var 0) +ᵉ var 1))) (num 1000000 *ᵉ (var 0 +ᵉ neg (var 1))) tt)
+    subst (Between (1000040 * K + 1000000))
+    (ring (A ∷ pos m ∷ []) (neg (num 1000000 *ᵉ (neg (var 0) +ᵉ var 1))) (num 1000000 *ᵉ (var 0 +ᵉ neg (var 1))) tt)
     (between-neg (1000040 * K + 1000000) (pos 1000000 *ℤ (negℤ A +ℤ pos m))
     (blend-up (negℤ A) (negℤ B) w m K (between-neg K A a) (between-neg K B b) mirrored h))
   where
@@ -263,12 +275,12 @@ blend-between A B true w m K a b e h =
 
 -- ---- the product of t and a step that is w units exactly and g rounded
 
-product-over : (t g w m : ℕ) → 1000000 * t ≤ 1000005 * W → Rel g w → Over (m * W) (t * g) W → 1000000 * m ≤ 1000020 * w + 1000000
+product-over : (t g w m : ℕ) → 1000000 * t ≤ 1000005 * W → Millionth g w → Over (m * W) (t * g) W → 1000000 * m ≤ 1000020 * w + 1000000
 product-over t g w m h r c =
     let l = le-trans (mul-le t W g w 1000000 1000005 1000000 1000001 h (r .0)) (le-of-eq (ap (λ (z : ℕ). 1000006000005 * z) (mul-comm W w))) in
+    let split = add-mul (1000020 * w) 1000000 W ∙ ap (λ (z : ℕ). z + 1000000 * W) (mul-assoc 1000020 w W) in
     le-of-mul-le-mul-right
-    (le-trans (le-of-eq (mul-assoc 1000000 m W))
-    (le-trans (go (m * W) (t * g) (w * W) c l) (le-of-eq (ap (λ (z : ℕ). z + 1000000 * W) (sym (mul-assoc 1000020 w W)) ∙ sym (add-mul (1000020 * w) 1000000 W))))) W-pos
+    (le-trans (le-of-eq (mul-assoc 1000000 m W)) (le-trans (go (m * W) (t * g) (w * W) c l) (le-of-eq (sym split)))) W-pos
   where
     go : (x y z : ℕ) → 1000000 * x ≤ 1000001 * y + 1000000 * W → 1000000000000 * y ≤ 1000006000005 * z → 1000000 * x ≤ 1000020 * z + 1000000 * W
     go x y z h k = omega arith
@@ -294,20 +306,18 @@ blend t a b f p q =
     let m = mul-law F D tt tt in
     let M = product-within 8000 m (le-trans (mul-le-mul (F .small) (D .small)) (le-of-eq (mul-mul-mul-comm 2 W 4000 W))) in
     let s = add-law p M tt tt in
-    let zero : f .size ≡ 0 → m .size ≡ 0 = λ e. zero-close (m .size) W (f .size * d .size) W-pos (ap (λ (z : ℕ). z * d .size) e ∙ zero-mul (d .size)) (m .near) in
-    let same = sign-same (f .sign) (d .sign) (m .size) (elim (f .plus) [ inl e ↦ inl e | inr e ↦ inr (zero e) ]) in
-    let bound = blend-between (units a) (units b) (d .sign) (d .exact) (m .size) (1000 * W) (between-within p) (between-within q) (d .is)
-    (product-over (f .size) (d .size) (d .exact) (m .size) (f .small) (rel (d .size) (d .exact) (d .near)) (over (m .size * W) (f .size * d .size) W (m .near))) in
-    let is : units a +ℤ signed (d .sign) (m .size) ≡ signed (s .sign) (s .exact) = ap (λ (z : ℤ). units a +ℤ z) (sym (within-units M ∙ same)) ∙ sym (s .is) in
-    record {
-      sign = s .sign;
-      size = s .size;
-      val = s .val;
-      small =
-          last (s .exact) (s .size)
-          (between-size (s .sign) (s .exact) (1000040 * (1000 * W) + 1000000) 1000000 (subst (λ (z : ℤ). Between (1000040 * (1000 * W) + 1000000) (pos 1000000 *ℤ z)) is bound))
-          (rel (s .size) (s .exact) (s .near));
-    }
+    let n = f .size * d .size in
+    let none : f .size ≡ 0 → m .size ≡ 0 = λ e. zero-close (m .size) W n W-pos (ap (λ (z : ℕ). z * d .size) e ∙ zero-mul (d .size)) (m .near) in
+    let same = sign-same (f .sign) (d .sign) (m .size) (elim (f .plus) [ inl e ↦ inl e | inr e ↦ inr (none e) ]) in
+    let near = millionth (d .size) (d .exact) (d .near) in
+    let product = product-over (f .size) (d .size) (d .exact) (m .size) (f .small) near (over (m .size * W) n W (m .near)) in
+    let between =
+    blend-between (units a) (units b) (d .sign) (d .exact) (m .size) (1000 * W) (between-within p) (between-within q) (d .is) product in
+    let is : units a +ℤ signed (d .sign) (m .size) ≡ signed (s .sign) (s .exact) =
+    ap (λ (z : ℤ). units a +ℤ z) (sym (within-units M ∙ same)) ∙ sym (s .is) in
+    let c = 1000040 * (1000 * W) + 1000000 in
+    let small = between-size (s .sign) (s .exact) c 1000000 (subst (λ (z : ℤ). Between c (pos 1000000 *ℤ z)) is between) in
+    record { sign = s .sign; size = s .size; val = s .val; small = last (s .exact) (s .size) small (millionth (s .size) (s .exact) (s .near)) }
   where
     both : (a b : ℕ) → a ≤ 1000 * W → b ≤ 1000 * W → a + b ≤ 2000 * W
     both a b h k = omega arith
@@ -315,5 +325,5 @@ blend t a b f p q =
     two : (n : ℕ) → 1000000 * n ≤ 1000005 * W → n ≤ 2 * W
     two n h = omega arith
 
-    last : (w g : ℕ) → 1000000 * w ≤ 1000040 * (1000 * W) + 1000000 → Rel g w → g ≤ 1001 * W
+    last : (w g : ℕ) → 1000000 * w ≤ 1000040 * (1000 * W) + 1000000 → Millionth g w → g ≤ 1001 * W
     last w g h r = omega (arith, le-trans (lit≤ {m = 1000000} tt) W-big)

@@ -80,7 +80,8 @@ module _ {n : ℕ} (s : State) (u v : ℕ) (J : Joinable n s (add u v ∷ [])) w
   linked-is : OnlyLinked (withLink u v s)
   unfolding OnlyLinked
   linked-is a b ha hb na nb =
-      edge-pushed (withFront s (set (s .next) u v) (set (s .prev) v u) (s .counts .front + 1)) (min u v) (max u v) a b (omega (arith, J .room .edges, J .edges))
+      edge-pushed (withFront s (set (s .next) u v) (set (s .prev) v u) (s .counts .front + 1)) (min u v) (max u v) a b
+      (omega (arith, J .room .edges, J .edges))
       ∙ rw (
         edge-front s (set (s .next) u v) (set (s .prev) v u) (s .counts .front + 1) a b,
         J .linked a b ha hb (away a b hb na) (away b a ha nb),

@@ -97,8 +97,8 @@ module _ {n : ℕ} (lent s t : State) (ls : List (List ℕ)) (ps : List Point) (
   each Q h [] a = tt
   each Q h (u ∷ l) a = (h u (a .0), each Q h l (a .1))
 
-  module _ (x v w : ℕ) (vs : List ℕ) (even : length (x ∷ v ∷ w ∷ vs) % 2 ≡ 0) (d : Distinct (x ∷ v ∷ w ∷ vs)) (new : All New (x ∷ v ∷ w ∷ vs))
-      (long : length (x ∷ v ∷ w ∷ vs) ≡ length ps) where
+  module _ (x v w : ℕ) (vs : List ℕ) (even : length (x ∷ v ∷ w ∷ vs) % 2 ≡ 0) (d : Distinct (x ∷ v ∷ w ∷ vs))
+      (new : All New (x ∷ v ∷ w ∷ vs)) (long : length (x ∷ v ∷ w ∷ vs) ≡ length ps) where
     changes : Changed (t .counts .nodes) (t .next) (t .prev) ls ((x ∷ v ∷ w ∷ vs) ∷ ls) (joins x (v ∷ w ∷ vs) x)
     changes =
         joined (t .counts .nodes) (t .next) (t .prev) ls x (v ∷ w ∷ vs) front-pushed

@@ -78,7 +78,8 @@ module _ (P : Point → Type 0) (o : Outline) (size : Float) (H : OfSamples P o 
 
 -- ---- the theorem
 
-pub sampled-all : (P : Point → Type 0) (o : Outline) (size : Float) (lent : State) → OfSamples P o size → Threes o → frontRefusal o size lent ≡ 0
+pub sampled-all : (P : Point → Type 0) (o : Outline) (size : Float) (lent : State) → OfSamples P o size
+    → Threes o → frontRefusal o size lent ≡ 0
     → (id : ℕ) → id < sampledCount o size → P (node (fromBoundary o size lent) id)
 unfolding fromBoundary
 sampled-all P o size lent H three none id h =

@@ -15,7 +15,8 @@ use Rattle.domain.specs.Outline.{Outline, point, loopAt, after}
 use Rattle.geometry.specs.Plane.{areaTerm}
 use Rattle.front.specs.declared.Ring.{Ring}
 use Rattle.front.specs.State.{State, nodeIn, node, cleared}
-use Rattle.front.specs.Sampling.{loopCount, sampledCount, sampleLoop, areaTurn, signedArea, orderedAt, edgeLength, longestTurn, longestEdge, ringOf, sampledAt, midpoint, ringIds, ringIn, fromBoundary, loopIds, boundaryLoops}
+use Rattle.front.specs.Sampling.{loopCount, sampledCount, sampleLoop, fromBoundary, boundaryLoops, areaTurn, signedArea, edgeLength, longestTurn, longestEdge}
+use Rattle.front.specs.Sampling.{ringOf, orderedAt, sampledAt, midpoint, ringIds, ringIn, loopIds}
 use Rattle.sampled.specs.Nodes.{nodesOf, nodes-length, nodes-at, Pushed}
 use Rattle.sampled.specs.Cuts.{loopCuts, cuts-length, cuts-least}
 use Rattle.sampled.specs.Rings.{ring-longest, ordered-in, after-in}
@@ -25,7 +26,8 @@ use Rattle.sampled.specs.Begun.{Places, no-nodes, stateAt, loopsAt, read
 
 -- ---- a ring is read off the nodes from its base on
 
-module _ (xs ys xs′ ys′ : List Float) (base n : ℕ) (some : 0 < n) (same : (id : ℕ) → id < base + n → nodeIn xs ys id ≡ nodeIn xs′ ys′ id) where
+module _ (xs ys xs′ ys′ : List Float) (base n : ℕ) (some : 0 < n)
+    (same : (id : ℕ) → id < base + n → nodeIn xs ys id ≡ nodeIn xs′ ys′ id) where
   area-same : signedArea xs ys base n ≡ signedArea xs′ ys′ base n
   unfolding signedArea
   area-same =
@@ -116,15 +118,18 @@ module _ (o : Outline) (size : Float) (a b : State) (three : Threes o) (A : Plac
       let T = ready o size b three B k (omega arith) in
       let P = turn-sampled (cleared a) o size k s (S .room) (fits o size a three A k h S) in
       let Q = turn-sampled (cleared b) o size k t (T .room) (fits o size b three B k h T) in
+      let s′ = sampleLoop size l s in
+      let t′ = sampleLoop size l t in
       let u = sampled-same P Q e in
       let c = count-same s t e in
-      let more : s .counts .nodes < sampleLoop size l s .counts .nodes = omega (arith, P .count, cuts-length size l, cuts-least size l, three k h) in (
-        ap ringIds (in-same k (s .counts .nodes) (sampleLoop size l s) (sampleLoop size l t) u more ∙ ap (λ (base : ℕ). ringIn k base (sampleLoop size l t)) c),
+      let more : s .counts .nodes < s′ .counts .nodes = omega (arith, P .count, cuts-length size l, cuts-least size l, three k h) in (
+        ap ringIds (in-same k (s .counts .nodes) s′ t′ u more ∙ ap (λ (base : ℕ). ringIn k base t′) c),
         ap (λ (ps : List Point). loopCuts size l ++ ps)
-            (added-same k (s .counts .nodes) (sampleLoop size l s) (sampleLoop size l t) u more ∙ ap (λ (base : ℕ). addedPoints k base (sampleLoop size l t)) c),
+            (added-same k (s .counts .nodes) s′ t′ u more ∙ ap (λ (base : ℕ). addedPoints k base t′) c),
       )
 
-  same-at : (k : ℕ) → k ≤ loopCount o → (nodesOf (stateAt o size a k) ≡ nodesOf (stateAt o size b k)) × (loopsAt o size a k ≡ loopsAt o size b k)
+  same-at : (k : ℕ) → k ≤ loopCount o
+      → (nodesOf (stateAt o size a k) ≡ nodesOf (stateAt o size b k)) × (loopsAt o size a k ≡ loopsAt o size b k)
   unfolding forUp tabulate
   same-at zero h = (no-nodes a ∙ sym (no-nodes b), refl)
   same-at (suc k) h =

@@ -93,7 +93,8 @@ module _ {n : ℕ} (lent s t : State) (ls : List (List ℕ)) (ps : List Point) (
       (ids-all r (λ u. (s .counts .nodes ≤ u) × (u < splitLongest r t .counts .nodes))
       (λ k h. let i = ring-in r longest k h in (omega arith, omega arith))) (ids-length r ∙ sym long))
 
-module _ {n : ℕ} (lent : State) (o : Outline) (size : Float) (k : ℕ) (s : State) (R : Room n s) (fit : s .counts .nodes + loopNodes o size k ≤ n) where
+module _ {n : ℕ} (lent : State) (o : Outline) (size : Float) (k : ℕ) (s : State) (R : Room n s)
+    (fit : s .counts .nodes + loopNodes o size k ≤ n) where
   pub turn-sampled : Pushed s (sampleLoop size (loopAt o k) s) (loopCuts size (loopAt o k))
   unfolding loopNodes
   turn-sampled = loop-pushed size (loopAt o k) s R (omega arith)
@@ -106,7 +107,8 @@ module _ {n : ℕ} (lent : State) (o : Outline) (size : Float) (k : ℕ) (s : St
     cuts-three = omega (arith, cuts-length size (loopAt o k), cuts-least size (loopAt o k))
 
     -- loop k of the outline becomes the last loop of the front
-    pub turn-added : (ls : List (List ℕ)) → Laid lent s ls → Added lent s (boundaryTurn o size k s) ls (loopIds o size k s) (turnPoints o size k s)
+    pub turn-added : (ls : List (List ℕ)) → Laid lent s ls
+        → Added lent s (boundaryTurn o size k s) ls (loopIds o size k s) (turnPoints o size k s)
     unfolding boundaryTurn closeLoop ringOf turnPoints loopNodes
     turn-added ls L =
         let l = loopAt o k in

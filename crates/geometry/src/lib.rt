@@ -342,11 +342,23 @@ pub fn rectangles_meet(k: Key, l: Key, m: Key, n: Key) -> bool
     }
 }
 
-// Whether the edge c to d is a candidate for a query whose ends have the keys k and l.
+// Whether the columns of the edge c to d meet those from k to l.
+fn columns_meet(k: Key, l: Key, bucket: f64, c: Point, d: Point) -> bool
+    ensures { λ r. ⌜ r ≡ rangesMeet (k .i) (l .i) (keyOf bucket c .i) (keyOf bucket d .i) ⌝ }
+{
+    let m = numbers::floor_quotient(c.x, bucket);
+    let n = numbers::floor_quotient(d.x, bucket);
+    ranges_meet(k.i, l.i, m, n)
+}
+
+// Whether the edge c to d is a candidate for a query whose ends have the keys k and l. Most edges leave at the columns.
 pub fn candidate_at(k: Key, l: Key, size: f64, c: Point, d: Point) -> bool
     ensures { λ r. ⌜ r ≡ candidateAt k l size c d ⌝ }
 {
     let bucket = 2.0 * size;
+    if !columns_meet(k, l, bucket, c, d) {
+        return false;
+    }
     let m = key_of(bucket, c);
     let n = key_of(bucket, d);
     if !rectangles_meet(k, l, m, n) {

@@ -1,6 +1,6 @@
 -- The growth of the spacing ends: for a box at most 4,000 wide and high, a spacing that begins at 0.004 or more has grown to 11 or more
--- before the growths that are tried run out, and no grid of that
--- spacing has more than 250,000 nodes. Sizes are in units of the smallest float above 0, of which W make 1. Assumes nothing.
+-- before the growths that are tried run out, and no grid of that spacing has more than 250,000 nodes. Sizes are in units of the smallest
+-- float above 0, of which W make 1. Assumes nothing.
 use mathlib.Core.Path.{_≡_, refl, sym, ap, _∙_, subst}
 use mathlib.Core.Bool.{Bool, true, false, not, _||_, cond, true≢false}
 use Prim.Native.Nat.{ℕ, zero, suc, _+_, _-_, _*_, _/_, _^_, _≤_, _<_}

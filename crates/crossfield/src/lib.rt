@@ -1,11 +1,11 @@
 // The cross field of src/alt_crossfield.rs: grid, seeds, marks, sweeps, and the direction query.
 ghost use mathlib.Core.Path.{_≡_};
 ghost use mathlib.Core.Bool.{true, false};
-ghost use Prim.Native.Nat.{_+_, _-_, _*_, min, max, _≤_, _<_};
+ghost use Prim.Native.Nat.{_+_, _-_, _*_, min, _≤_, _<_};
 ghost use lib.ListN.{length};
 ghost use Rattle.numbers.specs.Float.{_⊘_, toFloat};
 ghost use Rattle.numbers.specs.Whole.{floorQuotient, ceilCount};
-ghost use Rattle.domain.specs.Outline.{outline, misshapen, point, pointAt, anyFloat};
+ghost use Rattle.domain.specs.Outline.{outline, misshapen, pointAt, anyFloat};
 ghost use Rattle.crossfield.specs.Grid.{noBounds, widened, loopBounds, bounds, gridCount, tooManyNodes, spacing, gridOf, sizeRefusal};
 ghost use Rattle.crossfield.specs.Grid.{boundsRefusal, sweepsRefusal, mostFieldNodes, gridNodes};
 ghost use Rattle.crossfield.specs.Seeds.{fieldLists, gridPoint, seed, isFixed, markOf, seedNode, seedRow, seeded};

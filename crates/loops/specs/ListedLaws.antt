@@ -3,10 +3,12 @@ use mathlib.Core.Bool.{Bool, true, false, cond}
 use mathlib.Core.List.{List, _++_}
 use mathlib.Core.Path.{_≡_, refl, sym, _∙_, ap, subst, fun-ext}
 use Prim.Native.Nat.{ℕ, suc, zero, _+_, _-_, _<_, _≤_}
+use native.Mathlib.Nat.{le-antisymm}
 use native.Mathlib.Omega.{arith}
 use lib.Dec.{eqb, ltb}
-use lib.ListN.{length, getD, take, drop, replicate, length-append, length-drop, length-replicate, getD-replicate, List·getD-append}
+use lib.ListN.{length, getD, set, take, drop, replicate, length-append, length-drop, length-replicate, getD-replicate, List·getD-append}
 use lib.Seq.{ext-getD, getD-append-add, getD-take, length-take-le}
+use borrow.Author.Fill.{fill-none, fill-more}
 use borrow.Author.Tests.{eqb-true, eqb-false, ltb-true, ltb-false, lt-ltb, le-ltb}
 use Rattle.laws.specs.Loop.{forUp}
 use Rattle.laws.specs.Tabulate.{tabulate, tabulate-length, tabulate-at}
@@ -69,6 +71,29 @@ module _ (n : ℕ) (marks : List ℕ) (fits : n ≤ length marks) where
     shown-past v h =
         past (tabulate n f) (drop (length (tabulate n f)) marks) v (omega (arith, tabulate-length n f))
         ∙ ap (λ (k : ℕ). getD (drop k marks) (v - k) 0) (tabulate-length n f)
+
+-- ---- clearing them
+
+-- the invariant of `clear_marks`
+pub record Clearing (n : ℕ) (marks₀ marks : List ℕ) (i : ℕ) : Type 0 where
+  pub within : i ≤ n
+  pub same : marks ≡ cleared i marks₀
+
+pub clear-start : (n : ℕ) (marks : List ℕ) → Clearing n marks marks 0
+unfolding cleared
+clear-start n marks = record { within = omega arith; same = fill-none marks 0 }
+
+module _ {n : ℕ} {marks₀ marks : List ℕ} {i : ℕ} (c : Clearing n marks₀ marks i) (fits : n ≤ length marks₀) where
+  pub clear-length : length marks ≡ length marks₀
+  clear-length = ap length (c .same) ∙ cleared-length i marks₀ (omega (arith, c .within))
+
+  pub clear-next : i < n → Clearing n marks₀ (set marks i 0) (i + 1)
+  unfolding cleared
+  clear-next h =
+      record { within = omega arith; same = ap (λ (s : List ℕ). set s i 0) (c .same) ∙ fill-more i 0 marks₀ (omega arith) }
+
+  pub clear-end : n ≤ i → marks ≡ cleared n marks₀
+  clear-end h = c .same ∙ ap (λ (k : ℕ). cleared k marks₀) (le-antisymm (c .within) h)
 
 -- ---- the marks at the end
 

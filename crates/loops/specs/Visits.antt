@@ -71,6 +71,10 @@ module _ {next : List ℕ} {marks loops lengths : List ℕ} {listed : Listed} {u
   unfolding visited markAll
   none e = rw e
 
+  -- the length of a loop fits a node's place
+  pub visit-small : {marks₁ loops₁ : List ℕ} {end : ℕ} → Walked next marks loops u (listed .ids) marks₁ loops₁ end → end - listed .ids ≤ off
+  visit-small d = omega (arith, d .after, walk-length (linksIn next) (length next) u u, v .few)
+
   -- off the front
   pub visit-off : getD next u 0 ≡ off → lists marks loops lengths listed ≡ visited (walkIn next u) (lists marks loops lengths listed)
   visit-off e = none (walk-off (linksIn next) (length next) u u (sym (link-read next u (v .node)) ∙ e))

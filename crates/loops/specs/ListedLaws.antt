@@ -179,9 +179,8 @@ module _ {k : Counts} {next marks loops lengths : List ℕ} (p : Listable k next
   same-links =
       ap (λ (n : ℕ). linkOf n (take (k .nodes) next)) (length-take-le (k .nodes) next (p .next-fits)) ∙ links-take (k .nodes) next
 
-  -- `list_all` may be called
-  pub startable : Startable (take (k .nodes) next) (cleared (k .nodes) marks) loops lengths
-  startable =
+  cleared-startable : Startable (take (k .nodes) next) (cleared (k .nodes) marks) loops lengths
+  cleared-startable =
       let n = k .nodes in
       let long = length-take-le n next (p .next-fits) in
       record {
@@ -194,10 +193,10 @@ module _ {k : Counts} {next marks loops lengths : List ℕ} (p : Listable k next
         clear = λ v h. cleared-at n marks (p .marks-fit) v (omega (arith, long, h));
       }
 
-  -- and gives what is to be listed
-  pub visit-listed-in : visitAll (take (k .nodes) next) (cleared (k .nodes) marks) loops lengths ≡ listedIn k next marks loops lengths
+  -- all nodes visited: that is what is to be listed
+  visited-listed : visitAll (take (k .nodes) next) (cleared (k .nodes) marks) loops lengths ≡ listedIn k next marks loops lengths
   unfolding visitAll listedIn loopsIn
-  visit-listed-in =
+  visited-listed =
       let n = k .nodes in
       let f = linkOf n next in
       let turn : ℕ → (ℕ → ℕ) → Lists =
@@ -212,6 +211,15 @@ module _ {k : Counts} {next marks loops lengths : List ℕ} (p : Listable k next
       (walks-list n f (p .front) (p .links) n (few n f (p .front) (p .links)) 3 ∙ sym (walks-list n f (p .front) (p .links) (k .front) edges 3))
       )
       )
+
+  -- after `clear_marks`, `list_all` may be called
+  pub startable : (marks₁ : List ℕ) → marks₁ ≡ cleared (k .nodes) marks → Startable (take (k .nodes) next) marks₁ loops lengths
+  startable marks₁ e = subst (λ (m : List ℕ). Startable (take (k .nodes) next) m loops lengths) (sym e) cleared-startable
+
+  -- and gives what is to be listed
+  pub listed-all : (marks₁ : List ℕ) (s : Lists) → marks₁ ≡ cleared (k .nodes) marks → s ≡ visitAll (take (k .nodes) next) marks₁ loops lengths
+      → s ≡ listedIn k next marks loops lengths
+  listed-all marks₁ s e r = r ∙ (ap (λ (m : List ℕ). visitAll (take (k .nodes) next) m loops lengths) e ∙ visited-listed)
 
 -- ---- the state of a paving
 

@@ -8,9 +8,9 @@ use native.Mathlib.Numerals.{add-one}
 use native.Mathlib.Omega.{arith}
 use lib.Dec.{eqb, ltb, leb}
 use lib.ListN.{length, getD, set, take, drop, length-append, length-set, length-map, length-drop}
-use lib.Seq.{sets, sets-eq, take-append-seam, drop-append-add, drop-drop, getD-set-same, getD-set-other}
+use lib.Seq.{sets, sets-eq, length-sets, take-append-seam, drop-append-add, drop-drop, getD-set-same, getD-set-other}
 use borrow.Author.Tests.{eqb-true, eqb-false, leb-true, ltb-true, ltb-false, lt-ltb, le-ltb, le-leb}
-use Rattle.laws.specs.Loop.{forUp}
+use Rattle.laws.specs.Loop.{forUp, forUp-keeps, Loop, loop-start, loop-next, loop-end}
 use Rattle.topology.specs.Sums.{total}
 use Rattle.topology.specs.Links.{off, delta, delta-same, delta-other, linkOf}
 use Rattle.topology.specs.Front.{Loops, no-self}
@@ -361,5 +361,54 @@ module _ {next marks loops lengths : List ℕ} (p : Startable next marks loops l
               );
         }
 
-    pub visitable : (s : Lists) → s ≡ forUp u (visit (walkIn next)) (lists marks loops lengths (counted 0 0)) → Visitable next s u
-    visitable s e = subst (λ (t : Lists). Visitable next t u) (sym (e ∙ below-written u)) below-visitable
+
+-- ---- the invariant of `list_all`: the nodes below i are visited
+
+pub record Visiting (next : List ℕ) (a : Lists) (i : ℕ) (s : Lists) : Type 0 where
+  pub turns : Loop (visit (walkIn next)) a (length next) i s
+
+pub visiting-start : (next : List ℕ) (a : Lists) → Visiting next a 0 a
+visiting-start next a = record { turns = loop-start (visit (walkIn next)) a (length next) }
+
+pub visiting-next : {next : List ℕ} {a s : Lists} {i : ℕ} (t : Lists) → Visiting next a i s → i < length next → t ≡ visited (walkIn next i) s
+    → Visiting next a (i + 1) t
+visiting-next {next} {a} {s} {i} t l h e = subst (Visiting next a (i + 1)) (sym e) (record { turns = loop-next (visit (walkIn next)) a (l .turns) h })
+
+pub visiting-end : {next marks loops lengths : List ℕ} {s : Lists} {i : ℕ} → Visiting next (lists marks loops lengths (counted 0 0)) i s
+    → length next ≤ i → s ≡ visitAll next marks loops lengths
+unfolding visitAll
+visiting-end {next} {marks} {loops} {lengths} l h = loop-end (visit (walkIn next)) (lists marks loops lengths (counted 0 0)) (l .turns) h
+
+-- the node of the next turn can be visited
+pub visiting-visitable : {next marks loops lengths : List ℕ} {s : Lists} {i : ℕ} → Startable next marks loops lengths
+    → Visiting next (lists marks loops lengths (counted 0 0)) i s → i < length next → Visitable next s i
+visiting-visitable {next} {i = i} p l h =
+    subst (λ (t : Lists). Visitable next t i) (sym (l .turns .same ∙ below-written p i)) (below-visitable p i h)
+
+-- no list changes its length
+pub record SameLengths (a s : Lists) : Type 0 where
+  pub marks : length (s .marks) ≡ length (a .marks)
+  pub loops : length (s .loops) ≡ length (a .loops)
+  pub lengths : length (s .lengths) ≡ length (a .lengths)
+
+visited-lengths : (a : Lists) (l : List ℕ) (s : Lists) → SameLengths a s → SameLengths a (visited l s)
+unfolding visited
+visited-lengths a l s k = by (leb 3 (length l))
+  where
+    by : (b : Bool) → SameLengths a (cond b
+        (lists (markAll l (s .marks)) (sets (s .loops) (s .listed .ids) l) (set (s .lengths) (s .listed .count) (length l))
+        (counted (s .listed .count + 1) (s .listed .ids + length l)))
+        (lists (markAll l (s .marks)) (s .loops) (s .lengths) (s .listed)))
+    by true =
+        record {
+          marks = mark-length l (s .marks) ∙ k .marks;
+          loops = length-sets (s .loops) (s .listed .ids) l ∙ k .loops;
+          lengths = length-set (s .lengths) (s .listed .count) (length l) ∙ k .lengths;
+        }
+    by false = record { marks = mark-length l (s .marks) ∙ k .marks; loops = k .loops; lengths = k .lengths }
+
+pub visiting-lengths : {next : List ℕ} {a s : Lists} {i : ℕ} → Visiting next a i s → SameLengths a s
+visiting-lengths {next} {a} {s} {i} l =
+    subst (SameLengths a) (sym (l .turns .same))
+    (forUp-keeps (λ j t. SameLengths a t) i (visit (walkIn next)) a (record { marks = refl; loops = refl; lengths = refl })
+    (λ j t h. visited-lengths a (walkIn next j) t))

@@ -7,14 +7,14 @@ use Prim.Native.Nat.{ℕ, zero, suc, _+_, _<_, _≤_}
 use native.Mathlib.Omega.{arith}
 use lib.Dec.{eqb, ltb, leb}
 use lib.ListN.{length}
-use borrow.Author.Tests.{eqb-true, eqb-false, ltb-true, ltb-false, lt-ltb, le-ltb, leb-true, le-leb, lt-leb}
+use borrow.Author.Tests.{eqb-true, eqb-false, ltb-false, leb-true, le-leb}
 use Rattle.laws.specs.Loop.{forUp}
-use Rattle.topology.specs.Sums.{All, total, pathSum, loopSum, total-ext}
+use Rattle.topology.specs.Sums.{All, total, pathSum, loopSum}
 use Rattle.topology.specs.Links.{off, delta, delta-same}
 use Rattle.topology.specs.Front.{Loops}
 use Rattle.topology.specs.Walk.{walkBy, count, least, leastFrom, turnTo, loopFrom, Cycle}
-use Rattle.topology.specs.Walk.{least-le, turn-sum, turn-length, cycles, once, nodes, outside, link-count, walk-loop}
-use Rattle.topology.specs.Listing.{listing, walks, addLoop, ifListed, total-one, total-add, total-listing}
+use Rattle.topology.specs.Walk.{least-le, turn-sum, turn-length, cycles, once, nodes, outside, walk-loop}
+use Rattle.topology.specs.Listing.{listing, walks, ifListed, total-one, total-add, total-listing}
 use Rattle.loops.specs.Walked.{walk-last, walk-more}
 
 -- ---- counts

@@ -9,7 +9,7 @@ use lib.Dec.{eqb, ltb}
 use lib.ListN.{length, getD, set, take, drop, replicate, length-append, length-drop, length-replicate, getD-replicate, List·getD-append}
 use lib.Seq.{ext-getD, getD-append-add, getD-take, length-take-le}
 use borrow.Author.Fill.{fill-none, fill-more}
-use borrow.Author.Tests.{eqb-true, eqb-false, ltb-true, ltb-false, lt-ltb, le-ltb}
+use borrow.Author.Tests.{eqb-true, eqb-false, ltb-true, ltb-false}
 use Rattle.laws.specs.Loop.{forUp}
 use Rattle.laws.specs.Tabulate.{tabulate, tabulate-length, tabulate-at}
 use Rattle.topology.specs.Sums.{total, front-one, total-ext}
@@ -17,14 +17,14 @@ use Rattle.topology.specs.Links.{off, linkOf, link-in, link-out}
 use Rattle.topology.specs.Front.{Loops, target}
 use Rattle.topology.specs.Walk.{walkBy, count, nodes, cycles, link-count}
 use Rattle.topology.specs.Listing.{walks, ifListed, walks-list, walks-total}
-use Rattle.front.specs.State.{State, nodePlaces}
+use Rattle.front.specs.State.{State, nextOf, nodePlaces}
 use Rattle.front.specs.Sound.{Sound}
 use Rattle.front.specs.declared.Counts.{Counts}
-use Rattle.paving.specs.Loops.{frontLoops}
+use Rattle.paving.specs.Loops.{frontLoops, whole}
 use Rattle.loops.specs.Listed.{Lists, lists, counted, overlay, loopsIn, frontMark, written, listedIn, Listable}
-use Rattle.loops.specs.Walked.{linksIn, walkIn}
-use Rattle.loops.specs.Fewer.{ids-most}
-use Rattle.loops.specs.Found.{count-turn, listed-count, found-count, on-loop}
+use Rattle.loops.specs.Walked.{linksIn}
+use Rattle.loops.specs.Pigeonhole.{ids-most}
+use Rattle.loops.specs.Found.{count-turn, listed-count, on-loop}
 use Rattle.loops.specs.Visits.{visit, visitAll, marksAfter, after-length, after-at, visits-written, Startable}
 
 -- the marks of the first n nodes cleared
@@ -223,10 +223,18 @@ module _ {k : Counts} {next marks loops lengths : List ℕ} (p : Listable k next
 
 -- ---- the state of a paving
 
--- the loops listed are those of the definition
-pub loops-same : (s : State) → frontLoops s ≡ loopsIn (s .counts) (s .next)
-unfolding frontLoops loopsIn
-loops-same s = refl
+-- what is listed are the loops of the definition
+pub listed-front : (s : State) (marks loops lengths : List ℕ)
+    → listedIn (s .counts) (s .next) marks loops lengths
+    ≡ written (overlay (tabulate (s .counts .nodes) (frontMark (nextOf s))) marks) loops lengths (frontLoops s)
+unfolding listedIn loopsIn frontLoops
+listed-front s marks loops lengths = refl
+
+-- whole: the count is 0
+pub listed-whole : (s : State) (marks loops lengths : List ℕ)
+    → whole s ≡ eqb (listedIn (s .counts) (s .next) marks loops lengths .listed .count) 0
+unfolding listedIn loopsIn written frontLoops whole
+listed-whole s marks loops lengths = refl
 
 -- a sound state may be listed into lists with a place for each node
 pub sound-listable : (n : ℕ) (s : State) (ls : List (List ℕ)) → Sound n s ls → (loops lengths : List ℕ)

@@ -4,15 +4,14 @@ use mathlib.Core.List.{List, [], _∷_, _++_, map, flatten, append-assoc, append
 use mathlib.Core.Logic.{_≢_}
 use mathlib.Core.Path.{_≡_, refl, sym, _∙_, ap, ap₂, subst}
 use Prim.Native.Nat.{ℕ, zero, suc, _+_, _-_, _<_, _≤_}
-use native.Mathlib.Numerals.{add-one}
 use native.Mathlib.Omega.{arith}
 use lib.Dec.{eqb, ltb, leb}
-use lib.ListN.{length, getD, set, take, drop, length-append, length-set, length-map, length-drop}
+use lib.ListN.{length, getD, set, drop, length-append, length-set, length-map, length-drop}
 use lib.Seq.{sets, sets-eq, length-sets, take-append-seam, drop-append-add, drop-drop, getD-set-same, getD-set-other}
-use borrow.Author.Tests.{eqb-true, eqb-false, leb-true, ltb-true, ltb-false, lt-ltb, le-ltb, le-leb}
+use borrow.Author.Tests.{eqb-true, eqb-false, ltb-true, ltb-false, lt-ltb, le-ltb, le-leb}
 use Rattle.laws.specs.Loop.{forUp, forUp-keeps, Loop, loop-start, loop-next, loop-end}
 use Rattle.topology.specs.Sums.{total}
-use Rattle.topology.specs.Links.{off, delta, delta-same, delta-other, linkOf}
+use Rattle.topology.specs.Links.{off, delta, delta-same, delta-other}
 use Rattle.topology.specs.Front.{Loops, no-self}
 use Rattle.topology.specs.Walk.{walkBy, count, once, walk-off}
 use Rattle.topology.specs.Listing.{listing, walks, addLoop, total-one}
@@ -20,8 +19,8 @@ use Rattle.loops.specs.declared.Listed.{Listed}
 use Rattle.loops.specs.Listed.{Lists, lists, counted, overlay, written}
 use Rattle.loops.specs.Walked.{linksIn, walkIn, markAll, mark-length, walk-on, walk-last, walk-more, walk-length, link-read, link-node}
 use Rattle.loops.specs.Walked.{Walkable, Walked}
-use Rattle.loops.specs.Fewer.{ids-most}
-use Rattle.loops.specs.Found.{found-ids, found-number, found-count, found-more, found-reached, walk-nodes, on-loop, found-long, starts, counts-some}
+use Rattle.loops.specs.Pigeonhole.{ids-most}
+use Rattle.loops.specs.Found.{found-ids, found-number, found-more, found-reached, walk-nodes, on-loop, found-long, starts, counts-some}
 
 -- ---- definitions
 
@@ -85,7 +84,7 @@ module _ {next : List ℕ} {marks loops lengths : List ℕ} {listed : Listed} {u
 
   -- the smallest id of its loop
   module _ (on : getD next u 0 ≢ off) (unmarked : getD marks u 0 ≢ 1) where
-    pub visit-some : 0 < length (walkIn next u)
+    visit-some : 0 < length (walkIn next u)
     visit-some = v .fresh unmarked (λ e. on (link-read next u (v .node) ∙ e))
 
     second : (w : ℕ) × ((walkIn next u ≡ u ∷ walkBy (linksIn next) w u (getD next u 0)) × (0 < length (walkBy (linksIn next) w u (getD next u 0))))
@@ -114,7 +113,7 @@ module _ {next : List ℕ} {marks loops lengths : List ℕ} {listed : Listed} {u
         rw two
 
     -- a loop of three or more
-    pub visit-long : getD next (getD next u 0) 0 ≢ u → 3 ≤ length (walkIn next u)
+    visit-long : getD next (getD next u 0) 0 ≢ u → 3 ≤ length (walkIn next u)
     visit-long other =
         let s = second in
         let w = getD next u 0 in
@@ -123,6 +122,9 @@ module _ {next : List ℕ} {marks loops lengths : List ℕ} {listed : Listed} {u
 
     pub visit-walk : getD next (getD next u 0) 0 ≢ u → Walkable next marks loops u (listed .ids)
     visit-walk other = record { some = visit-some; marks-fit = v .marks-fit; room = v .ids-fit (visit-long other) }
+
+    pub visit-room : getD next (getD next u 0) 0 ≢ u → listed .count < length lengths
+    visit-room other = v .length-fits (visit-long other)
 
     pub visit-listed : (marks₁ loops₁ : List ℕ) (end : ℕ) → getD next (getD next u 0) 0 ≢ u
         → Walked next marks loops u (listed .ids) marks₁ loops₁ end
@@ -360,7 +362,6 @@ module _ {next marks loops lengths : List ℕ} (p : Startable next marks loops l
                 overlay-length (map length ms) lengths (omega (arith, number u, length-map ms length, p .lengths-fit)),
               );
         }
-
 
 -- ---- the invariant of `list_all`: the nodes below i are visited
 

@@ -73,7 +73,7 @@ Cycle f (x ∷ xs) = Linked f x xs x
 
 -- ---- counts
 
-pub count-append : (u : ℕ) (xs ys : List ℕ) → count u (xs ++ ys) ≡ count u xs + count u ys
+count-append : (u : ℕ) (xs ys : List ℕ) → count u (xs ++ ys) ≡ count u xs + count u ys
 unfolding count
 count-append u [] ys = omega arith
 count-append u (x ∷ xs) ys = omega (arith, count-append u xs ys)

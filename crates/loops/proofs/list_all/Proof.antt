@@ -1,58 +1,51 @@
+-- `loops::list_all` meets its contract: the loop's invariant is `Visiting`, and each answer is a law of it.
+use Prim.Native.Nat.{_-_}
+use native.Mathlib.Omega.{arith}
+use lib.ListN.{length}
 use Rattle.loops.specs.Visits.{Visiting, visiting-start, visiting-visitable, visiting-next, visiting-lengths, visiting-end}
 use Rattle.loops.specs.Listed.{lists, counted}
-use lib.ListN.{length}
-use native.Mathlib.Omega.{arith}
-use Prim.Native.Nat.{_-_}
 use Rattle.loops.proofs.list_all.Statement.{statement}
 use Rattle.loops.proofs.list_all.Tie as tie
-use Rattle.loops.proofs.list_all.Reads as reads
-use Rattle.loops.proofs.list_all.Lts as lts
-use Rattle.loops.proofs.list_from.Reads as list-from-reads
 
 abbrev Inv-loop : tie.InvT-loop
-Inv-loop next marks₀ loops₀ lengths₀ listed₀ i₀ marks loops lengths listed i = 
+Inv-loop next marks₀ loops₀ lengths₀ listed₀ i₀ marks loops lengths listed i =
     Visiting next (lists marks₀ loops₀ lengths₀ (counted 0 0)) i (lists marks loops lengths listed)
 
 abbrev μ-loop : tie.MeasureT-loop
 μ-loop next marks₀ loops₀ lengths₀ listed₀ i₀ marks loops lengths listed i = length next - i
 
--- src/lib.rt:98:5
 loop-holds : tie.Need-loop-holds Inv-loop μ-loop
 loop-holds c = visiting-start _ _
 
--- src/lib.rt:99:65
 cast-list-from : tie.Need-cast-list-from Inv-loop μ-loop
 cast-list-from c = omega (arith, c .before .before .before .before .before .before .before .before .before .pre .links .few)
 
--- src/lib.rt:99:9
 list-from-requires : tie.Need-list-from-requires Inv-loop μ-loop
-list-from-requires c κs = visiting-visitable (c .before .before .before .before .before .before .before .before .before .pre) (c .before .before .before .before .loop .inv) (c .before .before .before .loop-test .taken)
+list-from-requires c κs =
+    visiting-visitable (c .before .before .before .before .before .before .before .before .before .pre)
+    (c .before .before .before .before .loop .inv) (c .before .before .before .loop-test .taken)
 
--- src/lib.rt:100:9
 add-i : tie.Need-add-i Inv-loop μ-loop
 add-i c = omega arith
 
--- src/lib.rt:98:5
 loop-less : tie.Need-loop-less Inv-loop μ-loop
 loop-less c = omega arith
 
--- src/lib.rt:98:5
 loop-again : tie.Need-loop-again Inv-loop μ-loop
-loop-again c = visiting-next _ (c .before .before .before .before .before .before .before .before .before .before .before .loop .inv) (c .before .before .before .before .before .before .before .before .before .before .loop-test .taken) (c .before .before .before .before .before .before .list-from .ensures)
+loop-again c =
+    visiting-next _ (c .before .before .before .before .before .before .before .before .before .before .before .loop .inv)
+    (c .before .before .before .before .before .before .before .before .before .before .loop-test .taken)
+    (c .before .before .before .before .before .before .list-from .ensures)
 
--- src/lib.rt:91:1
 same-length : tie.Need-same-length Inv-loop μ-loop
 same-length c = visiting-lengths (c .before .loop .inv) .marks
 
--- src/lib.rt:91:1
 same-length-2 : tie.Need-same-length-2 Inv-loop μ-loop
 same-length-2 c = visiting-lengths (c .before .loop .inv) .loops
 
--- src/lib.rt:91:1
 same-length-3 : tie.Need-same-length-3 Inv-loop μ-loop
 same-length-3 c = visiting-lengths (c .before .loop .inv) .lengths
 
--- src/lib.rt:91:1
 returns : tie.Need-returns Inv-loop μ-loop
 returns c = visiting-end (c .before .loop .inv) (c .loop-test .left)
 

@@ -1,7 +1,7 @@
 -- The loops of n nodes have n ids at most: no node stands in them twice.
 use mathlib.Core.Bool.{Bool, true, false}
 use mathlib.Core.List.{List, [], _∷_}
-use mathlib.Core.Path.{_≡_, refl, sym, ap}
+use mathlib.Core.Path.{_≡_, refl}
 use Prim.Native.Nat.{ℕ, zero, suc, _+_, _<_, _≤_}
 use native.Mathlib.Omega.{arith}
 use lib.Dec.{eqb}
@@ -10,7 +10,7 @@ use borrow.Author.Tests.{eqb-true, eqb-false}
 use Rattle.laws.specs.Loop.{sumUp}
 use Rattle.laws.specs.Sums.{sum-zero, sum-suc}
 use Rattle.topology.specs.Sums.{total}
-use Rattle.topology.specs.Links.{delta, delta-same, delta-other}
+use Rattle.topology.specs.Links.{delta, delta-same}
 use Rattle.topology.specs.Front.{Loops}
 use Rattle.topology.specs.Walk.{count, once, nodes}
 

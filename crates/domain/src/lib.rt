@@ -64,6 +64,14 @@ impl Settings {
     pub const MOST_POINTS: usize = 65535;
 
     pub const FARTHEST: f64 = 1000.0;
+    // Of the size: two new nodes are farther apart than this, and no node is nearer to a new one.
+    pub const CLEARANCE: f64 = 0.45;
+    // A corner's sine is above this, which is sin 20°.
+    pub const LEAST_SINE: f64 = 0.3420201433256687;
+    // An edge whose key rectangle has more spans is no candidate.
+    pub const MOST_SPANS: u64 = 4096;
+    // How many keys each way `too_close` looks.
+    pub const REACH: u64 = 2;
 }
 
 // ---- the refusals

@@ -1,5 +1,6 @@
 // The read-only part of the paving (src/alt_crossfield.rs): the choice of corners, the checks of `attempt_quad` in their order, and `try_edge`.
-// The lists lent are those of a `Paving`; the contracts speak of a state with these lists, of which `Seen` names the part that is read.
+// Lists are lent as a `Paving` holds them. A contract speaks of the state that has just the lists its function is lent (specs/Seen.antt);
+// the laws in specs/SeenLaws.antt carry it to a state with all of them. Each scan is one function.
 ghost use mathlib.Core.Path.{_≡_};
 ghost use mathlib.Core.Bool.{false};
 ghost use mathlib.Core.List.{[]};
@@ -9,10 +10,10 @@ ghost use lib.Ieee.{nan};
 ghost use Rattle.topology.specs.Links.{linkOf};
 ghost use Rattle.domain.specs.Outline.{outline, misshapen};
 ghost use Rattle.crossfield.specs.Field.{fieldRecord};
-ghost use Rattle.geometry.specs.Keys.{keyOf, edgeBucket, lowest, highest};
 ghost use Rattle.front.specs.State.{nodeIn};
-ghost use Rattle.front.specs.Place.{added, cornerId, cornerPoint, idC, idD};
-ghost use Rattle.paving.specs.Checks.{tooClose, nodeOk, cornerFree, cornersApart, isCorner, blocks, nodeInside, shareEnd, crossesEdge, edgeCrosses, sideCrosses, edgesFree, cornersOf, quadOk, quadFits};
+ghost use Rattle.front.specs.Place.{added, cornerId, cornerPoint};
+ghost use Rattle.paving.specs.Checks.{tooClose, nodeOk, cornerFree, cornersApart, isCorner, nodeInside, shareEnd};
+ghost use Rattle.paving.specs.Checks.{edgeCrosses, sideCrosses, edgesFree, cornersOf, quadOk, quadFits};
 ghost use Rattle.paving.specs.Attempt.{isReused, cornerAt, ideal, attemptQuad, normalOf, tryEdge};
 ghost use Rattle.attempts.specs.Seen.{seen, seenNodes, seenPoints, seenEdges, blocksAt, crossesAt, EdgesLent, QuadLent, AttemptLent, TryLent};
 use crossfield::Grid;
@@ -124,7 +125,8 @@ pub fn node_ok<'a>(
     p: Point,
 ) -> bool
     requires { ⌜ misshapen (outline (now outer) (now holes) (now lens)) ≡ false ⌝ }
-    ensures { λ r. ⌜ r ≡ nodeOk (outline (now (outer .entry)) (now (holes .entry)) (now (lens .entry))) size (seenNodes (now (xs .entry)) (now (ys .entry)) counts) p ⌝ }
+    ensures { λ r. ⌜ r ≡ nodeOk (outline (now (outer .entry)) (now (holes .entry)) (now (lens .entry))) size
+        (seenNodes (now (xs .entry)) (now (ys .entry)) counts) p ⌝ }
 {
     if !numbers::is_finite_f64(p.x) {
         return false;
@@ -150,7 +152,8 @@ pub fn corner_free<'a>(
     c: Corner,
 ) -> bool
     requires { ⌜ misshapen (outline (now outer) (now holes) (now lens)) ≡ false ⌝ }
-    ensures { λ r. ⌜ r ≡ cornerFree (outline (now (outer .entry)) (now (holes .entry)) (now (lens .entry))) size (seenNodes (now (xs .entry)) (now (ys .entry)) counts) c ⌝ }
+    ensures { λ r. ⌜ r ≡ cornerFree (outline (now (outer .entry)) (now (holes .entry)) (now (lens .entry))) size
+        (seenNodes (now (xs .entry)) (now (ys .entry)) counts) c ⌝ }
 {
     let Corner::Fresh(x, y) = c else {
         return true;
@@ -397,7 +400,8 @@ pub fn quad_ok<'a>(
     d: Corner,
 ) -> bool
     requires { ⌜ QuadLent (outline (now outer) (now holes) (now lens)) (now edges) counts ⌝ }
-    ensures { λ r. ⌜ r ≡ quadOk (outline (now (outer .entry)) (now (holes .entry)) (now (lens .entry))) size (seenEdges (now (xs .entry)) (now (ys .entry)) (now (edges .entry)) counts) a b c d ⌝ }
+    ensures { λ r. ⌜ r ≡ quadOk (outline (now (outer .entry)) (now (holes .entry)) (now (lens .entry))) size
+        (seenEdges (now (xs .entry)) (now (ys .entry)) (now (edges .entry)) counts) a b c d ⌝ }
 {
     let p = corners_of(xs, ys, a, b, c, d);
     if !geometry::convex_ccw(p) {
@@ -431,7 +435,8 @@ pub fn quad_fits<'a>(
     d: Corner,
 ) -> bool
     requires { ⌜ QuadLent (outline (now outer) (now holes) (now lens)) (now edges) counts × (counts .nodes ≤ length (now next)) ⌝ }
-    ensures { λ r. ⌜ r ≡ quadFits (outline (now (outer .entry)) (now (holes .entry)) (now (lens .entry))) size (seen (now (xs .entry)) (now (ys .entry)) (now (next .entry)) [] (now (edges .entry)) counts) a b c d ⌝ }
+    ensures { λ r. ⌜ r ≡ quadFits (outline (now (outer .entry)) (now (holes .entry)) (now (lens .entry))) size
+        (seen (now (xs .entry)) (now (ys .entry)) (now (next .entry)) [] (now (edges .entry)) counts) a b c d ⌝ }
 {
     let id_c = corner_id(counts.nodes, c);
     let id_d = second_id(counts.nodes, c, d);
@@ -550,7 +555,8 @@ pub fn try_edge<'a>(
     b: u32,
 ) -> Attempt
     requires { ⌜ TryLent (outline (now outer) (now holes) (now lens)) grid (now values) (now next) (now prev) (now edges) counts ⌝ }
-    ensures { λ r. ⌜ r ≡ tryEdge (outline (now (outer .entry)) (now (holes .entry)) (now (lens .entry))) size (fieldRecord grid (now (values .entry)) [])
+    ensures { λ r. ⌜ r ≡ tryEdge (outline (now (outer .entry)) (now (holes .entry)) (now (lens .entry))) size
+        (fieldRecord grid (now (values .entry)) [])
         (seen (now (xs .entry)) (now (ys .entry)) (now (next .entry)) (now (prev .entry)) (now (edges .entry)) counts) a b ⌝ }
 {
     let p = node_at(xs, ys, a);

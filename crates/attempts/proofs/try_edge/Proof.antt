@@ -16,7 +16,9 @@ norm-requires c κs = search needs
 
 returns : tie.Need-returns
 unfolding tryEdge
-returns c = rw (← c .before .before .before .before .before .before .before .node-at .ensures, ← c .before .before .before .before .before .before .node-at2 .ensures, ← c .before .norm .ensures, c .if1 .taken) refl
+returns c =
+    let after-node-at2 = c .before .before .before .before .before .before in
+    rw (← after-node-at2 .before .node-at .ensures, ← after-node-at2 .node-at2 .ensures, ← c .before .norm .ensures, c .if1 .taken) refl
 
 normal-of-requires : tie.Need-normal-of-requires
 normal-of-requires c κs = search needs
@@ -41,11 +43,27 @@ attempt-quad-requires-2 c κs = c .before .before .before .before .before .befor
 
 returns-2 : tie.Need-returns-2
 unfolding tryEdge tryToward
-returns-2 c = rw (← c .before .before .before .before .before .before .before .before .before .before .before .before .before .before .node-at .ensures, ← c .before .before .before .before .before .before .before .before .before .before .before .before .before .node-at2 .ensures, ← c .before .before .before .before .before .before .before .before .norm .ensures, c .before .before .before .before .before .before .before .if1 .left, ← c .before .before .before .before .before .before .normal-of .ensures, ← c .before .before .before .before .before .nearest-direction .ensures, ← c .before .before .before .before .nearest-direction2 .ensures, ← c .before .before .before .attempt-quad .ensures, c .before .enum-told .given .1) (c .attempt-quad2 .ensures)
+returns-2 c =
+    let after-attempt-quad = c .before .before .before in
+    let after-normal-of = after-attempt-quad .before .before .before in
+    let else1 = after-normal-of .before in
+    let after-node-at2 = else1 .before .before .before .before .before .before in
+    rw (← after-node-at2 .before .node-at .ensures, ← after-node-at2 .node-at2 .ensures, ← else1 .before .norm .ensures, else1 .if1 .left)
+    (rw (← after-normal-of .normal-of .ensures, ← after-attempt-quad .before .before .nearest-direction .ensures,
+    ← after-attempt-quad .before .nearest-direction2 .ensures)
+    (rw (← after-attempt-quad .attempt-quad .ensures, c .before .enum-told .given .1) (c .attempt-quad2 .ensures)))
 
 returns-3 : tie.Need-returns-3
 unfolding tryEdge tryToward
-returns-3 c = rw (← c .before .before .before .before .before .before .before .before .before .before .before .before .before .before .node-at .ensures, ← c .before .before .before .before .before .before .before .before .before .before .before .before .before .node-at2 .ensures, ← c .before .before .before .before .before .before .before .before .norm .ensures, c .before .before .before .before .before .before .before .if1 .left, ← c .before .before .before .before .before .before .normal-of .ensures, ← c .before .before .before .before .before .nearest-direction .ensures, ← c .before .before .before .before .nearest-direction2 .ensures, ← c .before .before .before .attempt-quad .ensures, c .before .first .given .1) refl
+returns-3 c =
+    let after-attempt-quad = c .before .before .before in
+    let after-normal-of = after-attempt-quad .before .before .before in
+    let else1 = after-normal-of .before in
+    let after-node-at2 = else1 .before .before .before .before .before .before in
+    rw (← after-node-at2 .before .node-at .ensures, ← after-node-at2 .node-at2 .ensures, ← else1 .before .norm .ensures, else1 .if1 .left)
+    (rw (← after-normal-of .normal-of .ensures, ← after-attempt-quad .before .before .nearest-direction .ensures,
+    ← after-attempt-quad .before .nearest-direction2 .ensures)
+    (rw (← after-attempt-quad .attempt-quad .ensures, c .before .first .given .1) refl))
 
 pub try-edge-spec : {M : Type 1} → statement M
 try-edge-spec =

@@ -154,7 +154,7 @@ attempt-seen s o size a b da db =
     let c = cornerC size s a b da in
     let d = cornerD size s a b db in
     let fits : quadFits o size (seenOf s) a b c d ≡ quadFits o size s a b c d =
-        sym (quad-fits-seen (seenOf s) o size a b c d) ∙ quad-fits-seen s o size a b c d in
+    sym (quad-fits-seen (seenOf s) o size a b c d) ∙ quad-fits-seen s o size a b c d in
     rw (corner-c-seen s size a b da, corner-d-seen s size a b db, fits)
 
 -- and so is a front edge that is tried; of a field it reads the grid and the values

@@ -19,8 +19,12 @@ corner-point-requires-2 c κs = search needs
 returns : tie.Need-returns
 returns c =
     let after-node-at = c .before .before .before in
-    rw (← after-node-at .node-at .ensures, ← c .before .before .node-at2 .ensures, ← c .before .corner-point .ensures,
-    ← c .corner-point2 .ensures) refl
+    rw (
+      ← after-node-at .node-at .ensures,
+      ← c .before .before .node-at2 .ensures,
+      ← c .before .corner-point .ensures,
+      ← c .corner-point2 .ensures,
+    ) refl
 
 pub corners-of-spec : {M : Type 1} → statement M
 corners-of-spec =

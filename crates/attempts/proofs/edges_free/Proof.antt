@@ -42,8 +42,12 @@ returns-2 c =
     let s = seenEdges (args .xs .now) (args .ys .now) (args .edges .now) (args .counts) in
     rw (← after-corner-id .corner-id .ensures, ← else1 .before .before .second-id .ensures)
     (rw (← else1 .before .side-crosses .ensures, else1 .if1 .left)
-    (rw (← corner-point-seen s (args .c), ← corner-point-seen s (args .d), ← after-corner-point .corner-point .ensures,
-    ← c .before .before .corner-point2 .ensures)
+    (rw (
+      ← corner-point-seen s (args .c),
+      ← corner-point-seen s (args .d),
+      ← after-corner-point .corner-point .ensures,
+      ← c .before .before .corner-point2 .ensures,
+    )
     (rw (← c .before .edge-crosses .ensures, c .if2 .taken) refl)))
 
 side-crosses-requires-2 : tie.Need-side-crosses-requires-2
@@ -61,8 +65,12 @@ returns-3 c =
     let s = seenEdges (args .xs .now) (args .ys .now) (args .edges .now) (args .counts) in
     rw (← after-corner-id .corner-id .ensures, ← else1 .before .before .second-id .ensures)
     (rw (← else1 .before .side-crosses .ensures, else1 .if1 .left)
-    (rw (← corner-point-seen s (args .c), ← corner-point-seen s (args .d), ← after-corner-point .corner-point .ensures,
-    ← else2 .before .before .corner-point2 .ensures)
+    (rw (
+      ← corner-point-seen s (args .c),
+      ← corner-point-seen s (args .d),
+      ← after-corner-point .corner-point .ensures,
+      ← else2 .before .before .corner-point2 .ensures,
+    )
     (rw (← else2 .before .edge-crosses .ensures, else2 .if2 .left, ← c .side-crosses2 .ensures) refl)))
 
 pub edges-free-spec : {M : Type 1} → statement M

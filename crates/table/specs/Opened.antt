@@ -3,6 +3,7 @@
 use lib.Count.{trailingZeros}
 use lib.Ieee.{span, climb, size, odd, units, round, neg, sum, add, sub, mul, div, lt, eq, le, ofInt, ofFields, ofBits, toBits, isNan}
 use Rattle.laws.specs.Loop.{forUp, run, anyUp, sumUp}
+use Rattle.laws.specs.Tabulate.{tabulate}
 use Rattle.numbers.specs.Root.{isqrtIn, rootUnits, root}
 use Rattle.numbers.specs.Float.{isFinite, absF, minF, maxF, clampF}
 use Rattle.numbers.specs.Whole.{floorInt, floorQuotient, ceilCount}
@@ -21,7 +22,7 @@ use Rattle.crossfield.specs.Sweeps.{plusIf, neighbourSum, neighbourCount, norma
 use Rattle.crossfield.specs.Field.{placesRefusal, fieldRefusal, fieldOf}
 use Rattle.crossfield.specs.Direction.{within, countsSound, gridSound, recordRefusal, weighed, rawAt, scaled, half, directionOf, dot, closerOf, nearestOf, nearestDirection, directionRefusal}
 use Rattle.front.specs.State.{nodePlaces, quadPlaces, edgePlaces, nodeIn, hasEdge, pushNode, addFront, removeFront, pushEdge, addEdge, pushQuad, cleared}
-use Rattle.front.specs.Sampling.{partsOf, parts, loopParts, loopNodes, sampledCount, frontRefusal, cut, sampleSegment, sampleLoop, signedArea, edgeLength, longestEdge, ringOf, ringAt, midpoint, splitLongest, joinRing, closeLoop, boundaryTurn, fromBoundary, tabulate, ringIds, boundaryLoops}
+use Rattle.front.specs.Sampling.{partsOf, parts, loopParts, loopNodes, sampledCount, frontRefusal, cut, sampleSegment, sampleLoop, signedArea, edgeLength, longestEdge, ringOf, ringAt, midpoint, splitLongest, joinRing, closeLoop, boundaryTurn, fromBoundary, ringIds, boundaryLoops}
 use Rattle.front.specs.Place.{addEdges, moveFront, place, edgesAdded, isFull}
 use Rattle.paving.specs.Checks.{tooClose, nodeOk, cornerFree, cornersApart, nodeInside, edgeCrosses, edgesFree, quadOk, quadFits}
 use Rattle.paving.specs.Attempt.{isReused, cornerAt, ideal, cornerC, cornerD, attemptQuad, normalOf, tryToward, tryEdge}

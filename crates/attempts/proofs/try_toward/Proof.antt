@@ -1,6 +1,7 @@
 -- `attempts::try_toward` meets its contract: the second attempt is made where the first answers nothing.
 use mathlib.Core.Path.{refl}
 use borrow.Author.Needs.{needs}
+use Rattle.crossfield.specs.Direction.{nearestDirection}
 use Rattle.paving.specs.Attempt.{tryToward}
 use Rattle.attempts.proofs.try_toward.Statement.{statement}
 use Rattle.attempts.proofs.try_toward.Tie as tie
@@ -32,7 +33,7 @@ attempt-quad-requires-2 c κs =
     after-node-at .before .before .before .before .before .before .before .before .before .before .pre .attempt
 
 returns : tie.Need-returns
-unfolding tryToward
+unfolding tryToward nearestDirection
 returns c =
     let after-attempt-quad = c .before .before .before in
     let after-nearest-direction = after-attempt-quad .before .before .before in
@@ -41,7 +42,7 @@ returns c =
     (rw (← after-attempt-quad .attempt-quad .ensures, c .before .enum-told .given .1) (c .attempt-quad2 .ensures)))
 
 returns-2 : tie.Need-returns-2
-unfolding tryToward
+unfolding tryToward nearestDirection
 returns-2 c =
     let after-attempt-quad = c .before .before .before in
     let after-nearest-direction = after-attempt-quad .before .before .before in

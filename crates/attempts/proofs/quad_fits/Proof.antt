@@ -80,7 +80,9 @@ returns-4 c =
     (fails _ (refused (c .before .corners-apart .ensures) (c .if4 .taken))))))
 
 link-at-requires : tie.Need-link-at-requires
-link-at-requires c κs = c .before .before .before .before .before .before .before .before .before .before .before .before .before .before .before .before .pre .1
+link-at-requires c κs =
+    let after-corner-id = c .before .before .before .before .before .before .before .before in
+    after-corner-id .before .before .before .before .before .before .before .before .pre .1
 
 returns-5 : tie.Need-returns-5
 returns-5 c =
@@ -101,7 +103,9 @@ returns-5 c =
     (rw (← c .before .link-at .ensures) (fails _ (ap not (eq-eqb _ _ (c .if5 .taken)))))))))
 
 quad-ok-requires : tie.Need-quad-ok-requires
-quad-ok-requires c κs = c .before .before .before .before .before .before .before .before .before .before .before .before .before .before .before .before .before .before .pre .0
+quad-ok-requires c κs =
+    let after-corner-id = c .before .before .before .before .before .before .before .before .before .before in
+    after-corner-id .before .before .before .before .before .before .before .before .pre .0
 
 returns-6 : tie.Need-returns-6
 returns-6 c =

@@ -67,7 +67,9 @@ returns-3 c =
     (fails _ (ap not (sym (c .before .node-in-quad .ensures) ∙ c .if3 .taken))))))
 
 edges-free-requires : tie.Need-edges-free-requires
-edges-free-requires c κs = c .before .before .before .before .before .before .before .before .before .before .before .before .before .before .before .before .pre .within
+edges-free-requires c κs =
+    let after-corners-of = c .before .before .before .before .before .before .before .before .before in
+    after-corners-of .before .before .before .before .before .before .before .pre .within
 
 returns-4 : tie.Need-returns-4
 returns-4 c =

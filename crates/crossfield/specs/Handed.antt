@@ -25,6 +25,7 @@ use Rattle.crossfield.specs.Sweeps.{sweeps}
 use Rattle.crossfield.specs.Field.{FieldRecord, fieldPlaces, fieldRefusal, fieldOf}
 use Rattle.crossfield.specs.Direction.{leastSpacing, mostSpacing, mostOrigin, within, countsSound, gridSound, valueUnsound}
 use Rattle.crossfield.specs.Direction.{recordRefusal}
+use Rattle.crossfield.specs.RecordLaws.{true-of}
 use Rattle.crossfield.specs.Box.{Box, box}
 use Rattle.crossfield.specs.Spacing.{Grown, spacing-held, start-size}
 use Rattle.crossfield.specs.FieldLaws.{unrefused, few-made, sides}
@@ -32,10 +33,6 @@ use Rattle.crossfield.specs.Unit.{Most}
 use Rattle.crossfield.specs.Sound.{seeds-sound, SoundList, sweeps-sound}
 
 -- ---- tests that hold
-
-true-of : (b : Bool) → T b → b ≡ true
-true-of true t = refl
-true-of false t = absurd t
 
 within-true : (m x : Float) (K : ℕ) (s : Bool) (a : ℕ) → Val m false (K * W) → Val x s a → a ≤ K * W → within m x ≡ true
 unfolding within

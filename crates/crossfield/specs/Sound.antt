@@ -11,7 +11,7 @@ use lib.Dec.{T, ltb, eqb, leb, leb→le, le→leb, lit≤}
 use lib.ListN.{length, getD, set, length-set}
 use lib.Seq.{getD-set-same, getD-set-other}
 use lib.Ieee.{Float, nan, lt, le, ofBits, ofInt}
-use Rattle.laws.specs.Loop.{Turn, go, out, onwards, answer, forUp, forUp-keeps, run}
+use Rattle.laws.specs.Loop.{forUp, forUp-keeps}
 use Rattle.numbers.specs.Float.{_⊕_, _⊖_, _⊘_, zeroF, oneF, tolerance, toFloat}
 use Rattle.exact.specs.Units.{W, W-pos, Val, Within}
 use Rattle.exact.specs.Operations.{div-law}
@@ -24,10 +24,11 @@ use Rattle.domain.specs.Accepted.{OutlineFits, PointWithin, Accepted, LoopWithi
 use Rattle.geometry.specs.Plane.{norm, tangent}
 use Rattle.crossfield.specs.declared.Grid.{Grid}
 use Rattle.crossfield.specs.Seeds.{FieldLists, nodeAt, gridPoint, seed, setValue, seedNode, seedRow, seeded}
-use Rattle.crossfield.specs.Sweeps.{plusIf, oneIf, neighbourSum, neighbourCount, normalised, average, Swept, swept, relaxed}
-use Rattle.crossfield.specs.Sweeps.{sweepNode, sweepRow, sweep, sweepTurn, sweeps}
+use Rattle.crossfield.specs.Sweeps.{plusIf, oneIf, neighbourSum, neighbourCount, normalised, average, Swept, relaxed}
+use Rattle.crossfield.specs.Sweeps.{sweepNode, sweeps}
 use Rattle.crossfield.specs.Places.{Node, here-in, right-in, over-in}
 use Rattle.crossfield.specs.Box.{side, outer-near, hole-near}
+use Rattle.crossfield.specs.Past.{sweeps-keep}
 use Rattle.crossfield.specs.Unit.{Most, most-more, most-add, UnitPair, unit-lt, unit-not-le, unit-one, unit-first, unit-second}
 use Rattle.crossfield.specs.Unit.{seed-most}
 
@@ -317,31 +318,5 @@ module _ (g : Grid) (marks : List ℕ) (floats : ℕ) (wide : 2 ≤ g .nx) (room
       }
       pick false = p
 
-  sweep-sound : (values : List Float) → SoundList floats values → SoundList floats (sweep g marks values .values)
-  unfolding sweep sweepRow
-  sweep-sound values p =
-      forUp-keeps (λ (j : ℕ) (s : Swept). SoundList floats (s .values)) (g .ny) (sweepRow g marks) (swept values true) p
-      (λ j s l p. forUp-keeps (λ (i : ℕ) (s : Swept). SoundList floats (s .values)) (g .nx) (sweepNode g marks j) s p
-      (λ i s h p. visit-sound j i s h l p))
-
-  abbrev TurnSound : Turn (List Float) (List Float) → Type 0
-  TurnSound (go values) = SoundList floats values
-  TurnSound (out values) = SoundList floats values
-
   pub sweeps-sound : (n : ℕ) (values : List Float) → SoundList floats values → SoundList floats (sweeps n g marks values)
-  unfolding sweeps run
-  sweeps-sound n values p =
-      last (forUp n (onwards (sweepTurn g marks)) (go values))
-      (forUp-keeps (λ (k : ℕ) (t : Turn (List Float) (List Float)). TurnSound t) n (onwards (sweepTurn g marks)) (go values) p keeps)
-    where
-      after : (s : Swept) (quiet : Bool) → SoundList floats (s .values) → TurnSound (cond quiet (out (s .values)) (go (s .values)))
-      after s true p = p
-      after s false p = p
-
-      keeps : (k : ℕ) (t : Turn (List Float) (List Float)) → k < n → TurnSound t → TurnSound (onwards (sweepTurn g marks) k t)
-      keeps k (go v) h p = after (sweep g marks v) (sweep g marks v .quiet) (sweep-sound v p)
-      keeps k (out v) h p = p
-
-      last : (t : Turn (List Float) (List Float)) → TurnSound t → SoundList floats (answer (λ (v : List Float). v) t)
-      last (go v) p = p
-      last (out v) p = p
+  sweeps-sound n values p = sweeps-keep (SoundList floats) g marks visit-sound n values p

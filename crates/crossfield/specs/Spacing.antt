@@ -19,6 +19,7 @@ use Rattle.exact.specs.Order.{not-lt-val, above-of-not-le}
 use Rattle.exact.specs.Operations.{mul-law, div-law}
 use Rattle.domain.specs.Accepted.{neither, cond-zero}
 use Rattle.crossfield.specs.declared.Bounds.{Bounds}
+use Rattle.crossfield.specs.Unit.{zero-val}
 use Rattle.crossfield.specs.Box.{Box}
 use Rattle.crossfield.specs.Grid.{growth, gridCount, tooManyNodes, growTurn, growths, spacing, gridOf, gridNodes, mostFieldNodes}
 use Rattle.crossfield.specs.Grid.{leastSize, mostSize, sizeRefusal}
@@ -258,10 +259,6 @@ least-large = lit≤ tt
 most-val : Val mostSize false (100 * W)
 unfolding W ofBits
 most-val = (refl, refl)
-
-zero-val : Val zeroF false 0
-unfolding W ofBits
-zero-val = (refl, refl)
 
 -- half as many units, rounded
 half-lower : (n x y w : ℕ) → 2 ^ 53 * x ≤ 2 ^ 53 * n + (x + 2 ^ 52 * w) → 2 * x ≡ y → 1000000 * w ≤ y → 10 * y ≤ 21 * n

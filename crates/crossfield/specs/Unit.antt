@@ -293,7 +293,7 @@ one-val : Val oneF false W
 unfolding W ofBits
 one-val = (refl, refl)
 
-zero-val : Val zeroF false 0
+pub zero-val : Val zeroF false 0
 unfolding W ofBits
 zero-val = (refl, refl)
 

@@ -19,6 +19,7 @@ use Rattle.exact.specs.Order.{lt-val, le-val, not-le-val}
 use Rattle.domain.specs.declared.Point.{Point}
 use Rattle.domain.specs.Outline.{pointAt}
 use Rattle.crossfield.specs.declared.Grid.{Grid}
+use Rattle.crossfield.specs.RecordLaws.{true-of}
 use Rattle.crossfield.specs.Seeds.{nodeAt, setValue}
 use Rattle.crossfield.specs.Sweeps.{steady, average, Swept, swept, change, relaxed, sweepNode, sweepRow, sweep}
 
@@ -60,10 +61,6 @@ steady-units = 944473296573929 * 2 ^ 1001
 steady-val : Val steady false steady-units
 unfolding W ofBits steady-units
 steady-val = (refl, refl)
-
-true-of : (b : Bool) → T b → b ≡ true
-true-of true t = refl
-true-of false t = absurd t
 
 -- a finite c is below 1e-7 exactly if it isn't 1e-7 or more
 total : (c : Float) (t : Bool) (b : ℕ) → Val c t b → not (le steady c) ≡ lt c steady

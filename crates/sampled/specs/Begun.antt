@@ -1,8 +1,8 @@
 -- What `from_boundary` leaves: the front is the loops sampled, one for each loop of the outline.
 use mathlib.Core.Path.{_≡_, refl, sym, _∙_}
 use mathlib.Core.Bool.{Bool, true, false, _||_, cond}
-use mathlib.Core.List.{List, [], _∷_}
-use Prim.Native.Nat.{ℕ, zero, suc, _+_, _*_, _<_, _≤_}
+use mathlib.Core.List.{List, []}
+use Prim.Native.Nat.{ℕ, zero, suc, _+_, _<_, _≤_}
 use native.Mathlib.Omega.{arith}
 use lib.Dec.{ltb}
 use lib.Ieee.{Float}
@@ -18,7 +18,7 @@ use Rattle.front.specs.State.{State, nodePlaces, edgePlaces, hasEdge, cleared}
 use Rattle.front.specs.Sampling.{loopCount, loopNodes, sampledCount, frontRefusal, boundaryTurn, fromBoundary, loopIds, boundaryLoops}
 use Rattle.front.specs.Sound.{Sound, Frame}
 use Rattle.front.specs.FrameLaws.{frame-same, frame-node-places, frame-edge-places}
-use Rattle.sampled.specs.Nodes.{Room, room-places, room-kept}
+use Rattle.sampled.specs.Nodes.{nodesOf, Room, room-places, room-kept}
 use Rattle.sampled.specs.Joins.{OnlyLinked}
 use Rattle.sampled.specs.Laid.{Laid, Added}
 use Rattle.sampled.specs.Turn.{turnPoints, turn-added, turn-length}
@@ -53,6 +53,12 @@ stateAt o size lent k = forUp k (boundaryTurn o size) (cleared lent)
 abbrev pub loopsAt : Outline → Float → State → ℕ → List (List ℕ)
 loopsAt o size lent k = tabulate k (λ i. loopIds o size i (stateAt o size lent i))
 
+-- what turn k finds: the loops before it, laid, and room for its own
+pub record Ready (o : Outline) (size : Float) (lent : State) (k : ℕ) : Type 0 where
+  pub laid : Laid (cleared lent) (stateAt o size lent k) (loopsAt o size lent k)
+  pub room : Room (sampledCount o size) (stateAt o size lent k)
+  pub count : stateAt o size lent k .counts .nodes ≡ sumUp k (loopNodes o size)
+
 -- ---- laws
 
 pub refusal-places : (o : Outline) (size : Float) (lent : State) → frontRefusal o size lent ≡ 0 → Places (sampledCount o size) lent
@@ -76,6 +82,10 @@ cleared-places n lent P = record { nodes = P .nodes; edges = P .edges }
 cleared-lists : (lent : State) → (cleared lent .snapshot ≡ lent .snapshot) × (cleared lent .quads ≡ lent .quads)
 unfolding cleared
 cleared-lists lent = (refl, refl)
+
+pub no-nodes : (lent : State) → nodesOf (cleared lent) ≡ []
+unfolding nodesOf cleared tabulate
+no-nodes lent = refl
 
 none-count : (lent : State) → cleared lent .counts .nodes ≡ 0
 unfolding cleared
@@ -103,18 +113,12 @@ none-laid lent =
 -- ---- turn by turn
 
 module _ (o : Outline) (size : Float) (lent : State) (three : Threes o) (P : Places (sampledCount o size) lent) where
-  -- what turn k finds: the loops before it, laid, and room for its own
-  pub record Ready (k : ℕ) : Type 0 where
-    pub laid : Laid (cleared lent) (stateAt o size lent k) (loopsAt o size lent k)
-    pub room : Room (sampledCount o size) (stateAt o size lent k)
-    pub count : stateAt o size lent k .counts .nodes ≡ sumUp k (loopNodes o size)
-
-  pub fits : (k : ℕ) → k < loopCount o → Ready k → stateAt o size lent k .counts .nodes + loopNodes o size k ≤ sampledCount o size
+  pub fits : (k : ℕ) → k < loopCount o → Ready o size lent k → stateAt o size lent k .counts .nodes + loopNodes o size k ≤ sampledCount o size
   unfolding sampledCount
   fits k h A = omega (arith, A .count, sum-term (loopNodes o size) k (loopCount o) h)
 
   -- and what it leaves
-  pub turn-at : (k : ℕ) → k < loopCount o → Ready k
+  pub turn-at : (k : ℕ) → k < loopCount o → Ready o size lent k
       → Added (cleared lent) (stateAt o size lent k) (stateAt o size lent (suc k)) (loopsAt o size lent k)
       (loopIds o size k (stateAt o size lent k)) (turnPoints o size k (stateAt o size lent k))
   unfolding forUp
@@ -123,7 +127,7 @@ module _ (o : Outline) (size : Float) (lent : State) (three : Threes o) (P : Pla
   start-room : Room (sampledCount o size) (cleared lent)
   start-room = let Q = cleared-places (sampledCount o size) lent P in room-places (sampledCount o size) (cleared lent) (Q .nodes) (Q .edges)
 
-  pub ready : (k : ℕ) → k ≤ loopCount o → Ready k
+  pub ready : (k : ℕ) → k ≤ loopCount o → Ready o size lent k
   unfolding forUp tabulate
   ready zero h =
       record {

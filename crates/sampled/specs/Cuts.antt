@@ -1,13 +1,13 @@
 -- The points sampled on the segments of a loop, and the states that sampling goes through.
 use mathlib.Core.Path.{_≡_, sym}
-use mathlib.Core.List.{List, [], _∷_, _++_}
+use mathlib.Core.List.{List, [], _++_}
 use Prim.Native.Nat.{ℕ, zero, suc, _+_, _<_, _≤_}
 use native.Mathlib.Omega.{arith}
 use lib.ListN.{length, length-append}
 use lib.Ieee.{Float}
-use Rattle.laws.specs.Loop.{forUp, forUp-keeps, sumUp}
+use Rattle.laws.specs.Loop.{forUp-keeps, sumUp}
 use Rattle.laws.specs.Sums.{sum-zero, sum-suc, sum-term, sum-least}
-use Rattle.laws.specs.Tabulate.{tabulate, tabulate-suc, tabulate-length}
+use Rattle.laws.specs.Tabulate.{tabulate, tabulate-length}
 use Rattle.domain.specs.declared.Point.{Point}
 use Rattle.domain.specs.Outline.{points, pointAt, pointAfter}
 use Rattle.topology.specs.Sums.{All}

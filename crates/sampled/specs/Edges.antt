@@ -43,7 +43,7 @@ edge-new l c u v x y h =
 pub edge-pushed : (s : State) (u v a b : ℕ) → 2 * s .counts .edges + 1 < length (s .edges)
     → hasEdge (pushEdge u v s) a b ≡ (hasEdge s a b || (eqb u (min a b) && eqb v (max a b)))
 unfolding hasEdge pushEdge
-edge-pushed s u v a b h = rw add-one (all (s .edges) (s .counts .edges) h (min a b) (max a b))
+edge-pushed s u v a b h = rw (add-one (s .counts .edges)) (all (s .edges) (s .counts .edges) h (min a b) (max a b))
   where
     all : (l : List ℕ) (c : ℕ) → 2 * c + 1 < length l → (x y : ℕ)
         → anyUp (suc c) (edgeAt (withEdge l c u v) x y) ≡ (anyUp c (edgeAt l x y) || (eqb u x && eqb v y))

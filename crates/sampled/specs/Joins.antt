@@ -1,20 +1,20 @@
 -- Two nodes are joined, and then all of a path: the links are those of the edges added, and each is a new edge of the mesh.
-use mathlib.Core.Path.{_≡_, refl, sym, _∙_, ap}
+use mathlib.Core.Path.{_≡_, refl, _∙_, ap}
 use mathlib.Core.Bool.{Bool, true, false}
 use mathlib.Core.Logic.{_≢_}
 use mathlib.Core.List.{List, [], _∷_}
-use Prim.Native.Nat.{ℕ, suc, _+_, _*_, _<_, _≤_, min, max}
+use Prim.Native.Nat.{ℕ, _+_, _<_, _≤_, min, max}
 use native.Mathlib.Omega.{arith}
 use lib.Dec.{eqb}
 use lib.ListN.{length, set}
 use borrow.Author.Tests.{eqb-true, eq-eqb}
 use Rattle.topology.specs.Sums.{All}
-use Rattle.topology.specs.Links.{off, linkOf, update, link-set}
+use Rattle.topology.specs.Links.{off, update, link-set}
 use Rattle.topology.specs.Changes.{Change, add, stored, reversed, Valid, Within}
 use Rattle.topology.specs.Laying.{joins}
 use Rattle.front.specs.State.{State, nextOf, hasEdge, withFront, addFront, pushEdge, addEdge}
-use Rattle.front.specs.Sound.{Extends, Frame}
-use Rattle.front.specs.FrameLaws.{extends-same, extends-set, frame-trans}
+use Rattle.front.specs.Sound.{Frame}
+use Rattle.front.specs.FrameLaws.{frame-trans, frame-link, frame-edge}
 use Rattle.sampled.specs.Nodes.{Room, room-kept}
 use Rattle.sampled.specs.Edges.{edge-pushed, edge-other}
 use Rattle.sampled.specs.OneWay.{OneWay}
@@ -80,7 +80,8 @@ module _ {n : ℕ} (s : State) (u v : ℕ) (J : Joinable n s (add u v ∷ [])) w
   linked-is : OnlyLinked (withLink u v s)
   unfolding OnlyLinked
   linked-is a b ha hb na nb =
-      edge-pushed (withFront s (set (s .next) u v) (set (s .prev) v u) (s .counts .front + 1)) (min u v) (max u v) a b (omega (arith, J .room .edges, J .edges))
+      edge-pushed (withFront s (set (s .next) u v) (set (s .prev) v u) (s .counts .front + 1)) (min u v) (max u v) a b
+      (omega (arith, J .room .edges, J .edges))
       ∙ rw (
         edge-front s (set (s .next) u v) (set (s .prev) v u) (s .counts .front + 1) a b,
         J .linked a b ha hb (away a b hb na) (away b a ha nb),
@@ -98,24 +99,10 @@ module _ {n : ℕ} (s : State) (u v : ℕ) (J : Joinable n s (add u v ∷ [])) w
           by false q = na (rw (next-is, q) e)
 
   link-frame : Frame s (withLink u v s)
-  unfolding pushEdge
   link-frame =
-      let n = s .counts .nodes in
-      let k = s .counts .edges in
-      let w = J .within .0 in
-      record {
-        nodes = omega arith;
-        quads = omega arith;
-        edges = omega arith;
-        xs = extends-same _ _ _;
-        ys = extends-same _ _ _;
-        next = extends-set 0 n (s .next) (s .next) u v (omega arith) (w .0) (extends-same _ _ _);
-        prev = extends-set 0 n (s .prev) (s .prev) v u (omega arith) (w .1) (extends-same _ _ _);
-        snapshot = extends-same _ _ _;
-        quadList = extends-same _ _ _;
-        edgeList = extends-set (2 * k) (2 * (k + 1)) (s .edges) (set (s .edges) (2 * k) (min u v)) (2 * k + 1) (max u v) (omega arith) (omega arith)
-            (extends-set (2 * k) (2 * (k + 1)) (s .edges) (s .edges) (2 * k) (min u v) (omega arith) (omega arith) (extends-same _ _ _));
-      }
+      let t = withFront s (set (s .next) u v) (set (s .prev) v u) (s .counts .front + 1) in
+      frame-trans s t (withLink u v s) (frame-link u v (s .counts .front + 1) s (J .within .0 .0) (J .within .0 .1))
+      (frame-edge (min u v) (max u v) t)
 
   pub join-one : Joined s (join s u v) (add u v ∷ [])
   unfolding pushEdge

@@ -1,16 +1,15 @@
 -- What holds of the state between the loops of an outline, and how a loop of new nodes is laid on its front.
-use mathlib.Core.Path.{_≡_, refl, sym, _∙_, ap, ap₂}
-use mathlib.Core.Bool.{Bool, _&&_}
-use mathlib.Core.Logic.{_≢_}
+use mathlib.Core.Path.{_≡_, refl, _∙_, ap, ap₂}
+use mathlib.Core.Bool.{_&&_}
 use mathlib.Core.List.{List, [], _∷_, _++_}
-use Prim.Native.Nat.{ℕ, suc, _+_, _*_, _<_, _≤_, _%_, min, max}
+use Prim.Native.Nat.{ℕ, _+_, _*_, _<_, _≤_, _%_, min, max}
 use native.Mathlib.Omega.{arith}
 use lib.Dec.{eqb}
 use lib.ListN.{length, getD}
 use Rattle.laws.specs.Loop.{anyUp}
 use Rattle.domain.specs.declared.Point.{Point}
 use Rattle.topology.specs.Sums.{All, total, loopSum, frontSum, one, Even, loop-one}
-use Rattle.topology.specs.Links.{off, linkOf, link-out}
+use Rattle.topology.specs.Links.{off, link-out}
 use Rattle.topology.specs.Front.{Front, FrontOf, front-same}
 use Rattle.topology.specs.Changes.{OffFront, Changed, stored}
 use Rattle.topology.specs.Laying.{joins, Distinct, joined}
@@ -19,8 +18,9 @@ use Rattle.front.specs.Sound.{Frame}
 use Rattle.front.specs.FrameLaws.{frame-trans}
 use Rattle.sampled.specs.Lists.{all-append}
 use Rattle.sampled.specs.Nodes.{nodesOf, Room, room-kept, Pushed}
-use Rattle.sampled.specs.OneWay.{one-way, loopJoins, loop-joins-length}
-use Rattle.sampled.specs.Joins.{join, OnlyLinked, Joined, Joinable, join-path}
+use Rattle.sampled.specs.OneWay.{one-way}
+use Rattle.sampled.specs.RingJoins.{loopJoins, loop-joins-length}
+use Rattle.sampled.specs.Joins.{join, OnlyLinked, Joined, join-path}
 
 -- ---- definitions
 
@@ -97,8 +97,8 @@ module _ {n : ℕ} (lent s t : State) (ls : List (List ℕ)) (ps : List Point) (
   each Q h [] a = tt
   each Q h (u ∷ l) a = (h u (a .0), each Q h l (a .1))
 
-  module _ (x v w : ℕ) (vs : List ℕ) (even : length (x ∷ v ∷ w ∷ vs) % 2 ≡ 0) (d : Distinct (x ∷ v ∷ w ∷ vs)) (new : All New (x ∷ v ∷ w ∷ vs))
-      (long : length (x ∷ v ∷ w ∷ vs) ≡ length ps) where
+  module _ (x v w : ℕ) (vs : List ℕ) (even : length (x ∷ v ∷ w ∷ vs) % 2 ≡ 0) (d : Distinct (x ∷ v ∷ w ∷ vs))
+      (new : All New (x ∷ v ∷ w ∷ vs)) (long : length (x ∷ v ∷ w ∷ vs) ≡ length ps) where
     changes : Changed (t .counts .nodes) (t .next) (t .prev) ls ((x ∷ v ∷ w ∷ vs) ∷ ls) (joins x (v ∷ w ∷ vs) x)
     changes =
         joined (t .counts .nodes) (t .next) (t .prev) ls x (v ∷ w ∷ vs) front-pushed

@@ -1,10 +1,10 @@
 -- The nodes of a state as one list of points, and what pushing nodes does to a state.
 use mathlib.Core.Path.{_≡_, refl, sym, _∙_, ap₂}
 use mathlib.Core.List.{List, [], _∷_, _++_, append-assoc, append-nil, map}
-use Prim.Native.Nat.{ℕ, suc, _+_, _*_, _<_, _≤_}
+use Prim.Native.Nat.{ℕ, _+_, _*_, _<_, _≤_}
 use native.Mathlib.Numerals.{add-one}
 use native.Mathlib.Omega.{arith}
-use lib.ListN.{length, getD, set, take, length-append}
+use lib.ListN.{length, getD, take, length-append}
 use lib.Seq.{getD-set-same, getD-set-other}
 use lib.Ieee.{nan}
 use Rattle.laws.specs.Tabulate.{tabulate, tabulate-suc, tabulate-length, tabulate-same, tabulate-at, tabulate-take, tabulate-map}
@@ -13,7 +13,7 @@ use Rattle.domain.specs.Outline.{point}
 use Rattle.topology.specs.Links.{off, linkOf, link-more}
 use Rattle.front.specs.State.{State, nodeIn, node, nodePlaces, edgePlaces, pushNode}
 use Rattle.front.specs.Sound.{Frame}
-use Rattle.front.specs.FrameLaws.{extends-same, extends-set, frame-same, frame-trans}
+use Rattle.front.specs.FrameLaws.{frame-same, frame-trans, frame-push}
 
 -- ---- the nodes
 
@@ -95,23 +95,6 @@ push-none s =
     }
 
 module _ (p : Point) (s : State) where
-  pub push-frame : Frame s (pushNode p s)
-  unfolding pushNode
-  push-frame =
-      let n = s .counts .nodes in
-      record {
-        nodes = omega arith;
-        quads = omega arith;
-        edges = omega arith;
-        xs = extends-set n (n + 1) (s .xs) (s .xs) n (p .x) (omega arith) (omega arith) (extends-same _ _ _);
-        ys = extends-set n (n + 1) (s .ys) (s .ys) n (p .y) (omega arith) (omega arith) (extends-same _ _ _);
-        next = extends-set 0 (n + 1) (s .next) (s .next) n off (omega arith) (omega arith) (extends-same _ _ _);
-        prev = extends-set 0 (n + 1) (s .prev) (s .prev) n off (omega arith) (omega arith) (extends-same _ _ _);
-        snapshot = extends-same _ _ _;
-        quadList = extends-same _ _ _;
-        edgeList = extends-same _ _ _;
-      }
-
   pub push-nodes : s .counts .nodes < length (s .xs) → s .counts .nodes < length (s .ys) → nodesOf (pushNode p s) ≡ nodesOf s ++ p ∷ []
   unfolding pushNode nodesOf nodeIn
   push-nodes hx hy =
@@ -126,7 +109,7 @@ module _ (p : Point) (s : State) where
   unfolding pushNode
   push-one R h =
       record {
-        frame = push-frame;
+        frame = frame-push p s;
         nodes = push-nodes (omega arith) (omega arith);
         count = refl;
         next = link-more (s .counts .nodes) (s .next) (omega arith);

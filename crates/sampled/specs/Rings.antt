@@ -1,20 +1,21 @@
 -- The ids of a ring: each of the nodes sampled and the midpoint, where there is one, stands in it once.
 use mathlib.Core.Path.{_≡_, refl, sym, _∙_}
-use mathlib.Core.Bool.{Bool, true, false, true≢false, _&&_, cond}
+use mathlib.Core.Bool.{Bool, true, false, true≢false, cond}
 use mathlib.Core.Logic.{_≢_}
 use mathlib.Core.List.{List}
-use Prim.Native.Nat.{ℕ, suc, _+_, _-_, _<_, _≤_}
+use Prim.Native.Nat.{ℕ, _+_, _-_, _<_, _≤_}
 use native.Mathlib.Omega.{arith}
 use lib.Dec.{ltb, eqb}
 use lib.Ieee.{Float, lt}
 use lib.ListN.{length}
 use borrow.Author.Tests.{eqb-true, eqb-false, ltb-true, ltb-false}
-use Rattle.laws.specs.Loop.{forUp, forUp-keeps}
-use Rattle.laws.specs.Tabulate.{tabulate, tabulate-length}
+use Rattle.laws.specs.Loop.{forUp-keeps}
+use Rattle.laws.specs.Tabulate.{tabulate-length}
+use Rattle.domain.specs.Outline.{after}
 use Rattle.topology.specs.Sums.{All}
 use Rattle.topology.specs.Laying.{Distinct}
 use Rattle.front.specs.declared.Ring.{Ring}
-use Rattle.front.specs.Sampling.{edgeLength, longestTurn, longestEdge, ringOf, ringCount, sampledAt, ringAt, ringIds}
+use Rattle.front.specs.Sampling.{edgeLength, longestTurn, longestEdge, ringOf, ringCount, orderedAt, sampledAt, ringAt, ringIds}
 use Rattle.sampled.specs.Lists.{all-tabulate, distinct-tabulate}
 
 -- the longest edge is one of the ring's
@@ -32,6 +33,32 @@ pub ring-longest : (k : ℕ) (xs ys : List Float) (base n : ℕ) → 0 < n → r
 unfolding ringOf
 ring-longest k xs ys base n h = longest-in xs ys base n _ h
 
+-- ---- the nodes sampled
+
+pub after-in : (n i : ℕ) → 0 < n → after n i < n
+after-in n i h = by (ltb (i + 1) n) refl
+  where
+    by : (b : Bool) → ltb (i + 1) n ≡ b → cond b (i + 1) 0 < n
+    by true e = ltb-true (i + 1) n e
+    by false e = h
+
+module _ (base n : ℕ) (turned : Bool) where
+  pub ordered-in : (k : ℕ) → k < n → (base ≤ orderedAt base n turned k) × (orderedAt base n turned k < base + n)
+  ordered-in k h = by turned
+    where
+      by : (b : Bool) → (base ≤ orderedAt base n b k) × (orderedAt base n b k < base + n)
+      by true = (omega arith, omega arith)
+      by false = (omega arith, omega arith)
+
+  ordered-differ : (j k : ℕ) → j < k → k < n → orderedAt base n turned j ≢ orderedAt base n turned k
+  ordered-differ j k h q = by turned
+    where
+      by : (b : Bool) → orderedAt base n b j ≢ orderedAt base n b k
+      by true e = omega arith
+      by false e = omega arith
+
+-- ---- the ring
+
 -- where id k of a ring comes from
 data Origin (r : Ring) (k : ℕ) : Type 0 where
   -- it is the node sampled as number k, and no midpoint stands before it
@@ -42,24 +69,10 @@ data Origin (r : Ring) (k : ℕ) : Type 0 where
 
 module _ (r : Ring) where
   sampled-in : (k : ℕ) → k < r .count → (r .base ≤ sampledAt r k) × (sampledAt r k < r .base + r .count)
-  sampled-in k h = by (r .turned)
-    where
-      at : Bool → ℕ
-      at b = cond b (r .base + (r .count - 1 - k)) (r .base + k)
-
-      by : (b : Bool) → (r .base ≤ at b) × (at b < r .base + r .count)
-      by true = (omega arith, omega arith)
-      by false = (omega arith, omega arith)
+  sampled-in = ordered-in (r .base) (r .count) (r .turned)
 
   sampled-differ : (j k : ℕ) → j < k → k < r .count → sampledAt r j ≢ sampledAt r k
-  sampled-differ j k h q = by (r .turned)
-    where
-      at : Bool → ℕ → ℕ
-      at b k = cond b (r .base + (r .count - 1 - k)) (r .base + k)
-
-      by : (b : Bool) → at b j ≢ at b k
-      by true e = omega arith
-      by false e = omega arith
+  sampled-differ = ordered-differ (r .base) (r .count) (r .turned)
 
   module _ (long : r .longest < r .count) where
     origin : (k : ℕ) → k < ringCount r → Origin r k

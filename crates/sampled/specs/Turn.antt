@@ -2,7 +2,7 @@
 use mathlib.Core.Path.{_≡_, refl, sym, _∙_, ap}
 use mathlib.Core.Bool.{Bool, true, false, cond}
 use mathlib.Core.List.{List, [], _∷_, _++_}
-use Prim.Native.Nat.{ℕ, suc, _+_, _-_, _<_, _≤_, _%_}
+use Prim.Native.Nat.{ℕ, _+_, _-_, _<_, _≤_, _%_}
 use native.Mathlib.Omega.{arith}
 use lib.Dec.{eqb}
 use lib.ListN.{length, length-append}
@@ -13,11 +13,11 @@ use Rattle.domain.specs.Outline.{Outline, loopAt, points}
 use Rattle.topology.specs.Changes.{stored}
 use Rattle.front.specs.declared.Ring.{Ring}
 use Rattle.front.specs.State.{State, pushNode}
-use Rattle.front.specs.Sampling.{loopParts, loopNodes, sampleLoop, ringOf, ringCount, ringAt, ringIds, midpoint, splitLongest, joinRing, ringIn, closeLoop, boundaryTurn, loopIds}
+use Rattle.front.specs.Sampling.{loopNodes, sampleLoop, ringOf, ringCount, ringAt, ringIds, midpoint, splitLongest, joinRing, ringIn, closeLoop, boundaryTurn, loopIds}
 use Rattle.sampled.specs.Nodes.{Room, room-kept, Pushed, push-none, push-one, push-more}
 use Rattle.sampled.specs.Cuts.{loopCuts, cuts-length, cuts-least, loop-pushed}
 use Rattle.sampled.specs.Rings.{ring-longest, ring-in, ids-distinct, ids-length, ids-all}
-use Rattle.sampled.specs.OneWay.{loopJoins, ring-stored}
+use Rattle.sampled.specs.RingJoins.{loopJoins, ring-stored}
 use Rattle.sampled.specs.Joins.{join}
 use Rattle.sampled.specs.Laid.{Laid, Added, lay}
 
@@ -93,7 +93,8 @@ module _ {n : ℕ} (lent s t : State) (ls : List (List ℕ)) (ps : List Point) (
       (ids-all r (λ u. (s .counts .nodes ≤ u) × (u < splitLongest r t .counts .nodes))
       (λ k h. let i = ring-in r longest k h in (omega arith, omega arith))) (ids-length r ∙ sym long))
 
-module _ {n : ℕ} (lent : State) (o : Outline) (size : Float) (k : ℕ) (s : State) (R : Room n s) (fit : s .counts .nodes + loopNodes o size k ≤ n) where
+module _ {n : ℕ} (lent : State) (o : Outline) (size : Float) (k : ℕ) (s : State) (R : Room n s)
+    (fit : s .counts .nodes + loopNodes o size k ≤ n) where
   pub turn-sampled : Pushed s (sampleLoop size (loopAt o k) s) (loopCuts size (loopAt o k))
   unfolding loopNodes
   turn-sampled = loop-pushed size (loopAt o k) s R (omega arith)
@@ -106,7 +107,8 @@ module _ {n : ℕ} (lent : State) (o : Outline) (size : Float) (k : ℕ) (s : St
     cuts-three = omega (arith, cuts-length size (loopAt o k), cuts-least size (loopAt o k))
 
     -- loop k of the outline becomes the last loop of the front
-    pub turn-added : (ls : List (List ℕ)) → Laid lent s ls → Added lent s (boundaryTurn o size k s) ls (loopIds o size k s) (turnPoints o size k s)
+    pub turn-added : (ls : List (List ℕ)) → Laid lent s ls
+        → Added lent s (boundaryTurn o size k s) ls (loopIds o size k s) (turnPoints o size k s)
     unfolding boundaryTurn closeLoop ringOf turnPoints loopNodes
     turn-added ls L =
         let l = loopAt o k in

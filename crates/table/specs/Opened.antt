@@ -15,7 +15,7 @@ use Rattle.topology.specs.Listing.{addLoop, listing}
 use Rattle.domain.specs.Outline.{holeStart, holeAt, loopAt, pointAt, pointAfter, anyFloat, misshapen, loopRefusal, loopsRefusal, farRefusal, outlineRefusal, pointRefusal, queryRefusal}
 use Rattle.domain.specs.Queries.{rayCrosses, pointInPolygon, contains, squaredDistance, footOf, pointSegmentDistance, nearer, nearestInLoop, nearestSegment, containsAnswer, nearestAnswer, distanceAnswer}
 use Rattle.geometry.specs.Plane.{distance, tangent, areaTerm, cross2, doubledArea, leftOf, pointInConvex, onSegment, opposite, touches, segmentsCross, centroid, convexCcw}
-use Rattle.geometry.specs.Keys.{keyOf, spansKept, rangesMeet, rectanglesMeet, isCandidate, isTooClose, leastOf, greatestOf, lowest, highest, isInBox}
+use Rattle.geometry.specs.Keys.{keyOf, spansKept, rangesMeet, rectanglesMeet, candidateAt, isCandidate, nearKeys, tooCloseAt, isTooClose, leastOf, greatestOf, lowest, highest, inBoxAt, isInBox}
 use Rattle.crossfield.specs.Grid.{widened, loopBounds, bounds, gridCount, tooManyNodes, spacing, gridOf, sizeRefusal, boundsRefusal, sweepsRefusal}
 use Rattle.crossfield.specs.Seeds.{gridPoint, seed, isFixed, setValue, seedNode, seedRow, seeded}
 use Rattle.crossfield.specs.Sweeps.{plusIf, neighbourSum, neighbourCount, normalised, average, change, relaxed, sweepNode, sweepRow, sweep, sweeps}
@@ -57,7 +57,7 @@ unfolding holeStart holeAt loopAt pointAt pointAfter anyFloat misshapen loopRefu
 openedDomain = tt
 
 unfoldable pub openedGeometry : Unit {0}
-unfolding distance tangent areaTerm cross2 doubledArea leftOf pointInConvex onSegment opposite touches segmentsCross centroid convexCcw keyOf spansKept rangesMeet rectanglesMeet isCandidate isTooClose leastOf greatestOf lowest highest isInBox
+unfolding distance tangent areaTerm cross2 doubledArea leftOf pointInConvex onSegment opposite touches segmentsCross centroid convexCcw keyOf spansKept rangesMeet rectanglesMeet candidateAt isCandidate nearKeys tooCloseAt isTooClose leastOf greatestOf lowest highest inBoxAt isInBox
 openedGeometry = tt
 
 unfoldable pub openedCrossfield : Unit {0}

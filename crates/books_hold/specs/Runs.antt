@@ -54,10 +54,10 @@ pub record RunFacts (o : Outline) (size : Float) (field : FieldRecord) (passes :
 -- at most 250,000 quads
 ended-few : (o : Outline) (size : Float) (field : FieldRecord) (n : ℕ) (s t : State) (e : End) → Ended o size field n s t e
     → t .counts .quads ≤ mostQuads
-ended-few o size field n s t Still E = omega (arith, E .below)
+ended-few o size field n s t Still E = omega (arith, E .0 .below)
 ended-few o size field n s t Passes E = omega (arith, E .below)
-ended-few o size field n s t Cap E = omega arith
-ended-few o size field n s t Full E = omega (arith, E .below)
+ended-few o size field n s t Cap E = omega (arith, E .0)
+ended-few o size field n s t Full E = omega (arith, E .0 .below)
 
 module _ (o : Outline) (size : Float) (lent : State) (A : Accepted o size lent) where
   abbrev sampled : State

@@ -1,0 +1,3 @@
+-- Runs in lists of different lengths: states that are alike, what an attempt reads of them, and that placing keeps them alike.
+pub mod Alike
+pub mod Attempts

@@ -39,7 +39,7 @@ last-or-less i n h last less = ⊎-elim last less (eq-or-lt-of-le (le-of-suc-le-
 
 -- ---- the snapshot holds the links
 
-copied-at : (n : ℕ) (links l : List ℕ) → n ≤ length l → (a : ℕ) → a < n → getD (copied n links l) a 0 ≡ getD links a off
+pub copied-at : (n : ℕ) (links l : List ℕ) → n ≤ length l → (a : ℕ) → a < n → getD (copied n links l) a 0 ≡ getD links a off
 unfolding copied
 copied-at n links l long a h =
     forUp-keeps (λ k m. (length m ≡ length l) × ((a : ℕ) → a < k → getD m a 0 ≡ getD links a off)) n (copyTurn links) l

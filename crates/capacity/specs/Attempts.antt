@@ -172,11 +172,11 @@ module _ (s t : State) (R : ReadsAlike s t) where
   -- ---- an attempt
 
   module _ (o : Outline) (size : Float) (a b : ℕ) (ha : a < N) (hb : b < N) where
-    in-c : (da : Point) → CornerIn N (cornerC size s a b da)
+    pub in-c : (da : Point) → CornerIn N (cornerC size s a b da)
     unfolding cornerC
     in-c da = corner-in size b (prevOf s a) (ideal size (node s a) da) (R .prev-node a)
 
-    in-d : (db : Point) → CornerIn N (cornerD size s a b db)
+    pub in-d : (db : Point) → CornerIn N (cornerD size s a b db)
     unfolding cornerD
     in-d db = corner-in size a (nextOf s b) (ideal size (node s b) db) (R .next-node b)
 

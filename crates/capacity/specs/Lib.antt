@@ -4,3 +4,4 @@ pub mod Attempts
 pub mod Placings
 pub mod Twins
 pub mod Lockstep
+pub mod Starts

@@ -33,15 +33,15 @@ use Rattle.capacity.specs.Attempts.{ReadsAlike, reads-alike, CornerIn, i
 -- ---- the mesh edges of a placing are those of `addEdges`
 
 -- u has the mesh edges and the snapshot of s
-record SameEdges (s u : State) : Type 0 where
-  list : u .edges ≡ s .edges
-  number : u .counts .edges ≡ s .counts .edges
-  snapshot : u .snapshot ≡ s .snapshot
+pub record SameEdges (s u : State) : Type 0 where
+  pub list : u .edges ≡ s .edges
+  pub number : u .counts .edges ≡ s .counts .edges
+  pub snapshot : u .snapshot ≡ s .snapshot
 
-same-trans : {s t u : State} → SameEdges s t → SameEdges t u → SameEdges s u
+pub same-trans : {s t u : State} → SameEdges s t → SameEdges t u → SameEdges s u
 same-trans P Q = record { list = Q .list ∙ P .list; number = Q .number ∙ P .number; snapshot = Q .snapshot ∙ P .snapshot }
 
-either : (b : Bool) (s t u : State) → SameEdges s t → SameEdges s u → SameEdges s (cond b t u)
+pub either : (b : Bool) (s t u : State) → SameEdges s t → SameEdges s u → SameEdges s (cond b t u)
 either true s t u P Q = P
 either false s t u P Q = Q
 
@@ -54,7 +54,7 @@ same-quad : (a b d c : ℕ) (s : State) → SameEdges s (pushQuad a b d c s)
 unfolding pushQuad
 same-quad a b d c s = record { list = refl; number = refl; snapshot = refl }
 
-same-add : (u v : ℕ) (s : State) → SameEdges s (addFront u v s)
+pub same-add : (u v : ℕ) (s : State) → SameEdges s (addFront u v s)
 unfolding addFront
 same-add u v s = record { list = refl; number = refl; snapshot = refl }
 
@@ -85,7 +85,7 @@ same-place a b c d s = same-trans (same-quad a b (idD s c d) (idC s c) _) (same-
 
 -- ---- four edges more
 
-alike-same : (n : ℕ) (s t u v : State) → EdgesAlike n s t → SameEdges s u → SameEdges t v → EdgesAlike n u v
+pub alike-same : (n : ℕ) (s t u v : State) → EdgesAlike n s t → SameEdges s u → SameEdges t v → EdgesAlike n u v
 alike-same n s t u v E P Q =
     record {
       number = Q .number ∙ (E .number ∙ sym (P .number));
@@ -93,16 +93,16 @@ alike-same n s t u v E P Q =
       below = rw (P .list, P .number) (E .below);
     }
 
-alike-more : (m n : ℕ) (s t : State) → m ≤ n → EdgesAlike m s t → EdgesAlike n s t
+pub alike-more : (m n : ℕ) (s t : State) → m ≤ n → EdgesAlike m s t → EdgesAlike n s t
 alike-more m n s t h E = record { number = E .number; ends = E .ends; below = λ i l. omega (arith, E .below i l) }
 
 -- an edge more takes no place more in the list
-record Longer (s t : State) : Type 0 where
-  more : s .counts .edges ≤ t .counts .edges
-  long : length (t .edges) ≡ length (s .edges)
-  snapshot : t .snapshot ≡ s .snapshot
+pub record Longer (s t : State) : Type 0 where
+  pub more : s .counts .edges ≤ t .counts .edges
+  pub long : length (t .edges) ≡ length (s .edges)
+  pub snapshot : t .snapshot ≡ s .snapshot
 
-longer : (u v : ℕ) (s : State) → Longer s (addEdge u v s)
+pub longer : (u v : ℕ) (s : State) → Longer s (addEdge u v s)
 unfolding addEdge pushEdge
 longer u v s = by (hasEdge s u v)
   where

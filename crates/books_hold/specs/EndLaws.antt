@@ -142,7 +142,7 @@ module _ (o : Outline) (size : Float) (field : FieldRecord) (s : State) (ls : Li
             let A = tried o size field (p .state) a b c d e in
             let r = I .between .reached in
             let P : Placement o size (p .state) a b c d = record { there = there; da = A .da; db = A .db; answered = A .answered; fits = f } in
-            let Y = standing o size s ls S (r .by) in
+            let Y = standing (S .sound) (r .by) in
             let X = step (sampledCount o size) (p .state) (Y .loops) o size a b c d (Y .sound) P in
             let more = no-fewer a (p .state) (p .placed) (I .progress) in
             quad-placed a (place a b c d (p .state)) (record { quads = suc (r .quads); by = placed (r .by) P })
@@ -172,7 +172,7 @@ module _ (o : Outline) (size : Float) (field : FieldRecord) (s : State) (ls : Li
         by : (b : Bool) → ltb a (t .counts .nodes) ≡ b → (a < t .counts .nodes) × (follower first a ≡ nextOf first a)
         by true e =
             let h = ltb-true a (t .counts .nodes) e in
-            let room = standing o size s ls S (B .reached .by) .sound .nodes-fit in
+            let room = standing (S .sound) (B .reached .by) .sound .nodes-fit in
             (h, copied-at (t .counts .nodes) (t .next) (t .snapshot) (omega (arith, room)) a h ∙ sym (link-in (t .counts .nodes) (t .next) a h))
         by false e = absurd (on (link-out (t .counts .nodes) (t .next) a (ltb-false a (t .counts .nodes) e)))
 

@@ -191,4 +191,4 @@ module _ (s t : State) (R : ReadsAlike s t) where
     -- the edge a to b answers the same
     pub try-alike : (field : FieldRecord) → tryEdge o size field t a b ≡ tryEdge o size field s a b
     unfolding tryEdge tryToward
-    try-alike field = rw (R .points a ha, R .points b hb, attempt-alike _ _, attempt-alike _ _)
+    try-alike field = rw (R .points a ha, R .points b hb) (simp attempt-alike)

@@ -78,9 +78,9 @@ unfolding hasEdge anyUp forUp pushEdge
 has-pushed x y u v s h =
     let n = s .counts .edges in
     let E = pushed x y s .list in
-    let same : (i : ℕ) → i < n → edgeIs s (min u v) (max u v) i ≡ edgeIs (pushEdge x y s) (min u v) (max u v) i =
+    let same : (i : ℕ) → i < n → edgeIs (s .edges) (min u v) (max u v) i ≡ edgeIs (pushEdge x y s .edges) (min u v) (max u v) i =
     λ i l. rw (extends-at _ _ _ _ E (2 * i) 0 (omega arith), extends-at _ _ _ _ E (2 * i + 1) 0 (omega arith)) in
-    let e = forUp-same n (anyTurn (edgeIs s (min u v) (max u v))) (anyTurn (edgeIs (pushEdge x y s) (min u v) (max u v))) false
+    let e = forUp-same n (anyTurn (edgeIs (s .edges) (min u v) (max u v))) (anyTurn (edgeIs (pushEdge x y s .edges) (min u v) (max u v))) false
     (λ i f l. rw (same i l)) in
     rw (add-one n, ← e, h)
 

@@ -1,7 +1,7 @@
 -- One placing: a sound state stays sound. The statement is `Stepped`; the theorem, `step`, stands at the end.
 use Prim.Native.Nat.{ℕ, _+_, _*_, _<_, _≤_}
 use mathlib.Core.List.{List, [], _∷_}
-use mathlib.Core.Path.{_≡_, refl, sym, subst}
+use mathlib.Core.Path.{_≡_, refl, sym, _∙_, ap, subst}
 use mathlib.Core.Bool.{false}
 use native.Mathlib.Omega.{arith}
 use lib.IntN.{ℤ, _+ℤ_}
@@ -12,7 +12,7 @@ use Rattle.topology.specs.Changes.{removed, added}
 use Rattle.topology.specs.Placing.{Kind, reused, fresh, placing, After, placed, placed-edges}
 use Rattle.topology.specs.Balance.{frontSumℤ, quadSumℤ, Antisymmetric, balance}
 use Rattle.front.specs.declared.Corner.{Corner}
-use Rattle.front.specs.State.{State, Quad, quadAt, node, nodePlaces, quadPlaces, pushQuad}
+use Rattle.front.specs.State.{State, Quad, quadAt, node, nodePlaces, quadPlaces, edgePlaces, pushQuad}
 use Rattle.front.specs.Place.{cornerPoint, idC, idD, addEdges, edgesAdded, isFull, place}
 use Rattle.front.specs.Place as front
 use Rattle.front.specs.Sound.{Sound, Frame}
@@ -73,58 +73,97 @@ few-removed reused fresh a b c d before after h k e = omega arith
 few-removed fresh reused a b c d before after h k e = omega arith
 few-removed fresh fresh a b c d before after h k e = omega arith
 
+-- ---- what a placing rests on
+
+-- the quad a, b, d, c of s: its sides, the new nodes, topology's placing in the state with them, the state that `place` leaves, and that neither
+-- the front's edges nor the places for mesh edges run out
+pub record Grounds (s : State) (ls : List (List ℕ)) (a b : ℕ) (c d : Corner) : Type 0 where
+  pub fits : Fits s a b c d
+  pub sides : Sides s ls a b c d
+  pub cornered : Cornered ls c d s (withCorners c d s)
+  pub after : After (withCorners c d s .counts .nodes) (withCorners c d s .next) (withCorners c d s .prev) ls (changesOf s a b c d)
+  pub is : place a b c d s
+      ≡ stateAfter (withCorners c d s) (addEdges a b (idD s c d) (idC s c) (withCorners c d s))
+      (record { a = a; b = b; d = idD s c d; c = idC s c }) (changesOf s a b c d)
+  pub few-off : removed one (changesOf s a b c d) ≤ s .counts .front
+  pub few-edges : addEdges a b (idD s c d) (idC s c) (withCorners c d s) .counts .edges ≤ edgePlaces s
+
+pub grounds : (n : ℕ) (s : State) (ls : List (List ℕ)) (a b : ℕ) (c d : Corner) → Sound n s ls → Choice s a b c d → isFull s a b c d ≡ false
+    → Grounds s ls a b c d
+unfolding nodePlaces edgesAdded
+grounds n s ls a b c d S H full =
+    let A = fits s a b c d full in
+    let X = sides n s ls S a b c d H in
+    let C = idC s c in
+    let D = idD s c d in
+    let u = withCorners c d s in
+    let G = cornered ls c d s (S .front) (A .nodes-fit) (X .node-c) (X .node-d) in
+    let R = G .pushed in
+    let long-next : u .counts .nodes ≤ length (u .next) = omega (arith, A .nodes-fit, R .nodes, R .frame .next .long) in
+    let long-prev : u .counts .nodes ≤ length (u .prev) = omega (arith, A .nodes-fit, R .nodes, R .frame .prev .long) in
+    let L = placed (kindOf c) (kindOf d) (u .counts .nodes) (u .next) (u .prev) ls a b C D (R .front) long-next long-prev
+    (placeable ls a b c d s u H G) in
+    let loops = has-loop (at a b) ls (X .side-ab) in
+    let before = two-edges ls (S .front .loops .evens) loops in
+    let later = two-edges (L .loops) (L .changes .front .loops .evens) (omega (arith, L .count)) in
+    let same : edgesAdded u a b D C ≡ edgesAdded s a b D C = rw (R .has a b, R .has b D, R .has D C, R .has C a) in
+    record {
+      fits = A;
+      sides = X;
+      cornered = G;
+      after = L;
+      is = place-is s a b c d ls L long-next;
+      few-off = rw (S .edges)
+          (few-removed (kindOf c) (kindOf d) a b C D (frontSum one ls) (frontSum one (L .loops)) before later (L .changes .sums one));
+      few-edges = omega (arith, edges-few a b D C u, same, R .edges, A .edges-fit);
+    }
+
 -- ---- the theorem
 
-module _ (n : ℕ) (s : State) (ls : List (List ℕ)) (a b : ℕ) (c d : Corner) (S : Sound n s ls)
-    (A : Fits s a b c d) (X : Sides s ls a b c d) (u : State) (G : Cornered ls c d s u)
-    (L : After (u .counts .nodes) (u .next) (u .prev) ls (changesOf s a b c d)) (e : State) (E : Edged u e)
-    (few : e .counts .edges ≤ u .counts .edges + edgesAdded u a b (idD s c d) (idC s c)) where
+module _ (n : ℕ) (s : State) (ls : List (List ℕ)) (a b : ℕ) (c d : Corner) (S : Sound n s ls) (H : Grounds s ls a b c d) where
+  abbrev u : State
+  u = withCorners c d s
+
   abbrev quad : Quad
   quad = record { a = a; b = b; d = idD s c d; c = idC s c }
 
-  abbrev after : State
-  after = stateAfter u e quad (changesOf s a b c d)
+  abbrev left : State
+  left = stateAfter u (addEdges a b (idD s c d) (idC s c) u) quad (changesOf s a b c d)
 
-  frame : Frame s after
-  frame = frame-trans s u after (G .pushed .frame) (state-frame u e quad (changesOf s a b c d) E (L .changes .within))
+  frame : Frame s left
+  frame =
+      frame-trans s u left (H .cornered .pushed .frame)
+      (state-frame u _ quad (changesOf s a b c d) (quad-edged a b (idD s c d) (idC s c) u) (H .after .changes .within))
 
-  edges-same : edgesAdded u a b (idD s c d) (idC s c) ≡ edgesAdded s a b (idD s c d) (idC s c)
-  unfolding edgesAdded
-  edges-same = rw (G .pushed .has a b, G .pushed .has b (idD s c d), G .pushed .has (idD s c d) (idC s c), G .pushed .has (idC s c) a)
-
-  few-off : removed one (changesOf s a b c d) ≤ u .counts .front
-  few-off =
-      let loops = has-loop (at a b) ls (X .side-ab) in
-      let before = two-edges ls (S .front .loops .evens) loops in
-      let later = two-edges (L .loops) (L .changes .front .loops .evens) (omega (arith, L .count)) in
-      rw (G .pushed .fronts, S .edges)
-      (few-removed (kindOf c) (kindOf d) a b (idC s c) (idD s c d) (frontSum one ls) (frontSum one (L .loops)) before later
-      (L .changes .sums one))
-
-  sound : Sound n after (L .loops)
+  sound : Sound n left (H .after .loops)
   unfolding pushQuad
   sound =
-      let P = G .pushed in
+      let A = H .fits in
+      let L = H .after in
+      let P = H .cornered .pushed in
       let cs = changesOf s a b c d in
-      let count = edges-after cs (u .counts .front) few-off in
+      let count = edges-after cs (s .counts .front) (H .few-off) in
       let edges : edgesAfter cs (u .counts .front) ≡ frontSum one (L .loops) =
-      omega (arith, count, L .changes .sums one, P .fronts, S .edges) in
+      rw (P .fronts) (omega (arith, count, L .changes .sums one, S .edges)) in
       let two =
       placed-edges (kindOf c) (kindOf d) (u .counts .nodes) a b (idC s c) (idD s c d) (u .next) (u .prev) ls (L .loops) (L .changes) in
       record {
         front = L .changes .front;
         edges = edges;
         counts = omega (arith, edges, two, S .edges, S .counts, P .nodes, P .quads, new-added c, new-added d);
-        nodes-fit = rw (frame-node-places s after frame, P .nodes) (omega (arith, A .nodes-fit));
-        quads-fit = rw (frame-quad-places s after frame, P .quads) (A .quads-fit);
-        edges-fit = rw (frame-edge-places s after frame) (omega (arith, few, edges-same, P .edges, A .edges-fit));
+        nodes-fit = rw (frame-node-places s left frame, P .nodes) (omega (arith, A .nodes-fit));
+        quads-fit = rw (frame-quad-places s left frame, P .quads) (A .quads-fit);
+        edges-fit = rw (frame-edge-places s left frame) (H .few-edges);
       }
 
-  stepped : Stepped n s ls a b c d after
+  stepped : Stepped n s ls a b c d left
   unfolding pushQuad quadPlaces
   stepped =
+      let X = H .sides in
+      let G = H .cornered in
+      let L = H .after in
       let P = G .pushed in
-      let room : 4 * (u .counts .quads + 1) ≤ length (u .quads) = omega (arith, A .quads-fit, P .quads, P .frame .quadList .long) in
+      let room : 4 * (u .counts .quads + 1) ≤ length (u .quads) = omega (arith, H .fits .quads-fit, P .quads, P .frame .quadList .long) in
       record {
         loops = L .loops;
         sound = sound;
@@ -132,7 +171,8 @@ module _ (n : ℕ) (s : State) (ls : List (List ℕ)) (a b : ℕ) (c d : Corner)
         frame = frame;
         nodes = omega (arith, P .nodes);
         quads = omega (arith, P .quads);
-        quad = rw (← P .quads) (quad-reads after (u .quads) (u .counts .quads) a b (idD s c d) (idC s c) room refl);
+        quad = ap (λ (k : ℕ). quadAt left k) (sym (P .quads))
+            ∙ quad-reads left (u .quads) (u .counts .quads) a b (idD s c d) (idC s c) room refl;
         node-a = X .node-a;
         node-b = X .node-b;
         node-c = G .id-c;
@@ -147,18 +187,6 @@ module _ (n : ℕ) (s : State) (ls : List (List ℕ)) (a b : ℕ) (c d : Corner)
 -- the placing of a quad that fits, on a sound state
 pub step : (n : ℕ) (s : State) (ls : List (List ℕ)) (a b : ℕ) (c d : Corner) → Sound n s ls
     → Choice s a b c d → isFull s a b c d ≡ false → Stepped n s ls a b c d (place a b c d s)
-unfolding nodePlaces
 step n s ls a b c d S H full =
-    let A = fits s a b c d full in
-    let X = sides n s ls S a b c d H in
-    let C = idC s c in
-    let D = idD s c d in
-    let u = withCorners c d s in
-    let G = cornered ls c d s (S .front) (A .nodes-fit) (X .node-c) (X .node-d) in
-    let R = G .pushed in
-    let long-next : u .counts .nodes ≤ length (u .next) = omega (arith, A .nodes-fit, R .nodes, R .frame .next .long) in
-    let long-prev : u .counts .nodes ≤ length (u .prev) = omega (arith, A .nodes-fit, R .nodes, R .frame .prev .long) in
-    let L = placed (kindOf c) (kindOf d) (u .counts .nodes) (u .next) (u .prev) ls a b C D (R .front) long-next long-prev
-    (placeable ls a b c d s u H G) in
-    subst (λ (t : State). Stepped n s ls a b c d t) (sym (place-is s a b c d ls L long-next))
-    (stepped n s ls a b c d S A X u G L (addEdges a b D C u) (quad-edged a b D C u) (edges-few a b D C u))
+    let K = grounds n s ls a b c d S H full in
+    subst (λ (t : State). Stepped n s ls a b c d t) (sym (K .is)) (stepped n s ls a b c d S K)

@@ -317,7 +317,7 @@ stored s a b c d R full =
     ∙ (ap (λ (e : State). stateAfter u e q cs) E
     ∙ (ap
     (λ (v : State).
-        stateAfter v (withEdges v (storeEdges across c d a b C D (v .counts .edges) (v .edges)) (v .counts .edges + newEdges across c d)) q cs)
+    stateAfter v (withEdges v (storeEdges across c d a b C D (v .counts .edges) (v .edges)) (v .counts .edges + newEdges across c d)) q cs)
     (corners-are c d s)
     ∙ rw (
       next-stored a b C D (X .ab) (X .ac) (X .bc) (X .ad) (X .bd) (X .cd) c d (s .next),
@@ -387,12 +387,12 @@ module _ (s : State) (a b : ℕ) (c d : Corner) (R : Ready s a b c d) (mc md C D
       let eD : D ≡ idD s c d = rw (← pmc) pd in
       let ids : (m : ℕ) → s .counts .nodes + added c + added d ≤ m → Ids m a b C D =
       λ m l.
-          record {
-            id-a = omega (arith, X .node-a);
-            id-b = omega (arith, X .node-b);
-            id-c = omega (arith, H .cornered .id-c, P .nodes, eC);
-            id-d = omega (arith, H .cornered .id-d, P .nodes, eD);
-          } in
+      record {
+        id-a = omega (arith, X .node-a);
+        id-b = omega (arith, X .node-b);
+        id-c = omega (arith, H .cornered .id-c, P .nodes, eC);
+        id-d = omega (arith, H .cornered .id-d, P .nodes, eD);
+      } in
       record {
         corners = (omega (arith, A .nodes-fit), omega (arith, A .nodes-fit), omega (arith, A .nodes-fit));
         edges = omega (arith, A .edges-fit, edges-added s a b c d R, ap (λ (t : Bool). newEdges t c d) pk);

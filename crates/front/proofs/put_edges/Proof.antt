@@ -34,15 +34,36 @@ add-n2 c = search needs
 
 -- src/lib.rt:206:5
 put-edge-requires : tie.Need-put-edge-requires
-put-edge-requires c κs = first-fits _ _ _ _ _ _ _ _ _ _ _ _ _ (c .before .before .before .before .is-reused .ensures) (c .before .before .before .is-reused2 .ensures) (c .before .before .unless .ensures .0) (c .before .unless2 .ensures .0) (c .before .before .before .before .before .before .pre)
+put-edge-requires c κs =
+    let v = c .before .before .before .before .before .before .args in
+    first-fits (v .across) (v .c) (v .d) (v .a) (v .b) (v .id-c) (v .id-d) (v .n) (v .edges .now) _ _ _ _
+    (c .before .before .before .before .is-reused .ensures)
+    (c .before .before .before .is-reused2 .ensures)
+    (c .before .before .unless .ensures .0)
+    (c .before .unless2 .ensures .0)
+    (c .before .before .before .before .before .before .pre)
 
 -- src/lib.rt:207:5
 put-edge-requires-2 : tie.Need-put-edge-requires-2
-put-edge-requires-2 c κs = second-fits _ _ _ _ _ _ _ _ _ _ _ _ _ (c .before .before .before .before .before .before .before .before .is-reused .ensures) (c .before .before .before .before .before .before .before .is-reused2 .ensures) (c .before .before .before .before .before .before .unless .ensures .0) (c .before .before .before .before .before .unless2 .ensures .0) _ (c .before .before .before .put-edge .ensures) (c .before .before .before .before .before .before .before .before .before .before .pre)
+put-edge-requires-2 c κs =
+    let v = c .before .before .before .before .before .before .before .before .before .before .args in
+    second-fits (v .across) (v .c) (v .d) (v .a) (v .b) (v .id-c) (v .id-d) (v .n) (v .edges .now) _ _ _ _
+    (c .before .before .before .before .before .before .before .before .is-reused .ensures)
+    (c .before .before .before .before .before .before .before .is-reused2 .ensures)
+    (c .before .before .before .before .before .before .unless .ensures .0)
+    (c .before .before .before .before .before .unless2 .ensures .0)
+    _ (c .before .before .before .put-edge .ensures) (c .before .before .before .before .before .before .before .before .before .before .pre)
 
 -- src/lib.rt:208:5
 put-edge-requires-3 : tie.Need-put-edge-requires-3
-put-edge-requires-3 c κs = third-fits _ _ _ _ _ _ _ _ _ _ _ _ _ (c .before .before .before .before .before .before .before .before .before .before .before .before .is-reused .ensures) (c .before .before .before .before .before .before .before .before .before .before .before .is-reused2 .ensures) (c .before .before .before .before .before .before .before .before .before .before .unless .ensures .0) (c .before .before .before .before .before .before .before .before .before .unless2 .ensures .0) _ (c .before .before .before .before .before .before .before .put-edge .ensures) _ (c .before .before .before .put-edge2 .ensures) (c .before .before .before .before .before .before .before .before .before .before .before .before .before .before .pre)
+put-edge-requires-3 c κs =
+    let v = c .before .before .before .before .before .before .before .before .before .before .before .before .before .before .args in
+    third-fits (v .across) (v .c) (v .d) (v .a) (v .b) (v .id-c) (v .id-d) (v .n) (v .edges .now) _ _ _ _
+    (c .before .before .before .before .before .before .before .before .before .before .before .before .is-reused .ensures)
+    (c .before .before .before .before .before .before .before .before .before .before .before .is-reused2 .ensures)
+    (c .before .before .before .before .before .before .before .before .before .before .unless .ensures .0)
+    (c .before .before .before .before .before .before .before .before .before .unless2 .ensures .0)
+    _ (c .before .before .before .before .before .before .before .put-edge .ensures) _ (c .before .before .before .put-edge2 .ensures) (c .before .before .before .before .before .before .before .before .before .before .before .before .before .before .pre)
 
 -- src/lib.rt:188:1
 same-length : tie.Need-same-length
@@ -50,7 +71,14 @@ same-length c = search needs
 
 -- src/lib.rt:188:1
 returns : tie.Need-returns
-returns c = edges-stored _ _ _ _ _ _ _ _ _ _ _ _ _ (c .before .before .before .before .before .before .before .before .before .before .before .before .before .before .before .is-reused .ensures) (c .before .before .before .before .before .before .before .before .before .before .before .before .before .before .is-reused2 .ensures) (c .before .before .before .before .before .before .before .before .before .before .before .before .before .unless .ensures .0) (c .before .before .before .before .before .before .before .before .before .before .before .before .unless2 .ensures .0) _ (c .before .before .before .before .before .before .before .before .before .before .put-edge .ensures) _ (c .before .before .before .before .before .before .put-edge2 .ensures) _ (c .before .before .put-edge3 .ensures)
+returns c =
+    let v = c .before .before .before .before .before .before .before .before .before .before .before .before .before .before .before .before .before .args in
+    edges-stored (v .across) (v .c) (v .d) (v .a) (v .b) (v .id-c) (v .id-d) (v .n) (v .edges .now) _ _ _ _
+    (c .before .before .before .before .before .before .before .before .before .before .before .before .before .before .before .is-reused .ensures)
+    (c .before .before .before .before .before .before .before .before .before .before .before .before .before .before .is-reused2 .ensures)
+    (c .before .before .before .before .before .before .before .before .before .before .before .before .before .unless .ensures .0)
+    (c .before .before .before .before .before .before .before .before .before .before .before .before .unless2 .ensures .0)
+    _ (c .before .before .before .before .before .before .before .before .before .before .put-edge .ensures) _ (c .before .before .before .before .before .before .put-edge2 .ensures) _ (c .before .before .put-edge3 .ensures)
 
 pub put-edges-spec : {M : Type 1} → statement M
 put-edges-spec =

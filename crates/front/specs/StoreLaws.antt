@@ -172,7 +172,7 @@ no-edge s K u v h = by (hasEdge s u v) refl
         let f = any-found (edgeIs (s .edges) (min u v) (max u v)) (s .counts .edges) e in
         let k = f .0 in
         let q = eqb-true (edgeTo s k) (max u v) (and-right (eqb (edgeFrom s k) (min u v)) (eqb (edgeTo s k) (max u v)) (f .2)) in
-        absurd (omega (arith, q, K .nodes k (f .1)))
+        absurd (omega (arith, q, K .joined k (f .1) .1))
 
 -- which sides of a quad are known
 pub record SidesKnown (s : State) (a b : ℕ) (c d : Corner) : Type 0 where

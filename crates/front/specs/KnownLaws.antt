@@ -27,7 +27,7 @@ use Rattle.front.specs.MeshEdges.{pushed, edged, has-flip, has-added, ha
 use Rattle.front.specs.Moved.{kindOf, changesOf}
 use Rattle.front.specs.StateAfter.{stateAfter}
 use Rattle.front.specs.Step.{Grounds, grounds}
-use Rattle.front.specs.Stores.{placeAnswer, placeIfRoom}
+use Rattle.front.specs.Stores.{placeAnswer, placeIfRoom, Places}
 
 -- ---- the ends of mesh edges
 
@@ -183,21 +183,23 @@ known-placed n s ls a b c d S K H full =
 
 -- ---- the answer of `place`, taken apart
 
-module _ (a b : ℕ) (c d : Corner) (s t : State) (same : t ≡ placeIfRoom a b c d s) where
+module _ (a b : ℕ) (c d : Corner) (s t : State) where
   -- full: the lists are as they were
-  pub answered-full : Full ≡ placeAnswer a b c d s → (isFull s a b c d ≡ true) × (t ≡ s)
+  pub placed-full : Places a b c d s Full t → (isFull s a b c d ≡ true) × (t ≡ s)
   unfolding placeAnswer placeIfRoom
-  answered-full e = by (isFull s a b c d) refl
+  placed-full P = by (isFull s a b c d) refl (P .answer) (P .state)
     where
-      by : (f : Bool) → isFull s a b c d ≡ f → (isFull s a b c d ≡ true) × (t ≡ s)
-      by true h = (h, same ∙ rw h)
-      by false h = absurd (let z : _≡_ {A = ℕ} 0 1 = cc in omega arith)
+      by : (f : Bool) → isFull s a b c d ≡ f → Full ≡ cond f Full (Done (place a b c d s .counts)) → t ≡ cond f s (place a b c d s)
+          → (isFull s a b c d ≡ true) × (t ≡ s)
+      by true h e same = (h, same)
+      by false h e same = absurd (let z : _≡_ {A = ℕ} 0 1 = cc in omega arith)
 
   -- done: they are those of the state after the quad
-  pub answered-done : (k : Counts) → Done k ≡ placeAnswer a b c d s → (isFull s a b c d ≡ false) × (t ≡ place a b c d s)
+  pub placed-done : (k : Counts) → Places a b c d s (Done k) t → (isFull s a b c d ≡ false) × (t ≡ place a b c d s)
   unfolding placeAnswer placeIfRoom
-  answered-done k e = by (isFull s a b c d) refl
+  placed-done k P = by (isFull s a b c d) refl (P .answer) (P .state)
     where
-      by : (f : Bool) → isFull s a b c d ≡ f → (isFull s a b c d ≡ false) × (t ≡ place a b c d s)
-      by true h = absurd (let z : _≡_ {A = ℕ} 0 1 = cc in omega arith)
-      by false h = (h, same ∙ rw h)
+      by : (f : Bool) → isFull s a b c d ≡ f → Done k ≡ cond f Full (Done (place a b c d s .counts)) → t ≡ cond f s (place a b c d s)
+          → (isFull s a b c d ≡ false) × (t ≡ place a b c d s)
+      by true h e same = absurd (let z : _≡_ {A = ℕ} 0 1 = cc in omega arith)
+      by false h e same = (h, same)

@@ -1,5 +1,8 @@
+pub mod Accepted
+pub mod Inside
 pub mod Outline
 pub mod OutlineLaws
+pub mod Parity
 pub mod Queries
 pub mod RefusalLaws
 pub mod Search

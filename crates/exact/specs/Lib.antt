@@ -1,5 +1,7 @@
+pub mod Blend
 pub mod Corner
 pub mod Examples
+pub mod Monotone
 pub mod Operations
 pub mod Order
 pub mod Root

@@ -180,6 +180,7 @@ pub record Sum (z : ℤ) (m : ℕ) (x : Float) : Type 0 where
   pub val : Val x sign size
   pub near : Close size exact exact
   pub small : exact ≤ m
+  pub rounds : size ≡ rounded (exact * W) W
 
 -- x is what `round` makes of the exact number z of units, which is at most m either way
 record Exact (z : ℤ) (m : ℕ) (x : Float) : Type 0 where
@@ -247,6 +248,7 @@ add-units x y s t a b p q ha hb =
       val = subst (λ (z : Float). Val z (e .sign) g) (sym (add-is x y s t a b p q ∙ e .same)) (sum-val (e .sign) (e .size) a b (e .small) ha hb);
       near = sum-close (e .size);
       small = e .small;
+      rounds = refl;
     }
 
 pub add-law : {K L : ℕ} {x y : Float} (p : Within K x) (q : Within L y) → Moderate K → Moderate L → Sum (units x +ℤ units y) (p .size + q .size) (x ⊕ y)
@@ -293,6 +295,7 @@ pub record Quotient (s : Bool) (a b : ℕ) (x : Float) : Type 0 where
   pub size : ℕ
   pub val : Val x s size
   pub near : Close (size * b) (a * W) (a * W + 2 ^ 52 * b)
+  pub rounds : size ≡ rounded (a * W) b
 
 -- the operands may be of any size: it is the quotient that has to be moderate
 pub div-law : (x y : Float) (s t : Bool) (a b : ℕ) → Val x s a → Val y t b → 0 < b → a ≤ 2 ^ 400 * b → Quotient (unlike s t) a b (x ⊘ y)
@@ -308,4 +311,5 @@ div-law x y s t a b p q B h =
       size = g;
       val = subst (λ (z : Float). Val z (unlike s t) g) (sym (div-is x y s t a b p q B)) (round-val (unlike s t) a b top);
       near = c;
+      rounds = refl;
     }

@@ -1,4 +1,4 @@
--- Laws of `Extends` and `Frame`: they hold of what is not changed, follow each other, and keep what was there and how much was lent.
+-- Laws of `Extends` and `Frame`: they hold of what is not changed and of each elementary change, follow each other, and keep what was there and how much was lent.
 use Prim.Native.Nat.{ℕ, _+_, _-_, _*_, _<_, _≤_}
 use mathlib.Core.List.{List}
 use mathlib.Core.Path.{_≡_, refl, sym, _∙_, ap}
@@ -6,7 +6,9 @@ use native.Mathlib.Omega.{arith}
 use lib.ListN.{getD, set, take, drop, length-set}
 use lib.Seq.{take-set-le, drop-set-lt, take-take, drop-drop, getD-take}
 use lib.Ieee.{nan}
-use Rattle.front.specs.State.{State, nodeIn, node, nodePlaces, quadPlaces, edgePlaces}
+use Rattle.domain.specs.declared.Point.{Point}
+use Rattle.topology.specs.Links.{off}
+use Rattle.front.specs.State.{State, nodeIn, node, nodePlaces, quadPlaces, edgePlaces, pushNode, withFront, pushEdge}
 use Rattle.front.specs.Sound.{Extends, Frame}
 
 -- ---- lists
@@ -99,3 +101,61 @@ pub frame-node : (s t : State) → Frame s t → (id : ℕ) → id < s .counts .
 unfolding nodeIn
 frame-node s t F id h =
     rw (extends-at _ _ (s .xs) (t .xs) (F .xs) id nan h, extends-at _ _ (s .ys) (t .ys) (F .ys) id nan h)
+
+-- ---- elementary changes
+
+pub frame-push : (p : Point) (s : State) → Frame s (pushNode p s)
+unfolding pushNode
+frame-push p s =
+    let n = s .counts .nodes in
+    let below : n < n + 1 = omega arith in
+    record {
+      nodes = omega arith;
+      quads = omega arith;
+      edges = omega arith;
+      xs = extends-set n (n + 1) _ _ n (p .x) (omega arith) below (extends-same _ _ _);
+      ys = extends-set n (n + 1) _ _ n (p .y) (omega arith) below (extends-same _ _ _);
+      next = extends-set 0 (n + 1) _ _ n off (omega arith) below (extends-same _ _ _);
+      prev = extends-set 0 (n + 1) _ _ n off (omega arith) below (extends-same _ _ _);
+      snapshot = extends-same _ _ _;
+      quadList = extends-same _ _ _;
+      edgeList = extends-same _ _ _;
+    }
+
+-- the links of two nodes, and any count of front edges
+pub frame-link : (u v front : ℕ) (s : State) → u < s .counts .nodes → v < s .counts .nodes
+    → Frame s (withFront s (set (s .next) u v) (set (s .prev) v u) front)
+frame-link u v front s hu hv =
+    let n = s .counts .nodes in
+    record {
+      nodes = omega arith;
+      quads = omega arith;
+      edges = omega arith;
+      xs = extends-same _ _ _;
+      ys = extends-same _ _ _;
+      next = extends-set 0 n _ _ u v (omega arith) hu (extends-same _ _ _);
+      prev = extends-set 0 n _ _ v u (omega arith) hv (extends-same _ _ _);
+      snapshot = extends-same _ _ _;
+      quadList = extends-same _ _ _;
+      edgeList = extends-same _ _ _;
+    }
+
+pub frame-edge : (u v : ℕ) (s : State) → Frame s (pushEdge u v s)
+unfolding pushEdge
+frame-edge u v s =
+    let n = s .counts .edges in
+    let m = 2 * n in
+    let k = 2 * (n + 1) in
+    record {
+      nodes = omega arith;
+      quads = omega arith;
+      edges = omega arith;
+      xs = extends-same _ _ _;
+      ys = extends-same _ _ _;
+      next = extends-same _ _ _;
+      prev = extends-same _ _ _;
+      snapshot = extends-same _ _ _;
+      quadList = extends-same _ _ _;
+      edgeList = extends-set m k _ _ (m + 1) v (omega arith) (omega arith)
+          (extends-set m k _ _ m u (omega arith) (omega arith) (extends-same m k (s .edges)));
+    }

@@ -15,7 +15,7 @@ use Rattle.laws.specs.Loop.{forUp, anyTurn, anyUp, forUp-same}
 use Rattle.front.specs.State.{State, counted, edgeFrom, edgeTo, edgeIs, hasEdge, pushEdge, addEdge}
 use Rattle.front.specs.Place.{addEdges, missing, edgesAdded}
 use Rattle.front.specs.Sound.{Extends}
-use Rattle.front.specs.FrameLaws.{extends-same, extends-set, extends-trans, extends-at}
+use Rattle.front.specs.FrameLaws.{extends-same, extends-trans, extends-at, frame-edge}
 
 -- the same state with other mesh edges
 abbrev pub withEdges : State → List ℕ → ℕ → State
@@ -41,16 +41,7 @@ pub record Edged (s t : State) : Type 0 where
 
 pub pushed : (u v : ℕ) (s : State) → Edged s (pushEdge u v s)
 unfolding pushEdge
-pushed u v s =
-    let n = s .counts .edges in
-    let m = 2 * n in
-    let k = 2 * (n + 1) in
-    record {
-      rest = refl;
-      more = omega arith;
-      list = extends-set m k _ _ (m + 1) v (omega arith) (omega arith)
-          (extends-set m k _ _ m u (omega arith) (omega arith) (extends-same m k (s .edges)));
-    }
+pushed u v s = record { rest = refl; more = omega arith; list = frame-edge u v s .edgeList }
 
 pub edged : (u v : ℕ) (s : State) → Edged s (addEdge u v s)
 unfolding addEdge

@@ -1,11 +1,12 @@
 -- `Paving::from_boundary` of src/alt_crossfield.rs: the outline sampled into a front, with refusal 10. Definitions only.
 use mathlib.Core.Bool.{Bool, true, false, _&&_, _||_, cond}
-use mathlib.Core.List.{List, [], _∷_, _++_}
-use Prim.Native.Nat.{ℕ, zero, suc, _+_, _-_, _*_, _%_, max}
+use mathlib.Core.List.{List}
+use Prim.Native.Nat.{ℕ, suc, _+_, _-_, _%_, max}
 use lib.Dec.{ltb, eqb}
 use lib.ListN.{length}
 use lib.Ieee.{Float, lt, unlike}
 use Rattle.laws.specs.Loop.{forUp, sumUp}
+use Rattle.laws.specs.Tabulate.{tabulate}
 use Rattle.numbers.specs.Float.{_⊕_, _⊖_, _⊗_, _⊘_, bits, zeroF, twoF, halfF, toFloat}
 use Rattle.numbers.specs.Whole.{ceilCount}
 use Rattle.domain.specs.declared.Point.{Point}
@@ -151,11 +152,6 @@ unfoldable pub fromBoundary : Outline → Float → State → State
 fromBoundary o size lent = forUp (loopCount o) (boundaryTurn o size) (cleared lent)
 
 -- ---- the loops of the front, each as the list of its ids
-
--- f 0, f 1, .., f (n - 1)
-unfoldable pub tabulate : {A : Type 0} → ℕ → (ℕ → A) → List A
-tabulate zero f = []
-tabulate (suc n) f = tabulate n f ++ f n ∷ []
 
 -- `ids`
 unfoldable pub ringIds : Ring → List ℕ

@@ -9,6 +9,7 @@ use Rattle.numbers.specs.Whole.{floorQuotient}
 use Rattle.domain.specs.declared.Point.{Point}
 use Rattle.domain.specs.Outline.{point}
 use Rattle.geometry.specs.declared.Key.{Key}
+use Rattle.geometry.specs.declared.Spans.{Spans}
 use Rattle.geometry.specs.declared.Corners.{Corners}
 
 -- a key is the pair of floors of x/B and y/B
@@ -37,9 +38,13 @@ lesser k l = cond (atMost k l) k l
 abbrev pub greater : ℤ → ℤ → ℤ
 greater k l = cond (atMost k l) l k
 
--- the spans of a key rectangle add up to 4,096 at most
+-- the spans of a key rectangle, by two opposite corners
+abbrev pub spansOf : Key → Key → Spans
+spansOf k l = record { i = gap (k .i) (l .i); j = gap (k .j) (l .j) }
+
+-- they add up to 4,096 at most
 unfoldable pub spansKept : Key → Key → Bool
-spansKept k l = leb (gap (k .i) (l .i) + gap (k .j) (l .j)) 4096
+spansKept k l = leb (spansOf k l .i + spansOf k l .j) 4096
 
 -- the ranges from k to l and from m to n, either end first, have a number in common
 unfoldable pub rangesMeet : ℤ → ℤ → ℤ → ℤ → Bool
@@ -49,28 +54,38 @@ rangesMeet k l m n = atMost (lesser k l) (greater m n) && atMost (lesser m n) (g
 unfoldable pub rectanglesMeet : Key → Key → Key → Key → Bool
 rectanglesMeet k l m n = rangesMeet (k .i) (l .i) (m .i) (n .i) && rangesMeet (k .j) (l .j) (m .j) (n .j)
 
--- the edge c to d is a candidate for the query a to b: its key rectangle overlaps the query's, and neither has spans above 4,096
-unfoldable pub isCandidate : Float → Point → Point → Point → Point → Bool
-isCandidate size a b c d =
-    let k = keyOf (edgeBucket size) a in
-    let l = keyOf (edgeBucket size) b in
+-- the edge c to d is a candidate for a query whose ends have the keys k and l: its key rectangle overlaps the query's, and neither has
+-- spans above 4,096
+unfoldable pub candidateAt : Key → Key → Float → Point → Point → Bool
+candidateAt k l size c d =
     let m = keyOf (edgeBucket size) c in
     let n = keyOf (edgeBucket size) d in
     spansKept k l && (spansKept m n && rectanglesMeet k l m n)
+
+-- the edge c to d is a candidate for the query a to b
+unfoldable pub isCandidate : Float → Point → Point → Point → Point → Bool
+isCandidate size a b c d = candidateAt (keyOf (edgeBucket size) a) (keyOf (edgeBucket size) b) size c d
 
 -- 0.45, the factor of the clearance
 abbrev pub clearance : Float
 clearance = bits 0x3fdc_cccc_cccc_cccd
 
--- one node q of `too_close`: its key is within two of p's each way, and it is nearer to p than 0.45 × size
-unfoldable pub isTooClose : Float → Point → Point → Bool
-isTooClose size p q =
-    let k = keyOf size p in
-    let l = keyOf size q in
-    let radius = clearance ⊗ size in
+-- two keys each way: what `too_close` looks at
+unfoldable pub nearKeys : Key → Key → Bool
+nearKeys k l = leb (spansOf k l .i) 2 && leb (spansOf k l .j) 2
+
+-- one node q of `too_close` round p, whose key is k: its key is within two of k each way, and the square of its distance is below radius2
+unfoldable pub tooCloseAt : Key → Point → Float → Float → Point → Bool
+tooCloseAt k p radius2 size q =
     let dx = q .x ⊖ p .x in
     let dy = q .y ⊖ p .y in
-    leb (gap (k .i) (l .i)) 2 && (leb (gap (k .j) (l .j)) 2 && lt (dx ⊗ dx ⊕ dy ⊗ dy) (radius ⊗ radius))
+    nearKeys k (keyOf size q) && lt (dx ⊗ dx ⊕ dy ⊗ dy) radius2
+
+-- one node q of `too_close`: it is nearer to p than 0.45 × size
+unfoldable pub isTooClose : Float → Point → Point → Bool
+isTooClose size p q =
+    let radius = clearance ⊗ size in
+    tooCloseAt (keyOf size p) p (radius ⊗ radius) size q
 
 -- the least and the greatest of four, as `in_box` takes them, from the infinities on
 unfoldable pub leastOf : Float → Float → Float → Float → Float
@@ -90,10 +105,12 @@ highest p = point (greatestOf (p .a .x) (p .b .x) (p .d .x) (p .c .x)) (greatest
 abbrev pub between : ℤ → ℤ → ℤ → Bool
 between k l m = atMost l k && atMost k m
 
--- one node q of `in_box`: its key lies in the quad's key rectangle
-unfoldable pub isInBox : Float → Corners → Point → Bool
-isInBox size p q =
+-- one node q of `in_box`: its key lies in the key rectangle from l to m
+unfoldable pub inBoxAt : Key → Key → Float → Point → Bool
+inBoxAt l m size q =
     let k = keyOf size q in
-    let l = keyOf size (lowest p) in
-    let m = keyOf size (highest p) in
     between (k .i) (l .i) (m .i) && between (k .j) (l .j) (m .j)
+
+-- its key lies in the quad's key rectangle
+unfoldable pub isInBox : Float → Corners → Point → Bool
+isInBox size p q = inBoxAt (keyOf size (lowest p)) (keyOf size (highest p)) size q

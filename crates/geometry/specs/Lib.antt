@@ -1,2 +1,5 @@
 pub mod Plane
 pub mod Keys
+pub mod KeyLaws
+pub mod TestLaws
+pub mod InfinityLaws

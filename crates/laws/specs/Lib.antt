@@ -3,3 +3,5 @@ pub mod Examples
 pub mod Integer
 pub mod Loop
 pub mod Ring
+pub mod Sums
+pub mod Tabulate

@@ -1,5 +1,6 @@
 pub mod Checks
 pub mod Attempt
+pub mod AttemptLaws
 pub mod Advance
 pub mod Loops
 pub mod Reach

@@ -15,9 +15,9 @@ use Rattle.front.specs.declared.Corner.the-variants.{Reused, Fresh}
 use Rattle.front.specs.State.{State, nextOf, prevOf}
 use Rattle.front.specs.Place.{idC, idD}
 use Rattle.front.specs.Ready.{Chosen, Choice, Fits, fits}
-use Rattle.paving.specs.declared.Attempt.the-variants.{Quad}
 use Rattle.paving.specs.Checks.{quadFits}
-use Rattle.paving.specs.Attempt.{isReused, cornerAt, cornerC, cornerD, quadIf, attemptQuad}
+use Rattle.paving.specs.Attempt.{isReused, cornerAt, cornerC, cornerD}
+use Rattle.paving.specs.AttemptLaws.{quad-chosen}
 use Rattle.paving.specs.Reach.{Placement}
 
 -- ---- tests
@@ -58,31 +58,12 @@ chosen size s other v p c = by (isReused size s other v p) refl c
     by false e (Reused id) h = absurd (let z : _≡_ {A = ℕ} 0 1 = cc in omega arith)
     by false e (Fresh x y) h = tt
 
--- the corners that an attempt answered, and that every check was passed
-record Attempted (o : Outline) (size : Float) (s : State) (a b : ℕ) (da db : Point) (c d : Corner) : Type 0 where
-  at-c : cornerC size s a b da ≡ c
-  at-d : cornerD size s a b db ≡ d
-  checks : quadFits o size s a b c d ≡ true
-
-attempted : (o : Outline) (size : Float) (s : State) (a b : ℕ) (da db : Point) (c d : Corner)
-    → attemptQuad o size s a b da db ≡ Quad c d → Attempted o size s a b da db c d
-unfolding attemptQuad
-attempted o size s a b da db c d = by (quadFits o size s a b (cornerC size s a b da) (cornerD size s a b db)) refl
-  where
-    by : (t : Bool) → quadFits o size s a b (cornerC size s a b da) (cornerD size s a b db) ≡ t
-        → quadIf t (cornerC size s a b da) (cornerD size s a b db) ≡ Quad c d → Attempted o size s a b da db c d
-    by true e h =
-        let p : cornerC size s a b da ≡ c = cc in
-        let q : cornerD size s a b db ≡ d = cc in
-        record { at-c = p; at-d = q; checks = rw (p, q) at e }
-    by false e h = absurd (let z : _≡_ {A = ℕ} 0 1 = cc in omega arith)
-
 -- ---- the theorem
 
 pub answered : (o : Outline) (size : Float) (s : State) (a b : ℕ) (c d : Corner) → Placement o size s a b c d → Answered o size s a b c d
 unfolding cornerC cornerD quadFits
 answered o size s a b c d P =
-    let A = attempted o size s a b (P .da) (P .db) c d (P .answered) in
+    let A = quad-chosen o size s a b (P .da) (P .db) c d (P .answered) in
     let edge = eqb-true (nextOf s a) b (and-right (not (eqb b off)) _ (P .there)) in
     record {
       choice = record {

@@ -3,6 +3,7 @@
 use lib.Count.{trailingZeros}
 use lib.Ieee.{span, climb, size, odd, units, round, neg, sum, add, sub, mul, div, lt, eq, le, ofInt, ofFields, ofBits, toBits, isNan}
 use Rattle.laws.specs.Loop.{forUp, run, anyUp, sumUp}
+use Rattle.laws.specs.Tabulate.{tabulate}
 use Rattle.numbers.specs.Root.{isqrtIn, rootUnits, root}
 use Rattle.numbers.specs.Float.{isFinite, absF, minF, maxF, clampF}
 use Rattle.numbers.specs.Whole.{floorInt, floorQuotient, ceilCount}
@@ -14,14 +15,14 @@ use Rattle.topology.specs.Listing.{addLoop, listing}
 use Rattle.domain.specs.Outline.{holeStart, holeAt, loopAt, pointAt, pointAfter, anyFloat, misshapen, loopRefusal, loopsRefusal, farRefusal, outlineRefusal, pointRefusal, queryRefusal}
 use Rattle.domain.specs.Queries.{rayCrosses, pointInPolygon, contains, squaredDistance, footOf, pointSegmentDistance, nearer, nearestInLoop, nearestSegment, containsAnswer, nearestAnswer, distanceAnswer}
 use Rattle.geometry.specs.Plane.{distance, tangent, areaTerm, cross2, doubledArea, leftOf, pointInConvex, onSegment, opposite, touches, segmentsCross, centroid, convexCcw}
-use Rattle.geometry.specs.Keys.{keyOf, spansKept, rangesMeet, rectanglesMeet, isCandidate, isTooClose, leastOf, greatestOf, lowest, highest, isInBox}
+use Rattle.geometry.specs.Keys.{keyOf, spansKept, rangesMeet, rectanglesMeet, candidateAt, isCandidate, nearKeys, tooCloseAt, isTooClose, leastOf, greatestOf, lowest, highest, inBoxAt, isInBox}
 use Rattle.crossfield.specs.Grid.{widened, loopBounds, bounds, gridCount, tooManyNodes, spacing, gridOf, sizeRefusal, boundsRefusal, sweepsRefusal}
 use Rattle.crossfield.specs.Seeds.{gridPoint, seed, isFixed, setValue, seedNode, seedRow, seeded}
 use Rattle.crossfield.specs.Sweeps.{plusIf, neighbourSum, neighbourCount, normalised, average, change, relaxed, sweepNode, sweepRow, sweep, sweeps}
 use Rattle.crossfield.specs.Field.{placesRefusal, fieldRefusal, fieldOf}
 use Rattle.crossfield.specs.Direction.{within, countsSound, gridSound, recordRefusal, weighed, rawAt, scaled, half, directionOf, dot, closerOf, nearestOf, nearestDirection, directionRefusal}
 use Rattle.front.specs.State.{nodePlaces, quadPlaces, edgePlaces, nodeIn, hasEdge, pushNode, addFront, removeFront, pushEdge, addEdge, pushQuad, cleared}
-use Rattle.front.specs.Sampling.{partsOf, parts, loopParts, loopNodes, sampledCount, frontRefusal, cut, sampleSegment, sampleLoop, signedArea, edgeLength, longestEdge, ringOf, ringAt, midpoint, splitLongest, joinRing, closeLoop, boundaryTurn, fromBoundary, tabulate, ringIds, boundaryLoops}
+use Rattle.front.specs.Sampling.{partsOf, parts, loopParts, loopNodes, sampledCount, frontRefusal, cut, sampleSegment, sampleLoop, signedArea, edgeLength, longestEdge, ringOf, ringAt, midpoint, splitLongest, joinRing, closeLoop, boundaryTurn, fromBoundary, ringIds, boundaryLoops}
 use Rattle.front.specs.Place.{addEdges, moveFront, place, edgesAdded, isFull}
 use Rattle.paving.specs.Checks.{tooClose, nodeOk, cornerFree, cornersApart, nodeInside, edgeCrosses, edgesFree, quadOk, quadFits}
 use Rattle.paving.specs.Attempt.{isReused, cornerAt, ideal, cornerC, cornerD, attemptQuad, normalOf, tryToward, tryEdge}
@@ -56,7 +57,7 @@ unfolding holeStart holeAt loopAt pointAt pointAfter anyFloat misshapen loopRefu
 openedDomain = tt
 
 unfoldable pub openedGeometry : Unit {0}
-unfolding distance tangent areaTerm cross2 doubledArea leftOf pointInConvex onSegment opposite touches segmentsCross centroid convexCcw keyOf spansKept rangesMeet rectanglesMeet isCandidate isTooClose leastOf greatestOf lowest highest isInBox
+unfolding distance tangent areaTerm cross2 doubledArea leftOf pointInConvex onSegment opposite touches segmentsCross centroid convexCcw keyOf spansKept rangesMeet rectanglesMeet candidateAt isCandidate nearKeys tooCloseAt isTooClose leastOf greatestOf lowest highest inBoxAt isInBox
 openedGeometry = tt
 
 unfoldable pub openedCrossfield : Unit {0}

@@ -1,0 +1,15 @@
+pub mod Lists
+pub mod Nodes
+pub mod Cuts
+pub mod Rings
+pub mod OneWay
+pub mod RingJoins
+pub mod Edges
+pub mod Joins
+pub mod Laid
+pub mod Turn
+pub mod Outlines
+pub mod Begun
+pub mod Same
+pub mod Points
+pub mod Starts

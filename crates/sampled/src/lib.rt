@@ -1,0 +1,1 @@
+// Specifications only: what the start of a run leaves, `from_boundary`. No function.

@@ -74,13 +74,13 @@ pub record Reached (o : Outline) (size : Float) (s t : State) : Type 0 where
   pub by : Reaches o size s quads t
 
 module _ (o : Outline) (size : Float) (s : State) where
-  abbrev AtPassing : Passing → Type 0
+  abbrev pub AtPassing : Passing → Type 0
   AtPassing p = Reached o size s (p .state)
 
-  abbrev AtEnd : Paved → Type 0
+  abbrev pub AtEnd : Paved → Type 0
   AtEnd e = Reached o size s (e .state)
 
-  abbrev AtPassed : Passed → Type 0
+  abbrev pub AtPassed : Passed → Type 0
   AtPassed p = Kept (Reached o size s) AtEnd p
 
   -- after a quad: at the cap the run is out, else the pass goes on
@@ -105,7 +105,7 @@ module _ (o : Outline) (size : Float) (s : State) where
       choose true e = r
       choose false e = quad-kept (place a b c d (p .state)) (more e)
 
-  turn-kept : (field : FieldRecord) (a : ℕ) (p : Passing) → AtPassing p → Kept AtPassing AtPassed (passTurn o size field a p)
+  pub turn-kept : (field : FieldRecord) (a : ℕ) (p : Passing) → AtPassing p → Kept AtPassing AtPassed (passTurn o size field a p)
   unfolding passTurn
   turn-kept field a p r =
       let b = getD (p .state .snapshot) a 0 in
@@ -123,7 +123,7 @@ module _ (o : Outline) (size : Float) (s : State) where
       choose true = r
       choose false = r
 
-  pass-kept : (field : FieldRecord) (t : State) → Reached o size s t → AtPassed (pass o size field t)
+  pub pass-kept : (field : FieldRecord) (t : State) → Reached o size s t → AtPassed (pass o size field t)
   unfolding pass
   pass-kept field t r =
       run-keeps AtPassing AtPassed (t .counts .nodes) (passTurn o size field) afterPass (passing (withSnapshot t) false)

@@ -19,6 +19,8 @@ use Rattle.front.specs.State.{State, nextOf, cleared}
 use Rattle.front.specs.Sampling.{loopCount, loopNodes, sampledCount, sampleLoop, ringOf, ringCount, ringAt, ringIn, splitLongest, joinTurn, joinRing, closeLoop, boundaryTurn}
 use Rattle.front.specs.Sound.{Frame}
 use Rattle.front.specs.FrameLaws.{frame-same, frame-trans}
+use Rattle.front.specs.Ready.{Known}
+use Rattle.front.specs.KnownLaws.{known-same}
 use Rattle.sampled.specs.Nodes.{Room, room-kept, Pushed, push-more}
 use Rattle.sampled.specs.Cuts.{loopCuts, cuts-length}
 use Rattle.sampled.specs.Rings.{ring-in, ring-differ, ring-longest}
@@ -41,6 +43,7 @@ pub record Unlinked (n : ℕ) (r : Ring) (st : State) : Type 0 where
   pub inside : (k : ℕ) → k < ringCount r → ringAt r k < st .counts .nodes
   pub free : (k : ℕ) → k < ringCount r → nextOf st (ringAt r k) ≡ off
   pub linked : OnlyLinked st
+  pub known : Known st
 
 -- i edges of the ring have been added to st, and s is left: the ids from i on have no links
 record Joined (r : Ring) (st : State) (i : ℕ) (s : State) : Type 0 where
@@ -48,6 +51,7 @@ record Joined (r : Ring) (st : State) (i : ℕ) (s : State) : Type 0 where
   pub nodes : s .counts .nodes ≡ st .counts .nodes
   pub edges : s .counts .edges ≡ st .counts .edges + i
   pub linked : OnlyLinked s
+  pub known : Known s
   pub free : (k : ℕ) → i ≤ k → k < ringCount r → nextOf s (ringAt r k) ≡ off
   pub first : 0 < i → nextOf s (ringAt r 0) ≡ ringAt r 1
   pub same : s ≡ forUp i (linkTurn r) st
@@ -72,6 +76,16 @@ module _ {n : ℕ} (r : Ring) (st : State) (U : Unlinked n r st) where
             let last = ltb-false (i + 1) (ringCount r) e in
             ring-differ r (U .longest) 1 i (omega (arith, U .three)) h (sym (J .first (omega (arith, U .three))) ∙ q)
 
+    -- nor is it id i
+    apart : ringAt r (after (ringCount r) i) ≢ ringAt r i
+    apart = by (ltb (i + 1) (ringCount r)) refl
+      where
+        by : (b : Bool) → ltb (i + 1) (ringCount r) ≡ b → ringAt r (cond b (i + 1) 0) ≢ ringAt r i
+        by true e q = ring-differ r (U .longest) i (i + 1) (omega arith) (ltb-true (i + 1) (ringCount r) e) (sym q)
+        by false e q =
+            let last = ltb-false (i + 1) (ringCount r) e in
+            ring-differ r (U .longest) 0 i (omega (arith, U .three)) h q
+
     joinable : Joinable n s (add (ringAt r i) (ringAt r (after (ringCount r) i)) ∷ [])
     joinable =
         record {
@@ -80,8 +94,9 @@ module _ {n : ℕ} (r : Ring) (st : State) (U : Unlinked n r st) where
           edges = omega (arith, J .edges, U .edges);
           within = ((omega (arith, J .nodes, U .inside i h), omega (arith, J .nodes, U .inside (after (ringCount r) i) (after-in i h))), tt);
           valid = (J .free i (omega arith) h, tt);
-          one-way = (one-way, tt);
+          one-way = ((one-way, apart), tt);
           linked = J .linked;
+          known = J .known;
         }
 
     joined-next : Joined r st (suc i) (joinTurn r i s)
@@ -96,6 +111,7 @@ module _ {n : ℕ} (r : Ring) (st : State) (U : Unlinked n r st) where
           nodes = A .nodeCount ∙ J .nodes;
           edges = omega (arith, A .edgeCount, J .edges);
           linked = A .linked;
+          known = A .known;
           free = λ k g q. rw links (update-other (nextOf s) u v (ringAt r k) (ring-differ r (U .longest) i k (omega arith) q) ∙ J .free k (omega arith) q);
           first = λ g. rw links (start i refl);
           same = join-is s u v joinable ∙ ap (linkTurn r i) (J .same);
@@ -117,6 +133,7 @@ module _ {n : ℕ} (r : Ring) (st : State) (U : Unlinked n r st) where
         nodes = refl;
         edges = omega arith;
         linked = U .linked;
+        known = U .known;
         free = λ k g q. U .free k q;
         first = λ g. absurd (omega arith);
         same = refl;
@@ -147,6 +164,7 @@ module _ {n : ℕ} (lent s t : State) (ls : List (List ℕ)) (ps : List Point) (
         free = λ k h. off-pushed lent s (splitLongest r t) ls points L Q R fits (ringAt r k)
             (omega (arith, ring-in r longest k h), omega (arith, ring-in r longest k h)) .next;
         linked = linked-pushed lent s (splitLongest r t) ls points L Q R fits;
+        known = known-same s (splitLongest r t) (Q .edges) (Q .edgeCount) (omega (arith, Q .count)) (Q .next) (L .known);
       }
 
 module _ {n : ℕ} (lent : State) (o : Outline) (size : Float) (k : ℕ) (s : State) (R : Room n s) (fit : s .counts .nodes + loopNodes o size k ≤ n)

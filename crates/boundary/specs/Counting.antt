@@ -1,15 +1,15 @@
 -- Counts that stop at a number far above the places that can be lent, and the refusal that they give.
-use mathlib.Core.Bool.{Bool, true, false, _||_, cond}
+use mathlib.Core.Bool.{false}
 use mathlib.Core.List.{List}
 use mathlib.Core.Path.{_≡_, refl, sym, ap, _∙_}
-use Prim.Native.Nat.{ℕ, zero, suc, _+_, _-_, _*_, _%_, _≤_, _<_, min}
+use Prim.Native.Nat.{ℕ, zero, suc, _+_, _-_, _%_, _≤_, _<_, min}
 use native.Mathlib.Numerals.{add-one}
 use native.Mathlib.Omega.{arith}
 use borrow.Author.Tests.{lt-ltb, le-ltb}
 use lib.Dec.{ltb}
 use lib.Ieee.{Float}
 use lib.ListN.{length}
-use Rattle.laws.specs.Loop.{forUp, sumUp, sumTurn}
+use Rattle.laws.specs.Loop.{sumUp}
 use Rattle.laws.specs.Sums.{sum-zero, sum-suc}
 use Rattle.domain.specs.Outline.{Outline, loopAt, loopStart, holeStart, holeLength, misshapen}
 use Rattle.domain.specs.OutlineLaws.{start-first, start-next, start-grows, shaped}

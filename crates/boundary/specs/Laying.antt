@@ -1,4 +1,5 @@
--- Sampling as the code does it: a ring's edges are written with no search among the edges. LayingLaws.antt proves that this is `from_boundary`. Definitions only.
+-- Sampling as the code does it: a ring's edges are written with no search among the edges. Unsearched.antt proves that this is
+-- `from_boundary`. Definitions only.
 use mathlib.Core.List.{List}
 use mathlib.Core.Path.{_≡_}
 use Prim.Native.Nat.{ℕ, _+_, _*_, _<_, _≤_}

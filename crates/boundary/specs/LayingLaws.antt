@@ -1,12 +1,12 @@
 -- Laws of the loops that write nodes and edges, over plain lists: what a call leaves is one turn more of the definition's loop.
-use mathlib.Core.Bool.{Bool, true, false, cond, _&&_}
+use mathlib.Core.Bool.{Bool, true, false, cond}
 use mathlib.Core.List.{List}
 use mathlib.Core.Path.{_≡_, refl, sym, ap, ap₂, _∙_}
-use Prim.Native.Nat.{ℕ, zero, suc, _+_, _-_, _*_, _%_, _≤_, _<_}
+use Prim.Native.Nat.{ℕ, suc, _+_, _-_, _%_, _≤_, _<_}
 use native.Mathlib.Nat.{le-antisymm}
 use native.Mathlib.Omega.{arith}
 use borrow.Author.Tests.{lt-ltb, le-ltb, eq-eqb, ne-eqb, eqb-true, eqb-false}
-use lib.Dec.{eqb, ltb}
+use lib.Dec.{eqb}
 use lib.Ieee.{Float, lt}
 use lib.ListN.{length}
 use Rattle.laws.specs.Loop.{forUp, Loop, loop-start, loop-next, loop-end, sumUp}
@@ -16,7 +16,8 @@ use Rattle.domain.specs.Outline.{points, pointAt, pointAfter, after}
 use Rattle.geometry.specs.Plane.{distance}
 use Rattle.front.specs.declared.Ring.{Ring}
 use Rattle.front.specs.State.{State, counted, pushNode}
-use Rattle.front.specs.Sampling.{partsOf, parts, loopParts, cut, cutTurn, sampleSegment, sampleTurn, sampleLoop, edgeLength, longestTurn, longestEdge, ringOf, ringCount, sampledAt, ringAt, midpoint, splitLongest, ringIn}
+use Rattle.front.specs.Sampling.{partsOf, parts, loopParts, sampleLoop}
+use Rattle.front.specs.Sampling.{edgeLength, longestTurn, longestEdge, ringOf, ringCount, sampledAt, ringAt, midpoint, splitLongest, ringIn}
 use Rattle.sampled.specs.Cuts.{cuts-least}
 use Rattle.sampled.specs.Rings.{longest-in}
 use Rattle.boundary.specs.Counting.{evenUp}

@@ -2,7 +2,7 @@
 use mathlib.Core.Bool.{Bool, true, false, cond}
 use mathlib.Core.List.{List}
 use mathlib.Core.Path.{_≡_, refl, sym, ap, _∙_}
-use Prim.Native.Nat.{ℕ, suc, _+_, _*_, _≤_, _<_}
+use Prim.Native.Nat.{ℕ, _+_, _≤_}
 use native.Mathlib.Numerals.{add-one}
 use native.Mathlib.Omega.{arith}
 use lib.Ieee.{Float}
@@ -14,9 +14,9 @@ use Rattle.front.specs.State.{State, cleared}
 use Rattle.front.specs.Sampling.{loopCount, loopParts, loopNodes, sampledCount, frontRefusal, boundaryTurn}
 use Rattle.sampled.specs.Nodes.{room-places}
 use Rattle.sampled.specs.Begun.{refusal-places}
-use Rattle.sampled.specs.Outlines.{Threes, outline-three}
+use Rattle.sampled.specs.Outlines.{outline-three}
 use Rattle.boundary.specs.Counting.{evenUp}
-use Rattle.boundary.specs.Laying.{NodeRoom, LoopRoom, CanSample, layLoop}
+use Rattle.boundary.specs.Laying.{LoopRoom, CanSample, layLoop}
 use Rattle.boundary.specs.LayingLaws.{loop-as, room-fewer}
 use Rattle.boundary.specs.Unsearched.{unsearched}
 

@@ -1,11 +1,12 @@
--- In a sampled outline every edge of a ring is new, so that it may be written with no search: `joinRing` is `linkRing`, and one turn of `from_boundary` is `layLoop`.
+-- In a sampled outline every edge of a ring is new, so that it may be written with no search: `joinRing` is `linkRing`, and one turn of
+-- `from_boundary` is `layLoop`.
 use mathlib.Core.Bool.{Bool, true, false, cond}
 use mathlib.Core.List.{List, [], _∷_, _++_}
 use mathlib.Core.Logic.{_≢_}
 use mathlib.Core.Path.{_≡_, refl, sym, ap, _∙_}
 use Prim.Native.Nat.{ℕ, zero, suc, _+_, _-_, _%_, _≤_, _<_}
 use native.Mathlib.Omega.{arith}
-use borrow.Author.Tests.{lt-ltb, le-ltb, ltb-true, ltb-false, eq-eqb}
+use borrow.Author.Tests.{lt-ltb, ltb-true, ltb-false, eq-eqb}
 use lib.Dec.{ltb, eqb}
 use lib.Ieee.{Float}
 use lib.ListN.{length}
@@ -16,7 +17,8 @@ use Rattle.topology.specs.Links.{off, update, update-other}
 use Rattle.topology.specs.Changes.{add}
 use Rattle.front.specs.declared.Ring.{Ring}
 use Rattle.front.specs.State.{State, nextOf, cleared}
-use Rattle.front.specs.Sampling.{loopCount, loopNodes, sampledCount, sampleLoop, ringOf, ringCount, ringAt, ringIn, splitLongest, joinTurn, joinRing, closeLoop, boundaryTurn}
+use Rattle.front.specs.Sampling.{loopCount, loopNodes, sampledCount, sampleLoop, ringOf, ringCount, ringAt, ringIn, splitLongest}
+use Rattle.front.specs.Sampling.{joinTurn, joinRing, closeLoop, boundaryTurn}
 use Rattle.front.specs.Sound.{Frame}
 use Rattle.front.specs.FrameLaws.{frame-same, frame-trans}
 use Rattle.front.specs.Ready.{Known}
@@ -24,10 +26,10 @@ use Rattle.front.specs.KnownLaws.{known-same}
 use Rattle.sampled.specs.Nodes.{Room, room-kept, Pushed, push-more}
 use Rattle.sampled.specs.Cuts.{loopCuts, cuts-length}
 use Rattle.sampled.specs.Rings.{ring-in, ring-differ, ring-longest}
-use Rattle.sampled.specs.Joins.{join, withLink, OnlyLinked, Joinable, join-is, join-one, next-joined}
+use Rattle.sampled.specs.Joins.{join, OnlyLinked, Joinable, join-is, join-one, next-joined}
 use Rattle.sampled.specs.Laid.{Laid, linked-pushed, off-pushed}
 use Rattle.sampled.specs.Turn.{splitPoints, split-count, split-pushed, turn-sampled, sampled-count, cuts-three}
-use Rattle.sampled.specs.Begun.{Places, stateAt, loopsAt, Ready, ready, fits}
+use Rattle.sampled.specs.Begun.{Places, stateAt, loopsAt, ready, fits}
 use Rattle.sampled.specs.Outlines.{Threes}
 use Rattle.boundary.specs.Laying.{linkTurn, linkRing, layLoop}
 

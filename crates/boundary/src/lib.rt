@@ -9,7 +9,8 @@ ghost use Rattle.numbers.specs.Float.{toFloat};
 ghost use Rattle.domain.specs.Outline.{outline, misshapen, loopStart, after};
 ghost use Rattle.front.specs.declared.Counts.{Counts};
 ghost use Rattle.front.specs.State.{State, nodePlaces, edgePlaces, nodeIn, pushNode};
-ghost use Rattle.front.specs.Sampling.{partsOf, loopParts, sampledCount, frontRefusal, cut, sampleSegment, sampleLoop, signedArea, orderedAt, edgeLength, longestEdge, ringOf, ringCount, sampledAt, ringAt, midpoint, splitLongest, fromBoundary};
+ghost use Rattle.front.specs.Sampling.{partsOf, loopParts, sampledCount, frontRefusal, cut, sampleSegment, sampleLoop, fromBoundary};
+ghost use Rattle.front.specs.Sampling.{signedArea, orderedAt, edgeLength, longestEdge, ringOf, ringCount, sampledAt, ringAt, midpoint, splitLongest};
 ghost use Rattle.sampled.specs.Joins.{withLink};
 ghost use Rattle.boundary.specs.Counting.{most, evenUp};
 ghost use Rattle.boundary.specs.Laying.{lists, withNodes, withEdges, between, NodeRoom, NodesFrom, RingFits, LoopRoom, CanSample, linkRing, layLoop};
@@ -173,7 +174,8 @@ fn sample_loop(
     from: usize,
 ) -> usize
     requires { ⌜ NodeRoom (from + loopParts size (now s)) (now xs) (now ys) (now next) (now prev) ⌝ }
-    ensures { λ r. ⌜ (r ≡ from + loopParts size (now (s .entry))) × ((st : State) → withNodes st (now (xs .exit)) (now (ys .exit)) (now (next .exit)) (now (prev .exit)) r
+    ensures { λ r. ⌜ (r ≡ from + loopParts size (now (s .entry)))
+        × ((st : State) → withNodes st (now (xs .exit)) (now (ys .exit)) (now (next .exit)) (now (prev .exit)) r
         ≡ sampleLoop size (now (s .entry)) (withNodes st (now (xs .entry)) (now (ys .entry)) (now (next .entry)) (now (prev .entry)) from)) ⌝ }
 {
     let n = s.len() / 2;
@@ -340,7 +342,8 @@ fn split_longest(
 ) -> usize
     requires { ⌜ NodesFrom (r .base) (r .count) (now xs) (now ys) × (r .longest < r .count) × (nodes ≡ r .base + r .count) ⌝ }
     requires { ⌜ NodeRoom (r .base + ringCount r) (now xs) (now ys) (now next) (now prev) ⌝ }
-    ensures { λ n. ⌜ (n ≡ r .base + ringCount r) × ((st : State) → withNodes st (now (xs .exit)) (now (ys .exit)) (now (next .exit)) (now (prev .exit)) n
+    ensures { λ n. ⌜ (n ≡ r .base + ringCount r)
+        × ((st : State) → withNodes st (now (xs .exit)) (now (ys .exit)) (now (next .exit)) (now (prev .exit)) n
         ≡ splitLongest r (withNodes st (now (xs .entry)) (now (ys .entry)) (now (next .entry)) (now (prev .entry)) nodes)) ⌝ }
 {
     if !r.split {
@@ -379,7 +382,8 @@ fn link(next: &mut [u32], prev: &mut [u32], edges: &mut [u32], u: u32, v: u32, e
 
 // Each id of the ring is joined to the next. Its edges are new, so none is looked for: they are written from edge e on.
 fn link_ring(r: Ring, next: &mut [u32], prev: &mut [u32], edges: &mut [u32], e: usize)
-    requires { ⌜ RingFits r × (r .base + ringCount r ≤ length (now next)) × (r .base + ringCount r ≤ length (now prev)) × (2 * (e + ringCount r) ≤ length (now edges)) ⌝ }
+    requires { ⌜ RingFits r × (r .base + ringCount r ≤ length (now next)) × (r .base + ringCount r ≤ length (now prev))
+        × (2 * (e + ringCount r) ≤ length (now edges)) ⌝ }
     ensures { λ u. ⌜ ((st : State) → withEdges st (now (next .exit)) (now (prev .exit)) (now (edges .exit)) (e + ringCount r)
         ≡ linkRing r (withEdges st (now (next .entry)) (now (prev .entry)) (now (edges .entry)) e)) ⌝ }
 {
@@ -406,8 +410,11 @@ fn lay_loop(
     base: usize,
 ) -> usize
     requires { ⌜ LoopRoom (now s) size base (now xs) (now ys) (now next) (now prev) (now edges) ⌝ }
-    ensures { λ r. ⌜ (r ≡ base + evenUp (loopParts size (now (s .entry)))) × ((snapshot quads : List ℕ) → between snapshot quads (now (xs .exit)) (now (ys .exit)) (now (next .exit)) (now (prev .exit)) (now (edges .exit)) r
-        ≡ layLoop k (now (s .entry)) size (between snapshot quads (now (xs .entry)) (now (ys .entry)) (now (next .entry)) (now (prev .entry)) (now (edges .entry)) base)) ⌝ }
+    ensures { λ r. ⌜ (r ≡ base + evenUp (loopParts size (now (s .entry))))
+        × ((snapshot quads : List ℕ)
+        → between snapshot quads (now (xs .exit)) (now (ys .exit)) (now (next .exit)) (now (prev .exit)) (now (edges .exit)) r
+        ≡ layLoop k (now (s .entry)) size
+        (between snapshot quads (now (xs .entry)) (now (ys .entry)) (now (next .entry)) (now (prev .entry)) (now (edges .entry)) base)) ⌝ }
 {
     let nodes = sample_loop(s, size, xs, ys, next, prev, base);
     let r = ring_of(k, xs, ys, base, nodes - base);

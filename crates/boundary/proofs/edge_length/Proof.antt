@@ -33,7 +33,14 @@ returns c =
     let after-after = c .before .before .before in
     let after-node-at = after-after .before in
     let after-ordered-at = after-node-at .before in
-    rw (c .distance .ensures, after-node-at .node-at .ensures, c .before .node-at2 .ensures, after-ordered-at .ordered-at .ensures .0, c .before .before .ordered-at2 .ensures .0, after-after .after .ensures .0)
+    rw (
+      c .distance .ensures,
+      after-node-at .node-at .ensures,
+      c .before .node-at2 .ensures,
+      after-ordered-at .ordered-at .ensures .0,
+      c .before .before .ordered-at2 .ensures .0,
+      after-after .after .ensures .0,
+    )
 
 pub edge-length-spec : {M : Type 1} → statement M
 edge-length-spec =

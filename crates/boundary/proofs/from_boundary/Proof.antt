@@ -20,7 +20,8 @@ Inv-loop outer holes lens size xs₀ ys₀ next₀ prev₀ edges₀ nodes₀ sta
     Progress (outline outer holes lens) size k start nodes
     × (length xs ≡ length xs₀) × (length ys ≡ length ys₀) × (length next ≡ length next₀) × (length prev ≡ length prev₀) × (length edges ≡ length edges₀)
     × ((snapshot quads : List ℕ) (counts : Counts) → frontRefusal (outline outer holes lens) size (lists xs₀ ys₀ next₀ prev₀ snapshot quads edges₀ counts) ≡ 0
-    → Loop (boundaryTurn (outline outer holes lens) size) (cleared (lists xs₀ ys₀ next₀ prev₀ snapshot quads edges₀ counts)) (loopCount (outline outer holes lens)) k
+    → Loop (boundaryTurn (outline outer holes lens) size) (cleared (lists xs₀ ys₀ next₀ prev₀ snapshot quads edges₀ counts))
+    (loopCount (outline outer holes lens)) k
     (between snapshot quads xs ys next prev edges nodes))
 
 abbrev μ-loop : tie.MeasureT-loop
@@ -42,7 +43,8 @@ lay-loop-requires c κs =
     let at-loop = past-test .before in
     let start = at-loop .before .before .before .before .before .before .before .before .before in
     let inv = at-loop .loop .inv in
-    progress-room _ _ (inv .0) (past-test .loop-test .taken) (after-loop-points .loop-points .ensures) _ _ _ _ _ (start .pre) (inv .1) (inv .2) (inv .3) (inv .4) (inv .5)
+    progress-room _ _ (inv .0) (past-test .loop-test .taken) (after-loop-points .loop-points .ensures) _ _ _ _ _ (start .pre) (inv .1) (inv .2)
+    (inv .3) (inv .4) (inv .5)
 
 next-start-requires : tie.Need-next-start-requires Inv-loop μ-loop
 next-start-requires c κs =
@@ -71,14 +73,16 @@ loop-again c =
     let start = at-loop .before .before .before .before .before .before .before .before .before in
     let inv = at-loop .loop .inv in
     let kept = after-lay-loop .lay-loop .kept in (
-      progress-next _ _ (inv .0) (past-test .loop-test .taken) (after-loop-points .loop-points .ensures) (c .next-start .ensures) (after-lay-loop .lay-loop .ensures .0),
+      progress-next _ _ (inv .0) (past-test .loop-test .taken) (after-loop-points .loop-points .ensures) (c .next-start .ensures)
+          (after-lay-loop .lay-loop .ensures .0),
       kept .1 .1 .1 .0 ∙ inv .1,
       kept .1 .1 .1 .1 .0 ∙ inv .2,
       kept .1 .1 .1 .1 .1 .0 ∙ inv .3,
       kept .1 .1 .1 .1 .1 .1 .0 ∙ inv .4,
       kept .1 .1 .1 .1 .1 .1 .1 .0 ∙ inv .5,
       λ snapshot quads counts none.
-          turn-laid _ _ _ (start .pre .unrefused) none (inv .6 snapshot quads counts none) (past-test .loop-test .taken) (after-loop-points .loop-points .ensures)
+          turn-laid _ _ _ (start .pre .unrefused) none (inv .6 snapshot quads counts none) (past-test .loop-test .taken)
+          (after-loop-points .loop-points .ensures)
           (after-lay-loop .lay-loop .ensures .1 snapshot quads),
     )
 

@@ -18,7 +18,8 @@ ring-of-requires : tie.Need-ring-of-requires
 ring-of-requires c κs =
     let after-sample-loop = c .before .before .before .before .before .before .before .before .before .before in
     let start = after-sample-loop .before .before .before .before .before .before .before .before .before .before .before in
-    nodes-from (start .pre) (after-sample-loop .sample-loop .ensures .0) _ _ (after-sample-loop .sample-loop .kept .1 .1 .0) (after-sample-loop .sample-loop .kept .1 .1 .1 .0)
+    nodes-from (start .pre) (after-sample-loop .sample-loop .ensures .0) _ _ (after-sample-loop .sample-loop .kept .1 .1 .0)
+    (after-sample-loop .sample-loop .kept .1 .1 .1 .0)
 
 split-longest-requires : tie.Need-split-longest-requires
 split-longest-requires c κs =
@@ -88,8 +89,10 @@ returns c =
     let O = ring-of _ _ _ _ _ (nodes-some (start .pre) (called .ensures .0)) (after-ring-of .ring-of .ensures) in (
       after-split-longest .split-longest .ensures .0 ∙ ring-end (start .pre) (called .ensures .0) O,
       λ snapshot quads.
-          let st = between snapshot quads (start .args .xs .now) (start .args .ys .now) (start .args .next .now) (start .args .prev .now) (start .args .edges .now) (start .args .base) in
-          let linked = after-link-ring .link-ring .ensures (withNodes st _ _ (start .args .next .now) (start .args .prev .now) (after-split-longest .split-longest .result)) in
+          let st = between snapshot quads (start .args .xs .now) (start .args .ys .now) (start .args .next .now) (start .args .prev .now)
+          (start .args .edges .now) (start .args .base) in
+          let linked = after-link-ring .link-ring .ensures (withNodes st _ _ (start .args .next .now) (start .args .prev .now)
+          (after-split-longest .split-longest .result)) in
           as-many snapshot quads _ _ _ _ _ (after-split-longest .split-longest .ensures .0 ∙ omega (arith, O .base-is))
           ∙ laid _ _ _ st _ _ _ _ (called .ensures .1 st) (after-ring-of .ring-of .ensures) (after-split-longest .split-longest .ensures .1 st) linked,
     )

@@ -51,8 +51,11 @@ link-requires c κs =
     let after-ring-at = after-ring-at2 .before .before in
     let past-test = after-ring-at .before in
     let at-loop = past-test .before in
-    let start = at-loop .before .before .before .before .before in
-    (omega (arith, after-ring-at .ring-at .ensures .1, after-ring-at2 .ring-at2 .ensures .1, start .pre .1, at-loop .loop .inv .1), omega (arith, after-ring-at .ring-at .ensures .1, after-ring-at2 .ring-at2 .ensures .1, start .pre .2, at-loop .loop .inv .2), omega (arith, start .pre .3, at-loop .loop .inv .0, past-test .loop-test .taken, at-loop .loop .inv .3))
+    let start = at-loop .before .before .before .before .before in (
+      omega (arith, after-ring-at .ring-at .ensures .1, after-ring-at2 .ring-at2 .ensures .1, start .pre .1, at-loop .loop .inv .1),
+      omega (arith, after-ring-at .ring-at .ensures .1, after-ring-at2 .ring-at2 .ensures .1, start .pre .2, at-loop .loop .inv .2),
+      omega (arith, start .pre .3, at-loop .loop .inv .0, past-test .loop-test .taken, at-loop .loop .inv .3),
+    )
 
 add-i : tie.Need-add-i Inv-loop μ-loop
 add-i c = omega (arith, c .before .before .before .before .before .before .before .before .before .before .before .before .before .loop-test .taken)
@@ -76,7 +79,15 @@ loop-again c =
       kept .0 ∙ inv .1,
       kept .1 .0 ∙ inv .2,
       kept .1 .1 .0 ∙ inv .3,
-      λ st. loop-as _ _ _ (inv .4 st) (past-test .loop-test .taken) (rw (plus-one, after-link .link .ensures st, after-ring-at .ring-at .ensures .0, after-ring-at2 .ring-at2 .ensures .0, after-after .after .ensures .0, inv .0)),
+      λ st. loop-as _ _ _ (inv .4 st) (past-test .loop-test .taken)
+          (rw (
+            plus-one,
+            after-link .link .ensures st,
+            after-ring-at .ring-at .ensures .0,
+            after-ring-at2 .ring-at2 .ensures .0,
+            after-after .after .ensures .0,
+            inv .0,
+          )),
     )
 
 same-length : tie.Need-same-length Inv-loop μ-loop
@@ -92,7 +103,8 @@ returns : tie.Need-returns Inv-loop μ-loop
 unfolding linkRing
 returns c =
     let start = c .before .before .before .before .before .before in
-    λ st. rw (← c .before .loop .inv .0) (loop-last _ _ (λ n. withEdges st (c .before .loop .next) (c .before .loop .prev) (c .before .loop .edges) (start .args .e + n)) (c .before .loop .inv .4 st) (c .loop-test .left))
+    λ st. rw (← c .before .loop .inv .0) (loop-last _ _ (λ n. withEdges st (c .before .loop .next) (c .before .loop .prev) (c .before .loop .edges)
+    (start .args .e + n)) (c .before .loop .inv .4 st) (c .loop-test .left))
 
 pub link-ring-spec : {M : Type 1} → statement M
 link-ring-spec =

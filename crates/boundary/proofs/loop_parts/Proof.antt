@@ -47,7 +47,8 @@ loop-again c =
     let after-point-at = after-point-after .before in
     let past-test = after-point-at .before in
     let at-loop = past-test .before in
-    let parts-are = c .before .parts-of .ensures ∙ ap (partsOf _) (c .before .before .distance .ensures ∙ ap₂ distance (after-point-at .point-at .ensures) (after-point-after .point-after .ensures)) in
+    let parts-are = c .before .parts-of .ensures ∙ ap (partsOf _)
+    (c .before .before .distance .ensures ∙ ap₂ distance (after-point-at .point-at .ensures) (after-point-after .point-after .ensures)) in
     (at-loop .loop .inv .0, rw (c .add-counts .ensures) (added-next _ _ (at-loop .loop .inv .1) (past-test .loop-test .taken) (ap (λ n. min n most) parts-are)))
 
 returns : tie.Need-returns Inv-loop μ-loop

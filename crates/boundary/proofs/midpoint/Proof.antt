@@ -40,7 +40,13 @@ returns c =
     let after-after = after-sampled-at2 .before in
     let after-node-at = after-after .before .before in
     let after-sampled-at = after-node-at .before in
-    rw (after-node-at .node-at .ensures, after-node-at2 .node-at2 .ensures, after-sampled-at .sampled-at .ensures .0, after-sampled-at2 .sampled-at2 .ensures .0, after-after .after .ensures .0)
+    rw (
+      after-node-at .node-at .ensures,
+      after-node-at2 .node-at2 .ensures,
+      after-sampled-at .sampled-at .ensures .0,
+      after-sampled-at2 .sampled-at2 .ensures .0,
+      after-after .after .ensures .0,
+    )
 
 pub midpoint-spec : {M : Type 1} → statement M
 midpoint-spec =

@@ -46,7 +46,8 @@ sample-segment-requires c κs =
     let at-loop = past-test .before in
     let start = at-loop .before .before .before .before .before .before in
     let inv = at-loop .loop .inv in
-    let are = parts-are _ _ _ (after-parts-of .parts-of .ensures) (after-distance .distance .ensures) (after-point-at .point-at .ensures) (after-point-after .point-after .ensures) in
+    let are = parts-are _ _ _ (after-parts-of .parts-of .ensures) (after-distance .distance .ensures) (after-point-at .point-at .ensures)
+    (after-point-after .point-after .ensures) in
     room-fewer _ _ _ _ _ (start .pre) (sampling-fits _ _ (inv .1) (rw (← inv .0) (past-test .loop-test .taken)) are) (inv .2) (inv .3) (inv .4) (inv .5)
 
 add-nodes : tie.Need-add-nodes Inv-loop μ-loop
@@ -59,7 +60,8 @@ add-nodes c =
     let at-loop = past-test .before in
     let start = at-loop .before .before .before .before .before .before in
     let inv = at-loop .loop .inv in
-    let are = parts-are _ _ _ (after-parts-of .parts-of .ensures) (after-distance .distance .ensures) (after-point-at .point-at .ensures) (after-point-after .point-after .ensures) in
+    let are = parts-are _ _ _ (after-parts-of .parts-of .ensures) (after-distance .distance .ensures) (after-point-at .point-at .ensures)
+    (after-point-after .point-after .ensures) in
     omega (arith, sampling-fits _ _ (inv .1) (rw (← inv .0) (past-test .loop-test .taken)) are, start .pre .few)
 
 add-i : tie.Need-add-i Inv-loop μ-loop
@@ -83,14 +85,16 @@ loop-again c =
     let at-loop = past-test .before in
     let inv = at-loop .loop .inv in
     let kept = after-sample-segment .sample-segment .kept in
-    let are = parts-are _ _ _ (after-parts-of .parts-of .ensures) (after-distance .distance .ensures) (after-point-at .point-at .ensures) (after-point-after .point-after .ensures) in (
+    let are = parts-are _ _ _ (after-parts-of .parts-of .ensures) (after-distance .distance .ensures) (after-point-at .point-at .ensures)
+    (after-point-after .point-after .ensures) in (
       inv .0,
       sampling-next _ _ (inv .1) (rw (← inv .0) (past-test .loop-test .taken)) are,
       kept .1 .1 .1 .0 ∙ inv .2,
       kept .1 .1 .1 .1 .0 ∙ inv .3,
       kept .1 .1 .1 .1 .1 .0 ∙ inv .4,
       kept .1 .1 .1 .1 .1 .1 .0 ∙ inv .5,
-      λ st. loop-as _ _ _ (inv .6 st) (past-test .loop-test .taken) (rw (after-sample-segment .sample-segment .ensures st, after-point-at .point-at .ensures, after-point-after .point-after .ensures, ← are)),
+      λ st. loop-as _ _ _ (inv .6 st) (past-test .loop-test .taken)
+          (rw (after-sample-segment .sample-segment .ensures st, after-point-at .point-at .ensures, after-point-after .point-after .ensures, ← are)),
     )
 
 same-length : tie.Need-same-length Inv-loop μ-loop

@@ -39,7 +39,8 @@ push-node-requires c κs =
     let past-test = c .before .before .before .before .before in
     let at-loop = past-test .before in
     let start = at-loop .before .before .before .before .before in
-    room-fewer _ _ _ _ _ (start .pre) (omega (arith, past-test .loop-test .taken)) (at-loop .loop .inv .0) (at-loop .loop .inv .1) (at-loop .loop .inv .2) (at-loop .loop .inv .3)
+    room-fewer _ _ _ _ _ (start .pre) (omega (arith, past-test .loop-test .taken)) (at-loop .loop .inv .0) (at-loop .loop .inv .1)
+    (at-loop .loop .inv .2) (at-loop .loop .inv .3)
 
 add-k : tie.Need-add-k Inv-loop μ-loop
 add-k c =
@@ -82,7 +83,8 @@ returns : tie.Need-returns Inv-loop μ-loop
 unfolding sampleSegment
 returns c =
     let start = c .before .before .before .before .before .before in
-    λ st. loop-last _ _ (λ n. withNodes st (c .before .loop .xs) (c .before .loop .ys) (c .before .loop .next) (c .before .loop .prev) (start .args .from + n)) (c .before .loop .inv .4 st) (c .loop-test .left)
+    λ st. loop-last _ _ (λ n. withNodes st (c .before .loop .xs) (c .before .loop .ys) (c .before .loop .next) (c .before .loop .prev)
+    (start .args .from + n)) (c .before .loop .inv .4 st) (c .loop-test .left)
 
 pub sample-segment-spec : {M : Type 1} → statement M
 sample-segment-spec =

@@ -11,7 +11,8 @@ use Rattle.boundary.proofs.sampled_count.Statement.{statement}
 use Rattle.boundary.proofs.sampled_count.Tie as tie
 
 abbrev Inv-loop : tie.InvT-loop
-Inv-loop outer holes lens size sum₀ start₀ k₀ sum start k = (start ≡ loopStart lens k) × Added (loopNodes (outline outer holes lens) size) (suc (length lens)) k sum
+Inv-loop outer holes lens size sum₀ start₀ k₀ sum start k = (start ≡ loopStart lens k) × Added (loopNodes (outline outer holes lens) size)
+    (suc (length lens)) k sum
 
 abbrev μ-loop : tie.MeasureT-loop
 μ-loop outer holes lens size sum₀ start₀ k₀ sum start k = suc (length lens) - k
@@ -53,8 +54,12 @@ loop-again : tie.Need-loop-again Inv-loop μ-loop
 loop-again c =
     let after-loop-points = c .before .before .before in
     let past-test = after-loop-points .before in
-    let at-loop = past-test .before in
-    (c .next-start .ensures, rw (c .before .add-counts .ensures) (loop-added _ _ _ _ (at-loop .loop .inv .1) (past-test .loop-test .taken) (after-loop-points .loop-points .ensures) (c .before .before .loop-parts .ensures)))
+    let at-loop = past-test .before in (
+      c .next-start .ensures,
+      rw (c .before .add-counts .ensures)
+          (loop-added _ _ _ _ (at-loop .loop .inv .1) (past-test .loop-test .taken) (after-loop-points .loop-points .ensures)
+          (c .before .before .loop-parts .ensures)),
+    )
 
 returns : tie.Need-returns Inv-loop μ-loop
 unfolding sampledCount

@@ -48,7 +48,8 @@ loop-again c =
     let after-node-at = after-after .before in
     let past-test = after-node-at .before in
     let at-loop = past-test .before in
-    rw (after-node-at .node-at .ensures, after-node-at2 .node-at2 .ensures, after-after .after .ensures .0) (loop-next _ _ (at-loop .loop .inv) (past-test .loop-test .taken))
+    rw (after-node-at .node-at .ensures, after-node-at2 .node-at2 .ensures, after-after .after .ensures .0)
+    (loop-next _ _ (at-loop .loop .inv) (past-test .loop-test .taken))
 
 returns : tie.Need-returns Inv-loop μ-loop
 unfolding signedArea

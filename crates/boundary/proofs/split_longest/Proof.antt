@@ -8,8 +8,11 @@ use Rattle.boundary.proofs.split_longest.Tie as tie
 
 returns : tie.Need-returns
 returns c =
-    let start = c .before .before .before .before .before .before in
-    (omega (arith, start .pre .0 .2, count-plain (start .args .r) (not-true _ (c .if1 .taken))), λ st. split-none (start .args .r) _ (not-true _ (c .if1 .taken)))
+    let start = c .before .before .before .before .before .before in (
+      omega (arith, start .pre .0 .2, count-plain (start .args .r) (not-true _ (c .if1 .taken))),
+      λ st. split-none (start .args .r) _
+          (not-true _ (c .if1 .taken)),
+    )
 
 midpoint-requires : tie.Need-midpoint-requires
 midpoint-requires c κs =
@@ -20,7 +23,12 @@ push-node-requires : tie.Need-push-node-requires
 push-node-requires c κs =
     let after-if1 = c .before .before .before .before .before .before .before in
     let start = after-if1 .before .before .before .before .before .before in
-    room-fewer _ _ _ _ _ (start .pre .1) (omega (arith, start .pre .0 .2, count-split (start .args .r) (not-false _ (after-if1 .if1 .left)))) refl refl refl refl
+    room-fewer _ _ _ _ _ (start .pre .1) (omega (
+      arith,
+      start .pre .0 .2,
+      count-split (start .args .r)
+          (not-false _ (after-if1 .if1 .left)),
+    )) refl refl refl refl
 
 add-result : tie.Need-add-result
 add-result c =
@@ -44,8 +52,11 @@ returns-2 c =
     let after-push-node = c .before .before .before .before .before .before .before .before in
     let after-midpoint = after-push-node .before .before .before .before .before in
     let after-if1 = after-midpoint .before .before .before in
-    let start = after-if1 .before .before .before .before .before .before in
-    (omega (arith, start .pre .0 .2, count-split (start .args .r) (not-false _ (after-if1 .if1 .left))), λ st. split-one (start .args .r) _ (not-false _ (after-if1 .if1 .left)) (after-midpoint .midpoint .ensures) (after-push-node .push-node .ensures st))
+    let start = after-if1 .before .before .before .before .before .before in (
+      omega (arith, start .pre .0 .2, count-split (start .args .r) (not-false _ (after-if1 .if1 .left))),
+      λ st. split-one (start .args .r) _
+          (not-false _ (after-if1 .if1 .left)) (after-midpoint .midpoint .ensures) (after-push-node .push-node .ensures st),
+    )
 
 pub split-longest-spec : {M : Type 1} → statement M
 split-longest-spec =

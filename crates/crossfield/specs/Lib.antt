@@ -3,3 +3,13 @@ pub mod Seeds
 pub mod Sweeps
 pub mod Field
 pub mod Direction
+pub mod Places
+pub mod RecordLaws
+pub mod Box
+pub mod Spacing
+pub mod FieldLaws
+pub mod Past
+pub mod Worst
+pub mod Unit
+pub mod Sound
+pub mod Handed

@@ -51,11 +51,23 @@ pub struct Settings {
 }
 
 impl Settings {
+    pub const LEAST_SIZE: f64 = 0.01;
+
+    pub const MOST_SIZE: f64 = 100.0;
+
+    pub const MOST_SWEEPS: usize = 1000;
+
+    pub const MOST_FIELD_NODES: usize = 250000;
+    // A node this many spacings from the boundary is fixed.
+    pub const BAND: f64 = 1.5;
+
     pub const MOST_POINTS: usize = 65535;
 
     pub const FARTHEST: f64 = 1000.0;
     // Of the size: two new nodes are farther apart than this, and no node is nearer to a new one.
     pub const CLEARANCE: f64 = 0.45;
+    // Of the size: a front node within this of a corner is reused for it.
+    pub const REUSE: f64 = 0.35;
     // A corner's sine is above this, which is sin 20°.
     pub const LEAST_SINE: f64 = 0.3420201433256687;
     // An edge whose key rectangle has more spans is no candidate.

@@ -1,0 +1,95 @@
+-- `attempts::node_in_quad` meets its contract: the loop's invariant is a search that has found nothing.
+use mathlib.Core.Path.{_∙_}
+use Prim.Native.Nat.{_-_}
+use native.Mathlib.Omega.{arith}
+use borrow.Author.Needs.{needs}
+use Rattle.laws.specs.Loop.{Scan, scan-hit, scan-next, scan-none, scan-start}
+use Rattle.paving.specs.Checks.{blocks, nodeInside}
+use Rattle.attempts.specs.Seen.{seenPoints}
+use Rattle.attempts.specs.SeenLaws.{blocks-is}
+use Rattle.attempts.proofs.node_in_quad.Statement.{statement}
+use Rattle.attempts.proofs.node_in_quad.Tie as tie
+
+abbrev Inv-loop : tie.InvT-loop
+Inv-loop size xs ys p a b d c nodes low high id₀ id = Scan (blocks size (seenPoints xs ys) p a b d c) nodes id
+
+abbrev μ-loop : tie.MeasureT-loop
+μ-loop size xs ys p a b d c nodes low high id₀ id = nodes - id
+
+lowest-requires : tie.Need-lowest-requires Inv-loop μ-loop
+lowest-requires c κs = search needs
+
+key-of-requires : tie.Need-key-of-requires Inv-loop μ-loop
+key-of-requires c κs = search needs
+
+highest-requires : tie.Need-highest-requires Inv-loop μ-loop
+highest-requires c κs = search needs
+
+key-of-requires-2 : tie.Need-key-of-requires-2 Inv-loop μ-loop
+key-of-requires-2 c κs = search needs
+
+loop-holds : tie.Need-loop-holds Inv-loop μ-loop
+loop-holds c = scan-start _ _
+
+node-at-requires : tie.Need-node-at-requires Inv-loop μ-loop
+node-at-requires c κs = search needs
+
+blocks-at-requires : tie.Need-blocks-at-requires Inv-loop μ-loop
+blocks-at-requires c κs = search needs
+
+returns : tie.Need-returns Inv-loop μ-loop
+unfolding nodeInside
+returns c =
+    let in-loop = c .before .before .before in
+    let after-highest = in-loop .before .before .before in
+    let start = after-highest .before .before .before .before .before in
+    let args = start .args in
+    let s = seenPoints (args .xs .now) (args .ys .now) in
+    scan-hit _ (in-loop .before .loop .inv) (in-loop .loop-test .taken)
+    (blocks-is (args .size) s (args .p) (args .a) (args .b) (args .d) (args .c) (in-loop .before .loop .id)
+    (after-highest .before .before .lowest .ensures) (after-highest .before .key-of .ensures) (after-highest .highest .ensures)
+    (in-loop .before .before .key-of2 .ensures) (c .before .before .node-at .ensures) (c .before .blocks-at .ensures) ∙ c .if1 .taken)
+
+add-id : tie.Need-add-id Inv-loop μ-loop
+add-id c =
+    let in-loop = c .before .before .before in
+    let start = in-loop .before .before .before .before .before .before .before .before in
+    omega (arith, in-loop .loop-test .taken, start .good .1 .1 .1 .0)
+
+loop-less : tie.Need-loop-less Inv-loop μ-loop
+loop-less c = omega arith
+
+loop-again : tie.Need-loop-again Inv-loop μ-loop
+loop-again c =
+    let in-loop = c .before .before .before in
+    let after-highest = in-loop .before .before .before in
+    let start = after-highest .before .before .before .before .before in
+    let args = start .args in
+    let s = seenPoints (args .xs .now) (args .ys .now) in
+    scan-next _ (in-loop .before .loop .inv) (in-loop .loop-test .taken)
+    (blocks-is (args .size) s (args .p) (args .a) (args .b) (args .d) (args .c) (in-loop .before .loop .id)
+    (after-highest .before .before .lowest .ensures) (after-highest .before .key-of .ensures) (after-highest .highest .ensures)
+    (in-loop .before .before .key-of2 .ensures) (c .before .before .node-at .ensures) (c .before .blocks-at .ensures) ∙ c .if1 .left)
+
+returns-2 : tie.Need-returns-2 Inv-loop μ-loop
+unfolding nodeInside
+returns-2 c = scan-none _ (c .before .loop .inv) (c .loop-test .left)
+
+pub node-in-quad-spec : {M : Type 1} → statement M
+node-in-quad-spec =
+    tie.close
+    (tie.spec
+    Inv-loop
+    μ-loop
+    lowest-requires
+    key-of-requires
+    highest-requires
+    key-of-requires-2
+    loop-holds
+    node-at-requires
+    blocks-at-requires
+    returns
+    add-id
+    loop-less
+    loop-again
+    returns-2)

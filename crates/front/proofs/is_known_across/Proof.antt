@@ -1,0 +1,52 @@
+-- `is_known_across` meets its contract: two reused corners are searched for.
+use borrow.Author.Needs.{needs}
+use Rattle.front.proofs.is_known_across.Statement.{statement}
+use Rattle.front.proofs.is_known_across.Tie as tie
+
+enum-known-c : tie.Need-enum-known-c
+enum-known-c c = search needs
+
+enum-told : tie.Need-enum-told
+enum-told c = search needs
+
+returns : tie.Need-returns
+returns c = search needs
+
+enum-known-d : tie.Need-enum-known-d
+enum-known-d c = search needs
+
+enum-told-2 : tie.Need-enum-told-2
+enum-told-2 c = search needs
+
+returns-2 : tie.Need-returns-2
+returns-2 c = search needs
+
+smaller-requires : tie.Need-smaller-requires
+smaller-requires c κs = search needs
+
+larger-requires : tie.Need-larger-requires
+larger-requires c κs = search needs
+
+scan-edges-requires : tie.Need-scan-edges-requires
+scan-edges-requires c κs = search needs
+
+returns-3 : tie.Need-returns-3
+returns-3 c =
+    let d = c .before .before .before .before in
+    let e = d .before .before .before in
+    rw (e .c .given .1, d .d .given .1, ← c .before .before .smaller .ensures, ← c .before .larger .ensures) (c .scan-edges .ensures)
+
+pub is-known-across-spec : {M : Type 1} → statement M
+is-known-across-spec =
+    tie.close
+    (tie.spec
+    enum-known-c
+    enum-told
+    returns
+    enum-known-d
+    enum-told-2
+    returns-2
+    smaller-requires
+    larger-requires
+    scan-edges-requires
+    returns-3)

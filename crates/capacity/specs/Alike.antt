@@ -74,8 +74,8 @@ module _ (n : ℕ) (s t : State) (ls ms : List (List ℕ)) (S : Sound n s ls) (T
 pub edges-has : (n : ℕ) (s t : State) → EdgesAlike n s t → (u v : ℕ) → hasEdge t u v ≡ hasEdge s u v
 unfolding hasEdge
 edges-has n s t E u v =
-    ap (λ (k : ℕ). anyUp k (edgeIs t (min u v) (max u v))) (E .number)
-    ∙ any-same (edgeIs t (min u v) (max u v)) (edgeIs s (min u v) (max u v)) (s .counts .edges)
+    ap (λ (k : ℕ). anyUp k (edgeIs (t .edges) (min u v) (max u v))) (E .number)
+    ∙ any-same (edgeIs (t .edges) (min u v) (max u v)) (edgeIs (s .edges) (min u v) (max u v)) (s .counts .edges)
     (λ k h. rw (E .ends (2 * k) (omega arith), E .ends (2 * k + 1) (omega arith)))
 
 -- a list with two entries more, from place 2k on

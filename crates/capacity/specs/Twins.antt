@@ -2,7 +2,7 @@
 -- leaves two such states.
 use Prim.Native.Nat.{ℕ, _+_, _<_, _≤_}
 use mathlib.Core.List.{List}
-use mathlib.Core.Path.{_≡_, refl, sym, _∙_, ap}
+use mathlib.Core.Path.{_≡_, refl, sym, _∙_, ap, ap₂}
 use mathlib.Core.Bool.{Bool, true, false, not, _&&_, _||_, cond}
 use mathlib.Core.Logic.{_≢_}
 use native.Mathlib.Omega.{arith}
@@ -61,13 +61,22 @@ no-fewer-later s t u v F G N =
       edges = omega (arith, frame-edge-places s u F, frame-edge-places t v G, N .edges);
     }
 
-or-left : (x y : Bool) → x || y ≡ false → x ≡ false
-or-left true y e = e
-or-left false y e = refl
-
-or-right : (x y : Bool) → x || y ≡ false → y ≡ false
-or-right true y e = absurd (let z : _≡_ {A = ℕ} 0 1 = cc in omega arith)
-or-right false y e = e
+-- the three tests of `isFull`: where none is met, none is with more places
+no-more : (p q r x y z : ℕ) (p′ q′ r′ x′ y′ z′ : ℕ) → p ≤ p′ → q ≤ q′ → r ≤ r′ → x′ ≡ x → y′ ≡ y → z′ ≡ z
+    → (ltb p x || (ltb q y || ltb r z)) ≡ false → (ltb p′ x′ || (ltb q′ y′ || ltb r′ z′)) ≡ false
+no-more p q r x y z p′ q′ r′ x′ y′ z′ hp hq hr ex ey ez = by (ltb p x) refl (ltb q y) refl (ltb r z) refl
+  where
+    by : (i : Bool) → ltb p x ≡ i → (j : Bool) → ltb q y ≡ j → (k : Bool) → ltb r z ≡ k → (i || (j || k)) ≡ false
+        → (ltb p′ x′ || (ltb q′ y′ || ltb r′ z′)) ≡ false
+    by false i false j false k e =
+        rw (
+          le-ltb p′ x′ (omega (arith, ltb-false p x i)),
+          le-ltb q′ y′ (omega (arith, ltb-false q y j)),
+          le-ltb r′ z′ (omega (arith, ltb-false r z k)),
+        )
+    by true i j h k l e = absurd (let z : _≡_ {A = ℕ} 0 1 = cc in omega arith)
+    by false i true j k l e = absurd (let z : _≡_ {A = ℕ} 0 1 = cc in omega arith)
+    by false i false j true k e = absurd (let z : _≡_ {A = ℕ} 0 1 = cc in omega arith)
 
 module _ (n : ℕ) (s t : State) (W : Twins n s t) where
   next-same : (u : ℕ) → nextOf t u ≡ nextOf s u
@@ -95,34 +104,25 @@ module _ (n : ℕ) (s t : State) (W : Twins n s t) where
       let h = there-in a b e in
       try-alike s t (reads-alike n s t (W .ls) (W .ms) (W .first) (W .second) (W .alike)) o size a b (h .0) (h .1) field
 
-  -- what fits s fits t
-  pub fits-too : (a b : ℕ) (c d : Corner) → isFull s a b c d ≡ false → isFull t a b c d ≡ false
-  unfolding isFull edgesAdded nodePlaces quadPlaces edgePlaces
-  fits-too a b c d e =
-      let A = W .alike in
-      let R = reads-alike n s t (W .ls) (W .ms) (W .first) (W .second) A in
+  -- the quad adds as many edges
+  added-same : (a b : ℕ) (c d : Corner) → edgesAdded t a b (idD t c d) (idC t c) ≡ edgesAdded s a b (idD s c d) (idC s c)
+  unfolding edgesAdded
+  added-same a b c d =
+      let R = reads-alike n s t (W .ls) (W .ms) (W .first) (W .second) (W .alike) in
+      let has = edges-has (s .counts .nodes) s t (W .alike .edges) in
       let C = idC s c in
       let D = idD s c d in
-      let has = edges-has (s .counts .nodes) s t (A .edges) in
-      let rest = or-right (ltb (nodePlaces s) (s .counts .nodes + added c + added d)) _ e in
-      let nodes : s .counts .nodes + added c + added d ≤ nodePlaces s = ltb-false _ _ (or-left _ _ e) in
-      let quads : s .counts .quads + 1 ≤ quadPlaces s = ltb-false _ _ (or-left _ _ rest) in
-      let edges : s .counts .edges + edgesAdded s a b D C ≤ edgePlaces s =
-      ltb-false _ _ (or-right (ltb (quadPlaces s) (s .counts .quads + 1)) _ rest) in
-      rw (
-        id-c s t R c,
-        id-d s t R c d,
-        has a b,
-        has b D,
-        has D C,
-        has C a,
-        A .nodes,
-        A .quads,
-        A .edges .number,
-        le-ltb (nodePlaces t) (s .counts .nodes + added c + added d) (omega (arith, W .places .nodes)),
-        le-ltb (quadPlaces t) (s .counts .quads + 1) (omega (arith, W .places .quads)),
-        le-ltb (edgePlaces t) (s .counts .edges + edgesAdded s a b D C) (omega (arith, W .places .edges)),
-      )
+      rw (id-c s t R c, id-d s t R c d, has a b, has b D, has D C, has C a)
+
+  -- what fits s fits t
+  pub fits-too : (a b : ℕ) (c d : Corner) → isFull s a b c d ≡ false → isFull t a b c d ≡ false
+  unfolding isFull
+  fits-too a b c d e =
+      let A = W .alike in
+      let N = W .places in
+      no-more (nodePlaces s) (quadPlaces s) (edgePlaces s) _ _ _ (nodePlaces t) (quadPlaces t) (edgePlaces t) _ _ _ (N .nodes) (N .quads) (N .edges)
+      (ap (λ (k : ℕ). k + added c + added d) (A .nodes)) (ap (λ (k : ℕ). k + 1) (A .quads))
+      (ap₂ (λ (j k : ℕ). j + k) (A .edges .number) (added-same a b c d)) e
 
   pub place-twins : (o : Outline) (size : Float) (a b : ℕ) (c d : Corner) → Placement o size s a b c d → Placement o size t a b c d
       → Twins n (place a b c d s) (place a b c d t)

@@ -19,7 +19,7 @@ use Rattle.front.specs.Sound.{Sound, Frame}
 use Rattle.front.specs.FrameLaws.{frame-trans, frame-node-places, frame-quad-places, frame-edge-places}
 use Rattle.front.specs.Ready.{Choice, Fits, fits}
 use Rattle.front.specs.Pushed.{Cornered, cornered, withCorners}
-use Rattle.front.specs.MeshEdges.{Edged, quad-edged, edges-few}
+use Rattle.front.specs.MeshEdges.{quad-edged, edges-few}
 use Rattle.front.specs.Moved.{kindOf, changesOf, edgesAfter, edges-after}
 use Rattle.front.specs.StateAfter.{stateAfter, state-frame, quad-reads, place-is}
 use Rattle.front.specs.Sides.{new-added, Sides, sides, placeable}

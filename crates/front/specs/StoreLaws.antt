@@ -2,7 +2,7 @@
 use Prim.Native.Nat.{ℕ, zero, suc, _+_, _-_, _*_, _<_, _≤_, min, max}
 use mathlib.Core.List.{List, [], _∷_}
 use mathlib.Core.Path.{_≡_, refl, sym, _∙_, ap}
-use mathlib.Core.Bool.{Bool, true, false, _&&_, _||_, cond}
+use mathlib.Core.Bool.{Bool, true, false, _&&_}
 use mathlib.Core.Logic.{_≢_}
 use native.Mathlib.Nat.{add-assoc, add-zero}
 use native.Mathlib.Omega.{arith}
@@ -21,15 +21,17 @@ use Rattle.front.specs.declared.Counts.{Counts}
 use Rattle.front.specs.declared.Placed.the-variants.{Full, Done}
 use Rattle.front.specs.declared.Corner.{Corner}
 use Rattle.front.specs.declared.Corner.the-variants.{Reused, Fresh}
-use Rattle.front.specs.State.{State, stateOf, Quad, counted, nodePlaces, quadPlaces, edgePlaces, nextOf, prevOf, edgeFrom, edgeTo, edgeIs, hasEdge, pushNode, pushEdge, pushQuad, addEdge}
+use Rattle.front.specs.State.{State, stateOf, Quad, counted, nodePlaces, quadPlaces, edgePlaces, nextOf, prevOf, edgeFrom, edgeTo}
+use Rattle.front.specs.State.{edgeIs, hasEdge, pushNode, pushEdge, pushQuad, addEdge}
 use Rattle.front.specs.Place.{added, cornerId, idC, idD, addEdges, edgesAdded, isFull, place}
-use Rattle.front.specs.Ready.{Chosen, Choice, Known, Ready, Fits, fits}
+use Rattle.front.specs.Ready.{Chosen, Known, Ready, fits}
 use Rattle.front.specs.Pushed.{withCorners}
-use Rattle.front.specs.MeshEdges.{withEdges, Edged, edged, quad-edged, has-flip, has-other}
+use Rattle.front.specs.MeshEdges.{withEdges, edged, has-flip, has-other}
 use Rattle.front.specs.Moved.{kindOf, changesOf, edgesAfter}
 use Rattle.front.specs.StateAfter.{stateAfter}
-use Rattle.front.specs.Step.{Grounds, grounds}
-use Rattle.front.specs.Stores.{placeAnswer, placeIfRoom, Places, afterQuad, isBeyond, storeX, storeY, isReused, knownAcross, unless, newEdges, storeEdge, storeEdges, storeQuad, storeSide, storeNext, storePrev, Ids, Countable}
+use Rattle.front.specs.Step.{grounds}
+use Rattle.front.specs.Stores.{placeAnswer, placeIfRoom, Places, afterQuad, isBeyond, Ids}
+use Rattle.front.specs.Stores.{storeX, storeY, isReused, knownAcross, unless, newEdges, storeEdge, storeEdges, storeQuad, storeNext, storePrev}
 
 -- ---- full
 

@@ -105,8 +105,10 @@ fn put_corner(c: Corner, xs: &mut [f64], ys: &mut [f64], n: u32)
 }
 
 fn put_corners(c: Corner, d: Corner, xs: &mut [f64], ys: &mut [f64], n: u32)
-    requires { ⌜ (n + (added c + added d) ≤ 4294967294) × (n + (added c + added d) ≤ length (now xs)) × (n + (added c + added d) ≤ length (now ys)) ⌝ }
-    ensures { λ r. ⌜ (now (xs .exit) ≡ storeX d (n + added c) (storeX c n (now (xs .entry)))) × (now (ys .exit) ≡ storeY d (n + added c) (storeY c n (now (ys .entry)))) ⌝ }
+    requires { ⌜ (n + (added c + added d) ≤ 4294967294) × (n + (added c + added d) ≤ length (now xs))
+        × (n + (added c + added d) ≤ length (now ys)) ⌝ }
+    ensures { λ r. ⌜ (now (xs .exit) ≡ storeX d (n + added c) (storeX c n (now (xs .entry))))
+        × (now (ys .exit) ≡ storeY d (n + added c) (storeY c n (now (ys .entry)))) ⌝ }
 {
     put_corner(c, xs, ys, n);
     put_corner(d, xs, ys, n + c.added());
@@ -263,7 +265,8 @@ fn move_front(
     id_d: u32,
 )
     requires { ⌜ Ids (length (now next)) a b «id_c» «id_d» × Ids (length (now prev)) a b «id_c» «id_d» ⌝ }
-    ensures { λ r. ⌜ (now (next .exit) ≡ storeNext c d a b «id_c» «id_d» (now (next .entry))) × (now (prev .exit) ≡ storePrev c d a b «id_c» «id_d» (now (prev .entry))) ⌝ }
+    ensures { λ r. ⌜ (now (next .exit) ≡ storeNext c d a b «id_c» «id_d» (now (next .entry)))
+        × (now (prev .exit) ≡ storePrev c d a b «id_c» «id_d» (now (prev .entry))) ⌝ }
 {
     link_side(c, next, prev, a, a, id_c);
     link(next, prev, id_c, id_d);
@@ -286,7 +289,9 @@ fn is_beyond(
     e: usize,
 ) -> bool
     requires { ⌜ (k .quads + 1 < 2 ^ 64) × (k .edges + e < 2 ^ 64) ⌝ }
-    ensures { λ r. ⌜ r ≡ isBeyond (stateOf (now (xs .entry)) (now (ys .entry)) (now (next .entry)) (now (prev .entry)) (now (snapshot .entry)) (now (quads .entry)) (now (edges .entry)) k) m e ⌝ }
+    ensures { λ r. ⌜ r ≡ isBeyond
+        (stateOf (now (xs .entry)) (now (ys .entry)) (now (next .entry)) (now (prev .entry)) (now (snapshot .entry)) (now (quads .entry)) (now (edges .entry)) k)
+        m e ⌝ }
 {
     let n = (k.nodes as usize) + (m as usize);
     if n > 4294967294 {

@@ -1,7 +1,6 @@
 -- `is_beyond` meets its contract: the first list that is too short decides.
 use native.Mathlib.Omega.{arith}
 use Rattle.front.specs.State.{nodePlaces, quadPlaces, edgePlaces}
-use Rattle.front.specs.Stores.{isBeyond}
 use Rattle.front.specs.StoreLaws.{nodes-beyond, quads-beyond, edges-beyond}
 use borrow.Author.Needs.{needs}
 use Rattle.front.proofs.is_beyond.Statement.{statement}

@@ -139,6 +139,17 @@ fn fields_of_hostile_outlines() {
     fields.finish("hostile outlines", &[0, 1, 2, 3, 4, 5, 6, 7, 8, 9], 20);
 }
 
+/// A generated outline of a kind, and what is lent for its field.
+fn generated(kind: &str, place: u64) -> (Drawing, Setting) {
+    let Some(Case::Pave { drawing, settings, lent }) = Case::new(kind, 1, place) else {
+        panic!("the oracle generates outlines");
+    };
+    let terms::Drawing { outer, holes, hole_lengths } = drawing;
+    let nodes = lent.field_nodes.min(2_500) as usize;
+    let setting = Setting { size: settings.size, sweeps: settings.sweeps as usize, values: 2 * nodes, marks: nodes };
+    (Drawing { outer, holes, hole_lengths }, setting)
+}
+
 #[test]
 fn fields_of_drawings() {
     let kinds =
@@ -146,16 +157,50 @@ fn fields_of_drawings() {
     let mut rng = Rng(4);
     let mut fields = Fields::default();
     for (kind, place) in kinds.into_iter().flat_map(|kind| iter::repeat(kind).zip(0..400)) {
-        let Some(Case::Pave { drawing, settings, lent }) = Case::new(kind, 1, place) else {
-            panic!("the oracle generates outlines");
-        };
-        let terms::Drawing { outer, holes, hole_lengths } = drawing;
-        let nodes = lent.field_nodes.min(2_500) as usize;
-        let setting =
-            Setting { size: settings.size, sweeps: settings.sweeps as usize, values: 2 * nodes, marks: nodes };
-        fields.compare(&mut rng, &Drawing { outer, holes, hole_lengths }, setting);
+        let (drawing, setting) = generated(kind, place);
+        fields.compare(&mut rng, &drawing, setting);
     }
     fields.finish("visual fields and other drawings", &[0, 1, 2, 3, 4, 5, 6, 7, 8, 9], 1);
+}
+
+/// The greatest difference of a value from the plain Rust's; none where both refuse. All but the values must be the same.
+fn from_plain(drawing: &Drawing, setting: Setting) -> Option<f64> {
+    let Setting { size, sweeps, values, marks } = setting;
+    let Drawing { outer, holes, hole_lengths } = drawing;
+    let mut places = FieldPlaces::new(values, marks);
+    let library = places.field(&drawing.outline(), size, sweeps).map_err(Refusal::number);
+    let outline = terms::Outline { outer, holes, hole_lengths };
+    let plain = oracle::plain::Field::new(outline, size, sweeps as u64, marks as u64).map_err(number);
+    let (record, field) = match (library, plain) {
+        (Ok(record), Ok(field)) => (record, field),
+        (library, plain) => {
+            assert_eq!(library.err(), plain.err(), "{drawing:?} {setting:?}");
+            return None;
+        }
+    };
+    let marks = places.marks.list()[..record.nodes()].iter().map(|&mark| mark == 1);
+    assert!(marks.eq(field.marks().iter().copied()), "{drawing:?} {setting:?}");
+    assert_eq!([record.xmin, record.ymin, record.h], [field.record().xmin, field.record().ymin, field.record().h]);
+    let pairs = places.values.list().iter().zip(field.values().as_flattened());
+    Some(pairs.map(|(ours, theirs)| (ours - theirs).abs()).fold(0.0, f64::max))
+}
+
+#[test]
+fn fields_of_the_plain_rust() {
+    for kind in ["visual", "lattice", "concave", "crossing", "holes", "degenerate"] {
+        let found = (0..400).map(|place| generated(kind, place));
+        let differences: Vec<f64> = found.filter_map(|(drawing, setting)| from_plain(&drawing, setting)).collect();
+        let count = |most: f64| differences.iter().filter(|&&difference| difference <= most).count();
+        let near = differences.iter().copied().filter(|&difference| difference <= 1e-6).fold(0.0, f64::max);
+        println!(
+            "the plain Rust's fields, {kind}: {} made, {} with equal values, {} within {near:.1e}, {} further",
+            differences.len(),
+            count(0.0),
+            count(1e-6) - count(0.0),
+            differences.len() - count(1e-6)
+        );
+        assert!(differences.len() >= 200, "few fields of kind {kind} are made");
+    }
 }
 
 #[test]

@@ -57,8 +57,8 @@ unfoldable pub fieldNumbers : FieldResult → FieldExit
 fieldNumbers r = record { numbers = recordNumbers (r .answer); lists = r .lists }
 
 -- the grid of the three floats and two counts lent to `direction`
-abbrev pub gridOf : Float → Float → Float → ℕ → ℕ → Grid
-gridOf xmin ymin h nx ny = record { xmin = xmin; ymin = ymin; h = h; nx = nx; ny = ny }
+abbrev pub gridLent : Float → Float → Float → ℕ → ℕ → Grid
+gridLent xmin ymin h nx ny = record { xmin = xmin; ymin = ymin; h = h; nx = nx; ny = ny }
 
 -- of `direction`
 unfoldable pub directionNumbers : Direction → DirectionAnswer

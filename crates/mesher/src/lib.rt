@@ -6,7 +6,7 @@ ghost use Rattle.domain.specs.Queries.{containsAnswer, nearestAnswer, distanceA
 ghost use Rattle.crossfield.specs.Seeds.{fieldLists};
 ghost use Rattle.crossfield.specs.Field.{fieldRecord, fieldAnswer};
 ghost use Rattle.crossfield.specs.Direction.{directionAnswer};
-ghost use Rattle.mesher.specs.Answers.{containsNumbers, nearestNumbers, distanceNumbers, gridOf, fieldExit, fieldNumbers, directionNumbers};
+ghost use Rattle.mesher.specs.Answers.{containsNumbers, nearestNumbers, distanceNumbers, gridLent, fieldExit, fieldNumbers, directionNumbers};
 use crossfield::Direction;
 use crossfield::FieldAnswer;
 use crossfield::Grid;
@@ -182,7 +182,7 @@ pub extern "C" fn sitjorbe_direction(
     tx: f64,
     ty: f64,
 ) -> DirectionAnswer
-    ensures { λ r. ⌜ r ≡ directionNumbers (directionAnswer (fieldRecord (gridOf xmin ymin h nx ny) (now (values .entry)) (now (marks .entry))) (point x y) (point tx ty)) ⌝ }
+    ensures { λ r. ⌜ r ≡ directionNumbers (directionAnswer (fieldRecord (gridLent xmin ymin h nx ny) (now (values .entry)) (now (marks .entry))) (point x y) (point tx ty)) ⌝ }
 {
     let grid = Grid {
         xmin,

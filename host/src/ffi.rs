@@ -29,6 +29,26 @@ pub struct DistanceAnswer {
     pub distance: f64,
 }
 
+/// A field record's floats and counts; its values and marks are in the lists lent. All 0 on a refusal.
+#[repr(C)]
+#[derive(Clone, Copy, Debug)]
+pub struct FieldRecordAnswer {
+    pub refusal: u32,
+    pub xmin: f64,
+    pub ymin: f64,
+    pub h: f64,
+    pub nx: usize,
+    pub ny: usize,
+}
+
+#[repr(C)]
+#[derive(Clone, Copy, Debug)]
+pub struct DirectionAnswer {
+    pub refusal: u32,
+    pub x: f64,
+    pub y: f64,
+}
+
 #[link(name = "mesher", kind = "static")]
 extern "C" {
     pub fn sitjorbe_contains(
@@ -63,4 +83,35 @@ extern "C" {
         x: f64,
         y: f64,
     ) -> DistanceAnswer;
+
+    pub fn sitjorbe_field(
+        outer: *const f64,
+        outer_len: usize,
+        holes: *const f64,
+        holes_len: usize,
+        lens: *const usize,
+        lens_len: usize,
+        size: f64,
+        sweeps: usize,
+        values: *mut f64,
+        values_len: usize,
+        marks: *mut u8,
+        marks_len: usize,
+    ) -> FieldRecordAnswer;
+
+    pub fn sitjorbe_direction(
+        xmin: f64,
+        ymin: f64,
+        h: f64,
+        nx: usize,
+        ny: usize,
+        values: *const f64,
+        values_len: usize,
+        marks: *const u8,
+        marks_len: usize,
+        x: f64,
+        y: f64,
+        tx: f64,
+        ty: f64,
+    ) -> DirectionAnswer;
 }

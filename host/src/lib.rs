@@ -5,7 +5,7 @@
 //! each crosses as a pointer and a length ([`ffi`]), and gives the refusals' numbers their words ([`Refusal`]).
 //!
 //! ```
-//! use sitjorbe::{contains, distance_to_boundary, nearest_segment, Outline, Refusal};
+//! use sitjorbe::{contains, direction, distance_to_boundary, field, nearest_segment, Outline, Refusal};
 //!
 //! // A square with a square hole.
 //! let outline = Outline {
@@ -20,6 +20,16 @@
 //! let nearest = nearest_segment(&outline, [7.0, 5.0])?;
 //! assert_eq!((nearest.a, nearest.b, nearest.distance), ([8.0, 0.0], [8.0, 8.0], 1.0));
 //!
+//! // The cross field for elements of size 2, after at most 400 sweeps: two floats and a mark a node, in memory lent for it.
+//! let (mut values, mut marks) = (vec![0.0; 2 * 200], vec![0; 200]);
+//! let record = field(&outline, 2.0, 400, &mut values, &mut marks)?;
+//! assert_eq!((record.nx, record.ny, record.h), (11, 11, 1.0));
+//!
+//! // Of its four directions at a point, the one nearest to a target; near the left side they are along it and across it.
+//! let nodes = record.nodes();
+//! let toward = direction(&record, &values[..2 * nodes], &marks[..nodes], [0.0, 4.0], [0.1, -1.0])?;
+//! assert_eq!(toward, [0.0, -1.0]);
+//!
 //! // A refusal says what is wrong and what to do about it.
 //! let refusal = contains(&outline, [f64::NAN, 0.0]).unwrap_err();
 //! assert_eq!(refusal, Refusal::NotFinite);
@@ -28,8 +38,10 @@
 //! ```
 
 pub mod ffi;
+mod field;
 mod queries;
 mod refusal;
 
+pub use field::{direction, field, FieldRecord};
 pub use queries::{contains, distance_to_boundary, nearest_segment, NearestSegment, Outline};
 pub use refusal::Refusal;

@@ -1,8 +1,9 @@
-//! Nothing that is lent is written, and nothing beside it is read.
+//! Nothing that is lent for reading is written, and nothing beside it is read. A field is written within its lists alone.
 
 mod common;
 
-use common::{refused, Drawing, Lent, Raw};
+use common::{refused, Drawing, FieldPlaces, Lent, Raw};
+use sitjorbe::{direction, ffi};
 
 /// Drawings and points that are accepted and refused.
 fn queries() -> Vec<(Drawing, [f64; 2])> {
@@ -44,9 +45,9 @@ fn lists_are_read_within_their_bounds() {
         // SAFETY: each pointer comes with its list's length.
         let usual = unsafe { Raw::ask(lent.outer.parts(), lent.holes.parts(), lent.hole_lengths.parts(), point) };
         for side in [pages::Side::Start, pages::Side::End] {
-            let outer = pages::ReadOnly::new(&drawing.outer, side);
-            let holes = pages::ReadOnly::new(&drawing.holes, side);
-            let lengths = pages::ReadOnly::new(&drawing.hole_lengths, side);
+            let outer = pages::Pages::read_only(&drawing.outer, side);
+            let holes = pages::Pages::read_only(&drawing.holes, side);
+            let lengths = pages::Pages::read_only(&drawing.hole_lengths, side);
             // SAFETY: as above.
             let raw = unsafe { Raw::ask(outer.parts(), holes.parts(), lengths.parts(), point) };
             assert_eq!((raw.refusals(), raw.values()), (usual.refusals(), usual.values()), "{drawing:?} {point:?}");
@@ -54,10 +55,46 @@ fn lists_are_read_within_their_bounds() {
     }
 }
 
+/// The outline in read-only memory, and values and marks of just the field's length in memory of their own, each with
+/// memory beside it that can't be touched; then the direction, of the field in read-only memory.
+#[cfg(target_os = "linux")]
+#[test]
+fn a_field_is_written_and_read_within_its_lists() {
+    let (drawing, _) = queries().swap_remove(0);
+    let mut usual = FieldPlaces::new(2 * 2_500, 2_500);
+    let record = usual.field(&drawing.outline(), 0.3, 400).unwrap();
+    let nodes = record.nodes();
+    let (values, marks) = (&usual.values.list()[..2 * nodes], &usual.marks.list()[..nodes]);
+    for side in [pages::Side::Start, pages::Side::End] {
+        let outline = [&drawing.outer, &drawing.holes].map(|list| pages::Pages::read_only(list, side));
+        let [(outer, outer_len), (holes, holes_len)] = [outline[0].parts(), outline[1].parts()];
+        let lengths = pages::Pages::read_only(&drawing.hole_lengths, side);
+        let (lens, lens_len) = lengths.parts();
+        let mut written = pages::Pages::writable(&vec![0.0; 2 * nodes], side);
+        let mut marked = pages::Pages::writable(&vec![7; nodes], side);
+        let (to, bytes) = (written.list_mut(), marked.list_mut());
+        let (to, to_len, bytes, bytes_len) = (to.as_mut_ptr(), to.len(), bytes.as_mut_ptr(), bytes.len());
+        // SAFETY: each pointer comes with its list's length.
+        let answer = unsafe {
+            ffi::sitjorbe_field(
+                outer, outer_len, holes, holes_len, lens, lens_len, 0.3, 400, to, to_len, bytes, bytes_len,
+            )
+        };
+        assert_eq!((answer.refusal, answer.nx, answer.ny), (0, record.nx, record.ny));
+        assert_eq!((written.list(), marked.list()), (values, marks));
+
+        let (lent_values, lent_marks) = (pages::Pages::read_only(values, side), pages::Pages::read_only(marks, side));
+        for point in [[1.5, 1.7], [-1e3, -1e3], [1e3, 1e3], [record.xmin, record.ymin]] {
+            let of_pages = direction(&record, lent_values.list(), lent_marks.list(), point, [0.3, -1.0]);
+            assert_eq!(of_pages, direction(&record, values, marks, point, [0.3, -1.0]), "{point:?}");
+        }
+    }
+}
+
 #[cfg(target_os = "linux")]
 mod pages {
     use std::ffi::{c_int, c_long, c_void};
-    use std::{mem, ptr};
+    use std::{mem, ptr, slice};
 
     extern "C" {
         fn mmap(at: *mut c_void, size: usize, access: c_int, flags: c_int, file: c_int, offset: c_long) -> *mut c_void;
@@ -78,16 +115,25 @@ mod pages {
         End,
     }
 
-    /// A copy of a list in read-only pages, between two pages without access.
-    pub struct ReadOnly<T> {
+    /// A copy of a list in pages of its own, between two pages without access.
+    pub struct Pages<T> {
         first: *mut c_void,
         size: usize,
-        list: *const T,
+        list: *mut T,
         length: usize,
+        writable: bool,
     }
 
-    impl<T: Copy> ReadOnly<T> {
-        pub fn new(list: &[T], side: Side) -> ReadOnly<T> {
+    impl<T: Copy> Pages<T> {
+        pub fn read_only(list: &[T], side: Side) -> Pages<T> {
+            Pages::new(list, side, false)
+        }
+
+        pub fn writable(list: &[T], side: Side) -> Pages<T> {
+            Pages::new(list, side, true)
+        }
+
+        fn new(list: &[T], side: Side, writable: bool) -> Pages<T> {
             let bytes = mem::size_of_val(list);
             let inner = bytes.div_ceil(PAGE).max(1) * PAGE;
             let size = inner + 2 * PAGE;
@@ -102,9 +148,21 @@ mod pages {
                 let copy = first.byte_add(offset).cast::<T>();
                 copy.copy_from_nonoverlapping(list.as_ptr(), list.len());
                 assert_eq!(mprotect(first, size, NO_ACCESS), 0);
-                assert_eq!(mprotect(first.byte_add(PAGE), inner, READ), 0);
-                ReadOnly { first, size, list: copy, length: list.len() }
+                let access = if writable { READ_WRITE } else { READ };
+                assert_eq!(mprotect(first.byte_add(PAGE), inner, access), 0);
+                Pages { first, size, list: copy, length: list.len(), writable }
             }
+        }
+
+        pub fn list(&self) -> &[T] {
+            // SAFETY: the list is in pages that can be read.
+            unsafe { slice::from_raw_parts(self.list, self.length) }
+        }
+
+        pub fn list_mut(&mut self) -> &mut [T] {
+            assert!(self.writable);
+            // SAFETY: the list is in pages that can be written.
+            unsafe { slice::from_raw_parts_mut(self.list, self.length) }
         }
 
         pub fn parts(&self) -> (*const T, usize) {
@@ -112,7 +170,7 @@ mod pages {
         }
     }
 
-    impl<T> Drop for ReadOnly<T> {
+    impl<T> Drop for Pages<T> {
         fn drop(&mut self) {
             // SAFETY: the pages are those that `new` mapped.
             unsafe { munmap(self.first, self.size) };

@@ -210,8 +210,9 @@ fn archive() -> Declared {
 fn declarations_are_those_of_the_rattle_source() {
     let rattle = archive();
     let rust = Declared::of_rust(include_str!("../src/ffi.rs"));
-    for entry in ["sitjorbe_contains", "sitjorbe_nearest_segment", "sitjorbe_distance_to_boundary"] {
-        assert!(rattle.functions.contains_key(entry), "{entry} isn't found in the Rattle source");
+    let entries = ["contains", "nearest_segment", "distance_to_boundary", "field", "direction"];
+    for entry in entries.map(|name| format!("sitjorbe_{name}")) {
+        assert!(rattle.functions.contains_key(&entry), "{entry} isn't found in the Rattle source");
     }
     let differences = rattle.differences(&rust);
     assert!(differences.is_empty(), "src/ffi.rs differs from the Rattle source:\n{}", differences.join("\n"));

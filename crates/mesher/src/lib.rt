@@ -1,8 +1,15 @@
-// The public entries: what a host calls, on numbers and slices. None has a `requires`, and none writes what is lent.
+// The public entries: what a host calls, on numbers and slices. None has a `requires`, and none writes what is lent but `sitjorbe_field`,
+// which writes its last two lists.
 ghost use mathlib.Core.Path.{_≡_};
 ghost use Rattle.domain.specs.Outline.{outline, point};
 ghost use Rattle.domain.specs.Queries.{containsAnswer, nearestAnswer, distanceAnswer};
-ghost use Rattle.mesher.specs.Answers.{containsNumbers, nearestNumbers, distanceNumbers};
+ghost use Rattle.crossfield.specs.Seeds.{fieldLists};
+ghost use Rattle.crossfield.specs.Field.{fieldRecord, fieldAnswer};
+ghost use Rattle.crossfield.specs.Direction.{directionAnswer};
+ghost use Rattle.mesher.specs.Answers.{containsNumbers, nearestNumbers, distanceNumbers, gridLent, fieldExit, fieldNumbers, directionNumbers};
+use crossfield::Direction;
+use crossfield::FieldAnswer;
+use crossfield::Grid;
 use domain::Contains;
 use domain::Distance;
 use domain::Nearest;
@@ -29,6 +36,24 @@ pub struct NearestAnswer {
 pub struct DistanceAnswer {
     pub refusal: u32,
     pub distance: f64,
+}
+
+// A field record's floats and counts; its values and marks are in the lists lent.
+#[repr(C)]
+pub struct FieldRecordAnswer {
+    pub refusal: u32,
+    pub xmin: f64,
+    pub ymin: f64,
+    pub h: f64,
+    pub nx: usize,
+    pub ny: usize,
+}
+
+#[repr(C)]
+pub struct DirectionAnswer {
+    pub refusal: u32,
+    pub x: f64,
+    pub y: f64,
 }
 
 // Whether the point is inside the outer loop and outside every hole.
@@ -104,6 +129,85 @@ pub extern "C" fn sitjorbe_distance_to_boundary<'a>(
         Distance::Of(distance) => DistanceAnswer {
             refusal: 0,
             distance,
+        },
+    }
+}
+
+// The field of the outline, in the lists lent: two floats and a mark a node. Nothing is written on a refusal.
+#[no_mangle]
+pub extern "C" fn sitjorbe_field<'a>(
+    outer: &'a [f64],
+    holes: &'a [f64],
+    lens: &[usize],
+    size: f64,
+    sweeps: usize,
+    values: &mut [f64],
+    marks: &mut [u8],
+) -> FieldRecordAnswer
+    ensures { λ r. ⌜ fieldExit r (now (values .exit)) (now (marks .exit)) ≡ fieldNumbers (fieldAnswer (outline (now (outer .entry)) (now (holes .entry)) (now (lens .entry))) size sweeps (fieldLists (now (values .entry)) (now (marks .entry)))) ⌝ }
+{
+    let answer = crossfield::field(outer, holes, lens, size, sweeps, values, marks);
+    match answer {
+        FieldAnswer::Refused(refusal) => FieldRecordAnswer {
+            refusal,
+            xmin: 0.0,
+            ymin: 0.0,
+            h: 0.0,
+            nx: 0,
+            ny: 0,
+        },
+        FieldAnswer::Made(grid) => FieldRecordAnswer {
+            refusal: 0,
+            xmin: grid.xmin,
+            ymin: grid.ymin,
+            h: grid.h,
+            nx: grid.nx,
+            ny: grid.ny,
+        },
+    }
+}
+
+// Of the field's four directions at (x, y) the one nearest to the target (tx, ty), which may be any two floats.
+#[no_mangle]
+pub extern "C" fn sitjorbe_direction(
+    xmin: f64,
+    ymin: f64,
+    h: f64,
+    nx: usize,
+    ny: usize,
+    values: &[f64],
+    marks: &[u8],
+    x: f64,
+    y: f64,
+    tx: f64,
+    ty: f64,
+) -> DirectionAnswer
+    ensures { λ r. ⌜ r ≡ directionNumbers (directionAnswer (fieldRecord (gridLent xmin ymin h nx ny) (now (values .entry)) (now (marks .entry))) (point x y) (point tx ty)) ⌝ }
+{
+    let grid = Grid {
+        xmin,
+        ymin,
+        h,
+        nx,
+        ny,
+    };
+    let answer = crossfield::query_direction(
+        grid,
+        values,
+        marks,
+        Point { x, y },
+        Point { x: tx, y: ty },
+    );
+    match answer {
+        Direction::Refused(refusal) => DirectionAnswer {
+            refusal,
+            x: 0.0,
+            y: 0.0,
+        },
+        Direction::Toward(direction) => DirectionAnswer {
+            refusal: 0,
+            x: direction.x,
+            y: direction.y,
         },
     }
 }

@@ -3,7 +3,7 @@
 
 use std::hint::black_box;
 
-use sitjorbe::{ffi, Outline};
+use sitjorbe::{ffi, field, FieldRecord, Outline, Refusal};
 
 /// An outline that owns its lists.
 #[derive(Clone, Debug, Default)]
@@ -53,6 +53,13 @@ impl Place for usize {
     }
 }
 
+impl Place for u8 {
+    const GUARD: u8 = 0x5a;
+    fn bits(self) -> u64 {
+        u64::from(self)
+    }
+}
+
 /// A list with guards before and after it.
 pub struct Guarded<T> {
     places: Vec<T>,
@@ -73,6 +80,11 @@ impl<T: Place> Guarded<T> {
         &self.places[Self::GUARDS..self.places.len() - Self::GUARDS]
     }
 
+    pub fn list_mut(&mut self) -> &mut [T] {
+        let end = self.places.len() - Self::GUARDS;
+        &mut self.places[Self::GUARDS..end]
+    }
+
     /// The list's pointer and length. The pointer may be written through, so that a write would be seen.
     pub fn parts(&mut self) -> (*const T, usize) {
         let length = self.list().len();
@@ -81,8 +93,14 @@ impl<T: Place> Guarded<T> {
 
     /// Whether every bit of the list and its guards is what it was.
     pub fn kept(&self) -> bool {
+        self.kept_from(0)
+    }
+
+    /// Whether the guards, and the places of the list from number `first` on, keep every bit.
+    pub fn kept_from(&self, first: usize) -> bool {
         let places = black_box(&self.places);
-        places.iter().map(|place| place.bits()).eq(self.before.iter().copied())
+        let same = |k: usize| places[k].bits() == self.before[k];
+        (0..Self::GUARDS).chain(Self::GUARDS + first..places.len()).all(same)
     }
 }
 
@@ -108,6 +126,28 @@ impl Lent {
 
     pub fn kept(&self) -> bool {
         self.outer.kept() && self.holes.kept() && self.hole_lengths.kept()
+    }
+}
+
+/// A field's lists, each with its guards, filled with floats and bytes that no field has.
+pub struct FieldPlaces {
+    pub values: Guarded<f64>,
+    pub marks: Guarded<u8>,
+}
+
+impl FieldPlaces {
+    pub fn new(values: usize, marks: usize) -> FieldPlaces {
+        FieldPlaces { values: Guarded::new(&vec![-7.5; values]), marks: Guarded::new(&vec![0xa5; marks]) }
+    }
+
+    /// Asks the wrapper for a field in these places.
+    pub fn field(&mut self, outline: &Outline<'_>, size: f64, sweeps: usize) -> Result<FieldRecord, Refusal> {
+        field(outline, size, sweeps, self.values.list_mut(), self.marks.list_mut())
+    }
+
+    /// Whether nothing was written but the first nodes' values and marks.
+    pub fn kept_past(&self, nodes: usize) -> bool {
+        self.values.kept_from(2 * nodes) && self.marks.kept_from(nodes)
     }
 }
 

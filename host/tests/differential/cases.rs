@@ -1,4 +1,6 @@
-//! Outlines and points to ask about, random and hostile; the same for a seed on every machine.
+//! Outlines, points, settings and field records to ask about, random and hostile; the same for a seed on every machine.
+
+use sitjorbe::FieldRecord;
 
 use crate::common::Drawing;
 
@@ -176,4 +178,169 @@ pub fn point(rng: &mut Rng, drawing: &Drawing) -> [f64; 2] {
 /// The float itself, its neighbours, or its opposite.
 fn near(rng: &mut Rng, x: f64) -> f64 {
     rng.pick(&[x, x.next_up(), x.next_down(), -x])
+}
+
+// --- fields ---
+
+/// What is lent for a field beside the outline: how many floats for values, and how many marks.
+#[derive(Clone, Copy, Debug)]
+pub struct Setting {
+    pub size: f64,
+    pub sweeps: usize,
+    pub values: usize,
+    pub marks: usize,
+}
+
+/// Sizes at and beyond the bounds.
+const SIZES: [f64; 12] = [
+    0.01,
+    0.01f64.next_up(),
+    0.01f64.next_down(),
+    100.0,
+    100f64.next_down(),
+    100f64.next_up(),
+    0.0,
+    -0.0,
+    -1.0,
+    f64::NAN,
+    f64::INFINITY,
+    f64::from_bits(1),
+];
+
+/// An outline for a field: once in 20 without width or without height.
+pub fn field_drawing(rng: &mut Rng) -> Drawing {
+    let mut drawing = drawing(rng);
+    if rng.once_in(20) {
+        let (axis, level) = (rng.below(2), rng.pick(&EDGES));
+        for list in [&mut drawing.outer, &mut drawing.holes] {
+            list.iter_mut().skip(axis).step_by(2).for_each(|x| *x = level);
+        }
+    }
+    drawing
+}
+
+/// Most sizes suit the outline, and most places are enough; the rest is anything.
+pub fn setting(rng: &mut Rng, drawing: &Drawing) -> Setting {
+    let size = match rng.below(8) {
+        0 => rng.pick(&SIZES),
+        1 => rng.pick(&[0.01, 0.1, 1.0, 10.0]) * (1.0 + 9.0 * rng.unit().abs()),
+        _ => (extent(drawing) / (1.0 + 15.0 * rng.unit().abs())).clamp(0.01, 100.0),
+    };
+    let sweeps = match rng.below(12) {
+        0 => rng.pick(&[1_001, usize::MAX]),
+        1..=4 => rng.below(1_001),
+        _ => rng.pick(&[0, 1, 2, 3, 20, 100, 400, 1_000]),
+    };
+    let mut nodes = || rng.pick(&[24, 400, 2_500, 2_500, 2_500, 2_500]);
+    let [values, marks] = [2 * nodes(), nodes()];
+    Setting { size, sweeps, values: values + rng.below(3), marks: marks + rng.below(3) }
+}
+
+/// The greater side of the outline's box, as far as it is a number.
+fn extent(drawing: &Drawing) -> f64 {
+    let side = |axis: usize| {
+        let along =
+            || [&drawing.outer, &drawing.holes].into_iter().flat_map(move |list| list.iter().skip(axis).step_by(2));
+        let finite = || along().copied().filter(|x| x.is_finite());
+        finite().fold(f64::NEG_INFINITY, f64::max) - finite().fold(f64::INFINITY, f64::min)
+    };
+    side(0).max(side(1))
+}
+
+/// A field record with its lists.
+#[derive(Clone, Debug)]
+pub struct Record {
+    pub record: FieldRecord,
+    pub values: Vec<f64>,
+    pub marks: Vec<u8>,
+}
+
+/// A record that refusal 11 leaves be, of few nodes.
+pub fn record(rng: &mut Rng) -> Record {
+    let (nx, ny) = (2 + rng.below(6), 2 + rng.below(6));
+    let h = rng.pick(&[0.001, 0.05, 0.5, 1.0, 13.7, 1e3]);
+    let mut origin = || if rng.once_in(6) { rng.pick(&[2e3, -2e3, 0.0, -0.0]) } else { 500.0 * rng.unit() };
+    let (xmin, ymin) = (origin(), origin());
+    let values = (0..nx * ny).flat_map(|_| value(rng)).collect();
+    let marks = (0..nx * ny).map(|_| rng.next() as u8).collect();
+    Record { record: FieldRecord { xmin, ymin, h, nx, ny }, values, marks }
+}
+
+/// On the unit circle, on an axis, about the tolerance, at the bounds, or anything between them.
+fn value(rng: &mut Rng) -> [f64; 2] {
+    let (u, v) = (rng.unit(), rng.unit());
+    match rng.below(6) {
+        0 => rng.pick(&[[1.0, 0.0], [-1.0, 0.0], [0.0, 1.0], [0.0, -1.0], [-1.0, -0.0], [0.0, 0.0], [-0.0, -0.0]]),
+        1 => [1e-12 * u, rng.pick(&[1e-12, 1e-13, 1e-162]) * v],
+        2 => [rng.pick(&[4.0, -4.0]), rng.pick(&[4.0, -4.0, 0.0, 1e-300])],
+        3 => [4.0 * u, 4.0 * v],
+        _ => [u, (1.0 - u * u).sqrt().copysign(v)],
+    }
+}
+
+/// Refusal 11's conditions are numbered from 0.
+pub const CONDITIONS: usize = 14;
+
+/// Breaks one of refusal 11's conditions, and no other.
+pub fn break_condition(rng: &mut Rng, broken: &mut Record, condition: usize) {
+    let Record { record, values, marks } = broken;
+    let nodes = record.nodes();
+    let far = [f64::NAN, f64::INFINITY, f64::NEG_INFINITY, 2e3f64.next_up(), -(2e3f64.next_up()), f64::MAX];
+    match condition {
+        0 => (record.nx, record.ny) = (1, nodes),
+        1 => (record.nx, record.ny) = (nodes, 1),
+        2 => {
+            (record.nx, record.ny) = rng.pick(&[(0, 2), (2, 0), (0, 0), (0, usize::MAX)]);
+            (*values, *marks) = (vec![], vec![]);
+        }
+        3 => {
+            (record.nx, record.ny) = rng.pick(&[(501, 500), (2, 125_001), (125_001, 2), (500, 501)]);
+            values.resize(2 * record.nodes(), 0.5);
+            marks.resize(record.nodes(), 1);
+        }
+        // The product wraps round to the nodes lent.
+        4 => {
+            (record.nx, record.ny) =
+                rng.pick(&[(1 << 63 | 2, 2), (2, 1 << 63 | 2), (1 << 62 | 1, 4), (4, 1 << 62 | 1)]);
+            values.resize(8, 0.5);
+            marks.resize(4, 1);
+        }
+        5 => drop(marks.pop()),
+        6 => marks.push(1),
+        7 => drop(values.pop()),
+        8 => values.push(0.5),
+        9 => record.h = rng.pick(&[0.001f64.next_down(), 0.0, -0.5, f64::from_bits(1), f64::NEG_INFINITY]),
+        10 => record.h = rng.pick(&[1e3f64.next_up(), f64::MAX, f64::INFINITY, f64::NAN]),
+        11 => record.xmin = rng.pick(&far),
+        12 => record.ymin = rng.pick(&far),
+        _ => {
+            let at = rng.below(values.len());
+            values[at] = rng.pick(&[4f64.next_up(), -(4f64.next_up()), f64::NAN, f64::INFINITY, f64::NEG_INFINITY]);
+        }
+    }
+}
+
+/// A point on a node or beside one, in the grid or about it, or where something ends.
+pub fn grid_point(rng: &mut Rng, record: &FieldRecord) -> [f64; 2] {
+    let FieldRecord { xmin, ymin, h, nx, ny } = *record;
+    let mut along = |start: f64, n: usize| {
+        let node = start + h * rng.below(n.clamp(1, 1_000)) as f64;
+        match rng.below(12) {
+            0 => rng.pick(&EDGES),
+            1 if rng.once_in(3) => rng.pick(&REFUSED),
+            1..=4 => near(rng, node),
+            _ => node + 1.5 * h * rng.unit(),
+        }
+    };
+    [along(xmin, nx), along(ymin, ny)]
+}
+
+/// Any two floats.
+pub fn target(rng: &mut Rng) -> [f64; 2] {
+    match rng.below(4) {
+        0 => rng.pick(&[[1.0, 1.0], [1.0, -1.0], [-1.0, -1.0], [-1.0, 1.0], [0.0, 0.0], [0.0, 1.0], [-1.0, -0.0]]),
+        1 => [0, 0].map(|_| if rng.once_in(2) { rng.pick(&REFUSED) } else { rng.pick(&EDGES) }),
+        2 => [0, 0].map(|_| f64::from_bits(rng.next())),
+        _ => [rng.unit(), rng.unit()],
+    }
 }

@@ -7,6 +7,7 @@ extern crate oracle;
 mod cases;
 #[path = "../common/mod.rs"]
 mod common;
+mod fields;
 
 use std::collections::BTreeMap;
 

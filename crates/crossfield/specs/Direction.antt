@@ -1,5 +1,5 @@
 -- Refusal 11, and the direction query. Definitions only.
-use mathlib.Core.Bool.{Bool, true, false, not, _&&_, cond}
+use mathlib.Core.Bool.{Bool, not, _&&_, cond}
 use mathlib.Core.List.{List}
 use Prim.Native.Nat.{ℕ, _+_, _-_, _*_, min}
 use lib.IntN.{ℤ, pos, negsuc}
@@ -10,8 +10,11 @@ use Rattle.numbers.specs.Float.{_⊕_, _⊖_, _⊗_, _⊘_, bits, zeroF, oneF, 
 use Rattle.numbers.specs.Whole.{floorInt}
 use Rattle.domain.specs.declared.Point.{Point}
 use Rattle.domain.specs.Outline.{point, pointAt, anyFloat, firstOf, pointRefusal}
+use Rattle.domain.specs.Queries.{answerBy}
 use Rattle.geometry.specs.Plane.{norm}
 use Rattle.crossfield.specs.declared.Grid.{Grid}
+use Rattle.crossfield.specs.declared.Direction.{Direction}
+use Rattle.crossfield.specs.declared.Direction.the-variants as direction-is
 use Rattle.crossfield.specs.Grid.{mostFieldNodes, gridNodes}
 use Rattle.crossfield.specs.Seeds.{nodeAt}
 use Rattle.crossfield.specs.Field.{FieldRecord}
@@ -110,9 +113,13 @@ nearestOf target d =
     closerOf target second (point (d .y) (neg (d .x)))
 
 -- `nearest_direction`
-unfoldable pub nearestDirection : FieldRecord → Point → Point → Point
-nearestDirection r p target = nearestOf target (directionOf (rawAt (r .grid) (r .lists .values) p))
+unfoldable pub nearestDirection : Grid → List Float → Point → Point → Point
+nearestDirection g values p target = nearestOf target (directionOf (rawAt g values p))
 
 -- of a direction query: 11, then 3 and 4 of its point; its target may be any two floats
 unfoldable pub directionRefusal : FieldRecord → Point → ℕ
 directionRefusal r p = firstOf (recordRefusal r) (pointRefusal p)
+
+unfoldable pub directionAnswer : FieldRecord → Point → Point → Direction
+directionAnswer r p target =
+    answerBy direction-is.Refused (direction-is.Toward (nearestDirection (r .grid) (r .lists .values) p target)) (directionRefusal r p)

@@ -1,5 +1,5 @@
 -- The bounding box, the grid of a field, and the refusals 5 to 8. Definitions only.
-use mathlib.Core.Bool.{Bool, true, false, not, _||_, cond}
+use mathlib.Core.Bool.{Bool, not, _||_, cond}
 use mathlib.Core.List.{List}
 use Prim.Native.Nat.{ℕ, _+_, _*_, max}
 use lib.Dec.{ltb}

@@ -3,3 +3,5 @@ pub mod Seeds
 pub mod Sweeps
 pub mod Field
 pub mod Direction
+pub mod Places
+pub mod RecordLaws

@@ -1,5 +1,5 @@
 -- Seeds and marks: each node's value from its nearest segment, by document 01's stand-ins for the angle functions. Definitions only.
-use mathlib.Core.Bool.{Bool, true, false, _&&_, cond}
+use mathlib.Core.Bool.{Bool, _&&_, cond}
 use mathlib.Core.List.{List}
 use Prim.Native.Nat.{ℕ, _+_, _*_}
 use lib.ListN.{set}

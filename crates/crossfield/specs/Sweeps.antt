@@ -1,10 +1,10 @@
 -- Sweeps: the nodes that are not fixed take their neighbours' average, in the same list. Definitions only.
-use mathlib.Core.Bool.{Bool, true, false, not, _&&_, cond}
+use mathlib.Core.Bool.{Bool, true, not, _&&_, cond}
 use mathlib.Core.List.{List}
-use Prim.Native.Nat.{ℕ, _+_, _-_, _*_}
+use Prim.Native.Nat.{ℕ, _+_, _-_}
 use lib.Dec.{ltb, eqb}
 use lib.ListN.{getD}
-use lib.Ieee.{Float, nan, lt, le}
+use lib.Ieee.{Float, lt, le}
 use Rattle.laws.specs.Loop.{forUp, Turn, go, out, run}
 use Rattle.numbers.specs.Float.{_⊕_, _⊖_, _⊘_, bits, zeroF, oneF, tolerance, absF, toFloat}
 use Rattle.domain.specs.declared.Point.{Point}

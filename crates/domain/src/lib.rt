@@ -51,6 +51,16 @@ pub struct Settings {
 }
 
 impl Settings {
+    pub const LEAST_SIZE: f64 = 0.01;
+
+    pub const MOST_SIZE: f64 = 100.0;
+
+    pub const MOST_SWEEPS: usize = 1000;
+
+    pub const MOST_FIELD_NODES: usize = 250000;
+    // A node this many spacings from the boundary is fixed.
+    pub const BAND: f64 = 1.5;
+
     pub const MOST_POINTS: usize = 65535;
 
     pub const FARTHEST: f64 = 1000.0;

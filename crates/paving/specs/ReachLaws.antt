@@ -52,8 +52,8 @@ try-answers o size field s a b =
     let bx = node s b .x ⊖ node s a .x in
     let by' = node s b .y ⊖ node s a .y in
     let normal = normalOf bx by' (norm bx by') in
-    let da = nearestDirection field (node s a) normal in
-    let db = nearestDirection field (node s b) normal in
+    let da = nearestDirection (field .grid) (field .lists .values) (node s a) normal in
+    let db = nearestDirection (field .grid) (field .lists .values) (node s b) normal in
     choose (le (norm bx by') tolerance) _
     (or-answers o size s a b (attemptQuad o size s a b da db) _ (attempt-answers o size s a b da db) (attempt-answers o size s a b normal normal))
   where

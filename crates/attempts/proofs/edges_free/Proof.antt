@@ -1,0 +1,62 @@
+-- `attempts::edges_free` meets its contract: each answer is the definition's at the tests that led to it.
+use mathlib.Core.Path.{refl}
+use borrow.Author.Needs.{needs}
+use Rattle.paving.specs.Checks.{edgesFree}
+use Rattle.attempts.specs.Seen.{seenEdges}
+use Rattle.attempts.specs.SeenLaws.{corner-point-seen}
+use Rattle.attempts.proofs.edges_free.Statement.{statement}
+use Rattle.attempts.proofs.edges_free.Tie as tie
+
+corner-id-requires : tie.Need-corner-id-requires
+corner-id-requires c κs = search needs
+
+second-id-requires : tie.Need-second-id-requires
+second-id-requires c κs = c .before .before .before .before .pre .nodes-few
+
+side-crosses-requires : tie.Need-side-crosses-requires
+side-crosses-requires c κs = c .before .before .before .before .before .pre .edges-fit
+
+returns : tie.Need-returns
+unfolding edgesFree
+returns c = rw (← c .before .before .before .corner-id .ensures, ← c .before .side-crosses .ensures, c .if1 .taken) refl
+
+corner-point-requires : tie.Need-corner-point-requires
+corner-point-requires c κs = search needs
+
+corner-point-requires-2 : tie.Need-corner-point-requires-2
+corner-point-requires-2 c κs = search needs
+
+edge-crosses-requires : tie.Need-edge-crosses-requires
+edge-crosses-requires c κs = c .before .before .before .before .before .before .before .before .before .pre .edges-fit
+
+returns-2 : tie.Need-returns-2
+unfolding edgesFree
+returns-2 c =     let s = seenEdges (c .before .before .before .before .before .before .before .before .before .before .before .args .xs .now) (c .before .before .before .before .before .before .before .before .before .before .before .args .ys .now) (c .before .before .before .before .before .before .before .before .before .before .before .args .edges .now) (c .before .before .before .before .before .before .before .before .before .before .before .args .counts) in
+    rw (← c .before .before .before .before .before .before .before .corner-id .ensures, ← c .before .before .before .before .before .before .second-id .ensures, ← c .before .before .before .before .before .side-crosses .ensures, c .before .before .before .before .if1 .left)
+    (rw (← corner-point-seen s (c .before .before .before .before .before .before .before .before .before .before .before .args .c), ← corner-point-seen s (c .before .before .before .before .before .before .before .before .before .before .before .args .d), ← c .before .before .before .corner-point .ensures, ← c .before .before .corner-point2 .ensures)
+    (rw (← c .before .edge-crosses .ensures, c .if2 .taken) refl))
+
+side-crosses-requires-2 : tie.Need-side-crosses-requires-2
+side-crosses-requires-2 c κs = c .before .before .before .before .before .before .before .before .before .before .before .pre .edges-fit
+
+returns-3 : tie.Need-returns-3
+unfolding edgesFree
+returns-3 c =     let s = seenEdges (c .before .before .before .before .before .before .before .before .before .before .before .before .args .xs .now) (c .before .before .before .before .before .before .before .before .before .before .before .before .args .ys .now) (c .before .before .before .before .before .before .before .before .before .before .before .before .args .edges .now) (c .before .before .before .before .before .before .before .before .before .before .before .before .args .counts) in
+    rw (← c .before .before .before .before .before .before .before .before .corner-id .ensures, ← c .before .before .before .before .before .before .before .second-id .ensures, ← c .before .before .before .before .before .before .side-crosses .ensures, c .before .before .before .before .before .if1 .left)
+    (rw (← corner-point-seen s (c .before .before .before .before .before .before .before .before .before .before .before .before .args .c), ← corner-point-seen s (c .before .before .before .before .before .before .before .before .before .before .before .before .args .d), ← c .before .before .before .before .corner-point .ensures, ← c .before .before .before .corner-point2 .ensures)
+    (rw (← c .before .before .edge-crosses .ensures, c .before .if2 .left, ← c .side-crosses2 .ensures) refl))
+
+pub edges-free-spec : {M : Type 1} → statement M
+edges-free-spec =
+    tie.close
+    (tie.spec
+    corner-id-requires
+    second-id-requires
+    side-crosses-requires
+    returns
+    corner-point-requires
+    corner-point-requires-2
+    edge-crosses-requires
+    returns-2
+    side-crosses-requires-2
+    returns-3)

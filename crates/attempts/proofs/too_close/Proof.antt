@@ -1,0 +1,64 @@
+-- `attempts::too_close` meets its contract: the loop's invariant is a search that has found nothing.
+use mathlib.Core.Path.{_∙_}
+use Prim.Native.Nat.{_-_}
+use native.Mathlib.Omega.{arith}
+use borrow.Author.Needs.{needs}
+use Rattle.laws.specs.Loop.{Scan, scan-hit, scan-next, scan-none, scan-start}
+use Rattle.paving.specs.Checks.{closeNode, tooClose}
+use Rattle.attempts.specs.Seen.{seenPoints}
+use Rattle.attempts.specs.SeenLaws.{close-is}
+use Rattle.attempts.proofs.too_close.Statement.{statement}
+use Rattle.attempts.proofs.too_close.Tie as tie
+
+abbrev Inv-loop : tie.InvT-loop
+Inv-loop size xs ys p nodes radius radius2 key id₀ id = Scan (closeNode size (seenPoints xs ys) p) nodes id
+
+abbrev μ-loop : tie.MeasureT-loop
+μ-loop size xs ys p nodes radius radius2 key id₀ id = nodes - id
+
+key-of-requires : tie.Need-key-of-requires Inv-loop μ-loop
+key-of-requires c κs = search needs
+
+loop-holds : tie.Need-loop-holds Inv-loop μ-loop
+loop-holds c = scan-start _ _
+
+node-at-requires : tie.Need-node-at-requires Inv-loop μ-loop
+node-at-requires c κs = search needs
+
+too-close-at-requires : tie.Need-too-close-at-requires Inv-loop μ-loop
+too-close-at-requires c κs = search needs
+
+returns : tie.Need-returns Inv-loop μ-loop
+unfolding tooClose
+returns c =     scan-hit _ (c .before .before .before .before .loop .inv) (c .before .before .before .loop-test .taken)
+    (close-is (c .before .before .before .before .before .before .before .before .args .size) (seenPoints (c .before .before .before .before .before .before .before .before .args .xs .now) (c .before .before .before .before .before .before .before .before .args .ys .now)) (c .before .before .before .before .before .before .before .before .args .p) (c .before .before .before .before .loop .id) (c .before .before .before .before .before .key-of .ensures) (c .before .before .node-at .ensures) (c .before .too-close-at .ensures) ∙ c .if1 .taken)
+
+add-id : tie.Need-add-id Inv-loop μ-loop
+add-id c = omega arith
+
+loop-less : tie.Need-loop-less Inv-loop μ-loop
+loop-less c = omega arith
+
+loop-again : tie.Need-loop-again Inv-loop μ-loop
+loop-again c =     scan-next _ (c .before .before .before .before .loop .inv) (c .before .before .before .loop-test .taken)
+    (close-is (c .before .before .before .before .before .before .before .before .args .size) (seenPoints (c .before .before .before .before .before .before .before .before .args .xs .now) (c .before .before .before .before .before .before .before .before .args .ys .now)) (c .before .before .before .before .before .before .before .before .args .p) (c .before .before .before .before .loop .id) (c .before .before .before .before .before .key-of .ensures) (c .before .before .node-at .ensures) (c .before .too-close-at .ensures) ∙ c .if1 .left)
+
+returns-2 : tie.Need-returns-2 Inv-loop μ-loop
+unfolding tooClose
+returns-2 c = scan-none _ (c .before .loop .inv) (c .loop-test .left)
+
+pub too-close-spec : {M : Type 1} → statement M
+too-close-spec =
+    tie.close
+    (tie.spec
+    Inv-loop
+    μ-loop
+    key-of-requires
+    loop-holds
+    node-at-requires
+    too-close-at-requires
+    returns
+    add-id
+    loop-less
+    loop-again
+    returns-2)

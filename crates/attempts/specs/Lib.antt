@@ -1,0 +1,4 @@
+pub mod Chain
+pub mod Reads
+pub mod Seen
+pub mod SeenLaws

@@ -1,0 +1,76 @@
+-- The part of a state that an attempt reads, as it is lent to the code, and what the code asks of it. Definitions only.
+use mathlib.Core.Path.{_≡_}
+use mathlib.Core.Bool.{Bool, false, not, _&&_}
+use mathlib.Core.List.{List, []}
+use Prim.Native.Nat.{ℕ, _*_, _≤_}
+use lib.ListN.{length}
+use lib.Ieee.{Float}
+use Rattle.domain.specs.declared.Point.{Point}
+use Rattle.domain.specs.Outline.{Outline, misshapen}
+use Rattle.geometry.specs.declared.Key.{Key}
+use Rattle.geometry.specs.declared.Corners.{Corners}
+use Rattle.geometry.specs.Plane.{pointInConvex, segmentsCross}
+use Rattle.geometry.specs.Keys.{inBoxAt, candidateAt}
+use Rattle.crossfield.specs.declared.Grid.{Grid}
+use Rattle.crossfield.specs.Places.{Lent}
+use Rattle.front.specs.declared.Counts.{Counts}
+use Rattle.front.specs.State.{State, counted, nodeIn}
+use Rattle.paving.specs.Checks.{isCorner, shareEnd}
+
+-- ---- states with the lists that are read, the others empty
+
+abbrev pub seen : List Float → List Float → List ℕ → List ℕ → List ℕ → Counts → State
+seen xs ys next prev edges counts =
+    record { xs = xs; ys = ys; next = next; prev = prev; snapshot = []; quads = []; edges = edges; counts = counts }
+
+-- what an attempt reads of a state
+abbrev pub seenOf : State → State
+seenOf s = seen (s .xs) (s .ys) (s .next) (s .prev) (s .edges) (s .counts)
+
+-- nodes alone
+abbrev pub seenNodes : List Float → List Float → Counts → State
+seenNodes xs ys counts = seen xs ys [] [] [] counts
+
+-- coordinates alone
+abbrev pub seenPoints : List Float → List Float → State
+seenPoints xs ys = seenNodes xs ys (counted 0 0 0 0)
+
+-- nodes and edges
+abbrev pub seenEdges : List Float → List Float → List ℕ → Counts → State
+seenEdges xs ys edges counts = seen xs ys [] [] edges counts
+
+-- ---- the tests of the scans, with the query's keys at hand
+
+-- `blocks` of the node q, where the quad's box has the keys low and high
+unfoldable pub blocksAt : Key → Key → Float → Corners → ℕ → ℕ → ℕ → ℕ → ℕ → Point → Bool
+blocksAt low high size p a b d c id q = inBoxAt low high size q && (not (isCorner a b d c id) && pointInConvex p q)
+
+-- `crossesEdge` of the edge c to d, where a and b have the keys k and l
+unfoldable pub crossesAt : Key → Key → Float → List Float → List Float → Point → Point → ℕ → ℕ → ℕ → ℕ → Bool
+crossesAt k l size xs ys a b u v c d =
+    let p = nodeIn xs ys c in
+    let q = nodeIn xs ys d in
+    not (shareEnd c d u v) && (candidateAt k l size p q && segmentsCross a b p q)
+
+-- ---- what the code asks
+
+-- the edges counted are lent, and two new nodes have numbers
+pub record EdgesLent (edges : List ℕ) (counts : Counts) : Type 0 where
+  pub nodes-few : counts .nodes ≤ 4294967294
+  pub edges-fit : 2 * counts .edges ≤ length edges
+
+-- and the outline has its shape
+pub record QuadLent (o : Outline) (edges : List ℕ) (counts : Counts) : Type 0 where
+  pub shape : misshapen o ≡ false
+  pub within : EdgesLent edges counts
+
+-- and the links of the nodes counted are lent
+pub record AttemptLent (o : Outline) (next prev edges : List ℕ) (counts : Counts) : Type 0 where
+  pub quad : QuadLent o edges counts
+  pub next-fit : counts .nodes ≤ length next
+  pub prev-fit : counts .nodes ≤ length prev
+
+-- and so is the field
+pub record TryLent (o : Outline) (g : Grid) (values : List Float) (next prev edges : List ℕ) (counts : Counts) : Type 0 where
+  pub attempt : AttemptLent o next prev edges counts
+  pub field : Lent g values

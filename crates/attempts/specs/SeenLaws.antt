@@ -1,0 +1,126 @@
+-- Each check reads only the lists that its function is lent; so an attempt on a state is that on what `seenOf` keeps of it. By computation.
+use mathlib.Core.Path.{_≡_, refl, sym, _∙_}
+use mathlib.Core.Bool.{Bool}
+use mathlib.Core.List.{[]}
+use Prim.Native.Nat.{ℕ}
+use lib.Ieee.{Float}
+use Rattle.numbers.specs.Float.{_⊖_, _⊗_}
+use Rattle.domain.specs.declared.Point.{Point}
+use Rattle.domain.specs.Outline.{Outline}
+use Rattle.geometry.specs.declared.Key.{Key}
+use Rattle.geometry.specs.declared.Corners.{Corners}
+use Rattle.geometry.specs.Plane.{norm}
+use Rattle.geometry.specs.Keys.{keyOf, edgeBucket, lowest, highest, clearance, isTooClose, tooCloseAt, isInBox, isCandidate}
+use Rattle.crossfield.specs.Field.{FieldRecord, fieldRecord}
+use Rattle.crossfield.specs.Direction.{nearestDirection}
+use Rattle.front.specs.declared.Corner.{Corner}
+use Rattle.front.specs.declared.Corner.the-variants.{Reused, Fresh}
+use Rattle.front.specs.State.{State, node, edgeFrom, edgeTo}
+use Rattle.front.specs.Place.{cornerPoint}
+use Rattle.paving.specs.Checks.{closeNode, tooClose, nodeOk, cornerFree, blocks, nodeInside, crossesEdge, edgeCrosses, edgesFree, cornersOf, quadOk, quadFits}
+use Rattle.paving.specs.Attempt.{isReused, cornerAt, cornerC, cornerD, attemptQuad, normalOf, tryToward, tryEdge}
+use Rattle.attempts.specs.Seen.{seen, seenOf, seenNodes, seenPoints, seenEdges, blocksAt, crossesAt}
+
+-- ---- the tests of the scans, by what the code has at hand: r is the test's answer
+
+pub close-is : (size : Float) (s : State) (p : Point) (id : ℕ) {key : Key} {q : Point} {r : Bool}
+    → key ≡ keyOf size p → q ≡ node s id → r ≡ tooCloseAt key p (clearance ⊗ size ⊗ (clearance ⊗ size)) size q → closeNode size s p id ≡ r
+unfolding isTooClose
+close-is size s p id k e t = rw (← k, ← e) (sym t)
+
+pub blocks-is : (size : Float) (s : State) (p : Corners) (a b d c id : ℕ) {low high : Key} {l h q : Point} {r : Bool}
+    → l ≡ lowest p → low ≡ keyOf size l → h ≡ highest p → high ≡ keyOf size h → q ≡ node s id
+    → r ≡ blocksAt low high size p a b d c id q → blocks size s p a b d c id ≡ r
+unfolding isInBox blocksAt
+blocks-is size s p a b d c id el kl eh kh e t = rw (← el, ← kl, ← eh, ← kh, ← e) (sym t)
+
+pub crosses-is : (size : Float) (s : State) (a b : Point) (u v i : ℕ) {k l : Key} {r : Bool}
+    → k ≡ keyOf (edgeBucket size) a → l ≡ keyOf (edgeBucket size) b
+    → r ≡ crossesAt k l size (s .xs) (s .ys) a b u v (edgeFrom s i) (edgeTo s i) → crossesEdge size s a b u v i ≡ r
+unfolding isCandidate crossesAt
+crosses-is size s a b u v i ek el t = rw (← ek, ← el) (sym t)
+
+-- ---- what each function reads
+
+module _ (s : State) where
+  pub corner-point-seen : (c : Corner) → cornerPoint (seenPoints (s .xs) (s .ys)) c ≡ cornerPoint s c
+  corner-point-seen (Reused id) = refl
+  corner-point-seen (Fresh x y) = refl
+
+  pub corners-seen : (a b : ℕ) (c d : Corner) → cornersOf (seenPoints (s .xs) (s .ys)) a b c d ≡ cornersOf s a b c d
+  corners-seen a b c d = rw (corner-point-seen c, corner-point-seen d)
+
+  pub corner-free-seen : (o : Outline) (size : Float) (c : Corner) → cornerFree o size (seenNodes (s .xs) (s .ys) (s .counts)) c ≡ cornerFree o size s c
+  unfolding cornerFree nodeOk tooClose
+  corner-free-seen o size (Reused id) = refl
+  corner-free-seen o size (Fresh x y) = refl
+
+  pub node-inside-seen : (size : Float) (p : Corners) (a b d c : ℕ)
+      → nodeInside size (seenNodes (s .xs) (s .ys) (s .counts)) p a b d c ≡ nodeInside size s p a b d c
+  unfolding nodeInside
+  node-inside-seen size p a b d c = refl
+
+  pub edge-crosses-seen : (size : Float) (p q : Point) (u v : ℕ)
+      → edgeCrosses size (seenEdges (s .xs) (s .ys) (s .edges) (s .counts)) p q u v ≡ edgeCrosses size s p q u v
+  unfolding edgeCrosses
+  edge-crosses-seen size p q u v = refl
+
+  pub edges-free-seen : (size : Float) (a b : ℕ) (c d : Corner)
+      → edgesFree size (seenEdges (s .xs) (s .ys) (s .edges) (s .counts)) a b c d ≡ edgesFree size s a b c d
+  unfolding edgesFree edgeCrosses
+  edges-free-seen size a b (Reused u) (Reused v) = refl
+  edges-free-seen size a b (Reused u) (Fresh x y) = refl
+  edges-free-seen size a b (Fresh x y) (Reused v) = refl
+  edges-free-seen size a b (Fresh x y) (Fresh z w) = refl
+
+  pub quad-ok-seen : (o : Outline) (size : Float) (a b : ℕ) (c d : Corner)
+      → quadOk o size (seenEdges (s .xs) (s .ys) (s .edges) (s .counts)) a b c d ≡ quadOk o size s a b c d
+  unfolding quadOk nodeInside edgesFree edgeCrosses
+  quad-ok-seen o size a b (Reused u) (Reused v) = refl
+  quad-ok-seen o size a b (Reused u) (Fresh x y) = refl
+  quad-ok-seen o size a b (Fresh x y) (Reused v) = refl
+  quad-ok-seen o size a b (Fresh x y) (Fresh z w) = refl
+
+  pub corner-at-seen : (size : Float) (other v : ℕ) (p : Point) → cornerAt size (seenPoints (s .xs) (s .ys)) other v p ≡ cornerAt size s other v p
+  unfolding cornerAt isReused
+  corner-at-seen size other v p = refl
+
+  pub quad-fits-seen : (o : Outline) (size : Float) (a b : ℕ) (c d : Corner)
+      → quadFits o size (seen (s .xs) (s .ys) (s .next) [] (s .edges) (s .counts)) a b c d ≡ quadFits o size s a b c d
+  unfolding quadFits cornerFree nodeOk tooClose quadOk nodeInside edgesFree edgeCrosses
+  quad-fits-seen o size a b (Reused u) (Reused v) = refl
+  quad-fits-seen o size a b (Reused u) (Fresh x y) = refl
+  quad-fits-seen o size a b (Fresh x y) (Reused v) = refl
+  quad-fits-seen o size a b (Fresh x y) (Fresh z w) = refl
+
+-- ---- an attempt
+
+corner-c-seen : (s : State) (size : Float) (a b : ℕ) (da : Point) → cornerC size (seenOf s) a b da ≡ cornerC size s a b da
+unfolding cornerC cornerAt isReused
+corner-c-seen s size a b da = refl
+
+corner-d-seen : (s : State) (size : Float) (a b : ℕ) (db : Point) → cornerD size (seenOf s) a b db ≡ cornerD size s a b db
+unfolding cornerD cornerAt isReused
+corner-d-seen s size a b db = refl
+
+-- an attempt on a state is that on what it reads of it
+pub attempt-seen : (s : State) (o : Outline) (size : Float) (a b : ℕ) (da db : Point) → attemptQuad o size (seenOf s) a b da db ≡ attemptQuad o size s a b da db
+unfolding attemptQuad
+attempt-seen s o size a b da db =
+    let c = cornerC size s a b da in
+    let d = cornerD size s a b db in
+    let fits : quadFits o size (seenOf s) a b c d ≡ quadFits o size s a b c d =
+        sym (quad-fits-seen (seenOf s) o size a b c d) ∙ quad-fits-seen s o size a b c d in
+    rw (corner-c-seen s size a b da, corner-d-seen s size a b db, fits)
+
+-- and so is a front edge that is tried; of a field it reads the grid and the values
+pub try-seen : (s : State) (field : FieldRecord) (o : Outline) (size : Float) (a b : ℕ)
+    → tryEdge o size (fieldRecord (field .grid) (field .lists .values) []) (seenOf s) a b ≡ tryEdge o size field s a b
+unfolding tryEdge tryToward
+try-seen s field o size a b =
+    let bx = node s b .x ⊖ node s a .x in
+    let by' = node s b .y ⊖ node s a .y in
+    let normal = normalOf bx by' (norm bx by') in
+    let da = nearestDirection (field .grid) (field .lists .values) (node s a) normal in
+    let db = nearestDirection (field .grid) (field .lists .values) (node s b) normal in
+    rw (attempt-seen s o size a b da db, attempt-seen s o size a b normal normal)

@@ -1,0 +1,572 @@
+// The read-only part of the paving (src/alt_crossfield.rs): the choice of corners, the checks of `attempt_quad` in their order, and `try_edge`.
+// The lists lent are those of a `Paving`; the contracts speak of a state with these lists, of which `Seen` names the part that is read.
+ghost use mathlib.Core.Path.{_≡_};
+ghost use mathlib.Core.Bool.{false};
+ghost use mathlib.Core.List.{[]};
+ghost use Prim.Native.Nat.{_+_, _*_, _≤_};
+ghost use lib.ListN.{length, getD};
+ghost use lib.Ieee.{nan};
+ghost use Rattle.topology.specs.Links.{linkOf};
+ghost use Rattle.domain.specs.Outline.{outline, misshapen};
+ghost use Rattle.crossfield.specs.Field.{fieldRecord};
+ghost use Rattle.geometry.specs.Keys.{keyOf, edgeBucket, lowest, highest};
+ghost use Rattle.front.specs.State.{nodeIn};
+ghost use Rattle.front.specs.Place.{added, cornerId, cornerPoint, idC, idD};
+ghost use Rattle.paving.specs.Checks.{tooClose, nodeOk, cornerFree, cornersApart, isCorner, blocks, nodeInside, shareEnd, crossesEdge, edgeCrosses, sideCrosses, edgesFree, cornersOf, quadOk, quadFits};
+ghost use Rattle.paving.specs.Attempt.{isReused, cornerAt, ideal, attemptQuad, normalOf, tryEdge};
+ghost use Rattle.attempts.specs.Seen.{seen, seenNodes, seenPoints, seenEdges, blocksAt, crossesAt, EdgesLent, QuadLent, AttemptLent, TryLent};
+use crossfield::Grid;
+use domain::Point;
+use domain::Settings;
+use front::Corner;
+use front::Counts;
+use geometry::Corners;
+use geometry::Key;
+use paving::Attempt;
+
+// The link of a node off the front.
+const OFF: u32 = 4294967295;
+
+// ---- reading
+
+// A coordinate of a node; past the list's end a NaN.
+fn coordinate(s: &[f64], id: u32) -> f64
+    ensures { λ r. ⌜ r ≡ getD (now (s .entry)) id nan ⌝ }
+{
+    let i = id as usize;
+    if i < s.len() { s[i] } else { 0.0 / 0.0 }
+}
+
+pub fn node_at(xs: &[f64], ys: &[f64], id: u32) -> Point
+    ensures { λ r. ⌜ r ≡ nodeIn (now (xs .entry)) (now (ys .entry)) id ⌝ }
+{
+    Point {
+        x: coordinate(xs, id),
+        y: coordinate(ys, id),
+    }
+}
+
+// The link of node u, where the first `nodes` places are in use: none for a node that isn't there.
+pub fn link_at(links: &[u32], nodes: u32, u: u32) -> u32
+    requires { ⌜ nodes ≤ length (now links) ⌝ }
+    ensures { λ r. ⌜ r ≡ linkOf nodes (now (links .entry)) u ⌝ }
+{
+    if u < nodes { links[u as usize] } else { OFF }
+}
+
+// ---- the far corners
+
+// How many nodes a corner adds.
+pub fn added(c: Corner) -> u32
+    ensures { λ r. ⌜ r ≡ added c ⌝ }
+{
+    let Corner::Fresh(_, _) = c else {
+        return 0;
+    };
+    1
+}
+
+// A corner's node, where a new one gets the number `fresh`.
+pub fn corner_id(fresh: u32, c: Corner) -> u32
+    ensures { λ r. ⌜ r ≡ cornerId fresh c ⌝ }
+{
+    let Corner::Reused(id) = c else {
+        return fresh;
+    };
+    id
+}
+
+// The node that d has or will get, where `nodes` are there and c's node comes first.
+pub fn second_id(nodes: u32, c: Corner, d: Corner) -> u32
+    requires { ⌜ nodes ≤ 4294967294 ⌝ }
+    ensures { λ r. ⌜ r ≡ cornerId (nodes + added c) d ⌝ }
+{
+    corner_id(nodes + added(c), d)
+}
+
+pub fn corner_point(xs: &[f64], ys: &[f64], c: Corner) -> Point
+    ensures { λ r. ⌜ r ≡ cornerPoint (seenPoints (now (xs .entry)) (now (ys .entry))) c ⌝ }
+{
+    match c {
+        Corner::Reused(id) => node_at(xs, ys, id),
+        Corner::Fresh(x, y) => Point { x, y },
+    }
+}
+
+// ---- new nodes
+
+// Whether some node is too close to p. A scan of all nodes.
+pub fn too_close(size: f64, xs: &[f64], ys: &[f64], counts: Counts, p: Point) -> bool
+    ensures { λ r. ⌜ r ≡ tooClose size (seenNodes (now (xs .entry)) (now (ys .entry)) counts) p ⌝ }
+{
+    let nodes = counts.nodes;
+    let radius = Settings::CLEARANCE * size;
+    let radius2 = radius * radius;
+    let key = geometry::key_of(size, p);
+    let mut id: u32 = 0;
+    while id < nodes {
+        if geometry::too_close_at(key, p, radius2, size, node_at(xs, ys, id)) {
+            return true;
+        }
+        id += 1;
+    }
+    false
+}
+
+pub fn node_ok<'a>(
+    outer: &'a [f64],
+    holes: &'a [f64],
+    lens: &[usize],
+    size: f64,
+    xs: &[f64],
+    ys: &[f64],
+    counts: Counts,
+    p: Point,
+) -> bool
+    requires { ⌜ misshapen (outline (now outer) (now holes) (now lens)) ≡ false ⌝ }
+    ensures { λ r. ⌜ r ≡ nodeOk (outline (now (outer .entry)) (now (holes .entry)) (now (lens .entry))) size (seenNodes (now (xs .entry)) (now (ys .entry)) counts) p ⌝ }
+{
+    if !numbers::is_finite_f64(p.x) {
+        return false;
+    }
+    if !numbers::is_finite_f64(p.y) {
+        return false;
+    }
+    if !domain::contains_point(outer, holes, lens, p) {
+        return false;
+    }
+    !too_close(size, xs, ys, counts, p)
+}
+
+// Whether a new corner is inside and not too close to a node; nothing is asked of a reused one.
+pub fn corner_free<'a>(
+    outer: &'a [f64],
+    holes: &'a [f64],
+    lens: &[usize],
+    size: f64,
+    xs: &[f64],
+    ys: &[f64],
+    counts: Counts,
+    c: Corner,
+) -> bool
+    requires { ⌜ misshapen (outline (now outer) (now holes) (now lens)) ≡ false ⌝ }
+    ensures { λ r. ⌜ r ≡ cornerFree (outline (now (outer .entry)) (now (holes .entry)) (now (lens .entry))) size (seenNodes (now (xs .entry)) (now (ys .entry)) counts) c ⌝ }
+{
+    let Corner::Fresh(x, y) = c else {
+        return true;
+    };
+    let p = Point { x, y };
+    node_ok(outer, holes, lens, size, xs, ys, counts, p)
+}
+
+// Whether two new corners are more than 0.45 × size apart.
+pub fn corners_apart(size: f64, c: Corner, d: Corner) -> bool
+    ensures { λ r. ⌜ r ≡ cornersApart size c d ⌝ }
+{
+    let Corner::Fresh(x, y) = c else {
+        return true;
+    };
+    let Corner::Fresh(z, w) = d else {
+        return true;
+    };
+    let p = Point { x, y };
+    let q = Point { x: z, y: w };
+    !(geometry::distance(p, q) <= Settings::CLEARANCE * size)
+}
+
+// ---- nodes inside the quad
+
+// Whether id is one of the corners a, b, d, c.
+fn is_corner(a: u32, b: u32, d: u32, c: u32, id: u32) -> bool
+    ensures { λ r. ⌜ r ≡ isCorner a b d c id ⌝ }
+{
+    if id == a {
+        return true;
+    }
+    if id == b {
+        return true;
+    }
+    if id == d {
+        return true;
+    }
+    id == c
+}
+
+// Whether the node q of number id, not a corner, lies in the quad p, whose box has the keys `low` and `high`.
+fn blocks_at(
+    low: Key,
+    high: Key,
+    size: f64,
+    p: Corners,
+    a: u32,
+    b: u32,
+    d: u32,
+    c: u32,
+    id: u32,
+    q: Point,
+) -> bool
+    ensures { λ r. ⌜ r ≡ blocksAt low high size p a b d c id q ⌝ }
+{
+    if geometry::in_box_at(low, high, size, q) {
+        if is_corner(a, b, d, c, id) {
+            return false;
+        }
+        geometry::point_in_convex(p, q)
+    } else {
+        false
+    }
+}
+
+// Whether some node other than the corners a, b, d, c lies in the quad p. A scan of all nodes.
+pub fn node_in_quad(
+    size: f64,
+    xs: &[f64],
+    ys: &[f64],
+    counts: Counts,
+    p: Corners,
+    a: u32,
+    b: u32,
+    d: u32,
+    c: u32,
+) -> bool
+    ensures { λ r. ⌜ r ≡ nodeInside size (seenNodes (now (xs .entry)) (now (ys .entry)) counts) p a b d c ⌝ }
+{
+    let nodes = counts.nodes;
+    let low = geometry::key_of(size, geometry::lowest(p));
+    let high = geometry::key_of(size, geometry::highest(p));
+    let mut id: u32 = 0;
+    while id < nodes {
+        if blocks_at(low, high, size, p, a, b, d, c, id, node_at(xs, ys, id)) {
+            return true;
+        }
+        id += 1;
+    }
+    false
+}
+
+// ---- edges
+
+// Whether the edges c to d and u to v have an end in common.
+fn share_end(c: u32, d: u32, u: u32, v: u32) -> bool
+    ensures { λ r. ⌜ r ≡ shareEnd c d u v ⌝ }
+{
+    if c == u {
+        return true;
+    }
+    if c == v {
+        return true;
+    }
+    if d == u {
+        return true;
+    }
+    d == v
+}
+
+// Whether the edge c to d shares no end with the new edge a to b, whose ends are the nodes u and v and have the keys k and l, and crosses it.
+fn crosses_at(
+    k: Key,
+    l: Key,
+    size: f64,
+    xs: &[f64],
+    ys: &[f64],
+    a: Point,
+    b: Point,
+    u: u32,
+    v: u32,
+    c: u32,
+    d: u32,
+) -> bool
+    ensures { λ r. ⌜ r ≡ crossesAt k l size (now (xs .entry)) (now (ys .entry)) a b u v c d ⌝ }
+{
+    if share_end(c, d, u, v) {
+        return false;
+    }
+    let p = node_at(xs, ys, c);
+    let q = node_at(xs, ys, d);
+    if geometry::candidate_at(k, l, size, p, q) {
+        geometry::segments_cross(a, b, p, q)
+    } else {
+        false
+    }
+}
+
+// Whether some edge crosses the new edge a to b, whose ends are the nodes u and v. A scan of all edges.
+pub fn edge_crosses(
+    size: f64,
+    xs: &[f64],
+    ys: &[f64],
+    edges: &[u32],
+    counts: Counts,
+    a: Point,
+    b: Point,
+    u: u32,
+    v: u32,
+) -> bool
+    requires { ⌜ 2 * counts .edges ≤ length (now edges) ⌝ }
+    ensures { λ r. ⌜ r ≡ edgeCrosses size (seenEdges (now (xs .entry)) (now (ys .entry)) (now (edges .entry)) counts) a b u v ⌝ }
+{
+    let n = counts.edges;
+    let bucket = 2.0 * size;
+    let k = geometry::key_of(bucket, a);
+    let l = geometry::key_of(bucket, b);
+    let mut i = 0;
+    while i < n {
+        if crosses_at(k, l, size, xs, ys, a, b, u, v, edges[2 * i], edges[2 * i + 1]) {
+            return true;
+        }
+        i += 1;
+    }
+    false
+}
+
+// Whether the edge from a new corner's node to its neighbour crosses another; that of a reused one is there already.
+pub fn side_crosses(
+    size: f64,
+    xs: &[f64],
+    ys: &[f64],
+    edges: &[u32],
+    counts: Counts,
+    c: Corner,
+    id: u32,
+    to: u32,
+) -> bool
+    requires { ⌜ 2 * counts .edges ≤ length (now edges) ⌝ }
+    ensures { λ r. ⌜ r ≡ sideCrosses size (seenEdges (now (xs .entry)) (now (ys .entry)) (now (edges .entry)) counts) c id to ⌝ }
+{
+    let Corner::Fresh(x, y) = c else {
+        return false;
+    };
+    let p = Point { x, y };
+    edge_crosses(size, xs, ys, edges, counts, p, node_at(xs, ys, to), id, to)
+}
+
+// Whether none of the new edges crosses another: c to a if c is new, c to d, d to b if d is new.
+pub fn edges_free(
+    size: f64,
+    xs: &[f64],
+    ys: &[f64],
+    edges: &[u32],
+    counts: Counts,
+    a: u32,
+    b: u32,
+    c: Corner,
+    d: Corner,
+) -> bool
+    requires { ⌜ EdgesLent (now edges) counts ⌝ }
+    ensures { λ r. ⌜ r ≡ edgesFree size (seenEdges (now (xs .entry)) (now (ys .entry)) (now (edges .entry)) counts) a b c d ⌝ }
+{
+    let id_c = corner_id(counts.nodes, c);
+    let id_d = second_id(counts.nodes, c, d);
+    if side_crosses(size, xs, ys, edges, counts, c, id_c, a) {
+        return false;
+    }
+    let p = corner_point(xs, ys, c);
+    let q = corner_point(xs, ys, d);
+    if edge_crosses(size, xs, ys, edges, counts, p, q, id_c, id_d) {
+        return false;
+    }
+    !side_crosses(size, xs, ys, edges, counts, d, id_d, b)
+}
+
+// ---- the quad
+
+// The corners of the quad a, b, d, c.
+pub fn corners_of(xs: &[f64], ys: &[f64], a: u32, b: u32, c: Corner, d: Corner) -> Corners
+    ensures { λ r. ⌜ r ≡ cornersOf (seenPoints (now (xs .entry)) (now (ys .entry))) a b c d ⌝ }
+{
+    Corners {
+        a: node_at(xs, ys, a),
+        b: node_at(xs, ys, b),
+        d: corner_point(xs, ys, d),
+        c: corner_point(xs, ys, c),
+    }
+}
+
+pub fn quad_ok<'a>(
+    outer: &'a [f64],
+    holes: &'a [f64],
+    lens: &[usize],
+    size: f64,
+    xs: &[f64],
+    ys: &[f64],
+    edges: &[u32],
+    counts: Counts,
+    a: u32,
+    b: u32,
+    c: Corner,
+    d: Corner,
+) -> bool
+    requires { ⌜ QuadLent (outline (now outer) (now holes) (now lens)) (now edges) counts ⌝ }
+    ensures { λ r. ⌜ r ≡ quadOk (outline (now (outer .entry)) (now (holes .entry)) (now (lens .entry))) size (seenEdges (now (xs .entry)) (now (ys .entry)) (now (edges .entry)) counts) a b c d ⌝ }
+{
+    let p = corners_of(xs, ys, a, b, c, d);
+    if !geometry::convex_ccw(p) {
+        return false;
+    }
+    if !domain::contains_point(outer, holes, lens, geometry::centroid(p)) {
+        return false;
+    }
+    let id_c = corner_id(counts.nodes, c);
+    let id_d = second_id(counts.nodes, c, d);
+    if node_in_quad(size, xs, ys, counts, p, a, b, id_d, id_c) {
+        return false;
+    }
+    edges_free(size, xs, ys, edges, counts, a, b, c, d)
+}
+
+// Every check of `attempt_quad`, in its order; the first that fails refuses the quad.
+pub fn quad_fits<'a>(
+    outer: &'a [f64],
+    holes: &'a [f64],
+    lens: &[usize],
+    size: f64,
+    xs: &[f64],
+    ys: &[f64],
+    next: &[u32],
+    edges: &[u32],
+    counts: Counts,
+    a: u32,
+    b: u32,
+    c: Corner,
+    d: Corner,
+) -> bool
+    requires { ⌜ QuadLent (outline (now outer) (now holes) (now lens)) (now edges) counts × (counts .nodes ≤ length (now next)) ⌝ }
+    ensures { λ r. ⌜ r ≡ quadFits (outline (now (outer .entry)) (now (holes .entry)) (now (lens .entry))) size (seen (now (xs .entry)) (now (ys .entry)) (now (next .entry)) [] (now (edges .entry)) counts) a b c d ⌝ }
+{
+    let id_c = corner_id(counts.nodes, c);
+    let id_d = second_id(counts.nodes, c, d);
+    if id_c == id_d {
+        return false;
+    }
+    if !corner_free(outer, holes, lens, size, xs, ys, counts, c) {
+        return false;
+    }
+    if !corner_free(outer, holes, lens, size, xs, ys, counts, d) {
+        return false;
+    }
+    if !corners_apart(size, c, d) {
+        return false;
+    }
+    if link_at(next, counts.nodes, id_c) == id_d {
+        return false;
+    }
+    quad_ok(outer, holes, lens, size, xs, ys, edges, counts, a, b, c, d)
+}
+
+// ---- the choice of corners
+
+// Whether the front node v is reused for a corner wanted at p: it is there, is not the edge's other end, and is within 0.35 × size.
+fn is_reused(size: f64, xs: &[f64], ys: &[f64], other: u32, v: u32, p: Point) -> bool
+    ensures { λ r. ⌜ r ≡ isReused size (seenPoints (now (xs .entry)) (now (ys .entry))) other v p ⌝ }
+{
+    if v == OFF {
+        return false;
+    }
+    if v == other {
+        return false;
+    }
+    geometry::distance(node_at(xs, ys, v), p) <= Settings::REUSE * size
+}
+
+pub fn corner_at(size: f64, xs: &[f64], ys: &[f64], other: u32, v: u32, p: Point) -> Corner
+    ensures { λ r. ⌜ r ≡ cornerAt size (seenPoints (now (xs .entry)) (now (ys .entry))) other v p ⌝ }
+{
+    if is_reused(size, xs, ys, other, v, p) {
+        Corner::Reused(v)
+    } else {
+        Corner::Fresh(p.x, p.y)
+    }
+}
+
+// One size from p in the direction d.
+fn ideal(size: f64, p: Point, d: Point) -> Point
+    ensures { λ r. ⌜ r ≡ ideal size p d ⌝ }
+{
+    Point {
+        x: p.x + size * d.x,
+        y: p.y + size * d.y,
+    }
+}
+
+// ---- an attempt
+
+// The quad on the front edge a to b with the directions da at a and db at b, if it fits.
+pub fn attempt_quad<'a>(
+    outer: &'a [f64],
+    holes: &'a [f64],
+    lens: &[usize],
+    size: f64,
+    xs: &[f64],
+    ys: &[f64],
+    next: &[u32],
+    prev: &[u32],
+    edges: &[u32],
+    counts: Counts,
+    a: u32,
+    b: u32,
+    da: Point,
+    db: Point,
+) -> Attempt
+    requires { ⌜ AttemptLent (outline (now outer) (now holes) (now lens)) (now next) (now prev) (now edges) counts ⌝ }
+    ensures { λ r. ⌜ r ≡ attemptQuad (outline (now (outer .entry)) (now (holes .entry)) (now (lens .entry))) size
+        (seen (now (xs .entry)) (now (ys .entry)) (now (next .entry)) (now (prev .entry)) (now (edges .entry)) counts) a b da db ⌝ }
+{
+    let p = ideal(size, node_at(xs, ys, a), da);
+    let q = ideal(size, node_at(xs, ys, b), db);
+    let c = corner_at(size, xs, ys, b, link_at(prev, counts.nodes, a), p);
+    let d = corner_at(size, xs, ys, a, link_at(next, counts.nodes, b), q);
+    if quad_fits(outer, holes, lens, size, xs, ys, next, edges, counts, a, b, c, d) {
+        Attempt::Quad(c, d)
+    } else {
+        Attempt::Nothing
+    }
+}
+
+// Left of the edge with the steps bx and by, of length 1.
+fn normal_of(bx: f64, by: f64, length: f64) -> Point
+    ensures { λ r. ⌜ r ≡ normalOf bx by length ⌝ }
+{
+    Point {
+        x: -(by / length),
+        y: bx / length,
+    }
+}
+
+// `try_edge`: directions come from the field, then from the edge's normal.
+pub fn try_edge<'a>(
+    outer: &'a [f64],
+    holes: &'a [f64],
+    lens: &[usize],
+    size: f64,
+    grid: Grid,
+    values: &[f64],
+    xs: &[f64],
+    ys: &[f64],
+    next: &[u32],
+    prev: &[u32],
+    edges: &[u32],
+    counts: Counts,
+    a: u32,
+    b: u32,
+) -> Attempt
+    requires { ⌜ TryLent (outline (now outer) (now holes) (now lens)) grid (now values) (now next) (now prev) (now edges) counts ⌝ }
+    ensures { λ r. ⌜ r ≡ tryEdge (outline (now (outer .entry)) (now (holes .entry)) (now (lens .entry))) size (fieldRecord grid (now (values .entry)) [])
+        (seen (now (xs .entry)) (now (ys .entry)) (now (next .entry)) (now (prev .entry)) (now (edges .entry)) counts) a b ⌝ }
+{
+    let p = node_at(xs, ys, a);
+    let q = node_at(xs, ys, b);
+    let bx = q.x - p.x;
+    let by = q.y - p.y;
+    let length = geometry::norm(bx, by);
+    if length <= 1.0e-12 {
+        return Attempt::Nothing;
+    }
+    let normal = normal_of(bx, by, length);
+    let da = crossfield::nearest_direction(grid, values, p, normal);
+    let db = crossfield::nearest_direction(grid, values, q, normal);
+    let first = attempt_quad(outer, holes, lens, size, xs, ys, next, prev, edges, counts, a, b, da, db);
+    let Attempt::Quad(c, d) = first else {
+        return attempt_quad(outer, holes, lens, size, xs, ys, next, prev, edges, counts, a, b, normal, normal);
+    };
+    Attempt::Quad(c, d)
+}

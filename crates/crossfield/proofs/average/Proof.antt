@@ -1,0 +1,31 @@
+-- `crossfield::average` meets its contract. Assumes nothing.
+use borrow.Author.Needs.{needs}
+use Rattle.crossfield.specs.Sweeps.{average}
+use Rattle.crossfield.proofs.average.Statement.{statement}
+use Rattle.crossfield.proofs.average.Tie as tie
+
+neighbour-sum-requires : tie.Need-neighbour-sum-requires
+neighbour-sum-requires c κs = search needs
+
+neighbour-count-requires : tie.Need-neighbour-count-requires
+neighbour-count-requires c κs = search needs
+
+int-to-float-count : tie.Need-int-to-float-count
+int-to-float-count c = search needs
+
+normalised-requires : tie.Need-normalised-requires
+normalised-requires c κs = search needs
+
+returns : tie.Need-returns
+unfolding average
+returns c = rw (← c .before .before .before .before .before .neighbour-sum .ensures, ← c .before .before .before .before .neighbour-count .ensures) (c .normalised .ensures)
+
+pub average-spec : {M : Type 1} → statement M
+average-spec =
+    tie.close
+    (tie.spec
+    neighbour-sum-requires
+    neighbour-count-requires
+    int-to-float-count
+    normalised-requires
+    returns)

@@ -1,0 +1,57 @@
+-- `crossfield::sweep` meets its contract. Assumes nothing.
+use mathlib.Core.Bool.{true}
+use mathlib.Core.Path.{_≡_, refl, _∙_}
+use Prim.Native.Nat.{_-_, _*_}
+use native.Mathlib.Omega.{arith}
+use lib.ListN.{length}
+use Rattle.laws.specs.Loop.{Loop, loop-start, loop-next, loop-end}
+use Rattle.crossfield.specs.Sweeps.{swept, sweepRow, sweep}
+use Rattle.crossfield.specs.Places.{row-in, row-of}
+use Rattle.crossfield.proofs.sweep.Statement.{statement}
+use Rattle.crossfield.proofs.sweep.Tie as tie
+
+abbrev Inv-loop : tie.InvT-loop
+Inv-loop g marks values₀ nx ny quiet₀ base₀ j₀ values quiet base j = (length values ≡ length values₀) × (base ≡ j * nx) × Loop (sweepRow g marks) (swept values₀ true) ny j (swept values quiet)
+
+abbrev μ-loop : tie.MeasureT-loop
+μ-loop g marks values₀ nx ny quiet₀ base₀ j₀ values quiet base j = ny - j
+
+loop-holds : tie.Need-loop-holds Inv-loop μ-loop
+loop-holds c = (refl, omega arith, loop-start _ _ _)
+
+sweep-row-requires : tie.Need-sweep-row-requires Inv-loop μ-loop
+sweep-row-requires c κs = (row-of (c .before .before .loop .j) (c .before .before .loop .inv .1) (c .before .loop-test .taken) (c .before .before .before .before .before .pre .values) (c .before .before .loop .inv .0), omega (arith, c .before .before .before .before .before .pre .marks, row-in (c .before .before .loop .j) (c .before .before .before .before .before .args .g .ny) (c .before .before .before .before .before .args .g .nx) (c .before .loop-test .taken)))
+
+add-base : tie.Need-add-base Inv-loop μ-loop
+add-base c = omega (arith, c .before .before .before .before .before .before .before .before .pre .marks, row-in (c .before .before .before .before .before .loop .j) (c .before .before .before .before .before .before .before .before .args .g .ny) (c .before .before .before .before .before .before .before .before .args .g .nx) (c .before .before .before .before .loop-test .taken))
+
+add-j : tie.Need-add-j Inv-loop μ-loop
+add-j c = omega arith
+
+loop-less : tie.Need-loop-less Inv-loop μ-loop
+loop-less c = omega arith
+
+loop-again : tie.Need-loop-again Inv-loop μ-loop
+loop-again c = (c .before .before .sweep-row .kept .1 .1 .0 ∙ c .before .before .before .before .before .loop .inv .0, omega (arith, c .before .before .before .before .before .loop .inv .1), rw (c .before .before .sweep-row .ensures) (loop-next _ _ (c .before .before .before .before .before .loop .inv .2) (c .before .before .before .before .loop-test .taken)))
+
+same-length : tie.Need-same-length Inv-loop μ-loop
+same-length c = c .before .loop .inv .0
+
+returns : tie.Need-returns Inv-loop μ-loop
+unfolding sweep
+returns c = loop-end _ _ (c .before .loop .inv .2) (c .loop-test .left)
+
+pub sweep-spec : {M : Type 1} → statement M
+sweep-spec =
+    tie.close
+    (tie.spec
+    Inv-loop
+    μ-loop
+    loop-holds
+    sweep-row-requires
+    add-base
+    add-j
+    loop-less
+    loop-again
+    same-length
+    returns)

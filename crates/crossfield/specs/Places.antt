@@ -1,0 +1,160 @@
+-- Where the nodes of a grid lie in the lent lists: what the functions over them ask. Assumes nothing.
+use mathlib.Core.Path.{_≡_, ap}
+use mathlib.Core.Bool.{true}
+use mathlib.Core.List.{List}
+use Prim.Native.Nat.{ℕ, _+_, _*_, _≤_, _<_}
+use native.Mathlib.Nat.{le-max-left, mul-comm, mul-le-mul-left, mul-le-mul-right, mul-le-mul}
+use native.Mathlib.Omega.{arith}
+use borrow.Author.Tests.{ltb-true}
+use lib.Dec.{ltb}
+use lib.ListN.{length}
+use lib.Ieee.{Float}
+use Rattle.numbers.specs.Float.{_⊖_, _⊗_, _⊘_, halfF}
+use Rattle.numbers.specs.Whole.{ceilCount}
+use Rattle.crossfield.specs.declared.Bounds.{Bounds}
+use Rattle.crossfield.specs.declared.Grid.{Grid}
+use Rattle.crossfield.specs.Grid.{mostFieldNodes, gridNodes, gridCount, spacing, gridOf}
+
+-- a grid of at least two nodes and at most 250,000, and a list that holds their values: what refusal 11 leaves
+pub record Lent (g : Grid) (values : List Float) : Type 0 where
+  pub columns : 2 ≤ g .nx
+  pub rows : 2 ≤ g .ny
+  pub few : gridNodes g ≤ mostFieldNodes
+  pub room : 2 * gridNodes g ≤ length values
+
+-- n rows of w nodes: room for two floats and a mark each
+pub record Room (w n floats bytes : ℕ) : Type 0 where
+  pub values : 2 * (n * w) ≤ floats
+  pub marks : n * w ≤ bytes
+
+-- node (i, j) of a grid of n rows of w, whose number is id, in a list of so many floats
+pub record Node (w n j i id floats : ℕ) : Type 0 where
+  pub at : id ≡ j * w + i
+  pub column : i < w
+  pub row : j < n
+  pub room : 2 * (n * w) ≤ floats
+
+-- row j, whose first node's number is base
+pub record Row (w n j base floats : ℕ) : Type 0 where
+  pub at : base ≡ j * w
+  pub row : j < n
+  pub room : 2 * (n * w) ≤ floats
+
+-- a mark for node id, and counts that a float holds
+pub record Counts (w n id bytes : ℕ) : Type 0 where
+  pub mark : id < bytes
+  pub columns : w ≤ mostFieldNodes
+  pub rows : n ≤ mostFieldNodes
+
+-- marks for the row that begins with node base, and counts that a float holds
+pub record RowMarks (w n base bytes : ℕ) : Type 0 where
+  pub marks : base + w ≤ bytes
+  pub columns : w ≤ mostFieldNodes
+  pub rows : n ≤ mostFieldNodes
+
+-- row j of n lies within them, and so does the row above; the row below begins at 0 or later
+pub row-in : (j n w : ℕ) → j < n → j * w + w ≤ n * w
+row-in j n w h = omega (arith, mul-le-mul-right w h)
+
+row-over : (j n w : ℕ) → j + 1 < n → j * w + w + w ≤ n * w
+row-over j n w h = omega (arith, mul-le-mul-right w h)
+
+row-under : (j w : ℕ) → 0 < j → w ≤ j * w
+row-under j w h = omega (arith, mul-le-mul-right w h)
+
+module _ {w n j i id floats : ℕ} (h : Node w n j i id floats) where
+  pub here-in : 2 * id + 1 < floats
+  here-in = omega (arith, h .at, h .column, h .room, row-in j n w (h .row))
+
+  pub left-in : ltb 0 i ≡ true → 1 ≤ id
+  left-in t = omega (arith, h .at, ltb-true 0 i t)
+
+  pub right-in : ltb (i + 1) w ≡ true → 2 * (id + 1) + 1 < floats
+  right-in t = omega (arith, h .at, h .room, ltb-true (i + 1) w t, row-in j n w (h .row))
+
+  pub under-in : ltb 0 j ≡ true → w ≤ id
+  under-in t = omega (arith, h .at, row-under j w (ltb-true 0 j t))
+
+  pub over-in : ltb (j + 1) n ≡ true → 2 * (id + w) + 1 < floats
+  over-in t = omega (arith, h .at, h .column, h .room, row-over j n w (ltb-true (j + 1) n t))
+
+-- the lists keep their lengths while they are written
+pub node-of : {w n j base floats now : ℕ} (i : ℕ) → Row w n j base floats → i < w → now ≡ floats → Node w n j i (base + i) now
+node-of i h t e = record { at = ap (λ (z : ℕ). z + i) (h .at); column = t; row = h .row; room = omega (arith, h .room, e) }
+
+pub row-of : {w n base floats now : ℕ} (j : ℕ) → base ≡ j * w → j < n → 2 * (n * w) ≤ floats → now ≡ floats → Row w n j base now
+row-of j a t r e = record { at = a; row = t; room = omega (arith, r, e) }
+
+-- ---- counts: one above the most has too many nodes by itself, where the other is above 0
+pub more-columns : (w n most : ℕ) → most < w → 2 ≤ n → most < w * n
+more-columns w n most h t = omega (arith, mul-le-mul-left w t)
+
+pub more-rows : (w n most : ℕ) → most < n → 2 ≤ w → most < w * n
+more-rows w n most h t = omega (arith, mul-le-mul-right n t)
+
+pub product-small : (w n : ℕ) → w ≤ mostFieldNodes → n ≤ mostFieldNodes → w * n ≤ mostFieldNodes * mostFieldNodes
+product-small w n h t = mul-le-mul h t
+
+-- ---- the cell of columns i and i + 1 and of rows j and j + 1
+pub corner-in : {g : Grid} {values : List Float} (i j : ℕ) → Lent g values → i + 2 ≤ g .nx → j + 2 ≤ g .ny
+    → 2 * (j * g .nx + i + g .nx + 1) + 1 < length values
+corner-in {g} i j h columns rows = omega (arith, h .room, mul-comm (g .nx) (g .ny), row-over j (g .ny) (g .nx) (omega arith))
+
+pub corner-small : {g : Grid} {values : List Float} (i j : ℕ) → Lent g values → i + 2 ≤ g .nx → j + 2 ≤ g .ny
+    → j * g .nx + i + g .nx + 1 < mostFieldNodes
+corner-small {g} i j h columns rows = omega (arith, h .few, mul-comm (g .nx) (g .ny), row-over j (g .ny) (g .nx) (omega arith))
+
+pub column-small : {g : Grid} {values : List Float} (i : ℕ) → Lent g values → i + 2 ≤ g .nx → i < 4294967296
+column-small {g} i h t = omega (arith, h .few, mul-le-mul-left (g .nx) (h .rows))
+
+pub row-small : {g : Grid} {values : List Float} (j : ℕ) → Lent g values → j + 2 ≤ g .ny → j < 4294967296
+row-small {g} j h t = omega (arith, h .few, mul-le-mul-right (g .ny) (h .columns))
+
+pub room-of : {w n floats bytes now : ℕ} → Room w n floats bytes → now ≡ floats → Room w n now bytes
+room-of h e = record { values = omega (arith, h .values, e); marks = h .marks }
+
+pub mark-of : {w n base bytes now : ℕ} (i : ℕ) → RowMarks w n base bytes → i < w → now ≡ bytes → Counts w n (base + i) now
+mark-of i h t e = record { mark = omega (arith, h .marks, e); columns = h .columns; rows = h .rows }
+
+pub row-marks : {w n base floats bytes now : ℕ} (j : ℕ) → Room w n floats bytes → w ≤ mostFieldNodes → n ≤ mostFieldNodes
+    → base ≡ j * w → j < n → now ≡ bytes → RowMarks w n base now
+row-marks {w} {n} j h columns rows a t e = record { marks = omega (arith, h .marks, e, row-in j n w t); columns = columns; rows = rows }
+
+-- ---- the counts of a grid: each is above 2, and a side of more than 250,000 cells has too many nodes by itself
+count-over : (width h : Float) → ceilCount (width ⊘ h) < gridCount width h
+unfolding gridCount
+count-over width h = let l = le-max-left (ceilCount (width ⊘ h)) 2 in omega arith
+
+count-pos : (width h : Float) → 2 ≤ gridCount width h
+unfolding gridCount
+count-pos width h = omega arith
+
+pub wide-many : (width height h : Float) → mostFieldNodes < ceilCount (width ⊘ h) → mostFieldNodes < gridCount width h * gridCount height h
+wide-many width height h t = more-columns _ _ _ (let l = count-over width h in omega arith) (count-pos height h)
+
+pub high-many : (width height h : Float) → mostFieldNodes < ceilCount (height ⊘ h) → mostFieldNodes < gridCount width h * gridCount height h
+high-many width height h t = more-rows _ _ _ (let l = count-over height h in omega arith) (count-pos width h)
+
+-- so where a grid has few nodes, no side has more cells
+module _ (b : Bounds) (size h : Float) (few : gridNodes (gridOf b size) ≤ mostFieldNodes) (e : h ≡ spacing (b .xmax ⊖ b .xmin) (b .ymax ⊖ b .ymin) (halfF ⊗ size)) where
+  abbrev width : Float
+  width = b .xmax ⊖ b .xmin
+
+  abbrev height : Float
+  height = b .ymax ⊖ b .ymin
+
+  few-at : gridCount width h * gridCount height h ≤ mostFieldNodes
+  unfolding gridOf
+  few-at = rw e few
+
+  pub few-columns : ceilCount ((b .xmax ⊖ b .xmin) ⊘ h) ≤ mostFieldNodes
+  few-columns =
+      let l = count-over width h in
+      let m = mul-le-mul-left (gridCount width h) (count-pos height h) in
+      let t = few-at in omega arith
+
+  pub few-rows : ceilCount ((b .ymax ⊖ b .ymin) ⊘ h) ≤ mostFieldNodes
+  few-rows =
+      let l = count-over height h in
+      let m = mul-le-mul-right (gridCount height h) (count-pos width h) in
+      let t = few-at in omega arith

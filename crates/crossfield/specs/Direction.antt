@@ -112,9 +112,13 @@ nearestOf target d =
     let second = closerOf target first (point (neg (d .x)) (neg (d .y))) in
     closerOf target second (point (d .y) (neg (d .x)))
 
+-- the direction of a field at p that is nearest to a target, by its grid and values
+abbrev pub directionAt : Grid → List Float → Point → Point → Point
+directionAt g values p target = nearestOf target (directionOf (rawAt g values p))
+
 -- `nearest_direction`
-unfoldable pub nearestDirection : Grid → List Float → Point → Point → Point
-nearestDirection g values p target = nearestOf target (directionOf (rawAt g values p))
+unfoldable pub nearestDirection : FieldRecord → Point → Point → Point
+nearestDirection r p target = directionAt (r .grid) (r .lists .values) p target
 
 -- of a direction query: 11, then 3 and 4 of its point; its target may be any two floats
 unfoldable pub directionRefusal : FieldRecord → Point → ℕ
@@ -122,4 +126,4 @@ directionRefusal r p = firstOf (recordRefusal r) (pointRefusal p)
 
 unfoldable pub directionAnswer : FieldRecord → Point → Point → Direction
 directionAnswer r p target =
-    answerBy direction-is.Refused (direction-is.Toward (nearestDirection (r .grid) (r .lists .values) p target)) (directionRefusal r p)
+    answerBy direction-is.Refused (direction-is.Toward (nearestDirection r p target)) (directionRefusal r p)

@@ -22,10 +22,13 @@ fieldPlaces f = min (length (f .values) / 2) (length (f .marks))
 unfoldable pub placesRefusal : Grid → ℕ → ℕ
 placesRefusal g places = cond (ltb places (gridNodes g)) 9 0
 
--- 1 to 9, in rising number
-unfoldable pub fieldRefusal : Outline → Float → ℕ → ℕ → ℕ
-fieldRefusal o size n places =
+-- 1 to 9, in rising number, for so many places
+abbrev pub refusalFor : Outline → Float → ℕ → ℕ → ℕ
+refusalFor o size n places =
     firstOf (outlineRefusal o) (firstOf (sizeRefusal size) (firstOf (boundsRefusal (bounds o)) (firstOf (sweepsRefusal n) (placesRefusal (gridOf (bounds o) size) places))))
+
+unfoldable pub fieldRefusal : Outline → Float → ℕ → FieldLists → ℕ
+fieldRefusal o size n f = refusalFor o size n (fieldPlaces f)
 
 -- a field record: the grid, and the lists beside it
 pub record FieldRecord : Type 0 where
@@ -56,4 +59,4 @@ madeOf r = record { answer = answer-is.Made (r .grid); lists = r .lists }
 -- refused, with nothing written; or made
 unfoldable pub fieldAnswer : Outline → Float → ℕ → FieldLists → FieldResult
 fieldAnswer o size n f =
-    answerBy (λ r. record { answer = answer-is.Refused r; lists = f }) (madeOf (fieldOf o size n f)) (fieldRefusal o size n (fieldPlaces f))
+    answerBy (λ r. record { answer = answer-is.Refused r; lists = f }) (madeOf (fieldOf o size n f)) (fieldRefusal o size n f)

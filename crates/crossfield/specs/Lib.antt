@@ -5,3 +5,7 @@ pub mod Field
 pub mod Direction
 pub mod Places
 pub mod RecordLaws
+pub mod Box
+pub mod Spacing
+pub mod FieldLaws
+pub mod Past

@@ -110,8 +110,8 @@ column-small {g} i h t = omega (arith, h .few, mul-le-mul-left (g .nx) (h .rows)
 pub row-small : {g : Grid} {values : List Float} (j : ℕ) → Lent g values → j + 2 ≤ g .ny → j < 4294967296
 row-small {g} j h t = omega (arith, h .few, mul-le-mul-right (g .ny) (h .columns))
 
-pub room-of : {w n floats bytes now : ℕ} → Room w n floats bytes → now ≡ floats → Room w n now bytes
-room-of h e = record { values = omega (arith, h .values, e); marks = h .marks }
+pub room-of : {w n floats bytes floats' bytes' : ℕ} → Room w n floats bytes → floats' ≡ floats → bytes' ≡ bytes → Room w n floats' bytes'
+room-of h e f = record { values = omega (arith, h .values, e); marks = omega (arith, h .marks, f) }
 
 pub mark-of : {w n base bytes now : ℕ} (i : ℕ) → RowMarks w n base bytes → i < w → now ≡ bytes → Counts w n (base + i) now
 mark-of i h t e = record { mark = omega (arith, h .marks, e); columns = h .columns; rows = h .rows }
@@ -125,7 +125,7 @@ count-over : (width h : Float) → ceilCount (width ⊘ h) < gridCount width h
 unfolding gridCount
 count-over width h = let l = le-max-left (ceilCount (width ⊘ h)) 2 in omega arith
 
-count-pos : (width h : Float) → 2 ≤ gridCount width h
+pub count-pos : (width h : Float) → 2 ≤ gridCount width h
 unfolding gridCount
 count-pos width h = omega arith
 

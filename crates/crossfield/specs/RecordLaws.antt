@@ -1,14 +1,15 @@
 -- What refusal 11 leaves: counts and lengths that the functions over a record's values ask. Assumes nothing.
 use mathlib.Core.Path.{_≡_, refl, sym}
 use mathlib.Core.Bool.{Bool, true, false, not, _&&_, cond, true≢false}
-use Prim.Native.Nat.{ℕ, zero, suc}
+use Prim.Native.Nat.{ℕ}
 use native.Mathlib.Nat.{le-of-eq}
 use native.Mathlib.Omega.{arith}
 use borrow.Author.Tests.{leb-true, eqb-true}
 use lib.Dec.{leb, eqb}
 use lib.ListN.{length}
 use Rattle.domain.specs.declared.Point.{Point}
-use Rattle.domain.specs.Outline.{firstOf, anyFloat, pointRefusal}
+use Rattle.domain.specs.Accepted.{first-zero}
+use Rattle.domain.specs.Outline.{anyFloat, pointRefusal}
 use Rattle.crossfield.specs.Grid.{mostFieldNodes, gridNodes}
 use Rattle.crossfield.specs.Field.{FieldRecord}
 use Rattle.crossfield.specs.Direction.{countsSound, gridSound, valueUnsound, recordRefusal, directionRefusal}
@@ -42,10 +43,6 @@ unfolding recordRefusal
 record-lent r e =
     counts-lent r (sound-of (countsSound r) (gridSound (r .grid) && not (anyFloat valueUnsound (r .lists .values))) e)
 
-first-none : (r next : ℕ) → firstOf r next ≡ 0 → r ≡ 0
-first-none zero next e = refl
-first-none (suc n) next e = e
-
 pub direction-lent : (r : FieldRecord) (p : Point) → directionRefusal r p ≡ 0 → Lent (r .grid) (r .lists .values)
 unfolding directionRefusal
-direction-lent r p e = record-lent r (first-none (recordRefusal r) (pointRefusal p) e)
+direction-lent r p e = record-lent r (first-zero (recordRefusal r) (pointRefusal p) e .0)

@@ -1,7 +1,7 @@
 // The cross field of src/alt_crossfield.rs: grid, seeds, marks, sweeps, and the direction query.
 ghost use mathlib.Core.Path.{_≡_};
 ghost use mathlib.Core.Bool.{true, false};
-ghost use Prim.Native.Nat.{_+_, _-_, _*_, max, _≤_, _<_};
+ghost use Prim.Native.Nat.{_+_, _-_, _*_, min, max, _≤_, _<_};
 ghost use lib.ListN.{length};
 ghost use Rattle.numbers.specs.Float.{_⊘_, toFloat};
 ghost use Rattle.numbers.specs.Whole.{floorQuotient, ceilCount};
@@ -9,8 +9,8 @@ ghost use Rattle.domain.specs.Outline.{outline, misshapen, point, pointAt, anyF
 ghost use Rattle.crossfield.specs.Grid.{noBounds, widened, loopBounds, bounds, gridCount, tooManyNodes, spacing, gridOf, sizeRefusal, boundsRefusal, sweepsRefusal, mostFieldNodes, gridNodes};
 ghost use Rattle.crossfield.specs.Seeds.{fieldLists, gridPoint, seed, isFixed, markOf, seedNode, seedRow, seeded};
 ghost use Rattle.crossfield.specs.Sweeps.{plusIf, oneIf, neighbourSum, neighbourCount, normalised, average, swept, change, relaxed, sweepNode, sweepRow, sweep, sweeps};
-ghost use Rattle.crossfield.specs.Field.{fieldRecord, placesRefusal};
-ghost use Rattle.crossfield.specs.Direction.{within, valueUnsound, countsSound, gridSound, recordRefusal, cellOf, weighed, rawAt, scaled, half, directionOf, dot, closerOf, nearestOf, nearestDirection, directionRefusal, directionAnswer};
+ghost use Rattle.crossfield.specs.Field.{fieldRecord, placesRefusal, refusalFor, fieldResult, fieldAnswer};
+ghost use Rattle.crossfield.specs.Direction.{within, valueUnsound, countsSound, gridSound, recordRefusal, cellOf, weighed, rawAt, scaled, half, directionOf, dot, closerOf, nearestOf, directionAt, directionRefusal, directionAnswer};
 ghost use Rattle.crossfield.specs.Places.{Node, Row, Counts, RowMarks, Lent, Room};
 use domain::Near;
 use domain::Point;
@@ -257,7 +257,7 @@ fn nearest_of(target: Point, d: Point) -> Point
 
 pub fn nearest_direction(g: Grid, values: &[f64], p: Point, target: Point) -> Point
     requires { ⌜ Lent g (now values) ⌝ }
-    ensures { λ r. ⌜ r ≡ nearestDirection g (now (values .entry)) p target ⌝ }
+    ensures { λ r. ⌜ r ≡ directionAt g (now (values .entry)) p target ⌝ }
 {
     nearest_of(target, direction_of(raw_at(g, values, p)))
 }
@@ -743,4 +743,66 @@ fn sweeps(n: usize, g: Grid, marks: &[u8], values: &mut [f64])
         }
         k += 1;
     }
+}
+
+// ---- the field
+
+// Refusals 1 to 9.
+fn field_refusal<'a>(
+    outer: &'a [f64],
+    holes: &'a [f64],
+    lens: &[usize],
+    size: f64,
+    sweeps: usize,
+    places: usize,
+) -> u32
+    ensures { λ r. ⌜ r ≡ refusalFor (outline (now (outer .entry)) (now (holes .entry)) (now (lens .entry))) size sweeps places ⌝ }
+{
+    let outline = domain::outline_refusal(outer, holes, lens);
+    if outline != 0 {
+        return outline;
+    }
+    let sizes = size_refusal(size);
+    if sizes != 0 {
+        return sizes;
+    }
+    let b = bounds_of(outer, holes, lens);
+    let boxed = bounds_refusal(b);
+    if boxed != 0 {
+        return boxed;
+    }
+    let swept = sweeps_refusal(sweeps);
+    if swept != 0 {
+        return swept;
+    }
+    places_refusal(grid_of(b, size), places)
+}
+
+fn lesser(a: usize, b: usize) -> usize
+    ensures { λ r. ⌜ r ≡ min a b ⌝ }
+{
+    if a < b { a } else { b }
+}
+
+// The field of an outline, in the lists lent; on a refusal nothing is written.
+pub fn field<'a>(
+    outer: &'a [f64],
+    holes: &'a [f64],
+    lens: &[usize],
+    size: f64,
+    limit: usize,
+    values: &mut [f64],
+    marks: &mut [u8],
+) -> FieldAnswer
+    ensures { λ r. ⌜ fieldResult r (now (values .exit)) (now (marks .exit)) ≡ fieldAnswer (outline (now (outer .entry)) (now (holes .entry)) (now (lens .entry))) size limit (fieldLists (now (values .entry)) (now (marks .entry))) ⌝ }
+{
+    let places = lesser(values.len() / 2, marks.len());
+    let refusal = field_refusal(outer, holes, lens, size, limit, places);
+    if refusal != 0 {
+        return FieldAnswer::Refused(refusal);
+    }
+    let g = grid_of(bounds_of(outer, holes, lens), size);
+    seed_all(outer, holes, lens, g, values, marks);
+    sweeps(limit, g, marks, values);
+    FieldAnswer::Made(g)
 }

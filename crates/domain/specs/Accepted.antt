@@ -48,12 +48,15 @@ pub record Accepted (o : Outline) : Type 0 where
   pub finite : (k i : ℕ) → k ≤ length (o .lens) → i < length (loopAt o k) → isFinite (getD (loopAt o k) i nan) ≡ true
   pub near : (k i : ℕ) → k ≤ length (o .lens) → i < length (loopAt o k) → beyond (getD (loopAt o k) i nan) ≡ false
 
-neither : (a b : Bool) → a || b ≡ false → (a ≡ false) × (b ≡ false)
+pub neither : (a b : Bool) → a || b ≡ false → (a ≡ false) × (b ≡ false)
 neither true b e = absurd (true≢false e)
 neither false b e = (refl, e)
 
-cond-zero : (b : Bool) (m n : ℕ) → cond b (suc m) n ≡ 0 → (b ≡ false) × (n ≡ 0)
-cond-zero true m n e = absurd (omega arith)
+pub cond-zero : (b : Bool) (m n : ℕ) → cond b (suc m) n ≡ 0 → (b ≡ false) × (n ≡ 0)
+cond-zero true m n e = absurd (no m e)
+  where
+    no : (m : ℕ) → suc m ≡ 0 → ⊥
+    no m e = omega arith
 cond-zero false m n e = (refl, e)
 
 pub first-zero : (a b : ℕ) → firstOf a b ≡ 0 → (a ≡ 0) × (b ≡ 0)

@@ -1,6 +1,5 @@
 -- `crossfield::nearest_direction` meets its contract. Assumes nothing.
 use borrow.Author.Needs.{needs}
-use Rattle.crossfield.specs.Direction.{nearestDirection}
 use Rattle.crossfield.proofs.nearest_direction.Statement.{statement}
 use Rattle.crossfield.proofs.nearest_direction.Tie as tie
 
@@ -14,7 +13,6 @@ nearest-of-requires : tie.Need-nearest-of-requires
 nearest-of-requires c κs = search needs
 
 returns : tie.Need-returns
-unfolding nearestDirection
 returns c = rw (← c .before .before .raw-at .ensures, ← c .before .direction-of .ensures) (c .nearest-of .ensures)
 
 pub nearest-direction-spec : {M : Type 1} → statement M

@@ -3,7 +3,7 @@ use mathlib.Core.Path.{sym, ap, _∙_}
 use borrow.Author.Needs.{needs}
 use Rattle.domain.specs.RefusalLaws.{answer-refused}
 use Rattle.crossfield.specs.RecordLaws.{direction-lent}
-use Rattle.crossfield.specs.Direction.{directionAnswer}
+use Rattle.crossfield.specs.Direction.{nearestDirection, directionAnswer}
 use Rattle.crossfield.specs.declared.Direction.the-variants.{Toward}
 use Rattle.crossfield.proofs.query_direction.Statement.{statement}
 use Rattle.crossfield.proofs.query_direction.Tie as tie
@@ -19,7 +19,7 @@ nearest-direction-requires : tie.Need-nearest-direction-requires
 nearest-direction-requires c κs = direction-lent _ _ (sym (c .before .direction-refusal .ensures) ∙ c .if1 .left)
 
 returns-2 : tie.Need-returns-2
-unfolding directionAnswer
+unfolding directionAnswer nearestDirection
 returns-2 c = rw (sym (c .before .before .direction-refusal .ensures) ∙ c .before .if1 .left) (ap Toward (c .nearest-direction .ensures))
 
 pub query-direction-spec : {M : Type 1} → statement M

@@ -21,7 +21,7 @@ loop-holds : tie.Need-loop-holds Inv-loop μ-loop
 loop-holds c = (refl, run-start _ (λ (last : List Float). last) _ _)
 
 sweep-requires : tie.Need-sweep-requires Inv-loop μ-loop
-sweep-requires c κs = room-of (c .before .before .before .before .before .pre) (c .before .before .loop .inv .0)
+sweep-requires c κs = room-of (c .before .before .before .before .before .pre) (c .before .before .loop .inv .0) refl
 
 same-length : tie.Need-same-length Inv-loop μ-loop
 same-length c = c .before .before .before .sweep .kept .1 .1 .0 ∙ c .before .before .before .before .before .before .loop .inv .0

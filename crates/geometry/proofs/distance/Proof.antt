@@ -1,6 +1,6 @@
 -- `geometry::distance` meets its contract. Assumes nothing.
-use Rattle.geometry.specs.Plane.{distance}
 use borrow.Author.Needs.{needs}
+use Rattle.geometry.specs.Plane.{distance}
 use Rattle.geometry.proofs.distance.Statement.{statement}
 use Rattle.geometry.proofs.distance.Tie as tie
 

@@ -1,6 +1,6 @@
 -- `geometry::tangent` meets its contract. Assumes nothing.
-use Rattle.geometry.specs.Plane.{tangent}
 use borrow.Author.Needs.{needs}
+use Rattle.geometry.specs.Plane.{tangent}
 use Rattle.geometry.proofs.tangent.Statement.{statement}
 use Rattle.geometry.proofs.tangent.Tie as tie
 

@@ -15,6 +15,8 @@ use Rattle.exact.specs.Corner.{Vector, cross}
 use Rattle.topology.specs.Links.{off}
 use Rattle.topology.specs.Front.{headOr}
 use Rattle.front.specs.State.{State, counted}
+pub use Rattle.front.specs.State.{Quad}
+unfoldable pub use Rattle.front.specs.State.{quadAt}
 use Rattle.front.specs.Sampling.{sampledCount, fromBoundary, boundaryLoops}
 
 -- a front edge
@@ -105,18 +107,6 @@ newNode s id b =
 unfoldable pub side : State → ℕ → Edge → Edge → Book → Option Book
 side s id there back b =
     cond (has there (b .front)) (comesOff there b) (andThen (newNode s id b) (λ c. some (goesOn back c)))
-
--- the ids of quad a b d c
-pub record Quad : Type 0 where
-  pub a : ℕ
-  pub b : ℕ
-  pub d : ℕ
-  pub c : ℕ
-
--- quad k as it is answered
-unfoldable pub quadAt : State → ℕ → Quad
-quadAt s k =
-    record { a = getD (s .quads) (4 * k) 0; b = getD (s .quads) (4 * k + 1) 0; d = getD (s .quads) (4 * k + 2) 0; c = getD (s .quads) (4 * k + 3) 0 }
 
 -- a to b comes off; then c and d; last, c to d goes on
 unfoldable pub bookQuad : State → Quad → Book → Option Book

@@ -23,6 +23,12 @@ pub record State : Type 0 where
   pub edges : List ℕ
   pub counts : Counts
 
+-- The state over the lists as they are lent. The snapshot is among them, though a placing only counts its places: so a pass, which lends all
+-- seven lists, and what it calls speak of one state.
+abbrev pub stateOf : List Float → List Float → List ℕ → List ℕ → List ℕ → List ℕ → List ℕ → Counts → State
+stateOf xs ys next prev snapshot quads edges counts =
+    record { xs = xs; ys = ys; next = next; prev = prev; snapshot = snapshot; quads = quads; edges = edges; counts = counts }
+
 abbrev pub counted : ℕ → ℕ → ℕ → ℕ → Counts
 counted nodes quads edges front = record { nodes = nodes; quads = quads; edges = edges; front = front }
 
@@ -60,13 +66,29 @@ edgeFrom s k = getD (s .edges) (2 * k) 0
 abbrev pub edgeTo : State → ℕ → ℕ
 edgeTo s k = getD (s .edges) (2 * k + 1) 0
 
--- edge k joins u and v, u the smaller
-abbrev pub edgeIs : State → ℕ → ℕ → ℕ → Bool
-edgeIs s u v k = eqb (edgeFrom s k) u && eqb (edgeTo s k) v
+-- edge k of a list of edges joins u and v, u the smaller
+abbrev pub edgeIs : List ℕ → ℕ → ℕ → ℕ → Bool
+edgeIs edges u v k = eqb (getD edges (2 * k) 0) u && eqb (getD edges (2 * k + 1) 0) v
+
+-- one of the first n edges of the list joins u and v
+abbrev pub edgeIn : List ℕ → ℕ → ℕ → ℕ → Bool
+edgeIn edges n u v = anyUp n (edgeIs edges (min u v) (max u v))
 
 -- `edge_set` has the edge between u and v
 unfoldable pub hasEdge : State → ℕ → ℕ → Bool
-hasEdge s u v = anyUp (s .counts .edges) (edgeIs s (min u v) (max u v))
+hasEdge s u v = edgeIn (s .edges) (s .counts .edges) u v
+
+-- the ids of quad a b d c
+pub record Quad : Type 0 where
+  pub a : ℕ
+  pub b : ℕ
+  pub d : ℕ
+  pub c : ℕ
+
+-- quad k as it is answered
+unfoldable pub quadAt : State → ℕ → Quad
+quadAt s k =
+    record { a = getD (s .quads) (4 * k) 0; b = getD (s .quads) (4 * k + 1) 0; d = getD (s .quads) (4 * k + 2) 0; c = getD (s .quads) (4 * k + 3) 0 }
 
 -- ---- elementary changes
 

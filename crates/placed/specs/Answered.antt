@@ -1,23 +1,23 @@
 -- What a placement says: its front edge is there, its corners are chosen as the reference chooses them, every check was passed, and there is room.
-use Prim.Native.Nat.{ℕ, _+_, _≤_}
+use Prim.Native.Nat.{ℕ}
 use mathlib.Core.Path.{_≡_, refl, _∙_}
-use mathlib.Core.Bool.{Bool, true, false, not, _&&_, _||_, cond}
+use mathlib.Core.Bool.{Bool, true, false, not, _&&_, cond}
 use mathlib.Core.Logic.{_≢_}
 use native.Mathlib.Omega.{arith}
-use lib.Dec.{eqb, ltb}
+use lib.Dec.{eqb}
 use lib.Ieee.{Float}
-use borrow.Author.Tests.{eqb-true, eqb-false, ltb-false, not-true}
+use borrow.Author.Tests.{eqb-true, eqb-false, not-true}
 use Rattle.domain.specs.declared.Point.{Point}
 use Rattle.domain.specs.Outline.{Outline}
 use Rattle.topology.specs.Links.{off}
-use Rattle.topology.specs.Placing.{Kind, reused, fresh}
 use Rattle.front.specs.declared.Corner.{Corner}
 use Rattle.front.specs.declared.Corner.the-variants.{Reused, Fresh}
-use Rattle.front.specs.State.{State, nextOf, prevOf, nodePlaces, quadPlaces, edgePlaces}
-use Rattle.front.specs.Place.{added, idC, idD, edgesAdded, isFull}
+use Rattle.front.specs.State.{State, nextOf, prevOf}
+use Rattle.front.specs.Place.{idC, idD}
+use Rattle.front.specs.Ready.{Chosen, Choice, Fits, fits}
+use Rattle.paving.specs.declared.Attempt.the-variants.{Quad}
 use Rattle.paving.specs.Checks.{quadFits}
-use Rattle.paving.specs.Attempt.{isReused, cornerAt, cornerC, cornerD}
-use Rattle.paving.specs.AttemptLaws.{quad-chosen}
+use Rattle.paving.specs.Attempt.{isReused, cornerAt, cornerC, cornerD, quadIf, attemptQuad}
 use Rattle.paving.specs.Reach.{Placement}
 
 -- ---- tests
@@ -30,40 +30,17 @@ and-right : (x y : Bool) → x && y ≡ true → y ≡ true
 and-right true y e = e
 and-right false y e = absurd (let z : _≡_ {A = ℕ} 0 1 = cc in omega arith)
 
-or-left : (x y : Bool) → x || y ≡ false → x ≡ false
-or-left true y e = e
-or-left false y e = refl
-
-or-right : (x y : Bool) → x || y ≡ false → y ≡ false
-or-right true y e = absurd (let z : _≡_ {A = ℕ} 0 1 = cc in omega arith)
-or-right false y e = e
-
 -- the test that two numbers differ
 differ : (x y : ℕ) → not (eqb x y) ≡ true → x ≢ y
 differ x y e = eqb-false x y (not-true (eqb x y) e)
 
 -- ---- the statement
 
-abbrev pub kindOf : Corner → Kind
-kindOf (Reused id) = reused
-kindOf (Fresh x y) = fresh
-
--- a reused corner is the neighbour v, which is on the front and not the edge's other end
-abbrev pub Chosen : Corner → ℕ → ℕ → Type 0
-Chosen (Reused id) other v = (v ≡ id) × (id ≢ off) × (id ≢ other)
-Chosen (Fresh x y) other v = Unit {0}
-
 -- the quad a, b, d, c was answered for the front edge a to b of s, and fits the places lent
 pub record Answered (o : Outline) (size : Float) (s : State) (a b : ℕ) (c d : Corner) : Type 0 where
-  pub edge : nextOf s a ≡ b
-  pub node : b ≢ off
-  pub chosen-c : Chosen c b (prevOf s a)
-  pub chosen-d : Chosen d a (nextOf s b)
-  pub apart : idC s c ≢ idD s c d
+  pub choice : Choice s a b c d
   pub checks : quadFits o size s a b c d ≡ true
-  pub nodes-fit : s .counts .nodes + added c + added d ≤ nodePlaces s
-  pub quads-fit : s .counts .quads + 1 ≤ quadPlaces s
-  pub edges-fit : s .counts .edges + edgesAdded s a b (idD s c d) (idC s c) ≤ edgePlaces s
+  pub fits : Fits s a b c d
 
 -- ---- the corners
 
@@ -81,22 +58,40 @@ chosen size s other v p c = by (isReused size s other v p) refl c
     by false e (Reused id) h = absurd (let z : _≡_ {A = ℕ} 0 1 = cc in omega arith)
     by false e (Fresh x y) h = tt
 
+-- the corners that an attempt answered, and that every check was passed
+record Attempted (o : Outline) (size : Float) (s : State) (a b : ℕ) (da db : Point) (c d : Corner) : Type 0 where
+  at-c : cornerC size s a b da ≡ c
+  at-d : cornerD size s a b db ≡ d
+  checks : quadFits o size s a b c d ≡ true
+
+attempted : (o : Outline) (size : Float) (s : State) (a b : ℕ) (da db : Point) (c d : Corner)
+    → attemptQuad o size s a b da db ≡ Quad c d → Attempted o size s a b da db c d
+unfolding attemptQuad
+attempted o size s a b da db c d = by (quadFits o size s a b (cornerC size s a b da) (cornerD size s a b db)) refl
+  where
+    by : (t : Bool) → quadFits o size s a b (cornerC size s a b da) (cornerD size s a b db) ≡ t
+        → quadIf t (cornerC size s a b da) (cornerD size s a b db) ≡ Quad c d → Attempted o size s a b da db c d
+    by true e h =
+        let p : cornerC size s a b da ≡ c = cc in
+        let q : cornerD size s a b db ≡ d = cc in
+        record { at-c = p; at-d = q; checks = rw (p, q) at e }
+    by false e h = absurd (let z : _≡_ {A = ℕ} 0 1 = cc in omega arith)
+
 -- ---- the theorem
 
 pub answered : (o : Outline) (size : Float) (s : State) (a b : ℕ) (c d : Corner) → Placement o size s a b c d → Answered o size s a b c d
-unfolding cornerC cornerD quadFits isFull
+unfolding cornerC cornerD quadFits
 answered o size s a b c d P =
-    let A = quad-chosen o size s a b (P .da) (P .db) c d (P .answered) in
+    let A = attempted o size s a b (P .da) (P .db) c d (P .answered) in
     let edge = eqb-true (nextOf s a) b (and-right (not (eqb b off)) _ (P .there)) in
-    let full = or-right (ltb (nodePlaces s) (s .counts .nodes + added c + added d)) _ (P .fits) in
     record {
-      edge = edge;
-      node = differ b off (and-left _ _ (P .there));
-      chosen-c = chosen size s b (prevOf s a) _ c (A .at-c);
-      chosen-d = chosen size s a (nextOf s b) _ d (A .at-d);
-      apart = differ (idC s c) (idD s c d) (and-left _ _ (A .checks));
+      choice = record {
+        edge = edge;
+        node = differ b off (and-left _ _ (P .there));
+        chosen-c = chosen size s b (prevOf s a) _ c (A .at-c);
+        chosen-d = chosen size s a (nextOf s b) _ d (A .at-d);
+        apart = differ (idC s c) (idD s c d) (and-left _ _ (A .checks));
+      };
       checks = A .checks;
-      nodes-fit = ltb-false _ _ (or-left _ _ (P .fits));
-      quads-fit = ltb-false _ _ (or-left _ _ full);
-      edges-fit = ltb-false _ _ (or-right (ltb (quadPlaces s) (s .counts .quads + 1)) _ full);
+      fits = fits s a b c d (P .fits);
     }

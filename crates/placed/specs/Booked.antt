@@ -27,8 +27,9 @@ use Rattle.paving.specs.Reach.{Placement}
 use Rattle.books.specs.Book.{edge, Book, book, has, without, comesOff, newNode, side, Quad, quadAt, bookQuad}
 use Rattle.books.specs.Matches.{edgesSum, Matches}
 use Rattle.books.specs.BookLaws.{frame-quad, has-edge, has-none, without-sum}
-use Rattle.placed.specs.Answered.{kindOf, answered}
-use Rattle.placed.specs.Sides.{new-added, Sides, sides}
+use Rattle.front.specs.Moved.{kindOf}
+use Rattle.front.specs.Sides.{new-added, Sides, sides}
+use Rattle.placed.specs.Answered.{answered}
 use Rattle.placed.specs.Step.{Stepped}
 
 -- ---- the statement
@@ -211,7 +212,7 @@ pub booked : (n : ℕ) (s : State) (ls : List (List ℕ)) (o : Outline) (size : 
     → Sound n s ls → Placement o size s a b c d → (Y : Stepped n s ls a b c d t) → Frame t final → (B : Book) → Matches s ls B
     → BookStep final (quadAt final (s .counts .quads)) B t (Y .loops)
 booked n s ls o size a b c d t final S P Y F B M =
-    let X = sides n s ls S o size a b c d (answered o size s a b c d P) in
+    let X = sides n s ls S a b c d (answered o size s a b c d P .choice) in
     record {
       book = after n s ls a b c d t final X Y F B M;
       through =

@@ -1,167 +1,18 @@
--- One placing: a sound state stays sound. The statement is `Stepped`; the theorem, `step`, stands at the end.
-use Prim.Native.Nat.{ℕ, _+_, _*_, _<_, _≤_}
-use mathlib.Core.List.{List, [], _∷_}
-use mathlib.Core.Path.{_≡_, refl, sym, subst}
-use native.Mathlib.Omega.{arith}
-use lib.IntN.{ℤ, _+ℤ_}
-use lib.ListN.{length}
+-- One placing of a run: a sound state stays sound.
+use Prim.Native.Nat.{ℕ}
+use mathlib.Core.List.{List}
 use lib.Ieee.{Float}
 use Rattle.domain.specs.Outline.{Outline}
-use Rattle.topology.specs.Sums.{All, Even, total, frontSum, one, loop-one}
-use Rattle.topology.specs.Links.{at}
-use Rattle.topology.specs.Changes.{removed, added}
-use Rattle.topology.specs.Placing.{Kind, reused, fresh, placing, After, placed, placed-edges}
-use Rattle.topology.specs.Balance.{frontSumℤ, quadSumℤ, Antisymmetric, balance}
 use Rattle.front.specs.declared.Corner.{Corner}
-use Rattle.front.specs.State.{State, node, nodePlaces, quadPlaces, pushQuad}
-use Rattle.front.specs.Place.{cornerPoint, idC, idD, addEdges, edgesAdded, place}
-use Rattle.front.specs.Place as front
-use Rattle.front.specs.Sound.{Sound, Frame}
-use Rattle.front.specs.FrameLaws.{frame-trans, frame-node-places, frame-quad-places, frame-edge-places}
+use Rattle.front.specs.State.{State}
+use Rattle.front.specs.Place.{place}
+use Rattle.front.specs.Sound.{Sound}
+use Rattle.front.specs.Step as front
+pub use Rattle.front.specs.Step.{Stepped}
 use Rattle.paving.specs.Reach.{Placement}
-use Rattle.books.specs.Book.{Quad, quadAt}
-use Rattle.placed.specs.Answered.{kindOf, Answered, answered}
-use Rattle.placed.specs.Pushed.{Cornered, cornered, withCorners}
-use Rattle.placed.specs.MeshEdges.{Edged, quad-edged, edges-few}
-use Rattle.placed.specs.Moved.{changesOf, edgesAfter, edges-after}
-use Rattle.placed.specs.StateAfter.{stateOf, state-frame, quad-reads, place-is}
-use Rattle.placed.specs.Sides.{new-added, Sides, sides, placeable}
-
--- ---- the statement
-
--- t is what placing the quad a, b, d, c leaves of s, whose front has the loops ls
-pub record Stepped (n : ℕ) (s : State) (ls : List (List ℕ)) (a b : ℕ) (c d : Corner) (t : State) : Type 0 where
-  -- the loops after, as many as before
-  pub loops : List (List ℕ)
-  pub sound : Sound n t loops
-  pub number : length loops ≡ length ls
-  -- nothing that was there changes
-  pub frame : Frame s t
-  pub nodes : t .counts .nodes ≡ s .counts .nodes + front.added c + front.added d
-  pub quads : t .counts .quads ≡ s .counts .quads + 1
-  -- the quad placed, and its nodes
-  pub quad : quadAt t (s .counts .quads) ≡ record { a = a; b = b; d = idD s c d; c = idC s c }
-  pub node-a : a < s .counts .nodes
-  pub node-b : b < s .counts .nodes
-  pub node-c : idC s c < t .counts .nodes
-  pub node-d : idD s c d < t .counts .nodes
-  pub at-c : node t (idC s c) ≡ cornerPoint s c
-  pub at-d : node t (idD s c d) ≡ cornerPoint s d
-  -- whatever is summed over the edges: the front after and what came off are the front before and what went on
-  pub sums : (w : ℕ → ℕ → ℕ)
-      → frontSum w loops + removed w (changesOf s a b c d) ≡ frontSum w ls + added w (changesOf s a b c d)
-  -- a weight that changes its sign with the direction: the front before is the quad and the front after
-  pub balance : (w : ℕ → ℕ → ℤ) → Antisymmetric w
-      → frontSumℤ w ls ≡ quadSumℤ w a b (idD s c d) (idC s c) +ℤ frontSumℤ w loops
-
--- ---- the front's edges
-
--- loops that are there have two edges
-two-edges : (ls : List (List ℕ)) → All Even ls → 0 < length ls → 2 ≤ frontSum one ls
-unfolding total
-two-edges [] e h = absurd (omega arith)
-two-edges (l ∷ ls) e h = omega (arith, loop-one l, e .0 .two)
-
-has-loop : (w : ℕ → ℕ → ℕ) (ls : List (List ℕ)) → 0 < frontSum w ls → 0 < length ls
-unfolding total
-has-loop w [] h = h
-has-loop w (l ∷ ls) h = omega arith
-
--- no more edges come off than there are
-few-removed : (kc kd : Kind) (a b c d before after : ℕ) → 2 ≤ before → 2 ≤ after
-    → after + removed one (placing kc kd a b c d) ≡ before + added one (placing kc kd a b c d)
-    → removed one (placing kc kd a b c d) ≤ before
-few-removed reused reused a b c d before after h k e = omega arith
-few-removed reused fresh a b c d before after h k e = omega arith
-few-removed fresh reused a b c d before after h k e = omega arith
-few-removed fresh fresh a b c d before after h k e = omega arith
-
--- ---- the theorem
-
-module _ (n : ℕ) (s : State) (ls : List (List ℕ)) (o : Outline) (size : Float) (a b : ℕ) (c d : Corner) (S : Sound n s ls)
-    (A : Answered o size s a b c d) (X : Sides s ls a b c d) (u : State) (G : Cornered ls c d s u)
-    (L : After (u .counts .nodes) (u .next) (u .prev) ls (changesOf s a b c d)) (e : State) (E : Edged u e)
-    (few : e .counts .edges ≤ u .counts .edges + edgesAdded u a b (idD s c d) (idC s c)) where
-  abbrev quad : Quad
-  quad = record { a = a; b = b; d = idD s c d; c = idC s c }
-
-  abbrev after : State
-  after = stateOf u e quad (changesOf s a b c d)
-
-  frame : Frame s after
-  frame = frame-trans s u after (G .pushed .frame) (state-frame u e quad (changesOf s a b c d) E (L .changes .within))
-
-  edges-same : edgesAdded u a b (idD s c d) (idC s c) ≡ edgesAdded s a b (idD s c d) (idC s c)
-  unfolding edgesAdded
-  edges-same = rw (G .pushed .has a b, G .pushed .has b (idD s c d), G .pushed .has (idD s c d) (idC s c), G .pushed .has (idC s c) a)
-
-  few-off : removed one (changesOf s a b c d) ≤ u .counts .front
-  few-off =
-      let loops = has-loop (at a b) ls (X .side-ab) in
-      let before = two-edges ls (S .front .loops .evens) loops in
-      let later = two-edges (L .loops) (L .changes .front .loops .evens) (omega (arith, L .count)) in
-      rw (G .pushed .fronts, S .edges)
-      (few-removed (kindOf c) (kindOf d) a b (idC s c) (idD s c d) (frontSum one ls) (frontSum one (L .loops)) before later
-      (L .changes .sums one))
-
-  sound : Sound n after (L .loops)
-  unfolding pushQuad
-  sound =
-      let P = G .pushed in
-      let cs = changesOf s a b c d in
-      let count = edges-after cs (u .counts .front) few-off in
-      let edges : edgesAfter cs (u .counts .front) ≡ frontSum one (L .loops) =
-      omega (arith, count, L .changes .sums one, P .fronts, S .edges) in
-      let two =
-      placed-edges (kindOf c) (kindOf d) (u .counts .nodes) a b (idC s c) (idD s c d) (u .next) (u .prev) ls (L .loops) (L .changes) in
-      record {
-        front = L .changes .front;
-        edges = edges;
-        counts = omega (arith, edges, two, S .edges, S .counts, P .nodes, P .quads, new-added c, new-added d);
-        nodes-fit = rw (frame-node-places s after frame, P .nodes) (omega (arith, A .nodes-fit));
-        quads-fit = rw (frame-quad-places s after frame, P .quads) (A .quads-fit);
-        edges-fit = rw (frame-edge-places s after frame) (omega (arith, few, edges-same, P .edges, A .edges-fit));
-      }
-
-  stepped : Stepped n s ls a b c d after
-  unfolding pushQuad quadPlaces
-  stepped =
-      let P = G .pushed in
-      let room : 4 * (u .counts .quads + 1) ≤ length (u .quads) = omega (arith, A .quads-fit, P .quads, P .frame .quadList .long) in
-      record {
-        loops = L .loops;
-        sound = sound;
-        number = L .count;
-        frame = frame;
-        nodes = omega (arith, P .nodes);
-        quads = omega (arith, P .quads);
-        quad = rw (← P .quads) (quad-reads after (u .quads) (u .counts .quads) a b (idD s c d) (idC s c) room refl);
-        node-a = X .node-a;
-        node-b = X .node-b;
-        node-c = G .id-c;
-        node-d = G .id-d;
-        at-c = G .at-c;
-        at-d = G .at-d;
-        sums = L .changes .sums;
-        balance = λ w anti.
-            balance w anti (kindOf c) (kindOf d) (u .counts .nodes) a b (idC s c) (idD s c d) (u .next) (u .prev) ls (L .loops) (L .changes);
-      }
+use Rattle.placed.specs.Answered.{answered}
 
 -- the placing of an answered quad on a sound state
 pub step : (n : ℕ) (s : State) (ls : List (List ℕ)) (o : Outline) (size : Float) (a b : ℕ) (c d : Corner) → Sound n s ls
     → Placement o size s a b c d → Stepped n s ls a b c d (place a b c d s)
-unfolding nodePlaces
-step n s ls o size a b c d S P =
-    let A = answered o size s a b c d P in
-    let X = sides n s ls S o size a b c d A in
-    let C = idC s c in
-    let D = idD s c d in
-    let u = withCorners c d s in
-    let G = cornered ls c d s (S .front) (A .nodes-fit) (X .node-c) (X .node-d) in
-    let R = G .pushed in
-    let long-next : u .counts .nodes ≤ length (u .next) = omega (arith, A .nodes-fit, R .nodes, R .frame .next .long) in
-    let long-prev : u .counts .nodes ≤ length (u .prev) = omega (arith, A .nodes-fit, R .nodes, R .frame .prev .long) in
-    let L = placed (kindOf c) (kindOf d) (u .counts .nodes) (u .next) (u .prev) ls a b C D (R .front) long-next long-prev
-    (placeable ls o size a b c d s u A G) in
-    subst (λ (t : State). Stepped n s ls a b c d t) (sym (place-is s a b c d ls L long-next))
-    (stepped n s ls o size a b c d S A X u G L (addEdges a b D C u) (quad-edged a b D C u) (edges-few a b D C u))
+step n s ls o size a b c d S P = front.step n s ls a b c d S (answered o size s a b c d P .choice) (P .fits)

@@ -8,15 +8,14 @@ use lib.Seq.{getD-set-same, getD-set-other}
 use Rattle.topology.specs.Sums.{All}
 use Rattle.topology.specs.Changes.{Change, stored, reversed, Within, within-reversed, stored-length, stored-past}
 use Rattle.topology.specs.Placing.{After}
 use Rattle.front.specs.declared.Corner.{Corner}
-use Rattle.front.specs.State.{State, withFront, pushQuad}
+use Rattle.front.specs.State.{State, Quad, quadAt, withFront, pushQuad}
 use Rattle.front.specs.Place.{idC, idD, addEdges, moveFront, place}
 use Rattle.front.specs.Sound.{Extends, Frame}
 use Rattle.front.specs.FrameLaws.{extends-same, extends-set}
-use Rattle.books.specs.Book.{Quad, quadAt}
-use Rattle.placed.specs.Pushed.{withCorners}
-use Rattle.placed.specs.MeshEdges.{withEdges, Edged, quad-edged}
-use Rattle.placed.specs.Moved.{changesOf, edgesAfter, changes-stored, move-is}
+use Rattle.front.specs.Pushed.{withCorners}
+use Rattle.front.specs.MeshEdges.{withEdges, Edged, quad-edged}
+use Rattle.front.specs.Moved.{changesOf, edgesAfter, changes-stored, move-is}
 
 -- ---- the quad's place
 
@@ -55,12 +54,12 @@ quad-reads t l k a b d c room e =
 -- ---- the state
 
 -- u has the new nodes: its mesh edges become those of e, the quad is pushed, and the front moves by cs
-abbrev pub stateOf : State → State → Quad → List Change → State
-stateOf u e q cs =
+abbrev pub stateAfter : State → State → Quad → List Change → State
+stateAfter u e q cs =
     let t = pushQuad (q .a) (q .b) (q .d) (q .c) (withEdges u (e .edges) (e .counts .edges)) in
     withFront t (stored set cs (t .next)) (stored set (reversed cs) (t .prev)) (edgesAfter cs (t .counts .front))
 
-pub state-frame : (u e : State) (q : Quad) (cs : List Change) → Edged u e → All (Within (u .counts .nodes)) cs → Frame u (stateOf u e q cs)
+pub state-frame : (u e : State) (q : Quad) (cs : List Change) → Edged u e → All (Within (u .counts .nodes)) cs → Frame u (stateAfter u e q cs)
 unfolding pushQuad
 state-frame u e q cs E within =
     record {
@@ -85,7 +84,7 @@ pub place-is : (s : State) (a b : ℕ) (c d : Corner) (ls : List (List ℕ))
     → (L : After (withCorners c d s .counts .nodes) (withCorners c d s .next) (withCorners c d s .prev) ls (changesOf s a b c d))
     → withCorners c d s .counts .nodes ≤ length (withCorners c d s .next)
     → place a b c d s
-    ≡ stateOf (withCorners c d s) (addEdges a b (idD s c d) (idC s c) (withCorners c d s))
+    ≡ stateAfter (withCorners c d s) (addEdges a b (idD s c d) (idC s c) (withCorners c d s))
     (record { a = a; b = b; d = idD s c d; c = idC s c }) (changesOf s a b c d)
 unfolding place pushQuad
 place-is s a b c d ls L long =

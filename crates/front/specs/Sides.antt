@@ -5,20 +5,19 @@ use mathlib.Core.List.{List}
 use mathlib.Core.Path.{_≡_, refl, sym, _∙_, ap}
 use mathlib.Core.Logic.{_≢_}
 use native.Mathlib.Omega.{arith}
-use lib.Ieee.{Float}
-use Rattle.domain.specs.Outline.{Outline}
 use Rattle.topology.specs.Sums.{frontSum}
 use Rattle.topology.specs.Links.{off, at, linkOf, link-out}
 use Rattle.topology.specs.Front.{Loops, source, target, next-edge, next-in, no-self, next-of-prev, prev-in}
 use Rattle.topology.specs.Changes.{OffFront}
 use Rattle.topology.specs.Placing.{ByKind, Placeable, newNodes}
 use Rattle.front.specs.declared.Corner.{Corner}
 use Rattle.front.specs.declared.Corner.the-variants.{Reused, Fresh}
 use Rattle.front.specs.State.{State, nextOf, prevOf}
 use Rattle.front.specs.Place.{added, idC, idD}
 use Rattle.front.specs.Sound.{Sound}
-use Rattle.placed.specs.Answered.{kindOf, Chosen, Answered}
-use Rattle.placed.specs.Pushed.{Cornered, IsNode}
+use Rattle.front.specs.Moved.{kindOf}
+use Rattle.front.specs.Ready.{Chosen, Choice}
+use Rattle.front.specs.Pushed.{Cornered, IsNode}
 
 -- a fresh corner adds a node
 pub new-added : (c : Corner) → newNodes (kindOf c) ≡ added c
@@ -35,6 +34,9 @@ pub record Sides (s : State) (ls : List (List ℕ)) (a b : ℕ) (c d : Corner) :
   pub ab : a ≢ b
   pub ac : a ≢ idC s c
   pub bc : b ≢ idC s c
+  pub ad : a ≢ idD s c d
+  pub bd : b ≢ idD s c d
+  pub cd : idC s c ≢ idD s c d
   pub side-ab : 0 < frontSum (at a b) ls
   pub side-ca : ByKind (kindOf c) (0 < frontSum (at (idC s c) a) ls) (frontSum (at (idC s c) a) ls ≡ 0)
   pub side-bd : ByKind (kindOf d) (0 < frontSum (at b (idD s c d)) ls) (frontSum (at b (idD s c d)) ls ≡ 0)
@@ -73,38 +75,57 @@ side-c n s ls S a b an bn (Reused id) h =
 side-c n s ls S a b an bn (Fresh x y) h =
     record { node = tt; ac = omega arith; bc = omega arith; side = S .front .loops .inside (s .counts .nodes) a (omega arith) }
 
-side-d : (n : ℕ) (s : State) (ls : List (List ℕ)) → Sound n s ls → (a b : ℕ) (c d : Corner) → Chosen d a (nextOf s b)
-    → IsNode (s .counts .nodes) d
-    × ByKind (kindOf d) (0 < frontSum (at b (idD s c d)) ls) (frontSum (at b (idD s c d)) ls ≡ 0)
-side-d n s ls S a b c (Reused id) h =
+-- and of d
+record SideD (s : State) (ls : List (List ℕ)) (a b : ℕ) (c d : Corner) : Type 0 where
+  node : IsNode (s .counts .nodes) d
+  ad : a ≢ idD s c d
+  bd : b ≢ idD s c d
+  side : ByKind (kindOf d) (0 < frontSum (at b (idD s c d)) ls) (frontSum (at b (idD s c d)) ls ≡ 0)
+
+side-d : (n : ℕ) (s : State) (ls : List (List ℕ)) → Sound n s ls → (a b : ℕ) → a < s .counts .nodes → b < s .counts .nodes
+    → (c d : Corner) → Chosen d a (nextOf s b) → SideD s ls a b c d
+side-d n s ls S a b an bn c (Reused id) h =
     let L = S .front .loops in
     let m = s .counts .nodes in
     let on : nextOf s b ≢ off = λ e. h .1 (sym (h .0) ∙ e) in
-    (omega (arith, h .0, next-in m (nextOf s) ls L b on), omega (arith, next-edge m (nextOf s) ls L b id (h .1) (h .0)))
-side-d n s ls S a b c (Fresh x y) h =
-    (tt, no-target (s .counts .nodes) (nextOf s) ls (S .front .loops) b (s .counts .nodes + added c) (omega arith))
+    record {
+      node = omega (arith, h .0, next-in m (nextOf s) ls L b on);
+      ad = λ e. h .2 (sym e);
+      bd = λ e. no-self m (nextOf s) ls L b bn (h .0 ∙ sym e);
+      side = omega (arith, next-edge m (nextOf s) ls L b id (h .1) (h .0));
+    }
+side-d n s ls S a b an bn c (Fresh x y) h =
+    record {
+      node = tt;
+      ad = omega arith;
+      bd = omega arith;
+      side = no-target (s .counts .nodes) (nextOf s) ls (S .front .loops) b (s .counts .nodes + added c) (omega arith);
+    }
 
-pub sides : (n : ℕ) (s : State) (ls : List (List ℕ)) → Sound n s ls → (o : Outline) (size : Float) (a b : ℕ) (c d : Corner)
-    → Answered o size s a b c d → Sides s ls a b c d
-sides n s ls S o size a b c d A =
+pub sides : (n : ℕ) (s : State) (ls : List (List ℕ)) → Sound n s ls → (a b : ℕ) (c d : Corner)
+    → Choice s a b c d → Sides s ls a b c d
+sides n s ls S a b c d A =
     let L = S .front .loops in
     let m = s .counts .nodes in
     let there : 0 < frontSum (at a b) ls = omega (arith, next-edge m (nextOf s) ls L a b (A .node) (A .edge)) in
     let an = source m (nextOf s) ls L a b there in
     let bn = target m (nextOf s) ls L a b there in
     let C = side-c n s ls S a b an bn c (A .chosen-c) in
-    let D = side-d n s ls S a b c d (A .chosen-d) in
+    let D = side-d n s ls S a b an bn c d (A .chosen-d) in
     record {
       node-a = an;
       node-b = bn;
       node-c = C .node;
-      node-d = D .0;
+      node-d = D .node;
       ab = λ e. no-self m (nextOf s) ls L a an (A .edge ∙ sym e);
       ac = C .ac;
       bc = C .bc;
+      ad = D .ad;
+      bd = D .bd;
+      cd = A .apart;
       side-ab = there;
       side-ca = C .side;
-      side-bd = D .1;
+      side-bd = D .side;
     }
 
 -- ---- topology's placing, in the state with the new nodes
@@ -127,11 +148,11 @@ module _ (s t : State) where
   corner-d a b c (Reused id) k h = (h .0, h .2)
   corner-d a b c (Fresh x y) k h = off-front (s .counts .nodes + added c) (omega arith) k
 
-pub placeable : (ls : List (List ℕ)) (o : Outline) (size : Float) (a b : ℕ) (c d : Corner) (s t : State) → Answered o size s a b c d
+pub placeable : (ls : List (List ℕ)) (a b : ℕ) (c d : Corner) (s t : State) → Choice s a b c d
     → Cornered ls c d s t
     → Placeable (kindOf c) (kindOf d) (t .counts .nodes) (linkOf (t .counts .nodes) (t .next)) (linkOf (t .counts .nodes) (t .prev))
     a b (idC s c) (idD s c d)
-placeable ls o size a b c d s t A G =
+placeable ls a b c d s t A G =
     let P = G .pushed in
     rw (P .next, P .prev)
     (record {

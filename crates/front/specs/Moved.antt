@@ -8,14 +8,17 @@ use borrow.Author.Tests.{eq-eqb}
 use Rattle.topology.specs.Sums.{All, one}
 use Rattle.topology.specs.Links.{off, linkOf, link-set}
 use Rattle.topology.specs.Changes.{Change, remove, add, stored, reversed, removed, added, Valid, Within}
-use Rattle.topology.specs.Placing.{placing}
+use Rattle.topology.specs.Placing.{Kind, reused, fresh, placing}
 use Rattle.front.specs.declared.Corner.{Corner}
 use Rattle.front.specs.declared.Corner.the-variants.{Reused, Fresh}
 use Rattle.front.specs.State.{State, nextOf, withFront, addFront, removeFront}
 use Rattle.front.specs.Place.{idC, idD, moveFront}
-use Rattle.placed.specs.Answered.{kindOf}
 
 -- ---- definitions
+
+abbrev pub kindOf : Corner → Kind
+kindOf (Reused id) = reused
+kindOf (Fresh x y) = fresh
 
 -- what the placing of a, b, d, c in s does to the front
 abbrev pub changesOf : State → ℕ → ℕ → Corner → Corner → List Change

@@ -1,0 +1,73 @@
+-- When a quad can be placed: the far corners are chosen as the reference chooses them, in a sound state whose mesh edges are known. And what it
+-- means that the quad fits the places lent.
+use Prim.Native.Nat.{ℕ, _+_, _<_, _≤_}
+use mathlib.Core.List.{List}
+use mathlib.Core.Path.{_≡_, refl}
+use mathlib.Core.Bool.{Bool, true, false, _||_}
+use mathlib.Core.Logic.{_≢_}
+use native.Mathlib.Omega.{arith}
+use lib.Dec.{ltb}
+use borrow.Author.Tests.{ltb-false}
+use Rattle.topology.specs.Links.{off}
+use Rattle.front.specs.declared.Corner.{Corner}
+use Rattle.front.specs.declared.Corner.the-variants.{Reused, Fresh}
+use Rattle.front.specs.State.{State, nextOf, prevOf, edgeFrom, edgeTo, hasEdge, nodePlaces, quadPlaces, edgePlaces}
+use Rattle.front.specs.Place.{added, idC, idD, edgesAdded, isFull}
+use Rattle.front.specs.Sound.{Sound}
+
+-- ---- definitions
+
+-- a reused corner is the neighbour v, which is on the front and not the edge's other end
+abbrev pub Chosen : Corner → ℕ → ℕ → Type 0
+Chosen (Reused id) other v = (v ≡ id) × (id ≢ off) × (id ≢ other)
+Chosen (Fresh x y) other v = Unit {0}
+
+-- the quad a, b, d, c stands on the front edge a to b of s
+pub record Choice (s : State) (a b : ℕ) (c d : Corner) : Type 0 where
+  pub edge : nextOf s a ≡ b
+  pub node : b ≢ off
+  pub chosen-c : Chosen c b (prevOf s a)
+  pub chosen-d : Chosen d a (nextOf s b)
+  pub apart : idC s c ≢ idD s c d
+
+-- the mesh edges of s
+pub record Known (s : State) : Type 0 where
+  -- every front edge is one
+  pub fronts : (u v : ℕ) → v ≢ off → nextOf s u ≡ v → hasEdge s u v ≡ true
+  -- each is stored with the smaller id first, and joins nodes
+  pub ordered : (k : ℕ) → k < s .counts .edges → edgeFrom s k < edgeTo s k
+  pub nodes : (k : ℕ) → k < s .counts .edges → edgeTo s k < s .counts .nodes
+
+-- the quad can be placed: what a run keeps, and what its checks have shown
+pub record Ready (s : State) (a b : ℕ) (c d : Corner) : Type 0 where
+  pub sampled : ℕ
+  pub loops : List (List ℕ)
+  pub sound : Sound sampled s loops
+  pub known : Known s
+  pub choice : Choice s a b c d
+
+-- the quad fits the places lent
+pub record Fits (s : State) (a b : ℕ) (c d : Corner) : Type 0 where
+  pub nodes-fit : s .counts .nodes + added c + added d ≤ nodePlaces s
+  pub quads-fit : s .counts .quads + 1 ≤ quadPlaces s
+  pub edges-fit : s .counts .edges + edgesAdded s a b (idD s c d) (idC s c) ≤ edgePlaces s
+
+-- ---- laws
+
+or-left : (x y : Bool) → x || y ≡ false → x ≡ false
+or-left true y e = e
+or-left false y e = refl
+
+or-right : (x y : Bool) → x || y ≡ false → y ≡ false
+or-right true y e = absurd (let z : _≡_ {A = ℕ} 0 1 = cc in omega arith)
+or-right false y e = e
+
+pub fits : (s : State) (a b : ℕ) (c d : Corner) → isFull s a b c d ≡ false → Fits s a b c d
+unfolding isFull
+fits s a b c d e =
+    let rest = or-right (ltb (nodePlaces s) (s .counts .nodes + added c + added d)) _ e in
+    record {
+      nodes-fit = ltb-false _ _ (or-left _ _ e);
+      quads-fit = ltb-false _ _ (or-left _ _ rest);
+      edges-fit = ltb-false _ _ (or-right (ltb (quadPlaces s) (s .counts .quads + 1)) _ rest);
+    }

@@ -116,11 +116,11 @@ attempt-seen s o size a b da db =
 -- and so is a front edge that is tried; of a field it reads the grid and the values
 pub try-seen : (s : State) (field : FieldRecord) (o : Outline) (size : Float) (a b : ℕ)
     → tryEdge o size (fieldRecord (field .grid) (field .lists .values) []) (seenOf s) a b ≡ tryEdge o size field s a b
-unfolding tryEdge tryToward
+unfolding tryEdge tryToward nearestDirection
 try-seen s field o size a b =
     let bx = node s b .x ⊖ node s a .x in
     let by' = node s b .y ⊖ node s a .y in
     let normal = normalOf bx by' (norm bx by') in
-    let da = nearestDirection (field .grid) (field .lists .values) (node s a) normal in
-    let db = nearestDirection (field .grid) (field .lists .values) (node s b) normal in
+    let da = nearestDirection field (node s a) normal in
+    let db = nearestDirection field (node s b) normal in
     rw (attempt-seen s o size a b da db, attempt-seen s o size a b normal normal)

@@ -66,9 +66,8 @@ normalOf bx by length = point (neg (by ⊘ length)) (bx ⊘ length)
 -- directions come from the field, then from the edge's normal
 unfoldable pub tryToward : Outline → Float → FieldRecord → State → ℕ → ℕ → Point → Attempt
 tryToward o size field s a b normal =
-    let da = nearestDirection (field .grid) (field .lists .values) (node s a) normal in
-    let db = nearestDirection (field .grid) (field .lists .values) (node s b) normal in
-    orElse (attemptQuad o size s a b da db) (attemptQuad o size s a b normal normal)
+    orElse (attemptQuad o size s a b (nearestDirection field (node s a) normal) (nearestDirection field (node s b) normal))
+    (attemptQuad o size s a b normal normal)
 
 -- none on an edge no longer than 1e-12
 unfoldable pub tryEdge : Outline → Float → FieldRecord → State → ℕ → ℕ → Attempt

@@ -30,7 +30,7 @@ pub record Attempted (o : Outline) (size : Float) (s : State) (a b : ℕ) (c d :
   pub db : Point
   pub answered : attemptQuad o size s a b da db ≡ Quad c d
 
-abbrev Answers : Outline → Float → State → ℕ → ℕ → Attempt → Type 0
+abbrev pub Answers : Outline → Float → State → ℕ → ℕ → Attempt → Type 0
 Answers o size s a b Nothing = Unit {0}
 Answers o size s a b (Quad c d) = Attempted o size s a b c d
 
@@ -46,14 +46,14 @@ or-answers : (o : Outline) (size : Float) (s : State) (a b : ℕ) (t u : Attempt
 or-answers o size s a b Nothing u p q = q
 or-answers o size s a b (Quad c d) u p q = p
 
-try-answers : (o : Outline) (size : Float) (field : FieldRecord) (s : State) (a b : ℕ) → Answers o size s a b (tryEdge o size field s a b)
+pub try-answers : (o : Outline) (size : Float) (field : FieldRecord) (s : State) (a b : ℕ) → Answers o size s a b (tryEdge o size field s a b)
 unfolding tryEdge tryToward
 try-answers o size field s a b =
     let bx = node s b .x ⊖ node s a .x in
     let by' = node s b .y ⊖ node s a .y in
     let normal = normalOf bx by' (norm bx by') in
-    let da = nearestDirection (field .grid) (field .lists .values) (node s a) normal in
-    let db = nearestDirection (field .grid) (field .lists .values) (node s b) normal in
+    let da = nearestDirection field (node s a) normal in
+    let db = nearestDirection field (node s b) normal in
     choose (le (norm bx by') tolerance) _
     (or-answers o size s a b (attemptQuad o size s a b da db) _ (attempt-answers o size s a b da db) (attempt-answers o size s a b normal normal))
   where
@@ -69,13 +69,13 @@ pub record Reached (o : Outline) (size : Float) (s t : State) : Type 0 where
   pub by : Reaches o size s quads t
 
 module _ (o : Outline) (size : Float) (s : State) where
-  abbrev AtPassing : Passing → Type 0
+  abbrev pub AtPassing : Passing → Type 0
   AtPassing p = Reached o size s (p .state)
 
-  abbrev AtEnd : Paved → Type 0
+  abbrev pub AtEnd : Paved → Type 0
   AtEnd e = Reached o size s (e .state)
 
-  abbrev AtPassed : Passed → Type 0
+  abbrev pub AtPassed : Passed → Type 0
   AtPassed p = Kept (Reached o size s) AtEnd p
 
   -- after a quad: at the cap the run is out, else the pass goes on
@@ -100,7 +100,7 @@ module _ (o : Outline) (size : Float) (s : State) where
       choose true e = r
       choose false e = quad-kept (place a b c d (p .state)) (more e)
 
-  turn-kept : (field : FieldRecord) (a : ℕ) (p : Passing) → AtPassing p → Kept AtPassing AtPassed (passTurn o size field a p)
+  pub turn-kept : (field : FieldRecord) (a : ℕ) (p : Passing) → AtPassing p → Kept AtPassing AtPassed (passTurn o size field a p)
   unfolding passTurn
   turn-kept field a p r =
       let b = getD (p .state .snapshot) a 0 in
@@ -118,7 +118,7 @@ module _ (o : Outline) (size : Float) (s : State) where
       choose true = r
       choose false = r
 
-  pass-kept : (field : FieldRecord) (t : State) → Reached o size s t → AtPassed (pass o size field t)
+  pub pass-kept : (field : FieldRecord) (t : State) → Reached o size s t → AtPassed (pass o size field t)
   unfolding pass
   pass-kept field t r =
       run-keeps AtPassing AtPassed (t .counts .nodes) (passTurn o size field) afterPass (passing (withSnapshot t) false)

@@ -4,14 +4,14 @@ use lib.Ieee.{Float}
 use Rattle.domain.specs.Outline.{Outline, firstOf}
 use Rattle.domain.specs.declared.Settings.{Settings}
 use Rattle.crossfield.specs.Seeds.{FieldLists}
-use Rattle.crossfield.specs.Field.{FieldRecord, fieldPlaces, fieldRefusal, fieldOf}
+use Rattle.crossfield.specs.Field.{FieldRecord, fieldRefusal, fieldOf}
 use Rattle.front.specs.State.{State}
 use Rattle.front.specs.Sampling.{frontRefusal, fromBoundary}
 use Rattle.paving.specs.Advance.{Paved, advance}
 
 -- 1 to 10, in rising number
 unfoldable pub runRefusal : Outline → Settings → FieldLists → State → ℕ
-runRefusal o set f lent = firstOf (fieldRefusal o (set .size) (set .sweeps) (fieldPlaces f)) (frontRefusal o (set .size) lent)
+runRefusal o set f lent = firstOf (fieldRefusal o (set .size) (set .sweeps) f) (frontRefusal o (set .size) lent)
 
 -- the field, and the paving where it ended
 pub record Run : Type 0 where

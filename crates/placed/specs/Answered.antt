@@ -18,6 +18,7 @@ use Rattle.front.specs.Ready.{Chosen, Choice, Fits, fits}
 use Rattle.paving.specs.declared.Attempt.the-variants.{Quad}
 use Rattle.paving.specs.Checks.{quadFits}
 use Rattle.paving.specs.Attempt.{isReused, cornerAt, cornerC, cornerD, quadIf, attemptQuad}
+use Rattle.paving.specs.Advance.{isThere}
 use Rattle.paving.specs.Reach.{Placement}
 
 -- ---- tests
@@ -77,21 +78,26 @@ attempted o size s a b da db c d = by (quadFits o size s a b (cornerC size s a b
         record { at-c = p; at-d = q; checks = rw (p, q) at e }
     by false e h = absurd (let z : _≡_ {A = ℕ} 0 1 = cc in omega arith)
 
--- ---- the theorem
+-- ---- the theorems
+
+-- an attempt on a front edge that is there answered a quad: its corners are chosen
+pub choice : (o : Outline) (size : Float) (s : State) (a b : ℕ) (da db : Point) (c d : Corner) → isThere s a b ≡ true
+    → attemptQuad o size s a b da db ≡ Quad c d → Choice s a b c d
+unfolding cornerC cornerD quadFits
+choice o size s a b da db c d there answer =
+    let A = attempted o size s a b da db c d answer in
+    record {
+      edge = eqb-true (nextOf s a) b (and-right (not (eqb b off)) _ there);
+      node = differ b off (and-left _ _ there);
+      chosen-c = chosen size s b (prevOf s a) _ c (A .at-c);
+      chosen-d = chosen size s a (nextOf s b) _ d (A .at-d);
+      apart = differ (idC s c) (idD s c d) (and-left _ _ (A .checks));
+    }
 
 pub answered : (o : Outline) (size : Float) (s : State) (a b : ℕ) (c d : Corner) → Placement o size s a b c d → Answered o size s a b c d
-unfolding cornerC cornerD quadFits
 answered o size s a b c d P =
-    let A = attempted o size s a b (P .da) (P .db) c d (P .answered) in
-    let edge = eqb-true (nextOf s a) b (and-right (not (eqb b off)) _ (P .there)) in
     record {
-      choice = record {
-        edge = edge;
-        node = differ b off (and-left _ _ (P .there));
-        chosen-c = chosen size s b (prevOf s a) _ c (A .at-c);
-        chosen-d = chosen size s a (nextOf s b) _ d (A .at-d);
-        apart = differ (idC s c) (idD s c d) (and-left _ _ (A .checks));
-      };
-      checks = A .checks;
+      choice = choice o size s a b (P .da) (P .db) c d (P .there) (P .answered);
+      checks = attempted o size s a b (P .da) (P .db) c d (P .answered) .checks;
       fits = fits s a b c d (P .fits);
     }

@@ -1,6 +1,7 @@
 -- `attempts::try_edge` meets its contract: the second attempt is made where the first answers nothing.
 use mathlib.Core.Path.{refl}
 use borrow.Author.Needs.{needs}
+use Rattle.crossfield.specs.Direction.{nearestDirection}
 use Rattle.paving.specs.Attempt.{tryEdge, tryToward}
 use Rattle.attempts.proofs.try_edge.Statement.{statement}
 use Rattle.attempts.proofs.try_edge.Tie as tie
@@ -40,11 +41,11 @@ attempt-quad-requires-2 : tie.Need-attempt-quad-requires-2
 attempt-quad-requires-2 c κs = c .before .before .before .before .before .before .before .before .before .before .before .before .before .before .before .before .before .before .before .before .before .before .before .pre .attempt
 
 returns-2 : tie.Need-returns-2
-unfolding tryEdge tryToward
+unfolding tryEdge tryToward nearestDirection
 returns-2 c = rw (← c .before .before .before .before .before .before .before .before .before .before .before .before .before .before .node-at .ensures, ← c .before .before .before .before .before .before .before .before .before .before .before .before .before .node-at2 .ensures, ← c .before .before .before .before .before .before .before .before .norm .ensures, c .before .before .before .before .before .before .before .if1 .left, ← c .before .before .before .before .before .before .normal-of .ensures, ← c .before .before .before .before .before .nearest-direction .ensures, ← c .before .before .before .before .nearest-direction2 .ensures, ← c .before .before .before .attempt-quad .ensures, c .before .enum-told .given .1) (c .attempt-quad2 .ensures)
 
 returns-3 : tie.Need-returns-3
-unfolding tryEdge tryToward
+unfolding tryEdge tryToward nearestDirection
 returns-3 c = rw (← c .before .before .before .before .before .before .before .before .before .before .before .before .before .before .node-at .ensures, ← c .before .before .before .before .before .before .before .before .before .before .before .before .before .node-at2 .ensures, ← c .before .before .before .before .before .before .before .before .norm .ensures, c .before .before .before .before .before .before .before .if1 .left, ← c .before .before .before .before .before .before .normal-of .ensures, ← c .before .before .before .before .before .nearest-direction .ensures, ← c .before .before .before .before .nearest-direction2 .ensures, ← c .before .before .before .attempt-quad .ensures, c .before .first .given .1) refl
 
 pub try-edge-spec : {M : Type 1} → statement M

@@ -14,3 +14,4 @@ pub mod Sides
 pub mod Step
 pub mod Stores
 pub mod StoreLaws
+pub mod KnownLaws

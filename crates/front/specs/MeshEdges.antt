@@ -39,7 +39,7 @@ pub record Edged (s t : State) : Type 0 where
 
 -- ---- one edge
 
-pushed : (u v : ℕ) (s : State) → Edged s (pushEdge u v s)
+pub pushed : (u v : ℕ) (s : State) → Edged s (pushEdge u v s)
 unfolding pushEdge
 pushed u v s =
     let n = s .counts .edges in
@@ -151,13 +151,13 @@ has-flip s u v =
 
 -- what is read where an edge is stored
 module _ (x y : ℕ) (s : State) (room : 2 * (s .counts .edges + 1) ≤ length (s .edges)) where
-  from-pushed : edgeFrom (pushEdge x y s) (s .counts .edges) ≡ x
+  pub from-pushed : edgeFrom (pushEdge x y s) (s .counts .edges) ≡ x
   unfolding pushEdge
   from-pushed =
       let n = s .counts .edges in
       getD-set-other (set (s .edges) (2 * n) x) (2 * n + 1) (2 * n) y 0 (omega arith) ∙ getD-set-same (s .edges) (2 * n) x 0 (omega arith)
 
-  to-pushed : edgeTo (pushEdge x y s) (s .counts .edges) ≡ y
+  pub to-pushed : edgeTo (pushEdge x y s) (s .counts .edges) ≡ y
   unfolding pushEdge
   to-pushed =
       let n = s .counts .edges in

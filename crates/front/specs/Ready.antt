@@ -30,13 +30,14 @@ pub record Choice (s : State) (a b : ℕ) (c d : Corner) : Type 0 where
   pub chosen-d : Chosen d a (nextOf s b)
   pub apart : idC s c ≢ idD s c d
 
--- the mesh edges of s
+-- each mesh edge of s is stored with the smaller id first, and joins two of the first n nodes
+abbrev pub Joined : ℕ → State → Type 0
+Joined n s = (k : ℕ) → k < s .counts .edges → (edgeFrom s k < edgeTo s k) × (edgeTo s k < n)
+
+-- the mesh edges of s are known: every front edge is one
 pub record Known (s : State) : Type 0 where
-  -- every front edge is one
   pub fronts : (u v : ℕ) → v ≢ off → nextOf s u ≡ v → hasEdge s u v ≡ true
-  -- each is stored with the smaller id first, and joins nodes
-  pub ordered : (k : ℕ) → k < s .counts .edges → edgeFrom s k < edgeTo s k
-  pub nodes : (k : ℕ) → k < s .counts .edges → edgeTo s k < s .counts .nodes
+  pub joined : Joined (s .counts .nodes) s
 
 -- the quad can be placed: what a run keeps, and what its checks have shown
 pub record Ready (s : State) (a b : ℕ) (c d : Corner) : Type 0 where

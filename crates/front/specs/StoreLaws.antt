@@ -29,7 +29,7 @@ use Rattle.front.specs.MeshEdges.{withEdges, Edged, edged, quad-edged, h
 use Rattle.front.specs.Moved.{kindOf, changesOf, edgesAfter}
 use Rattle.front.specs.StateAfter.{stateAfter}
 use Rattle.front.specs.Step.{Grounds, grounds}
-use Rattle.front.specs.Stores.{placeAnswer, placeIfRoom, countsAfter, afterQuad, isBeyond, storeX, storeY, isReused, knownAcross, unless, newEdges, storeEdge, storeEdges, storeQuad, storeSide, storeNext, storePrev, Ids, Countable}
+use Rattle.front.specs.Stores.{placeAnswer, placeIfRoom, Places, afterQuad, isBeyond, storeX, storeY, isReused, knownAcross, unless, newEdges, storeEdge, storeEdges, storeQuad, storeSide, storeNext, storePrev, Ids, Countable}
 
 -- ---- full
 
@@ -143,7 +143,7 @@ corners c d s =
 
 corners-are : (c d : Corner) (s : State) → withCorners c d s ≡ corners c d s
 unfolding pushNode
-corners-are (Reused c) (Reused d) s = rw add-zero
+corners-are (Reused c) (Reused d) s = rw (add-zero (s .counts .nodes))
 corners-are (Reused c) (Fresh x y) s = rw (add-zero (s .counts .nodes))
 corners-are (Fresh x y) (Reused d) s = refl
 corners-are (Fresh x y) (Fresh z w) s = rw (add-assoc (s .counts .nodes) 1 1)
@@ -172,7 +172,7 @@ no-edge s K u v h = by (hasEdge s u v) refl
         let f = any-found (edgeIs (s .edges) (min u v) (max u v)) (s .counts .edges) e in
         let k = f .0 in
         let q = eqb-true (edgeTo s k) (max u v) (and-right (eqb (edgeFrom s k) (min u v)) (eqb (edgeTo s k) (max u v)) (f .2)) in
-        absurd (omega (arith, q, K .nodes k (f .1)))
+        absurd (omega (arith, q, K .joined k (f .1) .1))
 
 -- which sides of a quad are known
 pub record SidesKnown (s : State) (a b : ℕ) (c d : Corner) : Type 0 where
@@ -317,7 +317,7 @@ stored s a b c d R full =
     ∙ (ap (λ (e : State). stateAfter u e q cs) E
     ∙ (ap
     (λ (v : State).
-        stateAfter v (withEdges v (storeEdges across c d a b C D (v .counts .edges) (v .edges)) (v .counts .edges + newEdges across c d)) q cs)
+    stateAfter v (withEdges v (storeEdges across c d a b C D (v .counts .edges) (v .edges)) (v .counts .edges + newEdges across c d)) q cs)
     (corners-are c d s)
     ∙ rw (
       next-stored a b C D (X .ab) (X .ac) (X .bc) (X .ad) (X .bd) (X .cd) c d (s .next),
@@ -371,9 +371,9 @@ module _ (s : State) (a b : ℕ) (c d : Corner) (R : Ready s a b c d) (mc md C D
   beyond-full = rw (pw, pk, pmc, pmd, ← edges-added s a b c d R) (sym (full-beyond s a b c d))
 
   -- nothing is written
-  pub when-full : isBeyond s (mc + md) w ≡ true → (Full ≡ placeAnswer a b c d s) × (s ≡ placeIfRoom a b c d s)
+  pub when-full : isBeyond s (mc + md) w ≡ true → Places a b c d s Full s
   unfolding placeAnswer placeIfRoom
-  when-full h = let e = sym beyond-full ∙ h in (rw e, rw e)
+  when-full h = let e = sym beyond-full ∙ h in record { answer = rw e; state = rw e }
 
   pub when-fits : isBeyond s (mc + md) w ≡ false → Fitting s a b c d C D across w
   unfolding nodePlaces quadPlaces edgePlaces
@@ -387,12 +387,12 @@ module _ (s : State) (a b : ℕ) (c d : Corner) (R : Ready s a b c d) (mc md C D
       let eD : D ≡ idD s c d = rw (← pmc) pd in
       let ids : (m : ℕ) → s .counts .nodes + added c + added d ≤ m → Ids m a b C D =
       λ m l.
-          record {
-            id-a = omega (arith, X .node-a);
-            id-b = omega (arith, X .node-b);
-            id-c = omega (arith, H .cornered .id-c, P .nodes, eC);
-            id-d = omega (arith, H .cornered .id-d, P .nodes, eD);
-          } in
+      record {
+        id-a = omega (arith, X .node-a);
+        id-b = omega (arith, X .node-b);
+        id-c = omega (arith, H .cornered .id-c, P .nodes, eC);
+        id-d = omega (arith, H .cornered .id-d, P .nodes, eD);
+      } in
       record {
         corners = (omega (arith, A .nodes-fit), omega (arith, A .nodes-fit), omega (arith, A .nodes-fit));
         edges = omega (arith, A .edges-fit, edges-added s a b c d R, ap (λ (t : Bool). newEdges t c d) pk);
@@ -412,7 +412,7 @@ pub when-stored : (s : State) (a b : ℕ) (c d : Corner) (C D : ℕ) (across : B
     → quads ≡ storeQuad (s .counts .quads) a b D C (s .quads)
     → (next ≡ storeNext c d a b C D (s .next)) × (prev ≡ storePrev c d a b C D (s .prev))
     → k ≡ afterQuad (s .counts) c d w
-    → (Done k ≡ placeAnswer a b c d s) × (stateOf xs ys next prev (s .snapshot) quads edges k ≡ placeIfRoom a b c d s)
+    → Places a b c d s (Done k) (stateOf xs ys next prev (s .snapshot) quads edges k)
 unfolding placeAnswer placeIfRoom
 when-stored s a b c d C D across w F px pe pq pn pk =
-    (rw (F .room, F .is, pk), rw (F .room, F .is, px .0, px .1, pe, pq, pn .0, pn .1, pk))
+    record { answer = rw (F .room, F .is, pk); state = rw (F .room, F .is, px .0, px .1, pe, pq, pn .0, pn .1, pk) }

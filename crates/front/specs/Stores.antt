@@ -1,6 +1,7 @@
 -- What the code of `place` stores, list by list. StoreLaws has the theorem that these stores are the state that `place` leaves. Definitions only.
 use Prim.Native.Nat.{ℕ, _+_, _-_, _*_, _<_, _≤_, min, max}
 use mathlib.Core.List.{List}
+use mathlib.Core.Path.{_≡_}
 use mathlib.Core.Bool.{Bool, true, false, _||_, cond}
 use lib.Dec.{ltb}
 use lib.ListN.{set}
@@ -23,6 +24,11 @@ placeAnswer a b c d s = cond (isFull s a b c d) Full (Done (place a b c d s .cou
 -- the state that it leaves: as it was, where it is full
 unfoldable pub placeIfRoom : ℕ → ℕ → Corner → Corner → State → State
 placeIfRoom a b c d s = cond (isFull s a b c d) s (place a b c d s)
+
+-- what `place` ensures: of a quad in s it answers r, and leaves t
+pub record Places (a b : ℕ) (c d : Corner) (s : State) (r : Placed) (t : State) : Type 0 where
+  pub answer : r ≡ placeAnswer a b c d s
+  pub state : t ≡ placeIfRoom a b c d s
 
 -- the counts after an answer, of k before
 abbrev pub countsAfter : Counts → Placed → Counts
@@ -63,7 +69,7 @@ knownAcross edges n (Reused c) (Reused d) = edgeIn edges n d c
 knownAcross edges n (Reused c) (Fresh x y) = false
 knownAcross edges n (Fresh x y) d = false
 
--- how many edges are stored for one that is known or not
+-- how many edges are stored for one: 1, unless it is known
 abbrev pub unless : Bool → ℕ
 unless known = cond known 0 1
 

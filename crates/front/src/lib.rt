@@ -7,7 +7,7 @@ ghost use Rattle.topology.specs.Links.{off};
 ghost use Rattle.front.specs.State.{stateOf, edgeIs};
 ghost use Rattle.front.specs.Place.{added, cornerId};
 ghost use Rattle.front.specs.Ready.{Ready};
-ghost use Rattle.front.specs.Stores.{placeAnswer, placeIfRoom, countsAfter, afterQuad, isBeyond, storeX, storeY, isReused, knownAcross, unless, newEdges, storeEdge, storeEdges, storeQuad, storeSide, storeNext, storePrev, Ids, Countable};
+ghost use Rattle.front.specs.Stores.{Places, countsAfter, afterQuad, isBeyond, storeX, storeY, isReused, knownAcross, unless, newEdges, storeEdge, storeEdges, storeQuad, storeSide, storeNext, storePrev, Ids, Countable};
 use domain::Point;
 
 // How much of the lent lists is in use. `front` counts the front's edges.
@@ -329,9 +329,9 @@ pub fn place(
     d: Corner,
 ) -> Placed
     requires { ⌜ Ready (stateOf (now xs) (now ys) (now next) (now prev) (now snapshot) (now quads) (now edges) k) a b c d ⌝ }
-    ensures { λ r. ⌜ (r ≡ placeAnswer a b c d (stateOf (now (xs .entry)) (now (ys .entry)) (now (next .entry)) (now (prev .entry)) (now (snapshot .entry)) (now (quads .entry)) (now (edges .entry)) k))
-        × (stateOf (now (xs .exit)) (now (ys .exit)) (now (next .exit)) (now (prev .exit)) (now (snapshot .entry)) (now (quads .exit)) (now (edges .exit)) (countsAfter k r)
-        ≡ placeIfRoom a b c d (stateOf (now (xs .entry)) (now (ys .entry)) (now (next .entry)) (now (prev .entry)) (now (snapshot .entry)) (now (quads .entry)) (now (edges .entry)) k)) ⌝ }
+    ensures { λ r. ⌜ Places a b c d
+        (stateOf (now (xs .entry)) (now (ys .entry)) (now (next .entry)) (now (prev .entry)) (now (snapshot .entry)) (now (quads .entry)) (now (edges .entry)) k)
+        r (stateOf (now (xs .exit)) (now (ys .exit)) (now (next .exit)) (now (prev .exit)) (now (snapshot .entry)) (now (quads .exit)) (now (edges .exit)) (countsAfter k r)) ⌝ }
 {
     let n = k.nodes;
     let q = k.quads;

@@ -1,49 +1,35 @@
+-- `is_known_across` meets its contract: two reused corners are searched for.
 use borrow.Author.Needs.{needs}
 use Rattle.front.proofs.is_known_across.Statement.{statement}
 use Rattle.front.proofs.is_known_across.Tie as tie
-use Rattle.front.proofs.is_known_across.Reads as reads
-use Rattle.front.proofs.is_known_across.Lts as lts
-use Rattle.front.proofs.larger.Reads as larger-reads
-use Rattle.front.proofs.scan_edges.Reads as scan-edges-reads
-use Rattle.front.proofs.smaller.Reads as smaller-reads
 
--- src/lib.rt:151:24
 enum-known-c : tie.Need-enum-known-c
 enum-known-c c = search needs
 
--- src/lib.rt:152:9
 enum-told : tie.Need-enum-told
 enum-told c = search needs
 
--- src/lib.rt:152:9
 returns : tie.Need-returns
 returns c = search needs
 
--- src/lib.rt:154:24
 enum-known-d : tie.Need-enum-known-d
 enum-known-d c = search needs
 
--- src/lib.rt:155:9
 enum-told-2 : tie.Need-enum-told-2
 enum-told-2 c = search needs
 
--- src/lib.rt:155:9
 returns-2 : tie.Need-returns-2
 returns-2 c = search needs
 
--- src/lib.rt:157:26
 smaller-requires : tie.Need-smaller-requires
 smaller-requires c κs = search needs
 
--- src/lib.rt:157:41
 larger-requires : tie.Need-larger-requires
 larger-requires c κs = search needs
 
--- src/lib.rt:157:5
 scan-edges-requires : tie.Need-scan-edges-requires
 scan-edges-requires c κs = search needs
 
--- src/lib.rt:147:1
 returns-3 : tie.Need-returns-3
 returns-3 c = rw (c .before .before .before .before .before .before .before .c .given .1, c .before .before .before .before .d .given .1, ← c .before .before .smaller .ensures, ← c .before .larger .ensures) (c .scan-edges .ensures)
 

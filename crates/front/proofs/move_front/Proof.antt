@@ -1,33 +1,24 @@
+-- `move_front` meets its contract: three links after each other.
 use Rattle.front.specs.Stores.{storeNext, storePrev}
 use borrow.Author.Needs.{needs}
 use Rattle.front.proofs.move_front.Statement.{statement}
 use Rattle.front.proofs.move_front.Tie as tie
-use Rattle.front.proofs.move_front.Reads as reads
-use Rattle.front.proofs.move_front.Lts as lts
-use Rattle.front.proofs.link.Reads as link-reads
-use Rattle.front.proofs.link_side.Reads as link-side-reads
 
--- src/lib.rt:268:5
 link-side-requires : tie.Need-link-side-requires
 link-side-requires c κs = search needs
 
--- src/lib.rt:269:5
 link-requires : tie.Need-link-requires
 link-requires c κs = search needs
 
--- src/lib.rt:270:5
 link-side-requires-2 : tie.Need-link-side-requires-2
 link-side-requires-2 c κs = search needs
 
--- src/lib.rt:255:1
 same-length : tie.Need-same-length
 same-length c = search needs
 
--- src/lib.rt:255:1
 same-length-2 : tie.Need-same-length-2
 same-length-2 c = search needs
 
--- src/lib.rt:255:1
 returns : tie.Need-returns
 unfolding storeNext storePrev
 returns c = let p = c .before .before .before .before .before .before .before .before .before .before .before .before .before .before .before .before .before .before .link-side .ensures in

@@ -1,49 +1,38 @@
+-- `put_corner` meets its contract: a new corner is stored.
 use native.Mathlib.Omega.{arith}
 use mathlib.Core.Path.{refl, ap}
 use Rattle.front.specs.Place.{added}
 use borrow.Author.Needs.{needs}
 use Rattle.front.proofs.put_corner.Statement.{statement}
 use Rattle.front.proofs.put_corner.Tie as tie
-use Rattle.front.proofs.put_corner.Reads as reads
-use Rattle.front.proofs.put_corner.Lts as lts
 
--- src/lib.rt:99:23
 enum-known-c : tie.Need-enum-known-c
 enum-known-c c = search needs
 
--- src/lib.rt:100:9
 enum-told : tie.Need-enum-told
 enum-told c = search needs
 
--- src/lib.rt:100:9
 returns : tie.Need-returns
 returns c = search needs
 
--- src/lib.rt:103:5
 mul-xs : tie.Need-mul-xs
 mul-xs c = search needs
 
--- src/lib.rt:103:5
 slice-write-xs : tie.Need-slice-write-xs
 slice-write-xs c = omega (arith, ap added (c .before .c .given .1))
 
--- src/lib.rt:104:5
 mul-ys : tie.Need-mul-ys
 mul-ys c = search needs
 
--- src/lib.rt:104:5
 slice-write-ys : tie.Need-slice-write-ys
 slice-write-ys c = omega (arith, ap added (c .before .c .given .1))
 
--- src/lib.rt:95:1
 same-length : tie.Need-same-length
 same-length c = search needs
 
--- src/lib.rt:95:1
 same-length-2 : tie.Need-same-length-2
 same-length-2 c = search needs
 
--- src/lib.rt:95:1
 returns-2 : tie.Need-returns-2
 returns-2 c = rw (c .before .c .given .1) (refl, refl)
 

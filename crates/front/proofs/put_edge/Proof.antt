@@ -1,3 +1,4 @@
+-- `put_edge` meets its contract.
 use native.Mathlib.Omega.{arith}
 use mathlib.Core.Path.{ap}
 use lib.ListN.{length-set}
@@ -5,57 +6,41 @@ use Rattle.front.specs.Stores.{unless, storeEdge}
 use borrow.Author.Needs.{needs}
 use Rattle.front.proofs.put_edge.Statement.{statement}
 use Rattle.front.proofs.put_edge.Tie as tie
-use Rattle.front.proofs.put_edge.Reads as reads
-use Rattle.front.proofs.put_edge.Lts as lts
-use Rattle.front.proofs.larger.Reads as larger-reads
-use Rattle.front.proofs.smaller.Reads as smaller-reads
 
--- src/lib.rt:179:9
 returns : tie.Need-returns
 unfolding storeEdge
 returns c = rw (c .if1 .taken)
 
--- src/lib.rt:181:9
 smaller-requires : tie.Need-smaller-requires
 smaller-requires c κs = search needs
 
--- src/lib.rt:182:9
 larger-requires : tie.Need-larger-requires
 larger-requires c κs = search needs
 
--- src/lib.rt:183:11
 mul-edges : tie.Need-mul-edges
 mul-edges c = search needs
 
--- src/lib.rt:183:5
 mul-edges-2 : tie.Need-mul-edges-2
 mul-edges-2 c = search needs
 
--- src/lib.rt:183:5
 slice-write-edges : tie.Need-slice-write-edges
 slice-write-edges c = omega (arith, ap unless (c .before .before .if1 .left))
 
--- src/lib.rt:184:11
 mul-edges-3 : tie.Need-mul-edges-3
 mul-edges-3 c = search needs
 
--- src/lib.rt:184:11
 add-edges : tie.Need-add-edges
 add-edges c = search needs
 
--- src/lib.rt:184:5
 mul-edges-4 : tie.Need-mul-edges-4
 mul-edges-4 c = search needs
 
--- src/lib.rt:184:5
 slice-write-edges-2 : tie.Need-slice-write-edges-2
 slice-write-edges-2 c = simp length-set (omega (arith, ap unless (c .before .before .if1 .left)))
 
--- src/lib.rt:174:1
 same-length : tie.Need-same-length
 same-length c = search needs
 
--- src/lib.rt:174:1
 returns-2 : tie.Need-returns-2
 unfolding storeEdge
 returns-2 c = rw (c .before .before .if1 .left, c .before .smaller .ensures, c .larger .ensures)

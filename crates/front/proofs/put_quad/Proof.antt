@@ -1,76 +1,58 @@
+-- `put_quad` meets its contract.
 use native.Mathlib.Omega.{arith}
 use lib.ListN.{length-set}
 use borrow.Author.Needs.{needs}
 use Rattle.front.proofs.put_quad.Statement.{statement}
 use Rattle.front.proofs.put_quad.Tie as tie
-use Rattle.front.proofs.put_quad.Reads as reads
-use Rattle.front.proofs.put_quad.Lts as lts
 
--- src/lib.rt:217:11
 mul-quads : tie.Need-mul-quads
 mul-quads c = search needs
 
--- src/lib.rt:217:5
 mul-quads-2 : tie.Need-mul-quads-2
 mul-quads-2 c = search needs
 
--- src/lib.rt:217:5
 slice-write-quads : tie.Need-slice-write-quads
 slice-write-quads c = search needs
 
--- src/lib.rt:218:11
 mul-quads-3 : tie.Need-mul-quads-3
 mul-quads-3 c = search needs
 
--- src/lib.rt:218:11
 add-quads : tie.Need-add-quads
 add-quads c = search needs
 
--- src/lib.rt:218:5
 mul-quads-4 : tie.Need-mul-quads-4
 mul-quads-4 c = search needs
 
--- src/lib.rt:218:5
 slice-write-quads-2 : tie.Need-slice-write-quads-2
 slice-write-quads-2 c = simp length-set (omega arith)
 
--- src/lib.rt:219:11
 mul-quads-5 : tie.Need-mul-quads-5
 mul-quads-5 c = search needs
 
--- src/lib.rt:219:11
 add-quads-2 : tie.Need-add-quads-2
 add-quads-2 c = search needs
 
--- src/lib.rt:219:5
 mul-quads-6 : tie.Need-mul-quads-6
 mul-quads-6 c = search needs
 
--- src/lib.rt:219:5
 slice-write-quads-3 : tie.Need-slice-write-quads-3
 slice-write-quads-3 c = simp length-set (omega arith)
 
--- src/lib.rt:220:11
 mul-quads-7 : tie.Need-mul-quads-7
 mul-quads-7 c = search needs
 
--- src/lib.rt:220:11
 add-quads-3 : tie.Need-add-quads-3
 add-quads-3 c = search needs
 
--- src/lib.rt:220:5
 mul-quads-8 : tie.Need-mul-quads-8
 mul-quads-8 c = search needs
 
--- src/lib.rt:220:5
 slice-write-quads-4 : tie.Need-slice-write-quads-4
 slice-write-quads-4 c = simp length-set (omega arith)
 
--- src/lib.rt:213:1
 same-length : tie.Need-same-length
 same-length c = search needs
 
--- src/lib.rt:213:1
 returns : tie.Need-returns
 returns c = search needs
 

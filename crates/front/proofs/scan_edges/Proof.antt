@@ -1,3 +1,4 @@
+-- `scan_edges` meets its contract: the loop's invariant is a search that has found nothing.
 use Prim.Native.Nat.{_-_}
 use native.Mathlib.Omega.{arith}
 use mathlib.Core.Logic.{⊎-elim}
@@ -7,8 +8,6 @@ use Rattle.front.specs.State.{edgeIs}
 use Rattle.laws.specs.Loop.{Scan, scan-start, scan-next, scan-hit, scan-none}
 use Rattle.front.proofs.scan_edges.Statement.{statement}
 use Rattle.front.proofs.scan_edges.Tie as tie
-use Rattle.front.proofs.scan_edges.Reads as reads
-use Rattle.front.proofs.scan_edges.Lts as lts
 
 abbrev Inv-loop : tie.InvT-loop
 Inv-loop edges n u v k₀ k = Scan (edgeIs edges u v) n k
@@ -16,59 +15,46 @@ Inv-loop edges n u v k₀ k = Scan (edgeIs edges u v) n k
 abbrev μ-loop : tie.MeasureT-loop
 μ-loop edges n u v k₀ k = n - k
 
--- src/lib.rt:13:5
 loop-holds : tie.Need-loop-holds Inv-loop μ-loop
 loop-holds c = scan-start _ _
 
--- src/lib.rt:14:18
 mul-if1 : tie.Need-mul-if1 Inv-loop μ-loop
 mul-if1 c = omega arith
 
--- src/lib.rt:14:12
 mul-if1-2 : tie.Need-mul-if1-2 Inv-loop μ-loop
 mul-if1-2 c = omega arith
 
--- src/lib.rt:14:12
 shared-slice-read-if1 : tie.Need-shared-slice-read-if1 Inv-loop μ-loop
 shared-slice-read-if1 c = omega arith
 
--- src/lib.rt:15:22
 mul-if2 : tie.Need-mul-if2 Inv-loop μ-loop
 mul-if2 c = omega arith
 
--- src/lib.rt:15:22
 add-if2 : tie.Need-add-if2 Inv-loop μ-loop
 add-if2 c = omega arith
 
--- src/lib.rt:15:16
 mul-if2-2 : tie.Need-mul-if2-2 Inv-loop μ-loop
 mul-if2-2 c = omega arith
 
--- src/lib.rt:15:16
 shared-slice-read-if2 : tie.Need-shared-slice-read-if2 Inv-loop μ-loop
 shared-slice-read-if2 c = omega arith
 
--- src/lib.rt:16:17
 returns : tie.Need-returns Inv-loop μ-loop
 returns c =
     scan-hit _ (c .before .before .before .before .before .loop .inv) (c .before .before .before .before .loop-test .taken)
     (simp (eq-eqb _ _ (c .before .before .if1 .taken), eq-eqb _ _ (c .if2 .taken)))
 
--- src/lib.rt:19:9
 add-k : tie.Need-add-k Inv-loop μ-loop
 add-k c = omega arith
 
--- src/lib.rt:13:5
 loop-less : tie.Need-loop-less Inv-loop μ-loop
 loop-less c = omega arith
 
--- src/lib.rt:13:5
 loop-again : tie.Need-loop-again Inv-loop μ-loop
 loop-again c =
     scan-next _ (c .before .before .before .loop .inv) (c .before .before .loop-test .taken)
     (⊎-elim (λ w. simp (eq-eqb _ _ (w .0 .taken), ne-eqb _ _ (w .2 .left))) (λ w. simp (ne-eqb _ _ (w .left))) (c .if1 .came))
 
--- src/lib.rt:8:1
 returns-2 : tie.Need-returns-2 Inv-loop μ-loop
 returns-2 c = scan-none _ (c .before .loop .inv) (c .loop-test .left)
 

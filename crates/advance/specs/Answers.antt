@@ -1,4 +1,5 @@
 -- What the answers of the code say, in the words of the definitions of a pass. Definitions only.
+use mathlib.Core.Path.{_≡_}
 use mathlib.Core.Bool.{Bool, true, false, cond}
 use Prim.Native.Nat.{ℕ}
 use lib.Dec.{leb}
@@ -13,7 +14,7 @@ use Rattle.paving.specs.declared.Attempt.{Attempt}
 use Rattle.paving.specs.declared.Attempt.the-variants.{Nothing}
 use Rattle.paving.specs.declared.End.the-variants.{Still, Cap}
 use Rattle.paving.specs.Attempt.{tryEdge}
-use Rattle.paving.specs.Advance.{Passing, passing, Passed, paved, isThere, mostQuads}
+use Rattle.paving.specs.Advance.{Passing, passing, Passed, paved, isThere, passTurn, mostQuads}
 use Rattle.advance.specs.declared.Settled.{Settled}
 use Rattle.advance.specs.declared.Settled.the-variants.{Same, Put}
 use Rattle.advance.specs.declared.Settled.the-variants as settled-is
@@ -40,6 +41,10 @@ abbrev pub settledCounts : Counts → Settled → Counts
 settledCounts k Same = k
 settledCounts k (Put m) = m
 settledCounts k (settled-is.Over e m) = m
+
+-- a turn of the pass on the snapshot's edge from node a, where the code answers r and leaves t of s
+abbrev pub Settles : Outline → Float → FieldRecord → State → ℕ → Settled → State → Type 0
+Settles o size field s a r t = (some : Bool) → settled r some t ≡ passTurn o size field a (passing s some)
 
 -- the answer after a quad that leaves the counts m
 unfoldable pub quadSettled : Counts → Settled

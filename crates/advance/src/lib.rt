@@ -1,7 +1,7 @@
 // The passes of the paving (src/alt_crossfield.rs): a pass over the front edges present at its start, and `advance` with its four ends.
 // All seven lists of a `Paving` are lent; the counts go in and come back by value.
 ghost use mathlib.Core.Path.{_≡_};
-ghost use mathlib.Core.Bool.{Bool, false};
+ghost use mathlib.Core.Bool.{false};
 ghost use mathlib.Core.List.{[]};
 ghost use Prim.Native.Nat.{_≤_, _<_, min};
 ghost use lib.ListN.{length};
@@ -11,7 +11,7 @@ ghost use Rattle.crossfield.specs.Field.{fieldRecord};
 ghost use Rattle.front.specs.State.{stateOf};
 ghost use Rattle.attempts.specs.Seen.{TryLent};
 ghost use Rattle.paving.specs.Advance.{copied, passing, passTurn, afterPass, pass, paved, advance};
-ghost use Rattle.advance.specs.Answers.{edgeAttempt, settled, settledCounts, quadSettled, passed, passedCounts, passAnswer};
+ghost use Rattle.advance.specs.Answers.{edgeAttempt, Settles, settledCounts, quadSettled, passed, passedCounts, passAnswer};
 ghost use Rattle.advance.specs.Paveable.{Paveable};
 use crossfield::Grid;
 use domain::Settings;
@@ -119,10 +119,9 @@ fn settle<'a>(
 ) -> Settled
     requires { ⌜ Paveable (outline (now outer) (now holes) (now lens)) grid (now values)
         (stateOf (now xs) (now ys) (now next) (now prev) (now snapshot) (now quads) (now edges) k) × (a < k .nodes) ⌝ }
-    ensures { λ r. ⌜ (some : Bool) →
-        settled r some (stateOf (now (xs .exit)) (now (ys .exit)) (now (next .exit)) (now (prev .exit)) (now (snapshot .entry)) (now (quads .exit)) (now (edges .exit)) (settledCounts k r))
-        ≡ passTurn (outline (now (outer .entry)) (now (holes .entry)) (now (lens .entry))) size (fieldRecord grid (now (values .entry)) []) a
-        (passing (stateOf (now (xs .entry)) (now (ys .entry)) (now (next .entry)) (now (prev .entry)) (now (snapshot .entry)) (now (quads .entry)) (now (edges .entry)) k) some) ⌝ }
+    ensures { λ r. ⌜ Settles (outline (now (outer .entry)) (now (holes .entry)) (now (lens .entry))) size (fieldRecord grid (now (values .entry)) [])
+        (stateOf (now (xs .entry)) (now (ys .entry)) (now (next .entry)) (now (prev .entry)) (now (snapshot .entry)) (now (quads .entry)) (now (edges .entry)) k) a r
+        (stateOf (now (xs .exit)) (now (ys .exit)) (now (next .exit)) (now (prev .exit)) (now (snapshot .entry)) (now (quads .exit)) (now (edges .exit)) (settledCounts k r)) ⌝ }
 {
     let attempt = edge_attempt(outer, holes, lens, size, grid, values, xs, ys, next, prev, snapshot, edges, k, a);
     let b = snapshot[a as usize];

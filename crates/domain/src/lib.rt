@@ -72,6 +72,10 @@ impl Settings {
     pub const MOST_SPANS: u64 = 4096;
     // How many keys each way `too_close` looks.
     pub const REACH: u64 = 2;
+
+    pub const MOST_PASSES: usize = 600;
+
+    pub const MOST_QUADS: usize = 250000;
 }
 
 // ---- the refusals

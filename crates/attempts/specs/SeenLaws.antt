@@ -1,30 +1,36 @@
--- Each check reads only the lists that its function is lent; so an attempt on a state is that on what `seenOf` keeps of it. By computation.
+-- Each check reads only the lists that its function is lent; so an attempt on a state is that on what `seenOf` keeps of it. Assumes nothing.
 use mathlib.Core.Path.{_≡_, refl, sym, _∙_}
-use mathlib.Core.Bool.{Bool}
-use mathlib.Core.List.{[]}
+use mathlib.Core.Bool.{Bool, false, not, _&&_}
+use mathlib.Core.List.{List, []}
 use Prim.Native.Nat.{ℕ}
+use native.Mathlib.Omega.{arith}
+use lib.Dec.{eqb}
 use lib.Ieee.{Float}
 use Rattle.numbers.specs.Float.{_⊖_, _⊗_}
 use Rattle.domain.specs.declared.Point.{Point}
-use Rattle.domain.specs.Outline.{Outline}
+use Rattle.domain.specs.Outline.{Outline, misshapen}
+use Rattle.domain.specs.Queries.{contains}
 use Rattle.geometry.specs.declared.Key.{Key}
 use Rattle.geometry.specs.declared.Corners.{Corners}
-use Rattle.geometry.specs.Plane.{norm}
+use Rattle.geometry.specs.Plane.{norm, convexCcw, centroid}
 use Rattle.geometry.specs.Keys.{keyOf, edgeBucket, lowest, highest, clearance, isTooClose, tooCloseAt, isInBox, isCandidate}
 use Rattle.crossfield.specs.Field.{FieldRecord, fieldRecord}
 use Rattle.crossfield.specs.Direction.{nearestDirection}
 use Rattle.front.specs.declared.Corner.{Corner}
 use Rattle.front.specs.declared.Corner.the-variants.{Reused, Fresh}
-use Rattle.front.specs.State.{State, node, edgeFrom, edgeTo}
-use Rattle.front.specs.Place.{cornerPoint}
-use Rattle.paving.specs.Checks.{closeNode, tooClose, nodeOk, cornerFree, blocks, nodeInside, crossesEdge, edgeCrosses, edgesFree, cornersOf, quadOk, quadFits}
-use Rattle.paving.specs.Attempt.{isReused, cornerAt, cornerC, cornerD, attemptQuad, normalOf, tryToward, tryEdge}
-use Rattle.attempts.specs.Seen.{seen, seenOf, seenNodes, seenPoints, seenEdges, blocksAt, crossesAt}
+use Rattle.front.specs.State.{State, nodePlaces, edgePlaces, node, nextOf, edgeFrom, edgeTo}
+use Rattle.front.specs.Sound.{Sound}
+use Rattle.front.specs.Place.{cornerPoint, idC, idD}
+use Rattle.paving.specs.Checks.{closeNode, tooClose, nodeOk, cornerFree, cornersApart, blocks, nodeInside}
+use Rattle.paving.specs.Checks.{crossesEdge, edgeCrosses, edgesFree, cornersOf, quadOk, quadFits}
+use Rattle.paving.specs.Attempt.{isReused, cornerAt, cornerC, cornerD, ideal, quadIf, attemptQuad, normalOf, tryToward, tryEdge}
+use Rattle.attempts.specs.Seen.{seen, seenOf, seenNodes, seenPoints, seenEdges, blocksAt, crossesAt, AttemptLent}
 
 -- ---- the tests of the scans, by what the code has at hand: r is the test's answer
 
 pub close-is : (size : Float) (s : State) (p : Point) (id : ℕ) {key : Key} {q : Point} {r : Bool}
-    → key ≡ keyOf size p → q ≡ node s id → r ≡ tooCloseAt key p (clearance ⊗ size ⊗ (clearance ⊗ size)) size q → closeNode size s p id ≡ r
+    → key ≡ keyOf size p → q ≡ node s id → r ≡ tooCloseAt key p (clearance ⊗ size ⊗ (clearance ⊗ size)) size q
+    → closeNode size s p id ≡ r
 unfolding isTooClose
 close-is size s p id k e t = rw (← k, ← e) (sym t)
 
@@ -50,7 +56,8 @@ module _ (s : State) where
   pub corners-seen : (a b : ℕ) (c d : Corner) → cornersOf (seenPoints (s .xs) (s .ys)) a b c d ≡ cornersOf s a b c d
   corners-seen a b c d = rw (corner-point-seen c, corner-point-seen d)
 
-  pub corner-free-seen : (o : Outline) (size : Float) (c : Corner) → cornerFree o size (seenNodes (s .xs) (s .ys) (s .counts)) c ≡ cornerFree o size s c
+  pub corner-free-seen : (o : Outline) (size : Float) (c : Corner)
+      → cornerFree o size (seenNodes (s .xs) (s .ys) (s .counts)) c ≡ cornerFree o size s c
   unfolding cornerFree nodeOk tooClose
   corner-free-seen o size (Reused id) = refl
   corner-free-seen o size (Fresh x y) = refl
@@ -81,7 +88,8 @@ module _ (s : State) where
   quad-ok-seen o size a b (Fresh x y) (Reused v) = refl
   quad-ok-seen o size a b (Fresh x y) (Fresh z w) = refl
 
-  pub corner-at-seen : (size : Float) (other v : ℕ) (p : Point) → cornerAt size (seenPoints (s .xs) (s .ys)) other v p ≡ cornerAt size s other v p
+  pub corner-at-seen : (size : Float) (other v : ℕ) (p : Point)
+      → cornerAt size (seenPoints (s .xs) (s .ys)) other v p ≡ cornerAt size s other v p
   unfolding cornerAt isReused
   corner-at-seen size other v p = refl
 
@@ -92,6 +100,41 @@ module _ (s : State) where
   quad-fits-seen o size a b (Reused u) (Fresh x y) = refl
   quad-fits-seen o size a b (Fresh x y) (Reused v) = refl
   quad-fits-seen o size a b (Fresh x y) (Fresh z w) = refl
+
+-- ---- the checks and the corners, by what the code has at hand
+
+-- `quad_ok` of the corners p
+pub quad-ok-is : (s : State) (o : Outline) (size : Float) (a b : ℕ) (c d : Corner) {p : Corners}
+    → p ≡ cornersOf (seenPoints (s .xs) (s .ys)) a b c d
+    → quadOk o size s a b c d
+    ≡ convexCcw p && (contains o (centroid p)
+    && (not (nodeInside size (seenNodes (s .xs) (s .ys) (s .counts)) p a b (idD s c d) (idC s c)) && edgesFree size s a b c d))
+unfolding quadOk
+quad-ok-is s o size a b c d e = rw (e, corners-seen s a b c d, node-inside-seen s size (cornersOf s a b c d) a b (idD s c d) (idC s c))
+
+-- every check, where c and d have or get the numbers u and v
+pub quad-fits-is : (s : State) (o : Outline) (size : Float) (a b : ℕ) (c d : Corner) {u v : ℕ} → u ≡ idC s c → v ≡ idD s c d
+    → quadFits o size s a b c d
+    ≡ not (eqb u v) && (cornerFree o size (seenNodes (s .xs) (s .ys) (s .counts)) c
+    && (cornerFree o size (seenNodes (s .xs) (s .ys) (s .counts)) d && (cornersApart size c d
+    && (not (eqb (nextOf s u) v) && quadOk o size (seenEdges (s .xs) (s .ys) (s .edges) (s .counts)) a b c d))))
+unfolding quadFits
+quad-fits-is s o size a b c d eu ev =
+    rw (eu, ev, corner-free-seen s o size c, corner-free-seen s o size d, quad-ok-seen s o size a b c d)
+
+-- a corner chosen at the node u, towards t
+pub corner-is : (s : State) (size : Float) (other u v : ℕ) (t : Point) {p q : Point} {w : ℕ} {c : Corner}
+    → p ≡ node s u → q ≡ ideal size p t → w ≡ v → c ≡ cornerAt size (seenPoints (s .xs) (s .ys)) other w q
+    → c ≡ cornerAt size s other v (ideal size (node s u) t)
+corner-is s size other u v t ep eq ew ec = rw (eq, ep, ew) at ec ∙ corner-at-seen s size other v (ideal size (node s u) t)
+
+-- the quad on c and d, where it fits
+pub attempt-is : (s : State) (o : Outline) (size : Float) (a b : ℕ) (da db : Point) {c d : Corner} {fits : Bool}
+    → c ≡ cornerC size s a b da → d ≡ cornerD size s a b db
+    → fits ≡ quadFits o size (seen (s .xs) (s .ys) (s .next) [] (s .edges) (s .counts)) a b c d
+    → quadIf fits c d ≡ attemptQuad o size s a b da db
+unfolding attemptQuad
+attempt-is s o size a b da db {c} {d} ec ed e = rw (e, quad-fits-seen s o size a b c d, ec, ed)
 
 -- ---- an attempt
 
@@ -104,13 +147,14 @@ unfolding cornerD cornerAt isReused
 corner-d-seen s size a b db = refl
 
 -- an attempt on a state is that on what it reads of it
-pub attempt-seen : (s : State) (o : Outline) (size : Float) (a b : ℕ) (da db : Point) → attemptQuad o size (seenOf s) a b da db ≡ attemptQuad o size s a b da db
+pub attempt-seen : (s : State) (o : Outline) (size : Float) (a b : ℕ) (da db : Point)
+    → attemptQuad o size (seenOf s) a b da db ≡ attemptQuad o size s a b da db
 unfolding attemptQuad
 attempt-seen s o size a b da db =
     let c = cornerC size s a b da in
     let d = cornerD size s a b db in
     let fits : quadFits o size (seenOf s) a b c d ≡ quadFits o size s a b c d =
-        sym (quad-fits-seen (seenOf s) o size a b c d) ∙ quad-fits-seen s o size a b c d in
+    sym (quad-fits-seen (seenOf s) o size a b c d) ∙ quad-fits-seen s o size a b c d in
     rw (corner-c-seen s size a b da, corner-d-seen s size a b db, fits)
 
 -- and so is a front edge that is tried; of a field it reads the grid and the values
@@ -124,3 +168,17 @@ try-seen s field o size a b =
     let da = nearestDirection field (node s a) normal in
     let db = nearestDirection field (node s b) normal in
     rw (attempt-seen s o size a b da db, attempt-seen s o size a b normal normal)
+
+-- ---- what is asked holds of every state of a run
+
+pub lent-of : {n : ℕ} {s : State} {ls : List (List ℕ)} → Sound n s ls → (o : Outline) → misshapen o ≡ false
+    → AttemptLent o (s .next) (s .prev) (s .edges) (s .counts)
+unfolding nodePlaces edgePlaces
+lent-of {n} {s} sound o shape =
+    let nodes = sound .nodes-fit in
+    let edges = sound .edges-fit in
+    record {
+      quad = record { shape = shape; within = record { nodes-few = omega arith; edges-fit = omega arith } };
+      next-fit = omega arith;
+      prev-fit = omega arith;
+    }

@@ -1,5 +1,6 @@
 // The read-only part of the paving (src/alt_crossfield.rs): the choice of corners, the checks of `attempt_quad` in their order, and `try_edge`.
-// The lists lent are those of a `Paving`; the contracts speak of a state with these lists, of which `Seen` names the part that is read.
+// Lists are lent as a `Paving` holds them. A contract speaks of the state that has just the lists its function is lent (specs/Seen.antt);
+// the laws in specs/SeenLaws.antt carry it to a state with all of them. Each scan is one function.
 ghost use mathlib.Core.Path.{_≡_};
 ghost use mathlib.Core.Bool.{false};
 ghost use mathlib.Core.List.{[]};
@@ -9,11 +10,11 @@ ghost use lib.Ieee.{nan};
 ghost use Rattle.topology.specs.Links.{linkOf};
 ghost use Rattle.domain.specs.Outline.{outline, misshapen};
 ghost use Rattle.crossfield.specs.Field.{fieldRecord};
-ghost use Rattle.geometry.specs.Keys.{keyOf, edgeBucket, lowest, highest};
 ghost use Rattle.front.specs.State.{nodeIn};
-ghost use Rattle.front.specs.Place.{added, cornerId, cornerPoint, idC, idD};
-ghost use Rattle.paving.specs.Checks.{tooClose, nodeOk, cornerFree, cornersApart, isCorner, blocks, nodeInside, shareEnd, crossesEdge, edgeCrosses, sideCrosses, edgesFree, cornersOf, quadOk, quadFits};
-ghost use Rattle.paving.specs.Attempt.{isReused, cornerAt, ideal, attemptQuad, normalOf, tryEdge};
+ghost use Rattle.front.specs.Place.{added, cornerId, cornerPoint};
+ghost use Rattle.paving.specs.Checks.{tooClose, nodeOk, cornerFree, cornersApart, isCorner, nodeInside, shareEnd};
+ghost use Rattle.paving.specs.Checks.{edgeCrosses, sideCrosses, edgesFree, cornersOf, quadOk, quadFits};
+ghost use Rattle.paving.specs.Attempt.{isReused, cornerAt, ideal, attemptQuad, normalOf, tryToward, tryEdge};
 ghost use Rattle.attempts.specs.Seen.{seen, seenNodes, seenPoints, seenEdges, blocksAt, crossesAt, EdgesLent, QuadLent, AttemptLent, TryLent};
 use crossfield::Grid;
 use domain::Point;
@@ -124,7 +125,8 @@ pub fn node_ok<'a>(
     p: Point,
 ) -> bool
     requires { ⌜ misshapen (outline (now outer) (now holes) (now lens)) ≡ false ⌝ }
-    ensures { λ r. ⌜ r ≡ nodeOk (outline (now (outer .entry)) (now (holes .entry)) (now (lens .entry))) size (seenNodes (now (xs .entry)) (now (ys .entry)) counts) p ⌝ }
+    ensures { λ r. ⌜ r ≡ nodeOk (outline (now (outer .entry)) (now (holes .entry)) (now (lens .entry))) size
+        (seenNodes (now (xs .entry)) (now (ys .entry)) counts) p ⌝ }
 {
     if !numbers::is_finite_f64(p.x) {
         return false;
@@ -150,7 +152,8 @@ pub fn corner_free<'a>(
     c: Corner,
 ) -> bool
     requires { ⌜ misshapen (outline (now outer) (now holes) (now lens)) ≡ false ⌝ }
-    ensures { λ r. ⌜ r ≡ cornerFree (outline (now (outer .entry)) (now (holes .entry)) (now (lens .entry))) size (seenNodes (now (xs .entry)) (now (ys .entry)) counts) c ⌝ }
+    ensures { λ r. ⌜ r ≡ cornerFree (outline (now (outer .entry)) (now (holes .entry)) (now (lens .entry))) size
+        (seenNodes (now (xs .entry)) (now (ys .entry)) counts) c ⌝ }
 {
     let Corner::Fresh(x, y) = c else {
         return true;
@@ -311,7 +314,19 @@ pub fn edge_crosses(
     let l = geometry::key_of(bucket, b);
     let mut i = 0;
     while i < n {
-        if crosses_at(k, l, size, xs, ys, a, b, u, v, edges[2 * i], edges[2 * i + 1]) {
+        if crosses_at(
+            k,
+            l,
+            size,
+            xs,
+            ys,
+            a,
+            b,
+            u,
+            v,
+            edges[2 * i],
+            edges[2 * i + 1],
+        ) {
             return true;
         }
         i += 1;
@@ -397,7 +412,8 @@ pub fn quad_ok<'a>(
     d: Corner,
 ) -> bool
     requires { ⌜ QuadLent (outline (now outer) (now holes) (now lens)) (now edges) counts ⌝ }
-    ensures { λ r. ⌜ r ≡ quadOk (outline (now (outer .entry)) (now (holes .entry)) (now (lens .entry))) size (seenEdges (now (xs .entry)) (now (ys .entry)) (now (edges .entry)) counts) a b c d ⌝ }
+    ensures { λ r. ⌜ r ≡ quadOk (outline (now (outer .entry)) (now (holes .entry)) (now (lens .entry))) size
+        (seenEdges (now (xs .entry)) (now (ys .entry)) (now (edges .entry)) counts) a b c d ⌝ }
 {
     let p = corners_of(xs, ys, a, b, c, d);
     if !geometry::convex_ccw(p) {
@@ -431,7 +447,8 @@ pub fn quad_fits<'a>(
     d: Corner,
 ) -> bool
     requires { ⌜ QuadLent (outline (now outer) (now holes) (now lens)) (now edges) counts × (counts .nodes ≤ length (now next)) ⌝ }
-    ensures { λ r. ⌜ r ≡ quadFits (outline (now (outer .entry)) (now (holes .entry)) (now (lens .entry))) size (seen (now (xs .entry)) (now (ys .entry)) (now (next .entry)) [] (now (edges .entry)) counts) a b c d ⌝ }
+    ensures { λ r. ⌜ r ≡ quadFits (outline (now (outer .entry)) (now (holes .entry)) (now (lens .entry))) size
+        (seen (now (xs .entry)) (now (ys .entry)) (now (next .entry)) [] (now (edges .entry)) counts) a b c d ⌝ }
 {
     let id_c = corner_id(counts.nodes, c);
     let id_d = second_id(counts.nodes, c, d);
@@ -515,7 +532,21 @@ pub fn attempt_quad<'a>(
     let q = ideal(size, node_at(xs, ys, b), db);
     let c = corner_at(size, xs, ys, b, link_at(prev, counts.nodes, a), p);
     let d = corner_at(size, xs, ys, a, link_at(next, counts.nodes, b), q);
-    if quad_fits(outer, holes, lens, size, xs, ys, next, edges, counts, a, b, c, d) {
+    if quad_fits(
+        outer,
+        holes,
+        lens,
+        size,
+        xs,
+        ys,
+        next,
+        edges,
+        counts,
+        a,
+        b,
+        c,
+        d,
+    ) {
         Attempt::Quad(c, d)
     } else {
         Attempt::Nothing
@@ -532,7 +563,69 @@ fn normal_of(bx: f64, by: f64, length: f64) -> Point
     }
 }
 
-// `try_edge`: directions come from the field, then from the edge's normal.
+// The two attempts on the front edge a to b: directions come from the field, then from the edge's normal.
+fn try_toward<'a>(
+    outer: &'a [f64],
+    holes: &'a [f64],
+    lens: &[usize],
+    size: f64,
+    grid: Grid,
+    values: &[f64],
+    xs: &[f64],
+    ys: &[f64],
+    next: &[u32],
+    prev: &[u32],
+    edges: &[u32],
+    counts: Counts,
+    a: u32,
+    b: u32,
+    normal: Point,
+) -> Attempt
+    requires { ⌜ TryLent (outline (now outer) (now holes) (now lens)) grid (now values) (now next) (now prev) (now edges) counts ⌝ }
+    ensures { λ r. ⌜ r ≡ tryToward (outline (now (outer .entry)) (now (holes .entry)) (now (lens .entry))) size
+        (fieldRecord grid (now (values .entry)) [])
+        (seen (now (xs .entry)) (now (ys .entry)) (now (next .entry)) (now (prev .entry)) (now (edges .entry)) counts) a b normal ⌝ }
+{
+    let da = crossfield::nearest_direction(grid, values, node_at(xs, ys, a), normal);
+    let db = crossfield::nearest_direction(grid, values, node_at(xs, ys, b), normal);
+    let first = attempt_quad(
+        outer,
+        holes,
+        lens,
+        size,
+        xs,
+        ys,
+        next,
+        prev,
+        edges,
+        counts,
+        a,
+        b,
+        da,
+        db,
+    );
+    let Attempt::Quad(c, d) = first else {
+        return attempt_quad(
+            outer,
+            holes,
+            lens,
+            size,
+            xs,
+            ys,
+            next,
+            prev,
+            edges,
+            counts,
+            a,
+            b,
+            normal,
+            normal,
+        );
+    };
+    Attempt::Quad(c, d)
+}
+
+// The quad on the front edge a to b, if an attempt answers one; none on an edge no longer than 1e-12.
 pub fn try_edge<'a>(
     outer: &'a [f64],
     holes: &'a [f64],
@@ -550,7 +643,8 @@ pub fn try_edge<'a>(
     b: u32,
 ) -> Attempt
     requires { ⌜ TryLent (outline (now outer) (now holes) (now lens)) grid (now values) (now next) (now prev) (now edges) counts ⌝ }
-    ensures { λ r. ⌜ r ≡ tryEdge (outline (now (outer .entry)) (now (holes .entry)) (now (lens .entry))) size (fieldRecord grid (now (values .entry)) [])
+    ensures { λ r. ⌜ r ≡ tryEdge (outline (now (outer .entry)) (now (holes .entry)) (now (lens .entry))) size
+        (fieldRecord grid (now (values .entry)) [])
         (seen (now (xs .entry)) (now (ys .entry)) (now (next .entry)) (now (prev .entry)) (now (edges .entry)) counts) a b ⌝ }
 {
     let p = node_at(xs, ys, a);
@@ -562,11 +656,21 @@ pub fn try_edge<'a>(
         return Attempt::Nothing;
     }
     let normal = normal_of(bx, by, length);
-    let da = crossfield::nearest_direction(grid, values, p, normal);
-    let db = crossfield::nearest_direction(grid, values, q, normal);
-    let first = attempt_quad(outer, holes, lens, size, xs, ys, next, prev, edges, counts, a, b, da, db);
-    let Attempt::Quad(c, d) = first else {
-        return attempt_quad(outer, holes, lens, size, xs, ys, next, prev, edges, counts, a, b, normal, normal);
-    };
-    Attempt::Quad(c, d)
+    try_toward(
+        outer,
+        holes,
+        lens,
+        size,
+        grid,
+        values,
+        xs,
+        ys,
+        next,
+        prev,
+        edges,
+        counts,
+        a,
+        b,
+        normal,
+    )
 }

@@ -19,11 +19,11 @@ use Rattle.crossfield.specs.Grid.{noBounds, widened, boundsTurn, loopBou
 
 -- ---- the loops
 
-outer-near : (o : Outline) → OutlineFits o → Accepted o → LoopWithin (o .outer)
+pub outer-near : (o : Outline) → OutlineFits o → Accepted o → LoopWithin (o .outer)
 unfolding loopAt
 outer-near o held a = loop-within o held a 0 zero-le
 
-hole-near : (o : Outline) → OutlineFits o → Accepted o → (k : ℕ) → k < length (o .lens) → LoopWithin (holeAt o k)
+pub hole-near : (o : Outline) → OutlineFits o → Accepted o → (k : ℕ) → k < length (o .lens) → LoopWithin (holeAt o k)
 unfolding loopAt
 hole-near o held a k h = loop-within o held a (suc k) h
 
@@ -96,7 +96,7 @@ ends low high (inl e) h t = absurd (true≢false (sym (le-top high h) ∙ subst 
 ends low high (inr l) (inl e) t = absurd (true≢false (sym (bottom-le low l) ∙ subst (λ (z : Float). le z low ≡ false) e t))
 ends low high (inr l) (inr h) t = (l, h)
 
-side : (low high : Float) → Within 1000 low → Within 1000 high → Within 4000 (high ⊖ low)
+pub side : (low high : Float) → Within 1000 low → Within 1000 high → Within 4000 (high ⊖ low)
 side low high l h = sum-within 2000 (sub-law h l tt tt) (double (h .size) (l .size) W (h .small) (l .small))
   where
     double : (a b w : ℕ) → a ≤ 1000 * w → b ≤ 1000 * w → a + b ≤ 2000 * w

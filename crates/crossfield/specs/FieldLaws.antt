@@ -52,7 +52,7 @@ pub room-for : (g : Grid) (floats bytes : ℕ) → gridNodes g ≤ min (floats /
 room-for g floats bytes h = record { values = let e = mul-comm (g .nx) (g .ny) in omega arith; marks = let e = mul-comm (g .nx) (g .ny) in omega arith }
 
 -- and each side is short
-sides : (b : Bounds) (size : Float) → (2 ≤ gridOf b size .nx) × (2 ≤ gridOf b size .ny)
+pub sides : (b : Bounds) (size : Float) → (2 ≤ gridOf b size .nx) × (2 ≤ gridOf b size .ny)
 unfolding gridOf
 sides b size = (count-pos (b .xmax ⊖ b .xmin) h, count-pos (b .ymax ⊖ b .ymin) h)
   where

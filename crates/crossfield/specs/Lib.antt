@@ -9,3 +9,6 @@ pub mod Box
 pub mod Spacing
 pub mod FieldLaws
 pub mod Past
+pub mod Unit
+pub mod Sound
+pub mod Handed

@@ -1,8 +1,8 @@
 -- A field writes only the places of its nodes: past them both lists keep their contents. Assumes nothing.
-use mathlib.Core.Path.{_≡_, refl, ap, _∙_}
+use mathlib.Core.Path.{_≡_, refl, _∙_}
 use mathlib.Core.Bool.{Bool, true, false, cond}
 use mathlib.Core.List.{List}
-use Prim.Native.Nat.{ℕ, suc, _+_, _*_, _<_, _≤_}
+use Prim.Native.Nat.{ℕ, _+_, _*_, _<_}
 use native.Mathlib.Nat.{mul-comm}
 use native.Mathlib.Omega.{arith}
 use lib.Dec.{eqb}
@@ -15,7 +15,7 @@ use Rattle.domain.specs.Outline.{Outline}
 use Rattle.crossfield.specs.declared.Grid.{Grid}
 use Rattle.crossfield.specs.Grid.{bounds, gridOf, gridNodes}
 use Rattle.crossfield.specs.Seeds.{FieldLists, nodeAt, setValue, seedNode, seedRow, seeded}
-use Rattle.crossfield.specs.Sweeps.{Swept, swept, relaxed, sweepNode, sweepRow, sweep, afterSweep, sweepTurn, sweeps}
+use Rattle.crossfield.specs.Sweeps.{Swept, swept, relaxed, sweepNode, sweepRow, sweep, sweepTurn, sweeps}
 use Rattle.crossfield.specs.Field.{fieldOf}
 use Rattle.crossfield.specs.Places.{row-in}
 

@@ -98,7 +98,7 @@ growth-within : Within 2 growth
 unfolding W ofBits growthUnits
 growth-within = record { sign = false; size = growthUnits; val = (refl, refl); small = lit≤ tt }
 
--- A spacing of the definition's loop after k growths: at least `least k` millionths, never below 0.004, and at most 1,000.
+-- A spacing of the definition's loop after k growths: at least `least k` millionths, never below 0.004, and at most 200.
 pub least : ℕ → ℕ
 least zero = 4000
 least (suc k) = least k * 6 / 5
@@ -108,7 +108,7 @@ pub record Grown (k : ℕ) (h : Float) : Type 0 where
   pub val : Val h false size
   pub low : least k * W ≤ size * 1000000
   pub floor : 4000 * W ≤ size * 1000000
-  pub high : size ≤ 1000 * W
+  pub high : size ≤ 200 * W
 
 -- 1.25 times as many units, rounded: between 6/5 and twice as many
 record Growth (b : ℕ) (x : Float) : Type 0 where
@@ -134,10 +134,10 @@ quarters b u e =
     let f : b * (4 * u) ≡ b * (5 * W) = ap (λ (z : ℕ). b * z) e in
     mul-left-comm 4 b u ∙ f ∙ mul-left-comm b 5 W
 
-grow : (h : Float) (b : ℕ) → Val h false b → b ≤ 1000 * W → 4000 * W ≤ b * 1000000 → Growth b (h ⊗ growth)
+grow : (h : Float) (b : ℕ) → Val h false b → b ≤ 200 * W → 4000 * W ≤ b * 1000000 → Growth b (h ⊗ growth)
 unfolding growth-within
 grow h b v high floor =
-    let p = mul-law {K = 1000} {L = 2} (record { sign = false; size = b; val = v; small = high }) growth-within tt tt in
+    let p = mul-law {K = 200} {L = 2} (record { sign = false; size = b; val = v; small = high }) growth-within tt tt in
     let e = quarters b growthUnits growth-quarters in
     let l = mul-le-mul-right W (many-units W b (le-trans (lit≤ {m = 1000000000000} {n = 10 ^ 36} tt) W-big) floor) in
     record {
@@ -187,7 +187,7 @@ module _ (width height : Float) (p : Within 4000 width) (q : Within 4000 height)
       raise : (b r w : ℕ) → 4000 * w ≤ b * 1000000 → 6 * b ≤ 5 * r → 4000 * w ≤ r * 1000000
       raise b r w h l = omega arith
 
-      bounded : (b r w : ℕ) → b ≤ 11 * w → r ≤ 2 * b → r ≤ 1000 * w
+      bounded : (b r w : ℕ) → b ≤ 11 * w → r ≤ 2 * b → r ≤ 200 * w
       bounded b r w h l = omega arith
 
       step : (l m b r w : ℕ) → 5 * m ≤ 6 * l → l * w ≤ b * 1000000 → 6 * b ≤ 5 * r → m * w ≤ r * 1000000
@@ -208,15 +208,15 @@ module _ (width height : Float) (p : Within 4000 width) (q : Within 4000 height)
   unfolding least
   last-large h g = large-few h (g .size) (g .val) (reaches W (g .size) (g .low))
     where
-      reaches : (w b : ℕ) → least 64 * w ≤ b * 1000000 → 11 * w ≤ b
-      reaches w b l = let m = mul-le-mul-right w (lit≤ {m = 11000000} {n = least 64} tt) in omega arith
+      reaches : (w b : ℕ) → least growths * w ≤ b * 1000000 → 11 * w ≤ b
+      reaches w b l = let m = mul-le-mul-right w (lit≤ {m = 11000000} {n = least growths} tt) in omega arith
 
   last-held : (t : Turn Float Float) → Held growths t → Grown 0 (answer (λ (h : Float). h) t) × (tooManyNodes width height (answer (λ (h : Float). h) t) ≡ false)
   unfolding least
   last-held (go h) g = (record { size = g .size; val = g .val; low = g .floor; floor = g .floor; high = g .high }, last-large h g)
   last-held (out h) g = g
 
-  -- the definition's spacing is grown from h, is at most 1,000, and has few nodes
+  -- the definition's spacing is grown from h, is at most 200, and has few nodes
   pub spacing-held : (h : Float) → Grown 0 h → Grown 0 (spacing width height h) × (tooManyNodes width height (spacing width height h) ≡ false)
   unfolding spacing run
   spacing-held h g = last-held (forUp growths (onwards (growTurn width height)) (go h)) (start-held h g)
@@ -264,7 +264,7 @@ half-upper n x y w c e l = omega arith
 half-floor : (a n w : ℕ) → 99 * w ≤ 10000 * a → 10 * a ≤ 21 * n → 4000 * w ≤ n * 1000000
 half-floor a n w h l = omega arith
 
-half-high : (a n w : ℕ) → a ≤ 100 * w → n ≤ 2 * a → n ≤ 1000 * w
+half-high : (a n w : ℕ) → a ≤ 100 * w → n ≤ 2 * a → n ≤ 200 * w
 half-high a n w h l = omega arith
 
 size-units : (w a : ℕ) → 1000000000000 ≤ w → 99 * w ≤ 10000 * a → 1000000 ≤ a

@@ -53,10 +53,7 @@ neither true b e = absurd (true≢false e)
 neither false b e = (refl, e)
 
 pub cond-zero : (b : Bool) (m n : ℕ) → cond b (suc m) n ≡ 0 → (b ≡ false) × (n ≡ 0)
-cond-zero true m n e = absurd (no m e)
-  where
-    no : (m : ℕ) → suc m ≡ 0 → ⊥
-    no m e = omega arith
+cond-zero true m n e = absurd (omega arith)
 cond-zero false m n e = (refl, e)
 
 pub first-zero : (a b : ℕ) → firstOf a b ≡ 0 → (a ≡ 0) × (b ≡ 0)

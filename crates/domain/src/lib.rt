@@ -66,6 +66,8 @@ impl Settings {
     pub const FARTHEST: f64 = 1000.0;
     // Of the size: two new nodes are farther apart than this, and no node is nearer to a new one.
     pub const CLEARANCE: f64 = 0.45;
+    // Of the size: a front node within this of a corner is reused for it.
+    pub const REUSE: f64 = 0.35;
     // A corner's sine is above this, which is sin 20°.
     pub const LEAST_SINE: f64 = 0.3420201433256687;
     // An edge whose key rectangle has more spans is no candidate.

@@ -1,11 +1,11 @@
 -- Laws of the keys: their order as the machine tests it, and their gap as a difference of unsigned numbers.
 use mathlib.Core.Bool.{Bool, true, false, not, cond, true≢false}
-use mathlib.Core.Path.{_≡_, refl, sym, ap, _∙_, subst}
+use mathlib.Core.Path.{_≡_, refl, sym, ap, _∙_}
 use Prim.Native.Nat.{ℕ, zero, suc, _+_, _-_, _^_, _<_, _≤_}
 use native.Mathlib.Omega.{arith}
 use borrow.Author.Tests.{lt-ltb, le-ltb, le-leb, lt-leb, ltb-true, ltb-false, leb-true, leb-false}
 use lib.IntN.{ℤ, pos, negsuc, natAbs, subℕ, _-ℤ_}
-use lib.Dec.{T, leb, ltb, ltb→lt, leb·suc-suc}
+use lib.Dec.{leb, ltb, leb·suc-suc}
 use lib.Signed.{mag, leZ, ltZ}
 use mir.Syntax.{w64}
 use mir.Val.{toZ, ofZ, SFits}
@@ -14,7 +14,7 @@ use Rattle.geometry.specs.Keys.{isNegative, atMost, gap}
 
 -- ---- the order
 
--- a - b is negative exactly if a is the lesser
+-- a difference in ℕ, as `subℕ` makes it, is negative by its test
 sign : (m n : ℕ) (t : Bool) → isNegative (cond t (negsuc m) (pos n)) ≡ t
 sign m n true = refl
 sign m n false = refl
@@ -111,5 +111,6 @@ within a b limit h = within-by (leb b (limit - a)) refl
     within-by true e = let low = leb-true b (limit - a) e in sym (le-leb (a + b) limit (omega arith))
     within-by false e = let high = leb-false b (limit - a) e in sym (lt-leb (a + b) limit (omega arith))
 
+-- and where the first summand is above it
 pub over : (a b limit : ℕ) → limit < a → leb (a + b) limit ≡ false
 over a b limit h = lt-leb (a + b) limit (omega arith)

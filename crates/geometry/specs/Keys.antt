@@ -9,6 +9,7 @@ use Rattle.numbers.specs.Whole.{floorQuotient}
 use Rattle.domain.specs.declared.Point.{Point}
 use Rattle.domain.specs.Outline.{point}
 use Rattle.geometry.specs.declared.Key.{Key}
+use Rattle.geometry.specs.declared.Spans.{Spans}
 use Rattle.geometry.specs.declared.Corners.{Corners}
 
 -- a key is the pair of floors of x/B and y/B
@@ -37,9 +38,13 @@ lesser k l = cond (atMost k l) k l
 abbrev pub greater : ℤ → ℤ → ℤ
 greater k l = cond (atMost k l) l k
 
--- the spans of a key rectangle add up to 4,096 at most
+-- the spans of a key rectangle, by two opposite corners
+abbrev pub spansOf : Key → Key → Spans
+spansOf k l = record { i = gap (k .i) (l .i); j = gap (k .j) (l .j) }
+
+-- they add up to 4,096 at most
 unfoldable pub spansKept : Key → Key → Bool
-spansKept k l = leb (gap (k .i) (l .i) + gap (k .j) (l .j)) 4096
+spansKept k l = leb (spansOf k l .i + spansOf k l .j) 4096
 
 -- the ranges from k to l and from m to n, either end first, have a number in common
 unfoldable pub rangesMeet : ℤ → ℤ → ℤ → ℤ → Bool
@@ -67,7 +72,7 @@ clearance = bits 0x3fdc_cccc_cccc_cccd
 
 -- two keys each way: what `too_close` looks at
 unfoldable pub nearKeys : Key → Key → Bool
-nearKeys k l = leb (gap (k .i) (l .i)) 2 && leb (gap (k .j) (l .j)) 2
+nearKeys k l = leb (spansOf k l .i) 2 && leb (spansOf k l .j) 2
 
 -- one node q of `too_close` round p, whose key is k: its key is within two of k each way, and the square of its distance is below radius2
 unfoldable pub tooCloseAt : Key → Point → Float → Float → Point → Bool

@@ -1,4 +1,5 @@
--- The free functions of src/alt_crossfield.rs on points, each float operation as it stands there. `convexCcw` is that file's, with the angle limit, and not the one of src/two_d.rs.
+-- The free functions of src/alt_crossfield.rs on points, each float operation as it stands there. `convexCcw` is that file's, with the
+-- angle limit, and not the one of src/two_d.rs.
 -- Definitions only.
 use mathlib.Core.Bool.{Bool, true, false, not, _&&_, _||_, cond}
 use lib.Ieee.{Float, neg, lt, le}

@@ -2,7 +2,7 @@
 ghost use mathlib.Core.Path.{_≡_};
 ghost use mathlib.Core.Bool.{_&&_};
 ghost use Rattle.geometry.specs.Plane.{norm, distance, tangent, areaTerm, cross2, doubledArea, leftOf, pointInConvex, onSegment, opposite, touches, segmentsCross, centroid, cornerOk, convexCcw};
-ghost use Rattle.geometry.specs.Keys.{keyOf, gap, atMost, lesser, greater, spansKept, rangesMeet, rectanglesMeet, candidateAt, isCandidate, nearKeys, tooCloseAt, isTooClose, leastOf, greatestOf, lowest, highest, between, inBoxAt, isInBox};
+ghost use Rattle.geometry.specs.Keys.{keyOf, gap, atMost, lesser, greater, spansOf, spansKept, rangesMeet, rectanglesMeet, candidateAt, isCandidate, nearKeys, tooCloseAt, isTooClose, leastOf, greatestOf, lowest, highest, between, inBoxAt, isInBox};
 ghost use Rattle.geometry.specs.KeyLaws.{offset};
 use domain::Point;
 use domain::Settings;
@@ -19,6 +19,12 @@ pub struct Corners {
 pub struct Key {
     pub i: i64,
     pub j: i64,
+}
+
+// How far a key rectangle reaches, each way.
+struct Spans {
+    i: u64,
+    j: u64,
 }
 
 // ---- lengths
@@ -293,15 +299,25 @@ fn between(k: i64, l: i64, m: i64) -> bool
     if at_most(l, k) { at_most(k, m) } else { false }
 }
 
+// The spans of the key rectangle with the corners k and l.
+fn spans_of(k: Key, l: Key) -> Spans
+    ensures { λ r. ⌜ r ≡ spansOf k l ⌝ }
+{
+    Spans {
+        i: gap(k.i, l.i),
+        j: gap(k.j, l.j),
+    }
+}
+
 // Whether the spans of a key rectangle add up to 4,096 at most.
 pub fn spans_kept(k: Key, l: Key) -> bool
     ensures { λ r. ⌜ r ≡ spansKept k l ⌝ }
 {
-    let i = gap(k.i, l.i);
-    if Settings::MOST_SPANS < i {
+    let s = spans_of(k, l);
+    if Settings::MOST_SPANS < s.i {
         return false;
     }
-    gap(k.j, l.j) <= Settings::MOST_SPANS - i
+    s.j <= Settings::MOST_SPANS - s.i
 }
 
 // Whether the ranges from k to l and from m to n, either end first, have a number in common.
@@ -326,11 +342,23 @@ pub fn rectangles_meet(k: Key, l: Key, m: Key, n: Key) -> bool
     }
 }
 
-// Whether the edge c to d is a candidate for a query whose ends have the keys k and l.
+// Whether the columns of the edge c to d meet those from k to l.
+fn columns_meet(k: Key, l: Key, bucket: f64, c: Point, d: Point) -> bool
+    ensures { λ r. ⌜ r ≡ rangesMeet (k .i) (l .i) (keyOf bucket c .i) (keyOf bucket d .i) ⌝ }
+{
+    let m = numbers::floor_quotient(c.x, bucket);
+    let n = numbers::floor_quotient(d.x, bucket);
+    ranges_meet(k.i, l.i, m, n)
+}
+
+// Whether the edge c to d is a candidate for a query whose ends have the keys k and l. Most edges leave at the columns.
 pub fn candidate_at(k: Key, l: Key, size: f64, c: Point, d: Point) -> bool
     ensures { λ r. ⌜ r ≡ candidateAt k l size c d ⌝ }
 {
     let bucket = 2.0 * size;
+    if !columns_meet(k, l, bucket, c, d) {
+        return false;
+    }
     let m = key_of(bucket, c);
     let n = key_of(bucket, d);
     if !rectangles_meet(k, l, m, n) {
@@ -354,8 +382,9 @@ pub fn is_candidate(size: f64, a: Point, b: Point, c: Point, d: Point) -> bool
 fn near_keys(k: Key, l: Key) -> bool
     ensures { λ r. ⌜ r ≡ nearKeys k l ⌝ }
 {
-    if gap(k.i, l.i) <= Settings::REACH {
-        gap(k.j, l.j) <= Settings::REACH
+    let s = spans_of(k, l);
+    if s.i <= Settings::REACH {
+        s.j <= Settings::REACH
     } else {
         false
     }

@@ -112,19 +112,24 @@ abbrev pub Kept : {S R : Type 0} → (S → Type 0) → (R → Type 0) → Turn 
 Kept P Q (go s) = P s
 Kept P Q (out r) = Q r
 
-pub run-keeps : {S R : Type 0} (P : S → Type 0) (Q : R → Type 0) (n : ℕ) (turn : ℕ → S → Turn S R) (end : S → R) (s : S)
-    → P s → ((i : ℕ) (t : S) → i < n → P t → Kept P Q (turn i t)) → ((t : S) → P t → Q (end t)) → Q (run n turn end s)
+-- where P also says how many turns were taken
+pub run-keeps-at : {S R : Type 0} (P : ℕ → S → Type 0) (Q : R → Type 0) (n : ℕ) (turn : ℕ → S → Turn S R) (end : S → R) (s : S)
+    → P 0 s → ((i : ℕ) (t : S) → i < n → P i t → Kept (P (suc i)) Q (turn i t)) → ((t : S) → P n t → Q (end t)) → Q (run n turn end s)
 unfolding run
-run-keeps {S} {R} P Q n turn end s start keeps ends =
-    last (forUp n (onwards turn) (go s)) (forUp-keeps (λ i t. Kept P Q t) n (onwards turn) (go s) start next)
+run-keeps-at {S} {R} P Q n turn end s start keeps ends =
+    last (forUp n (onwards turn) (go s)) (forUp-keeps (λ i t. Kept (P i) Q t) n (onwards turn) (go s) start next)
   where
-    next : (i : ℕ) (t : Turn S R) → i < n → Kept P Q t → Kept P Q (onwards turn i t)
+    next : (i : ℕ) (t : Turn S R) → i < n → Kept (P i) Q t → Kept (P (suc i)) Q (onwards turn i t)
     next i (go t) h p = keeps i t h p
     next i (out r) h q = q
 
-    last : (t : Turn S R) → Kept P Q t → Q (answer end t)
+    last : (t : Turn S R) → Kept (P n) Q t → Q (answer end t)
     last (go t) p = ends t p
     last (out r) q = q
+
+pub run-keeps : {S R : Type 0} (P : S → Type 0) (Q : R → Type 0) (n : ℕ) (turn : ℕ → S → Turn S R) (end : S → R) (s : S)
+    → P s → ((i : ℕ) (t : S) → i < n → P t → Kept P Q (turn i t)) → ((t : S) → P t → Q (end t)) → Q (run n turn end s)
+run-keeps P Q n turn end s start keeps ends = run-keeps-at (λ i. P) Q n turn end s start keeps ends
 
 -- ---- a search: whether the test holds at some index below n
 

@@ -1,5 +1,5 @@
 -- The state that `advance` leaves is reached from the one it began with. Assumes nothing.
-use mathlib.Core.Path.{_≡_, refl}
+use mathlib.Core.Path.{_≡_, refl, subst}
 use mathlib.Core.Bool.{Bool, true, false, not, _&&_, cond}
 use Prim.Native.Nat.{ℕ, suc, min, _<_}
 use lib.Dec.{leb}
@@ -60,6 +60,11 @@ try-answers o size field s a b =
     choose : (short : Bool) (t : Attempt) → Answers o size s a b t → Answers o size s a b (cond short Nothing t)
     choose true t p = tt
     choose false t p = p
+
+-- the quad that an edge answers was answered by an attempt
+pub tried : (o : Outline) (size : Float) (field : FieldRecord) (s : State) (a b : ℕ) (c d : Corner) → tryEdge o size field s a b ≡ Quad c d
+    → Attempted o size s a b c d
+tried o size field s a b c d e = subst (Answers o size s a b) e (try-answers o size field s a b)
 
 -- ---- the states
 

@@ -78,7 +78,7 @@ lines =
     ∷ isInteger (keyOf oneF (point (neg halfF) zeroF) .i) (negsuc 0)
     ∷ spansKept (keyAt 0 0) (keyAt 4000 96)
     ∷ not (spansKept (keyAt 0 0) (keyAt 4000 97))
-    ∷ eqb (fieldRefusal flat oneF 400 0) 7
+    ∷ eqb (fieldRefusal flat oneF 400 (fieldLists [] [])) 7
     ∷ eqb (sizeRefusal zeroF) 5
     ∷ eqb (sizeRefusal x001) 0
     ∷ eqb (sizeRefusal below001) 6

@@ -49,12 +49,12 @@ unfolding total
 total-zero p e [] = refl
 total-zero p e (l ∷ ls) = omega (arith, e l, total-zero p e ls)
 
-total-one : (ls : List (List ℕ)) → total (λ l. 1) ls ≡ length ls
+pub total-one : (ls : List (List ℕ)) → total (λ l. 1) ls ≡ length ls
 unfolding total
 total-one [] = refl
 total-one (l ∷ ls) = omega (arith, total-one ls)
 
-total-add : (r : List ℕ → ℕ) (k : ℕ) (l : List ℕ) (ls : List (List ℕ)) → total r (addLoop k l ls) ≡ total r ls + ifListed k r l
+pub total-add : (r : List ℕ → ℕ) (k : ℕ) (l : List ℕ) (ls : List (List ℕ)) → total r (addLoop k l ls) ≡ total r ls + ifListed k r l
 unfolding addLoop ifListed
 total-add r k l ls = by (leb k (length l))
   where
@@ -100,7 +100,7 @@ module _ (f : ℕ → ℕ) (k : ℕ) (r : List ℕ → ℕ) (turn : (u : ℕ) (l
   listed-nil = rw (lt-leb (suc k) 0 (omega arith))
 
   -- the loops whose smallest id is below n are listed from the first n nodes
-  total-listing : ((u : ℕ) → total (count u) ls ≤ 1) → (n : ℕ)
+  pub total-listing : ((u : ℕ) → total (count u) ls ≤ 1) → (n : ℕ)
       → total r (listing (suc k) n (λ u. loopFrom u ls)) ≡ total (λ l. cond (ltb (least l) n) (ifListed (suc k) r l) 0) ls
   unfolding listing forUp total
   total-listing once zero =

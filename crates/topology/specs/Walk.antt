@@ -100,7 +100,7 @@ least-in x (y ∷ ys) = by (ltb (leastFrom y ys) x) refl (least-in y ys)
         let q : min x (leastFrom y ys) ≡ x = omega arith in
         rw q (omega (arith, delta-same x x refl))
 
-least-le : (v x : ℕ) (xs : List ℕ) → 0 < count v (x ∷ xs) → leastFrom x xs ≤ v
+pub least-le : (v x : ℕ) (xs : List ℕ) → 0 < count v (x ∷ xs) → leastFrom x xs ≤ v
 unfolding count leastFrom
 least-le v x [] h = let e = delta-is x v (omega arith) in omega arith
 least-le v x (y ∷ ys) h = by (delta x v) refl (least-le v y ys)
@@ -290,7 +290,7 @@ unfolding pathSum count
 path-count f w u [] z l = omega (arith, at-link f w u z l)
 path-count f w u (v ∷ vs) z l = omega (arith, at-link f w u v (l .0), path-count f w v vs z (l .1))
 
-link-count : (f : ℕ → ℕ) (w : ℕ) (ls : List (List ℕ)) → All (Cycle f) ls → frontSum (at w (f w)) ls ≡ total (count w) ls
+pub link-count : (f : ℕ → ℕ) (w : ℕ) (ls : List (List ℕ)) → All (Cycle f) ls → frontSum (at w (f w)) ls ≡ total (count w) ls
 unfolding total loopSum
 link-count f w [] r = refl
 link-count f w ([] ∷ ls) r = absurd (r .0)

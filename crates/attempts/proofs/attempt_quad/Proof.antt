@@ -1,10 +1,10 @@
 -- `attempts::attempt_quad` meets its contract: the corners chosen and the checks are the definition's.
-use mathlib.Core.Path.{refl}
 use borrow.Author.Needs.{needs}
 use Rattle.domain.specs.Outline.{outline}
-use Rattle.paving.specs.Attempt.{attemptQuad, cornerC, cornerD, ideal}
+use Rattle.front.specs.State.{nextOf, prevOf}
+use Rattle.paving.specs.Attempt.{cornerC, cornerD}
 use Rattle.attempts.specs.Seen.{seen}
-use Rattle.attempts.specs.SeenLaws.{corner-at-seen, quad-fits-seen}
+use Rattle.attempts.specs.SeenLaws.{attempt-is, corner-is}
 use Rattle.attempts.proofs.attempt_quad.Statement.{statement}
 use Rattle.attempts.proofs.attempt_quad.Tie as tie
 
@@ -33,23 +33,47 @@ corner-at-requires-2 : tie.Need-corner-at-requires-2
 corner-at-requires-2 c κs = search needs
 
 quad-fits-requires : tie.Need-quad-fits-requires
-quad-fits-requires c κs = (c .before .before .before .before .before .before .before .before .before .before .before .before .before .before .before .before .pre .quad, c .before .before .before .before .before .before .before .before .before .before .before .before .before .before .before .before .pre .next-fit)
+quad-fits-requires c κs =
+    let start = c .before .before .before .before .before .before .before .before .before .before .before .before .before .before .before .before in
+    (start .pre .quad, start .pre .next-fit)
 
 returns : tie.Need-returns
-unfolding attemptQuad cornerC cornerD
-returns c =     let o = outline (c .before .before .before .before .before .before .before .before .before .before .before .before .before .before .before .before .before .before .args .outer .now) (c .before .before .before .before .before .before .before .before .before .before .before .before .before .before .before .before .before .before .args .holes .now) (c .before .before .before .before .before .before .before .before .before .before .before .before .before .before .before .before .before .before .args .lens .now) in
-    let s = seen (c .before .before .before .before .before .before .before .before .before .before .before .before .before .before .before .before .before .before .args .xs .now) (c .before .before .before .before .before .before .before .before .before .before .before .before .before .before .before .before .before .before .args .ys .now) (c .before .before .before .before .before .before .before .before .before .before .before .before .before .before .before .before .before .before .args .next .now) (c .before .before .before .before .before .before .before .before .before .before .before .before .before .before .before .before .before .before .args .prev .now) (c .before .before .before .before .before .before .before .before .before .before .before .before .before .before .before .before .before .before .args .edges .now) (c .before .before .before .before .before .before .before .before .before .before .before .before .before .before .before .before .before .before .args .counts) in
-    rw (← c .before .before .before .before .before .before .before .before .before .node-at .ensures, ← c .before .before .before .before .before .before .before .before .ideal .ensures, ← c .before .before .before .before .before .link-at .ensures, ← corner-at-seen s (c .before .before .before .before .before .before .before .before .before .before .before .before .before .before .before .before .before .before .args .size) (c .before .before .before .before .before .before .before .before .before .before .before .before .before .before .before .before .before .before .args .b) (c .before .before .before .before .before .link-at .result) (c .before .before .before .before .before .before .before .before .ideal .result), ← c .before .before .before .before .corner-at .ensures)
-    (rw (← c .before .before .before .before .before .before .before .node-at2 .ensures, ← c .before .before .before .before .before .before .ideal2 .ensures, ← c .before .before .before .link-at2 .ensures, ← corner-at-seen s (c .before .before .before .before .before .before .before .before .before .before .before .before .before .before .before .before .before .before .args .size) (c .before .before .before .before .before .before .before .before .before .before .before .before .before .before .before .before .before .before .args .a) (c .before .before .before .link-at2 .result) (c .before .before .before .before .before .before .ideal2 .result), ← c .before .before .corner-at2 .ensures)
-    (rw (← quad-fits-seen s o (c .before .before .before .before .before .before .before .before .before .before .before .before .before .before .before .before .before .before .args .size) (c .before .before .before .before .before .before .before .before .before .before .before .before .before .before .before .before .before .before .args .a) (c .before .before .before .before .before .before .before .before .before .before .before .before .before .before .before .before .before .before .args .b) (c .before .before .before .before .corner-at .result) (c .before .before .corner-at2 .result), ← c .before .quad-fits .ensures, c .if1 .taken) refl))
+unfolding cornerC cornerD
+returns c =
+    let after-link-at2 = c .before .before .before in
+    let after-ideal2 = after-link-at2 .before .before .before in
+    let after-node-at = after-ideal2 .before .before .before in
+    let start = after-node-at .before .before .before .before .before .before .before .before .before in
+    let args = start .args in
+    let o = outline (args .outer .now) (args .holes .now) (args .lens .now) in
+    let s = seen (args .xs .now) (args .ys .now) (args .next .now) (args .prev .now) (args .edges .now) (args .counts) in
+    let chosen-c = corner-is s (args .size) (args .b) (args .a) (prevOf s (args .a)) (args .da)
+    (after-node-at .node-at .ensures) (after-ideal2 .before .before .ideal .ensures) (after-link-at2 .before .before .link-at .ensures)
+    (after-link-at2 .before .corner-at .ensures) in
+    let chosen-d = corner-is s (args .size) (args .a) (args .b) (nextOf s (args .b)) (args .db)
+    (after-ideal2 .before .node-at2 .ensures) (after-ideal2 .ideal2 .ensures) (after-link-at2 .link-at2 .ensures)
+    (c .before .before .corner-at2 .ensures) in
+    rw (c .if1 .taken) at (attempt-is s o (args .size) (args .a) (args .b) (args .da) (args .db) chosen-c chosen-d
+    (c .before .quad-fits .ensures))
 
 returns-2 : tie.Need-returns-2
-unfolding attemptQuad cornerC cornerD
-returns-2 c =     let o = outline (c .before .before .before .before .before .before .before .before .before .before .before .before .before .before .before .before .before .before .args .outer .now) (c .before .before .before .before .before .before .before .before .before .before .before .before .before .before .before .before .before .before .args .holes .now) (c .before .before .before .before .before .before .before .before .before .before .before .before .before .before .before .before .before .before .args .lens .now) in
-    let s = seen (c .before .before .before .before .before .before .before .before .before .before .before .before .before .before .before .before .before .before .args .xs .now) (c .before .before .before .before .before .before .before .before .before .before .before .before .before .before .before .before .before .before .args .ys .now) (c .before .before .before .before .before .before .before .before .before .before .before .before .before .before .before .before .before .before .args .next .now) (c .before .before .before .before .before .before .before .before .before .before .before .before .before .before .before .before .before .before .args .prev .now) (c .before .before .before .before .before .before .before .before .before .before .before .before .before .before .before .before .before .before .args .edges .now) (c .before .before .before .before .before .before .before .before .before .before .before .before .before .before .before .before .before .before .args .counts) in
-    rw (← c .before .before .before .before .before .before .before .before .before .node-at .ensures, ← c .before .before .before .before .before .before .before .before .ideal .ensures, ← c .before .before .before .before .before .link-at .ensures, ← corner-at-seen s (c .before .before .before .before .before .before .before .before .before .before .before .before .before .before .before .before .before .before .args .size) (c .before .before .before .before .before .before .before .before .before .before .before .before .before .before .before .before .before .before .args .b) (c .before .before .before .before .before .link-at .result) (c .before .before .before .before .before .before .before .before .ideal .result), ← c .before .before .before .before .corner-at .ensures)
-    (rw (← c .before .before .before .before .before .before .before .node-at2 .ensures, ← c .before .before .before .before .before .before .ideal2 .ensures, ← c .before .before .before .link-at2 .ensures, ← corner-at-seen s (c .before .before .before .before .before .before .before .before .before .before .before .before .before .before .before .before .before .before .args .size) (c .before .before .before .before .before .before .before .before .before .before .before .before .before .before .before .before .before .before .args .a) (c .before .before .before .link-at2 .result) (c .before .before .before .before .before .before .ideal2 .result), ← c .before .before .corner-at2 .ensures)
-    (rw (← quad-fits-seen s o (c .before .before .before .before .before .before .before .before .before .before .before .before .before .before .before .before .before .before .args .size) (c .before .before .before .before .before .before .before .before .before .before .before .before .before .before .before .before .before .before .args .a) (c .before .before .before .before .before .before .before .before .before .before .before .before .before .before .before .before .before .before .args .b) (c .before .before .before .before .corner-at .result) (c .before .before .corner-at2 .result), ← c .before .quad-fits .ensures, c .if1 .left) refl))
+unfolding cornerC cornerD
+returns-2 c =
+    let after-link-at2 = c .before .before .before in
+    let after-ideal2 = after-link-at2 .before .before .before in
+    let after-node-at = after-ideal2 .before .before .before in
+    let start = after-node-at .before .before .before .before .before .before .before .before .before in
+    let args = start .args in
+    let o = outline (args .outer .now) (args .holes .now) (args .lens .now) in
+    let s = seen (args .xs .now) (args .ys .now) (args .next .now) (args .prev .now) (args .edges .now) (args .counts) in
+    let chosen-c = corner-is s (args .size) (args .b) (args .a) (prevOf s (args .a)) (args .da)
+    (after-node-at .node-at .ensures) (after-ideal2 .before .before .ideal .ensures) (after-link-at2 .before .before .link-at .ensures)
+    (after-link-at2 .before .corner-at .ensures) in
+    let chosen-d = corner-is s (args .size) (args .a) (args .b) (nextOf s (args .b)) (args .db)
+    (after-ideal2 .before .node-at2 .ensures) (after-ideal2 .ideal2 .ensures) (after-link-at2 .link-at2 .ensures)
+    (c .before .before .corner-at2 .ensures) in
+    rw (c .if1 .left) at (attempt-is s o (args .size) (args .a) (args .b) (args .da) (args .db) chosen-c chosen-d
+    (c .before .quad-fits .ensures))
 
 pub attempt-quad-spec : {M : Type 1} → statement M
 attempt-quad-spec =

@@ -15,14 +15,21 @@ is-corner-requires c κs = search needs
 
 returns : tie.Need-returns
 unfolding blocksAt
-returns c = passes (sym (c .before .before .before .in-box-at .ensures) ∙ c .before .before .if1 .taken) (fails _ (ap not (sym (c .before .is-corner .ensures) ∙ c .if2 .taken)))
+returns c =
+    let then1 = c .before .before in
+    passes (sym (then1 .before .in-box-at .ensures) ∙ then1 .if1 .taken)
+    (fails _ (ap not (sym (c .before .is-corner .ensures) ∙ c .if2 .taken)))
 
 point-in-convex-requires : tie.Need-point-in-convex-requires
 point-in-convex-requires c κs = search needs
 
 returns-2 : tie.Need-returns-2
 unfolding blocksAt
-returns-2 c = passes (sym (c .before .before .before .before .in-box-at .ensures) ∙ c .before .before .before .if1 .taken) (passes (ap not (sym (c .before .before .is-corner .ensures) ∙ c .before .if2 .left)) (c .point-in-convex .ensures))
+returns-2 c =
+    let else2 = c .before in
+    let then1 = else2 .before .before in
+    passes (sym (then1 .before .in-box-at .ensures) ∙ then1 .if1 .taken)
+    (passes (ap not (sym (else2 .before .is-corner .ensures) ∙ else2 .if2 .left)) (c .point-in-convex .ensures))
 
 returns-3 : tie.Need-returns-3
 unfolding blocksAt

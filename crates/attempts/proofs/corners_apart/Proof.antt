@@ -23,14 +23,18 @@ enum-told-2 c = search needs
 
 returns-2 : tie.Need-returns-2
 unfolding cornersApart
-returns-2 c = rw (c .before .before .before .c .given .1, c .enum-told2 .given .1) refl
+returns-2 c =
+    let after-c = c .before .before .before in
+    rw (after-c .c .given .1, c .enum-told2 .given .1) refl
 
 distance-requires : tie.Need-distance-requires
 distance-requires c κs = search needs
 
 returns-3 : tie.Need-returns-3
 unfolding cornersApart
-returns-3 c = rw (c .before .before .before .before .before .c .given .1, c .before .before .d .given .1, ← c .distance .ensures) refl
+returns-3 c =
+    let after-c = c .before .before .before .before .before in
+    rw (after-c .c .given .1, c .before .before .d .given .1, ← c .distance .ensures) refl
 
 pub corners-apart-spec : {M : Type 1} → statement M
 corners-apart-spec =

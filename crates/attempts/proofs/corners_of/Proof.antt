@@ -17,7 +17,14 @@ corner-point-requires-2 : tie.Need-corner-point-requires-2
 corner-point-requires-2 c κs = search needs
 
 returns : tie.Need-returns
-returns c = rw (← c .before .before .before .node-at .ensures, ← c .before .before .node-at2 .ensures, ← c .before .corner-point .ensures, ← c .corner-point2 .ensures) refl
+returns c =
+    let after-node-at = c .before .before .before in
+    rw (
+      ← after-node-at .node-at .ensures,
+      ← c .before .before .node-at2 .ensures,
+      ← c .before .corner-point .ensures,
+      ← c .corner-point2 .ensures,
+    ) refl
 
 pub corners-of-spec : {M : Type 1} → statement M
 corners-of-spec =

@@ -28,13 +28,22 @@ segments-cross-requires c κs = search needs
 
 returns-2 : tie.Need-returns-2
 unfolding crossesAt
-returns-2 c =     rw (← c .before .before .before .before .node-at .ensures, ← c .before .before .before .node-at2 .ensures)
-    (passes (ap not (sym (c .before .before .before .before .before .before .share-end .ensures) ∙ c .before .before .before .before .before .if1 .left)) (passes (sym (c .before .before .candidate-at .ensures) ∙ c .before .if2 .taken) (c .segments-cross .ensures)))
+returns-2 c =
+    let then2 = c .before in
+    let after-node-at = then2 .before .before .before in
+    let else1 = after-node-at .before in
+    rw (← after-node-at .node-at .ensures, ← then2 .before .before .node-at2 .ensures)
+    (passes (ap not (sym (else1 .before .share-end .ensures) ∙ else1 .if1 .left))
+    (passes (sym (then2 .before .candidate-at .ensures) ∙ then2 .if2 .taken) (c .segments-cross .ensures)))
 
 returns-3 : tie.Need-returns-3
 unfolding crossesAt
-returns-3 c =     rw (← c .before .before .before .node-at .ensures, ← c .before .before .node-at2 .ensures)
-    (passes (ap not (sym (c .before .before .before .before .before .share-end .ensures) ∙ c .before .before .before .before .if1 .left)) (fails _ (sym (c .before .candidate-at .ensures) ∙ c .if2 .left)))
+returns-3 c =
+    let after-node-at = c .before .before .before in
+    let else1 = after-node-at .before in
+    rw (← after-node-at .node-at .ensures, ← c .before .before .node-at2 .ensures)
+    (passes (ap not (sym (else1 .before .share-end .ensures) ∙ else1 .if1 .left))
+    (fails _ (sym (c .before .candidate-at .ensures) ∙ c .if2 .left)))
 
 pub crosses-at-spec : {M : Type 1} → statement M
 crosses-at-spec =

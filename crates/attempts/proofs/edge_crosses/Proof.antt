@@ -52,9 +52,15 @@ crosses-at-requires c κs = search needs
 
 returns : tie.Need-returns Inv-loop μ-loop
 unfolding edgeCrosses
-returns c =     scan-hit _ (c .before .before .before .before .before .loop .inv) (c .before .before .before .before .loop-test .taken)
-    (crosses-is (c .before .before .before .before .before .before .before .before .before .before .before .args .size) (seenEdges (c .before .before .before .before .before .before .before .before .before .before .before .args .xs .now) (c .before .before .before .before .before .before .before .before .before .before .before .args .ys .now) (c .before .before .before .before .before .before .before .before .before .before .before .args .edges .now) (c .before .before .before .before .before .before .before .before .before .before .before .args .counts)) (c .before .before .before .before .before .before .before .before .before .before .before .args .a) (c .before .before .before .before .before .before .before .before .before .before .before .args .b) (c .before .before .before .before .before .before .before .before .before .before .before .args .u) (c .before .before .before .before .before .before .before .before .before .before .before .args .v) (c .before .before .before .before .before .loop .i)
-    (c .before .before .before .before .before .before .before .key-of .ensures) (c .before .before .before .before .before .before .key-of2 .ensures) (c .before .crosses-at .ensures) ∙ c .if1 .taken)
+returns c =
+    let in-loop = c .before .before .before .before in
+    let after-key-of = in-loop .before .before .before in
+    let start = after-key-of .before .before .before .before in
+    let args = start .args in
+    let s = seenEdges (args .xs .now) (args .ys .now) (args .edges .now) (args .counts) in
+    scan-hit _ (in-loop .before .loop .inv) (in-loop .loop-test .taken)
+    (crosses-is (args .size) s (args .a) (args .b) (args .u) (args .v) (in-loop .before .loop .i)
+    (after-key-of .key-of .ensures) (in-loop .before .before .key-of2 .ensures) (c .before .crosses-at .ensures) ∙ c .if1 .taken)
 
 add-i : tie.Need-add-i Inv-loop μ-loop
 add-i c = omega (arith, c .before .before .before .before .before .before .before .before .before .before .before .pre)
@@ -63,9 +69,15 @@ loop-less : tie.Need-loop-less Inv-loop μ-loop
 loop-less c = omega arith
 
 loop-again : tie.Need-loop-again Inv-loop μ-loop
-loop-again c =     scan-next _ (c .before .before .before .before .before .loop .inv) (c .before .before .before .before .loop-test .taken)
-    (crosses-is (c .before .before .before .before .before .before .before .before .before .before .before .args .size) (seenEdges (c .before .before .before .before .before .before .before .before .before .before .before .args .xs .now) (c .before .before .before .before .before .before .before .before .before .before .before .args .ys .now) (c .before .before .before .before .before .before .before .before .before .before .before .args .edges .now) (c .before .before .before .before .before .before .before .before .before .before .before .args .counts)) (c .before .before .before .before .before .before .before .before .before .before .before .args .a) (c .before .before .before .before .before .before .before .before .before .before .before .args .b) (c .before .before .before .before .before .before .before .before .before .before .before .args .u) (c .before .before .before .before .before .before .before .before .before .before .before .args .v) (c .before .before .before .before .before .loop .i)
-    (c .before .before .before .before .before .before .before .key-of .ensures) (c .before .before .before .before .before .before .key-of2 .ensures) (c .before .crosses-at .ensures) ∙ c .if1 .left)
+loop-again c =
+    let in-loop = c .before .before .before .before in
+    let after-key-of = in-loop .before .before .before in
+    let start = after-key-of .before .before .before .before in
+    let args = start .args in
+    let s = seenEdges (args .xs .now) (args .ys .now) (args .edges .now) (args .counts) in
+    scan-next _ (in-loop .before .loop .inv) (in-loop .loop-test .taken)
+    (crosses-is (args .size) s (args .a) (args .b) (args .u) (args .v) (in-loop .before .loop .i)
+    (after-key-of .key-of .ensures) (in-loop .before .before .key-of2 .ensures) (c .before .crosses-at .ensures) ∙ c .if1 .left)
 
 returns-2 : tie.Need-returns-2 Inv-loop μ-loop
 unfolding edgeCrosses

@@ -18,7 +18,9 @@ side-crosses-requires c κs = c .before .before .before .before .before .pre .ed
 
 returns : tie.Need-returns
 unfolding edgesFree
-returns c = rw (← c .before .before .before .corner-id .ensures, ← c .before .side-crosses .ensures, c .if1 .taken) refl
+returns c =
+    let after-corner-id = c .before .before .before in
+    rw (← after-corner-id .corner-id .ensures, ← c .before .side-crosses .ensures, c .if1 .taken) refl
 
 corner-point-requires : tie.Need-corner-point-requires
 corner-point-requires c κs = search needs
@@ -31,20 +33,45 @@ edge-crosses-requires c κs = c .before .before .before .before .before .before 
 
 returns-2 : tie.Need-returns-2
 unfolding edgesFree
-returns-2 c =     let s = seenEdges (c .before .before .before .before .before .before .before .before .before .before .before .args .xs .now) (c .before .before .before .before .before .before .before .before .before .before .before .args .ys .now) (c .before .before .before .before .before .before .before .before .before .before .before .args .edges .now) (c .before .before .before .before .before .before .before .before .before .before .before .args .counts) in
-    rw (← c .before .before .before .before .before .before .before .corner-id .ensures, ← c .before .before .before .before .before .before .second-id .ensures, ← c .before .before .before .before .before .side-crosses .ensures, c .before .before .before .before .if1 .left)
-    (rw (← corner-point-seen s (c .before .before .before .before .before .before .before .before .before .before .before .args .c), ← corner-point-seen s (c .before .before .before .before .before .before .before .before .before .before .before .args .d), ← c .before .before .before .corner-point .ensures, ← c .before .before .corner-point2 .ensures)
-    (rw (← c .before .edge-crosses .ensures, c .if2 .taken) refl))
+returns-2 c =
+    let after-corner-point = c .before .before .before in
+    let else1 = after-corner-point .before in
+    let after-corner-id = else1 .before .before .before in
+    let start = after-corner-id .before .before .before .before in
+    let args = start .args in
+    let s = seenEdges (args .xs .now) (args .ys .now) (args .edges .now) (args .counts) in
+    rw (← after-corner-id .corner-id .ensures, ← else1 .before .before .second-id .ensures)
+    (rw (← else1 .before .side-crosses .ensures, else1 .if1 .left)
+    (rw (
+      ← corner-point-seen s (args .c),
+      ← corner-point-seen s (args .d),
+      ← after-corner-point .corner-point .ensures,
+      ← c .before .before .corner-point2 .ensures,
+    )
+    (rw (← c .before .edge-crosses .ensures, c .if2 .taken) refl)))
 
 side-crosses-requires-2 : tie.Need-side-crosses-requires-2
 side-crosses-requires-2 c κs = c .before .before .before .before .before .before .before .before .before .before .before .pre .edges-fit
 
 returns-3 : tie.Need-returns-3
 unfolding edgesFree
-returns-3 c =     let s = seenEdges (c .before .before .before .before .before .before .before .before .before .before .before .before .args .xs .now) (c .before .before .before .before .before .before .before .before .before .before .before .before .args .ys .now) (c .before .before .before .before .before .before .before .before .before .before .before .before .args .edges .now) (c .before .before .before .before .before .before .before .before .before .before .before .before .args .counts) in
-    rw (← c .before .before .before .before .before .before .before .before .corner-id .ensures, ← c .before .before .before .before .before .before .before .second-id .ensures, ← c .before .before .before .before .before .before .side-crosses .ensures, c .before .before .before .before .before .if1 .left)
-    (rw (← corner-point-seen s (c .before .before .before .before .before .before .before .before .before .before .before .before .args .c), ← corner-point-seen s (c .before .before .before .before .before .before .before .before .before .before .before .before .args .d), ← c .before .before .before .before .corner-point .ensures, ← c .before .before .before .corner-point2 .ensures)
-    (rw (← c .before .before .edge-crosses .ensures, c .before .if2 .left, ← c .side-crosses2 .ensures) refl))
+returns-3 c =
+    let else2 = c .before in
+    let after-corner-point = else2 .before .before .before in
+    let else1 = after-corner-point .before in
+    let after-corner-id = else1 .before .before .before in
+    let start = after-corner-id .before .before .before .before in
+    let args = start .args in
+    let s = seenEdges (args .xs .now) (args .ys .now) (args .edges .now) (args .counts) in
+    rw (← after-corner-id .corner-id .ensures, ← else1 .before .before .second-id .ensures)
+    (rw (← else1 .before .side-crosses .ensures, else1 .if1 .left)
+    (rw (
+      ← corner-point-seen s (args .c),
+      ← corner-point-seen s (args .d),
+      ← after-corner-point .corner-point .ensures,
+      ← else2 .before .before .corner-point2 .ensures,
+    )
+    (rw (← else2 .before .edge-crosses .ensures, else2 .if2 .left, ← c .side-crosses2 .ensures) refl)))
 
 pub edges-free-spec : {M : Type 1} → statement M
 edges-free-spec =

@@ -22,7 +22,10 @@ distance-requires c κs = search needs
 
 returns-3 : tie.Need-returns-3
 unfolding isReused
-returns-3 c = rw (ne-eqb _ _ (c .before .before .before .if1 .left), ne-eqb _ _ (c .before .before .if2 .left), ← c .before .node-at .ensures, ← c .distance .ensures) refl
+returns-3 c =
+    let else2 = c .before .before in
+    let else1 = else2 .before in
+    rw (ne-eqb _ _ (else1 .if1 .left), ne-eqb _ _ (else2 .if2 .left), ← c .before .node-at .ensures, ← c .distance .ensures) refl
 
 pub is-reused-spec : {M : Type 1} → statement M
 is-reused-spec = tie.close (tie.spec returns returns-2 node-at-requires distance-requires returns-3)

@@ -13,10 +13,15 @@ shared-slice-read-result : tie.Need-shared-slice-read-result
 shared-slice-read-result c = search needs
 
 returns : tie.Need-returns
-returns c = link-read (c .before .before .args .nodes) (c .before .before .args .links .now) (c .before .before .args .u) (c .before .if1 .taken) (c .before .before .pre)
+returns c =
+    let start = c .before .before in
+    let args = start .args in
+    link-read (args .nodes) (args .links .now) (args .u) (c .before .if1 .taken) (start .pre)
 
 returns-2 : tie.Need-returns-2
-returns-2 c = sym (link-out (c .before .args .nodes) (c .before .args .links .now) (c .before .args .u) (c .if1 .left))
+returns-2 c =
+    let args = c .before .args in
+    sym (link-out (args .nodes) (args .links .now) (args .u) (c .if1 .left))
 
 pub link-at-spec : {M : Type 1} → statement M
 link-at-spec = tie.close (tie.spec mul-result shared-slice-read-result returns returns-2)

@@ -39,20 +39,37 @@ blocks-at-requires c κs = search needs
 
 returns : tie.Need-returns Inv-loop μ-loop
 unfolding nodeInside
-returns c =     scan-hit _ (c .before .before .before .before .loop .inv) (c .before .before .before .loop-test .taken)
-    (blocks-is (c .before .before .before .before .before .before .before .before .before .before .before .args .size) (seenPoints (c .before .before .before .before .before .before .before .before .before .before .before .args .xs .now) (c .before .before .before .before .before .before .before .before .before .before .before .args .ys .now)) (c .before .before .before .before .before .before .before .before .before .before .before .args .p) (c .before .before .before .before .before .before .before .before .before .before .before .args .a) (c .before .before .before .before .before .before .before .before .before .before .before .args .b) (c .before .before .before .before .before .before .before .before .before .before .before .args .d) (c .before .before .before .before .before .before .before .before .before .before .before .args .c) (c .before .before .before .before .loop .id)
-    (c .before .before .before .before .before .before .before .before .lowest .ensures) (c .before .before .before .before .before .before .before .key-of .ensures) (c .before .before .before .before .before .before .highest .ensures) (c .before .before .before .before .before .key-of2 .ensures) (c .before .before .node-at .ensures) (c .before .blocks-at .ensures) ∙ c .if1 .taken)
+returns c =
+    let in-loop = c .before .before .before in
+    let after-highest = in-loop .before .before .before in
+    let start = after-highest .before .before .before .before .before in
+    let args = start .args in
+    let s = seenPoints (args .xs .now) (args .ys .now) in
+    scan-hit _ (in-loop .before .loop .inv) (in-loop .loop-test .taken)
+    (blocks-is (args .size) s (args .p) (args .a) (args .b) (args .d) (args .c) (in-loop .before .loop .id)
+    (after-highest .before .before .lowest .ensures) (after-highest .before .key-of .ensures) (after-highest .highest .ensures)
+    (in-loop .before .before .key-of2 .ensures) (c .before .before .node-at .ensures) (c .before .blocks-at .ensures) ∙ c .if1 .taken)
 
 add-id : tie.Need-add-id Inv-loop μ-loop
-add-id c = omega (arith, c .before .before .before .loop-test .taken, c .before .before .before .before .before .before .before .before .before .before .before .good .1 .1 .1 .0)
+add-id c =
+    let in-loop = c .before .before .before in
+    let start = in-loop .before .before .before .before .before .before .before .before in
+    omega (arith, in-loop .loop-test .taken, start .good .1 .1 .1 .0)
 
 loop-less : tie.Need-loop-less Inv-loop μ-loop
 loop-less c = omega arith
 
 loop-again : tie.Need-loop-again Inv-loop μ-loop
-loop-again c =     scan-next _ (c .before .before .before .before .loop .inv) (c .before .before .before .loop-test .taken)
-    (blocks-is (c .before .before .before .before .before .before .before .before .before .before .before .args .size) (seenPoints (c .before .before .before .before .before .before .before .before .before .before .before .args .xs .now) (c .before .before .before .before .before .before .before .before .before .before .before .args .ys .now)) (c .before .before .before .before .before .before .before .before .before .before .before .args .p) (c .before .before .before .before .before .before .before .before .before .before .before .args .a) (c .before .before .before .before .before .before .before .before .before .before .before .args .b) (c .before .before .before .before .before .before .before .before .before .before .before .args .d) (c .before .before .before .before .before .before .before .before .before .before .before .args .c) (c .before .before .before .before .loop .id)
-    (c .before .before .before .before .before .before .before .before .lowest .ensures) (c .before .before .before .before .before .before .before .key-of .ensures) (c .before .before .before .before .before .before .highest .ensures) (c .before .before .before .before .before .key-of2 .ensures) (c .before .before .node-at .ensures) (c .before .blocks-at .ensures) ∙ c .if1 .left)
+loop-again c =
+    let in-loop = c .before .before .before in
+    let after-highest = in-loop .before .before .before in
+    let start = after-highest .before .before .before .before .before in
+    let args = start .args in
+    let s = seenPoints (args .xs .now) (args .ys .now) in
+    scan-next _ (in-loop .before .loop .inv) (in-loop .loop-test .taken)
+    (blocks-is (args .size) s (args .p) (args .a) (args .b) (args .d) (args .c) (in-loop .before .loop .id)
+    (after-highest .before .before .lowest .ensures) (after-highest .before .key-of .ensures) (after-highest .highest .ensures)
+    (in-loop .before .before .key-of2 .ensures) (c .before .before .node-at .ensures) (c .before .blocks-at .ensures) ∙ c .if1 .left)
 
 returns-2 : tie.Need-returns-2 Inv-loop μ-loop
 unfolding nodeInside

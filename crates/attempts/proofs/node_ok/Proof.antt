@@ -1,8 +1,8 @@
 -- `attempts::node_ok` meets its contract: each answer is the definition's at the tests that led to it.
-use mathlib.Core.Path.{_∙_, ap, sym}
+use mathlib.Core.Path.{ap}
 use mathlib.Core.Bool.{not}
 use borrow.Author.Needs.{needs}
-use borrow.Author.Tests.{not-false, not-true}
+use Rattle.geometry.specs.TestLaws.{passed, refused}
 use Rattle.paving.specs.Checks.{nodeOk}
 use Rattle.attempts.specs.Chain.{fails, passes}
 use Rattle.attempts.proofs.node_ok.Statement.{statement}
@@ -13,31 +13,42 @@ is-finite-f64-requires c κs = search needs
 
 returns : tie.Need-returns
 unfolding nodeOk
-returns c = fails _ (sym (c .before .is-finite-f64 .ensures) ∙ not-true _ (c .if1 .taken))
+returns c = fails _ (refused (c .before .is-finite-f64 .ensures) (c .if1 .taken))
 
 is-finite-f64-requires-2 : tie.Need-is-finite-f64-requires-2
 is-finite-f64-requires-2 c κs = search needs
 
 returns-2 : tie.Need-returns-2
 unfolding nodeOk
-returns-2 c = passes (sym (c .before .before .before .is-finite-f64 .ensures) ∙ not-false _ (c .before .before .if1 .left)) (fails _ (sym (c .before .is-finite-f642 .ensures) ∙ not-true _ (c .if2 .taken)))
+returns-2 c =
+    let else1 = c .before .before in
+    passes (passed (else1 .before .is-finite-f64 .ensures) (else1 .if1 .left))
+    (fails _ (refused (c .before .is-finite-f642 .ensures) (c .if2 .taken)))
 
 contains-point-requires : tie.Need-contains-point-requires
 contains-point-requires c κs = c .before .before .before .before .before .before .before .before .before .pre
 
 returns-3 : tie.Need-returns-3
 unfolding nodeOk
-returns-3 c =     passes (sym (c .before .before .before .before .before .is-finite-f64 .ensures) ∙ not-false _ (c .before .before .before .before .if1 .left))
-    (passes (sym (c .before .before .before .is-finite-f642 .ensures) ∙ not-false _ (c .before .before .if2 .left)) (fails _ (sym (c .before .contains-point .ensures) ∙ not-true _ (c .if3 .taken))))
+returns-3 c =
+    let else2 = c .before .before in
+    let else1 = else2 .before .before in
+    passes (passed (else1 .before .is-finite-f64 .ensures) (else1 .if1 .left))
+    (passes (passed (else2 .before .is-finite-f642 .ensures) (else2 .if2 .left))
+    (fails _ (refused (c .before .contains-point .ensures) (c .if3 .taken))))
 
 too-close-requires : tie.Need-too-close-requires
 too-close-requires c κs = search needs
 
 returns-4 : tie.Need-returns-4
 unfolding nodeOk
-returns-4 c =     passes (sym (c .before .before .before .before .before .before .is-finite-f64 .ensures) ∙ not-false _ (c .before .before .before .before .before .if1 .left))
-    (passes (sym (c .before .before .before .before .is-finite-f642 .ensures) ∙ not-false _ (c .before .before .before .if2 .left))
-    (passes (sym (c .before .before .contains-point .ensures) ∙ not-false _ (c .before .if3 .left)) (ap not (c .too-close .ensures))))
+returns-4 c =
+    let else3 = c .before in
+    let else2 = else3 .before .before in
+    let else1 = else2 .before .before in
+    passes (passed (else1 .before .is-finite-f64 .ensures) (else1 .if1 .left))
+    (passes (passed (else2 .before .is-finite-f642 .ensures) (else2 .if2 .left))
+    (passes (passed (else3 .before .contains-point .ensures) (else3 .if3 .left)) (ap not (c .too-close .ensures))))
 
 pub node-ok-spec : {M : Type 1} → statement M
 node-ok-spec =

@@ -2,11 +2,11 @@
 use mathlib.Core.Path.{_∙_, ap, sym}
 use mathlib.Core.Bool.{not}
 use borrow.Author.Needs.{needs}
-use borrow.Author.Tests.{not-false, not-true}
-use Rattle.paving.specs.Checks.{quadOk}
+use Rattle.domain.specs.Outline.{outline}
+use Rattle.geometry.specs.TestLaws.{passed, refused}
 use Rattle.attempts.specs.Chain.{fails, passes}
 use Rattle.attempts.specs.Seen.{seenEdges}
-use Rattle.attempts.specs.SeenLaws.{corners-seen, node-inside-seen}
+use Rattle.attempts.specs.SeenLaws.{quad-ok-is}
 use Rattle.attempts.proofs.quad_ok.Statement.{statement}
 use Rattle.attempts.proofs.quad_ok.Tie as tie
 
@@ -17,10 +17,13 @@ convex-ccw-requires : tie.Need-convex-ccw-requires
 convex-ccw-requires c κs = search needs
 
 returns : tie.Need-returns
-unfolding quadOk
-returns c =     let s = seenEdges (c .before .before .before .before .before .before .before .before .before .args .xs .now) (c .before .before .before .before .before .before .before .before .before .args .ys .now) (c .before .before .before .before .before .before .before .before .before .args .edges .now) (c .before .before .before .before .before .before .before .before .before .args .counts) in
-    rw (← corners-seen s (c .before .before .before .before .before .before .before .before .before .args .a) (c .before .before .before .before .before .before .before .before .before .args .b) (c .before .before .before .before .before .before .before .before .before .args .c) (c .before .before .before .before .before .before .before .before .before .args .d), ← c .before .before .corners-of .ensures)
-    (fails _ (sym (c .before .convex-ccw .ensures) ∙ not-true _ (c .if1 .taken)))
+returns c =
+    let start = c .before .before .before .before .before .before .before .before .before in
+    let args = start .args in
+    let s = seenEdges (args .xs .now) (args .ys .now) (args .edges .now) (args .counts) in
+    let o = outline (args .outer .now) (args .holes .now) (args .lens .now) in
+    rw (quad-ok-is s o (args .size) (args .a) (args .b) (args .c) (args .d) (c .before .before .corners-of .ensures))
+    (fails _ (refused (c .before .convex-ccw .ensures) (c .if1 .taken)))
 
 centroid-requires : tie.Need-centroid-requires
 centroid-requires c κs = search needs
@@ -29,10 +32,15 @@ contains-point-requires : tie.Need-contains-point-requires
 contains-point-requires c κs = c .before .before .before .before .before .before .before .before .before .before .pre .shape
 
 returns-2 : tie.Need-returns-2
-unfolding quadOk
-returns-2 c =     let s = seenEdges (c .before .before .before .before .before .before .before .before .before .before .before .before .args .xs .now) (c .before .before .before .before .before .before .before .before .before .before .before .before .args .ys .now) (c .before .before .before .before .before .before .before .before .before .before .before .before .args .edges .now) (c .before .before .before .before .before .before .before .before .before .before .before .before .args .counts) in
-    rw (← corners-seen s (c .before .before .before .before .before .before .before .before .before .before .before .before .args .a) (c .before .before .before .before .before .before .before .before .before .before .before .before .args .b) (c .before .before .before .before .before .before .before .before .before .before .before .before .args .c) (c .before .before .before .before .before .before .before .before .before .before .before .before .args .d), ← c .before .before .before .before .before .corners-of .ensures)
-    (passes (sym (c .before .before .before .before .convex-ccw .ensures) ∙ not-false _ (c .before .before .before .if1 .left)) (rw (← c .before .before .centroid .ensures) (fails _ (sym (c .before .contains-point .ensures) ∙ not-true _ (c .if2 .taken)))))
+returns-2 c =
+    let else1 = c .before .before .before in
+    let start = else1 .before .before .before .before .before .before .before .before .before in
+    let args = start .args in
+    let s = seenEdges (args .xs .now) (args .ys .now) (args .edges .now) (args .counts) in
+    let o = outline (args .outer .now) (args .holes .now) (args .lens .now) in
+    rw (quad-ok-is s o (args .size) (args .a) (args .b) (args .c) (args .d) (else1 .before .before .corners-of .ensures))
+    (passes (passed (else1 .before .convex-ccw .ensures) (else1 .if1 .left))
+    (rw (← c .before .before .centroid .ensures) (fails _ (refused (c .before .contains-point .ensures) (c .if2 .taken)))))
 
 corner-id-requires : tie.Need-corner-id-requires
 corner-id-requires c κs = search needs
@@ -44,25 +52,40 @@ node-in-quad-requires : tie.Need-node-in-quad-requires
 node-in-quad-requires c κs = search needs
 
 returns-3 : tie.Need-returns-3
-unfolding quadOk
-returns-3 c =     let s = seenEdges (c .before .before .before .before .before .before .before .before .before .before .before .before .before .before .before .before .args .xs .now) (c .before .before .before .before .before .before .before .before .before .before .before .before .before .before .before .before .args .ys .now) (c .before .before .before .before .before .before .before .before .before .before .before .before .before .before .before .before .args .edges .now) (c .before .before .before .before .before .before .before .before .before .before .before .before .before .before .before .before .args .counts) in
-    rw (← corners-seen s (c .before .before .before .before .before .before .before .before .before .before .before .before .before .before .before .before .args .a) (c .before .before .before .before .before .before .before .before .before .before .before .before .before .before .before .before .args .b) (c .before .before .before .before .before .before .before .before .before .before .before .before .before .before .before .before .args .c) (c .before .before .before .before .before .before .before .before .before .before .before .before .before .before .before .before .args .d), ← c .before .before .before .before .before .before .before .before .before .corners-of .ensures)
-    (rw (← c .before .before .before .before .before .before .centroid .ensures, ← node-inside-seen s _ _ _ _ _ _, ← c .before .before .before .corner-id .ensures, ← c .before .before .second-id .ensures)
-    (passes (sym (c .before .before .before .before .before .before .before .before .convex-ccw .ensures) ∙ not-false _ (c .before .before .before .before .before .before .before .if1 .left))
-    (passes (sym (c .before .before .before .before .before .contains-point .ensures) ∙ not-false _ (c .before .before .before .before .if2 .left))
+returns-3 c =
+    let after-corner-id = c .before .before .before in
+    let else2 = after-corner-id .before in
+    let else1 = else2 .before .before .before in
+    let start = else1 .before .before .before .before .before .before .before .before .before in
+    let args = start .args in
+    let s = seenEdges (args .xs .now) (args .ys .now) (args .edges .now) (args .counts) in
+    let o = outline (args .outer .now) (args .holes .now) (args .lens .now) in
+    rw (quad-ok-is s o (args .size) (args .a) (args .b) (args .c) (args .d) (else1 .before .before .corners-of .ensures))
+    (rw (← else2 .before .before .centroid .ensures, ← after-corner-id .corner-id .ensures, ← c .before .before .second-id .ensures)
+    (passes (passed (else1 .before .convex-ccw .ensures) (else1 .if1 .left))
+    (passes (passed (else2 .before .contains-point .ensures) (else2 .if2 .left))
     (fails _ (ap not (sym (c .before .node-in-quad .ensures) ∙ c .if3 .taken))))))
 
 edges-free-requires : tie.Need-edges-free-requires
-edges-free-requires c κs = c .before .before .before .before .before .before .before .before .before .before .before .before .before .before .before .before .pre .within
+edges-free-requires c κs =
+    let after-corners-of = c .before .before .before .before .before .before .before .before .before in
+    after-corners-of .before .before .before .before .before .before .before .pre .within
 
 returns-4 : tie.Need-returns-4
-unfolding quadOk
-returns-4 c =     let s = seenEdges (c .before .before .before .before .before .before .before .before .before .before .before .before .before .before .before .before .before .args .xs .now) (c .before .before .before .before .before .before .before .before .before .before .before .before .before .before .before .before .before .args .ys .now) (c .before .before .before .before .before .before .before .before .before .before .before .before .before .before .before .before .before .args .edges .now) (c .before .before .before .before .before .before .before .before .before .before .before .before .before .before .before .before .before .args .counts) in
-    rw (← corners-seen s (c .before .before .before .before .before .before .before .before .before .before .before .before .before .before .before .before .before .args .a) (c .before .before .before .before .before .before .before .before .before .before .before .before .before .before .before .before .before .args .b) (c .before .before .before .before .before .before .before .before .before .before .before .before .before .before .before .before .before .args .c) (c .before .before .before .before .before .before .before .before .before .before .before .before .before .before .before .before .before .args .d), ← c .before .before .before .before .before .before .before .before .before .before .corners-of .ensures)
-    (rw (← c .before .before .before .before .before .before .before .centroid .ensures, ← node-inside-seen s _ _ _ _ _ _, ← c .before .before .before .before .corner-id .ensures, ← c .before .before .before .second-id .ensures)
-    (passes (sym (c .before .before .before .before .before .before .before .before .before .convex-ccw .ensures) ∙ not-false _ (c .before .before .before .before .before .before .before .before .if1 .left))
-    (passes (sym (c .before .before .before .before .before .before .contains-point .ensures) ∙ not-false _ (c .before .before .before .before .before .if2 .left))
-    (passes (ap not (sym (c .before .before .node-in-quad .ensures) ∙ c .before .if3 .left)) (c .edges-free .ensures)))))
+returns-4 c =
+    let else3 = c .before in
+    let after-corner-id = else3 .before .before .before in
+    let else2 = after-corner-id .before in
+    let else1 = else2 .before .before .before in
+    let start = else1 .before .before .before .before .before .before .before .before .before in
+    let args = start .args in
+    let s = seenEdges (args .xs .now) (args .ys .now) (args .edges .now) (args .counts) in
+    let o = outline (args .outer .now) (args .holes .now) (args .lens .now) in
+    rw (quad-ok-is s o (args .size) (args .a) (args .b) (args .c) (args .d) (else1 .before .before .corners-of .ensures))
+    (rw (← else2 .before .before .centroid .ensures, ← after-corner-id .corner-id .ensures, ← else3 .before .before .second-id .ensures)
+    (passes (passed (else1 .before .convex-ccw .ensures) (else1 .if1 .left))
+    (passes (passed (else2 .before .contains-point .ensures) (else2 .if2 .left))
+    (passes (ap not (sym (else3 .before .node-in-quad .ensures) ∙ else3 .if3 .left)) (c .edges-free .ensures)))))
 
 pub quad-ok-spec : {M : Type 1} → statement M
 quad-ok-spec =

@@ -20,7 +20,9 @@ edge-crosses-requires : tie.Need-edge-crosses-requires
 edge-crosses-requires c κs = c .before .before .before .before .before .before .before .pre
 
 returns-2 : tie.Need-returns-2
-returns-2 c = rw (c .before .before .before .c .given .1, ← c .before .node-at .ensures) (c .edge-crosses .ensures)
+returns-2 c =
+    let after-c = c .before .before .before in
+    rw (after-c .c .given .1, ← c .before .node-at .ensures) (c .edge-crosses .ensures)
 
 pub side-crosses-spec : {M : Type 1} → statement M
 side-crosses-spec =

@@ -30,8 +30,14 @@ too-close-at-requires c κs = search needs
 
 returns : tie.Need-returns Inv-loop μ-loop
 unfolding tooClose
-returns c =     scan-hit _ (c .before .before .before .before .loop .inv) (c .before .before .before .loop-test .taken)
-    (close-is (c .before .before .before .before .before .before .before .before .args .size) (seenPoints (c .before .before .before .before .before .before .before .before .args .xs .now) (c .before .before .before .before .before .before .before .before .args .ys .now)) (c .before .before .before .before .before .before .before .before .args .p) (c .before .before .before .before .loop .id) (c .before .before .before .before .before .key-of .ensures) (c .before .before .node-at .ensures) (c .before .too-close-at .ensures) ∙ c .if1 .taken)
+returns c =
+    let in-loop = c .before .before .before in
+    let start = in-loop .before .before .before .before .before in
+    let args = start .args in
+    let s = seenPoints (args .xs .now) (args .ys .now) in
+    scan-hit _ (in-loop .before .loop .inv) (in-loop .loop-test .taken)
+    (close-is (args .size) s (args .p) (in-loop .before .loop .id) (in-loop .before .before .key-of .ensures)
+    (c .before .before .node-at .ensures) (c .before .too-close-at .ensures) ∙ c .if1 .taken)
 
 add-id : tie.Need-add-id Inv-loop μ-loop
 add-id c = omega arith
@@ -40,8 +46,14 @@ loop-less : tie.Need-loop-less Inv-loop μ-loop
 loop-less c = omega arith
 
 loop-again : tie.Need-loop-again Inv-loop μ-loop
-loop-again c =     scan-next _ (c .before .before .before .before .loop .inv) (c .before .before .before .loop-test .taken)
-    (close-is (c .before .before .before .before .before .before .before .before .args .size) (seenPoints (c .before .before .before .before .before .before .before .before .args .xs .now) (c .before .before .before .before .before .before .before .before .args .ys .now)) (c .before .before .before .before .before .before .before .before .args .p) (c .before .before .before .before .loop .id) (c .before .before .before .before .before .key-of .ensures) (c .before .before .node-at .ensures) (c .before .too-close-at .ensures) ∙ c .if1 .left)
+loop-again c =
+    let in-loop = c .before .before .before in
+    let start = in-loop .before .before .before .before .before in
+    let args = start .args in
+    let s = seenPoints (args .xs .now) (args .ys .now) in
+    scan-next _ (in-loop .before .loop .inv) (in-loop .loop-test .taken)
+    (close-is (args .size) s (args .p) (in-loop .before .loop .id) (in-loop .before .before .key-of .ensures)
+    (c .before .before .node-at .ensures) (c .before .too-close-at .ensures) ∙ c .if1 .left)
 
 returns-2 : tie.Need-returns-2 Inv-loop μ-loop
 unfolding tooClose

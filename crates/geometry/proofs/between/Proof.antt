@@ -1,3 +1,4 @@
+-- `geometry::between` meets its contract, by that of `at_most`.
 use mathlib.Core.Path.{sym, _∙_}
 use borrow.Author.Needs.{needs}
 use Rattle.geometry.specs.KeyLaws.{back}

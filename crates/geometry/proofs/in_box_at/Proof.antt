@@ -8,7 +8,9 @@ use Rattle.geometry.proofs.in_box_at.Statement.{statement}
 use Rattle.geometry.proofs.in_box_at.Tie as tie
 
 -- what the two calls answer
-between-i : (c : tie.After-between) → let s = c .before .before .before .before .args in c .between .result ≡ between (floorQuotient (s .q .x) (s .size)) (s .l .i) (s .m .i)
+between-i : (c : tie.After-between)
+    → let s = c .before .before .before .before .args in
+    c .between .result ≡ between (floorQuotient (s .q .x) (s .size)) (s .l .i) (s .m .i)
 between-i c =
     let told = c .before .before in
     let x = told .before .floor-quotient in
@@ -21,7 +23,9 @@ between-i c =
     )
     at (c .between .ensures)
 
-between-j : (c : tie.After-between2) → let s = c .before .before .before .before .before .before .before .before .before .args in c .between2 .result ≡ between (floorQuotient (s .q .y) (s .size)) (s .l .j) (s .m .j)
+between-j : (c : tie.After-between2)
+    → let s = c .before .before .before .before .before .before .before .before .before .args in
+    c .between2 .result ≡ between (floorQuotient (s .q .y) (s .size)) (s .l .j) (s .m .j)
 between-j c =
     let told = c .before .before in
     let y = told .before .floor-quotient2 in

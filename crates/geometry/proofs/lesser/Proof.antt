@@ -1,8 +1,6 @@
 -- `geometry::lesser` meets its contract, by that of `at_most`.
 use mathlib.Core.Path.{sym, _∙_}
 use borrow.Author.Needs.{needs}
-use mir.ValLaws.{toZ-ofZ}
-use mir.Syntax.{w64}
 use Rattle.geometry.specs.KeyLaws.{back}
 use Rattle.geometry.proofs.lesser.Statement.{statement}
 use Rattle.geometry.proofs.lesser.Tie as tie

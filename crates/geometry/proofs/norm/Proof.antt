@@ -1,6 +1,6 @@
 -- `geometry::norm` meets its contract. Assumes nothing.
-use borrow.Author.Needs.{needs}
 use Rattle.exact.specs.Corner.{norm}
+use borrow.Author.Needs.{needs}
 use Rattle.geometry.proofs.norm.Statement.{statement}
 use Rattle.geometry.proofs.norm.Tie as tie
 

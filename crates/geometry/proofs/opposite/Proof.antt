@@ -1,3 +1,4 @@
+-- `geometry::opposite` meets its contract: the tests are the definition's, in its order.
 use mathlib.Core.Logic.{⊎-elim}
 use Rattle.geometry.specs.Plane.{opposite}
 use Rattle.geometry.proofs.opposite.Statement.{statement}

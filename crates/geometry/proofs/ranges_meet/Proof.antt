@@ -7,7 +7,9 @@ use Rattle.geometry.proofs.ranges_meet.Statement.{statement}
 use Rattle.geometry.proofs.ranges_meet.Tie as tie
 
 -- what the two calls answer
-meets : (c : tie.After-at-most) → let s = c .before .before .before .args in c .at-most .result ≡ atMost (lesser (s .k) (s .l)) (greater (s .m) (s .n))
+meets : (c : tie.After-at-most)
+    → let s = c .before .before .before .args in
+    c .at-most .result ≡ atMost (lesser (s .k) (s .l)) (greater (s .m) (s .n))
 meets c =
     let low = c .before .before .lesser in
     let high = c .before .greater in
@@ -16,8 +18,10 @@ meets c =
     let high-is = rw (back (s .fits .m), back (s .fits .n)) at (high .ensures) in
     rw (back-of (low .result) (low .ok), back-of (high .result) (high .ok), low-is, high-is) at (c .at-most .ensures)
 
-meets2 : (c : tie.After-at-most2) → let s = c .before .before .before .before .before .before .before .args in c .at-most2 .result ≡ atMost (lesser (s .m) (s .n)) (greater (s .k) (s .l))
-meets2 c =
+meets-back : (c : tie.After-at-most2)
+    → let s = c .before .before .before .before .before .before .before .args in
+    c .at-most2 .result ≡ atMost (lesser (s .m) (s .n)) (greater (s .k) (s .l))
+meets-back c =
     let low = c .before .before .lesser2 in
     let high = c .before .greater2 in
     let s = c .before .before .before .before .before .before .before in
@@ -45,7 +49,7 @@ at-most-requires-2 c κs = search needs
 
 returns : tie.Need-returns
 unfolding rangesMeet
-returns c = let test = c .before .before .before in rw (sym (meets (test .before)) ∙ test .if1 .taken) (meets2 c)
+returns c = let test = c .before .before .before in rw (sym (meets (test .before)) ∙ test .if1 .taken) (meets-back c)
 
 returns-2 : tie.Need-returns-2
 unfolding rangesMeet

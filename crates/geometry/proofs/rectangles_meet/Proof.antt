@@ -7,7 +7,9 @@ use Rattle.geometry.proofs.rectangles_meet.Statement.{statement}
 use Rattle.geometry.proofs.rectangles_meet.Tie as tie
 
 -- what the two calls answer
-meet-i : (c : tie.After-ranges-meet) → let s = c .before .before .before .before .before .args in c .ranges-meet .result ≡ rangesMeet (s .k .i) (s .l .i) (s .m .i) (s .n .i)
+meet-i : (c : tie.After-ranges-meet)
+    → let s = c .before .before .before .before .before .args in
+    c .ranges-meet .result ≡ rangesMeet (s .k .i) (s .l .i) (s .m .i) (s .n .i)
 meet-i c =
     let n = c .before in
     let m = n .before in
@@ -22,7 +24,9 @@ meet-i c =
     )
     at (c .ranges-meet .ensures)
 
-meet-j : (c : tie.After-ranges-meet2) → let s = c .before .before .before .before .before .before .before .before .before .before .before .args in c .ranges-meet2 .result ≡ rangesMeet (s .k .j) (s .l .j) (s .m .j) (s .n .j)
+meet-j : (c : tie.After-ranges-meet2)
+    → let s = c .before .before .before .before .before .before .before .before .before .before .before .args in
+    c .ranges-meet2 .result ≡ rangesMeet (s .k .j) (s .l .j) (s .m .j) (s .n .j)
 meet-j c =
     let n = c .before in
     let m = n .before in

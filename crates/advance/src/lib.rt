@@ -14,7 +14,6 @@ ghost use Rattle.paving.specs.Advance.{copied, passing, passTurn, afterPass, pa
 ghost use Rattle.advance.specs.Answers.{edgeAttempt, Settles, settledCounts, quadSettled, passed, passedCounts, passAnswer};
 ghost use Rattle.advance.specs.Paveable.{Paveable};
 use crossfield::Grid;
-use domain::Settings;
 use front::Counts;
 use front::Placed;
 use paving::Attempt;
@@ -37,6 +36,13 @@ pub enum Swept {
 pub struct Advanced {
     pub end: End,
     pub counts: Counts,
+}
+
+impl Advanced {
+    // So many quads are the end.
+    pub const MOST_QUADS: usize = 250000;
+
+    pub const MOST_PASSES: usize = 600;
 }
 
 // Marks a node off the front.
@@ -92,7 +98,7 @@ fn edge_attempt<'a>(
 fn after_quad(m: Counts) -> Settled
     ensures { λ r. ⌜ r ≡ quadSettled m ⌝ }
 {
-    if m.quads >= Settings::MOST_QUADS {
+    if m.quads >= Advanced::MOST_QUADS {
         Settled::Over(End::Cap, m)
     } else {
         Settled::Put(m)
@@ -225,7 +231,7 @@ fn pass<'a>(
 fn most_passes(passes: usize) -> usize
     ensures { λ r. ⌜ r ≡ min passes 600 ⌝ }
 {
-    if passes < Settings::MOST_PASSES { passes } else { Settings::MOST_PASSES }
+    if passes < Advanced::MOST_PASSES { passes } else { Advanced::MOST_PASSES }
 }
 
 // Pass after pass, until one places nothing, the cap is reached, the places lent are full, or as many are done as asked for, at most 600.

@@ -64,6 +64,8 @@ impl Settings {
     pub const MOST_POINTS: usize = 65535;
 
     pub const FARTHEST: f64 = 1000.0;
+    // Of the size: no part of a segment is longer than this.
+    pub const STRETCH: f64 = 1.05;
     // Of the size: two new nodes are farther apart than this, and no node is nearer to a new one.
     pub const CLEARANCE: f64 = 0.45;
     // Of the size: a front node within this of a corner is reused for it.
@@ -74,10 +76,6 @@ impl Settings {
     pub const MOST_SPANS: u64 = 4096;
     // How many keys each way `too_close` looks.
     pub const REACH: u64 = 2;
-
-    pub const MOST_PASSES: usize = 600;
-
-    pub const MOST_QUADS: usize = 250000;
 }
 
 // ---- the refusals

@@ -37,7 +37,7 @@ most-passes-requires : tie.Need-most-passes-requires Inv-loop μ-loop
 most-passes-requires c κs = search needs
 
 loop-holds : tie.Need-loop-holds Inv-loop μ-loop
-loop-holds c = run-start _ _ _ _
+loop-holds c = run-start _ allUsed _ _
 
 add-i : tie.Need-add-i Inv-loop μ-loop
 add-i c = omega arith
@@ -61,7 +61,7 @@ loop-again c =
     let at-pass = at-xs .before in
     let at-loop-test = at-pass .before .before .before .before .before .before .before .before in
     let at-loop = at-loop-test .before in
-    run-go _ _ _ _ (at-loop .loop .inv) (at-loop-test .loop-test .taken)
+    run-go _ allUsed _ _ (at-loop .loop .inv) (at-loop-test .loop-test .taken)
     (pass-on (at-pass .pass .result) (at-pass .pass .ensures) (at-p .p .given .1))
 
 enum-known-p-2 : tie.Need-enum-known-p-2 Inv-loop μ-loop
@@ -133,7 +133,7 @@ returns c =
     let at-most-passes = at-loop .before in
     let start = at-most-passes .before .before .before .before .before .before .before .before .before .before .before .before in
     advance-whole (around start) (start .args .size) (field start) (start .args .passes) (lent start) (at-most-passes .most-passes .ensures)
-    (run-out _ _ _ _ (at-loop .loop .inv) (at-loop-test .loop-test .taken)
+    (run-out _ allUsed _ _ (at-loop .loop .inv) (at-loop-test .loop-test .taken)
     (pass-over (at-pass .pass .result) (at-pass .pass .ensures) (at-p2 .p2 .given .1)))
 
 same-length-8 : tie.Need-same-length-8 Inv-loop μ-loop
@@ -184,7 +184,7 @@ returns-2 c =
     let at-most-passes = at-loop .before in
     let start = at-most-passes .before .before .before .before .before .before .before .before .before .before .before .before in
     advance-whole (around start) (start .args .size) (field start) (start .args .passes) (lent start) (at-most-passes .most-passes .ensures)
-    (run-end _ _ _ (at-loop .loop .inv) (c .loop-test .left))
+    (run-end _ allUsed _ (at-loop .loop .inv) (c .loop-test .left))
 
 pub advance-spec : {M : Type 1} → statement M
 advance-spec =

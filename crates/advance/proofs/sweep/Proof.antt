@@ -35,7 +35,7 @@ lent s =
     stateOf (s .args .xs .now) (s .args .ys .now) (s .args .next .now) (s .args .prev .now) (s .args .snapshot .now) (s .args .quads .now) (s .args .edges .now) (s .args .k)
 
 loop-holds : tie.Need-loop-holds Inv-loop μ-loop
-loop-holds c = run-start _ _ _ _
+loop-holds c = run-start _ afterPass _ _
 
 add-a : tie.Need-add-a Inv-loop μ-loop
 add-a c = omega arith
@@ -59,7 +59,7 @@ loop-again c =
     let at-settle = c .before .before .before .before .before .before .before .before .before .before .before .before .before .before in
     let at-loop-test = at-settle .before .before .before .before .before .before .before in
     let at-loop = at-loop-test .before in
-    run-go _ _ _ _ (at-loop .loop .inv) (at-loop-test .loop-test .taken)
+    run-go _ afterPass _ _ (at-loop .loop .inv) (at-loop-test .loop-test .taken)
     (went-same (at-loop .loop .j) (at-loop .loop .some) (at-settle .settle .result) (at-settle .settle .ensures (at-loop .loop .some)) (c .enum-told .given .1))
 
 enum-known-t : tie.Need-enum-known-t Inv-loop μ-loop
@@ -74,7 +74,7 @@ loop-again-2 c =
     let at-settle = at-t .before .before .before .before .before .before .before .before .before .before .before .before .before .before in
     let at-loop-test = at-settle .before .before .before .before .before .before .before in
     let at-loop = at-loop-test .before in
-    run-go _ _ _ _ (at-loop .loop .inv) (at-loop-test .loop-test .taken)
+    run-go _ afterPass _ _ (at-loop .loop .inv) (at-loop-test .loop-test .taken)
     (went-put (at-loop .loop .j) (at-loop .loop .some) (at-settle .settle .result) (at-settle .settle .ensures (at-loop .loop .some)) (at-t .t .given .1))
 
 enum-known-t-2 : tie.Need-enum-known-t-2 Inv-loop μ-loop
@@ -128,7 +128,7 @@ returns c =
     let at-settle = at-t2 .before .before .before .before .before .before .before .before .before .before .before .before .before .before in
     let at-loop-test = at-settle .before .before .before .before .before .before .before in
     let at-loop = at-loop-test .before in
-    run-out _ _ _ _ (at-loop .loop .inv) (at-loop-test .loop-test .taken)
+    run-out _ afterPass _ _ (at-loop .loop .inv) (at-loop-test .loop-test .taken)
     (went-over (at-loop .loop .j) (at-loop .loop .some) (at-settle .settle .result) (at-settle .settle .ensures (at-loop .loop .some)) (at-t2 .t2 .given .1))
 
 after-pass-requires : tie.Need-after-pass-requires Inv-loop μ-loop

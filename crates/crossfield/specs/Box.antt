@@ -1,4 +1,5 @@
--- The bounding box of an outline that is not refused: its coordinates are within 1,000, and its sides within 4,000, a crude bound. Assumes nothing.
+-- The bounding box of an outline that is not refused: its coordinates are within 1,000, and its sides within 4,000, a crude bound. Assumes
+-- nothing.
 use mathlib.Core.Path.{_≡_, refl, sym, _∙_, subst}
 use mathlib.Core.Bool.{Bool, true, false, _||_, cond, true≢false}
 use mathlib.Core.List.{List}
@@ -114,7 +115,8 @@ unfolding boundsRefusal
 box o held a e =
     let b = bounds o in
     let boxed = bounds-boxed o held a in
-    let two = neither (le (b .xmax) (b .xmin)) (le (b .ymax) (b .ymin)) (cond-zero (le (b .xmax) (b .xmin) || le (b .ymax) (b .ymin)) 6 0 e .0) in
+    let two = neither (le (b .xmax) (b .xmin)) (le (b .ymax) (b .ymin))
+    (cond-zero (le (b .xmax) (b .xmin) || le (b .ymax) (b .ymin)) 6 0 e .0) in
     let x = ends (b .xmin) (b .xmax) (boxed .xmin) (boxed .xmax) (two .0) in
     let y = ends (b .ymin) (b .ymax) (boxed .ymin) (boxed .ymax) (two .1) in
     record { xmin = x .0; ymin = y .0; width = side (b .xmin) (b .xmax) (x .0) (x .1); height = side (b .ymin) (b .ymax) (y .0) (y .1) }

@@ -25,7 +25,8 @@ placesRefusal g places = cond (ltb places (gridNodes g)) 9 0
 -- 1 to 9, in rising number, for so many places
 abbrev pub refusalFor : Outline → Float → ℕ → ℕ → ℕ
 refusalFor o size n places =
-    firstOf (outlineRefusal o) (firstOf (sizeRefusal size) (firstOf (boundsRefusal (bounds o)) (firstOf (sweepsRefusal n) (placesRefusal (gridOf (bounds o) size) places))))
+    firstOf (outlineRefusal o) (firstOf (sizeRefusal size)
+    (firstOf (boundsRefusal (bounds o)) (firstOf (sweepsRefusal n) (placesRefusal (gridOf (bounds o) size) places))))
 
 unfoldable pub fieldRefusal : Outline → Float → ℕ → FieldLists → ℕ
 fieldRefusal o size n f = refusalFor o size n (fieldPlaces f)

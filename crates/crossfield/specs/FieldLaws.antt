@@ -1,4 +1,5 @@
--- What refusals 1 to 9 leave of an outline, a size and the places lent: a grid of at most 250,000 nodes, with room for each. Assumes nothing.
+-- What refusals 1 to 9 leave of an outline, a size and the places lent: a grid of at most 250,000 nodes, with room for each. Assumes
+-- nothing.
 use mathlib.Core.Bool.{false}
 use mathlib.Core.Path.{_≡_, sym, ap, _∙_, subst}
 use Prim.Native.Nat.{ℕ, _*_, _/_, _≤_, min}
@@ -29,7 +30,8 @@ pub unrefused : (o : Outline) (size : Float) (n places : ℕ) → refusalFor o s
 unfolding placesRefusal
 unrefused o size n places e =
     let places-none = placesRefusal (gridOf (bounds o) size) places in
-    let one = first-zero (outlineRefusal o) (firstOf (sizeRefusal size) (firstOf (boundsRefusal (bounds o)) (firstOf (sweepsRefusal n) places-none))) e in
+    let one = first-zero (outlineRefusal o)
+    (firstOf (sizeRefusal size) (firstOf (boundsRefusal (bounds o)) (firstOf (sweepsRefusal n) places-none))) e in
     let five = first-zero (sizeRefusal size) (firstOf (boundsRefusal (bounds o)) (firstOf (sweepsRefusal n) places-none)) (one .1) in
     let seven = first-zero (boundsRefusal (bounds o)) (firstOf (sweepsRefusal n) places-none) (five .1) in
     let eight = first-zero (sweepsRefusal n) places-none (seven .1) in
@@ -49,7 +51,11 @@ few o size b doubles held outline e same none =
 
 -- room for each node in both lists
 pub room-for : (g : Grid) (floats bytes : ℕ) → gridNodes g ≤ min (floats / 2) bytes → Room (g .nx) (g .ny) floats bytes
-room-for g floats bytes h = record { values = let e = mul-comm (g .nx) (g .ny) in omega arith; marks = let e = mul-comm (g .nx) (g .ny) in omega arith }
+room-for g floats bytes h = record {
+  values = let e = mul-comm (g .nx) (g .ny) in omega arith;
+  marks =
+      let e = mul-comm (g .nx) (g .ny) in omega arith;
+}
 
 -- and each side is short
 pub sides : (b : Bounds) (size : Float) → (2 ≤ gridOf b size .nx) × (2 ≤ gridOf b size .ny)
@@ -59,7 +65,8 @@ sides b size = (count-pos (b .xmax ⊖ b .xmin) h, count-pos (b .ymax ⊖ b .ymi
     h : Float
     h = spacing (b .xmax ⊖ b .xmin) (b .ymax ⊖ b .ymin) (halfF ⊗ size)
 
-pub short-sides : (b : Bounds) (size : Float) (g : Grid) → g ≡ gridOf b size → gridNodes (gridOf b size) ≤ mostFieldNodes → (g .nx ≤ mostFieldNodes) × (g .ny ≤ mostFieldNodes)
+pub short-sides : (b : Bounds) (size : Float) (g : Grid) → g ≡ gridOf b size → gridNodes (gridOf b size) ≤ mostFieldNodes
+    → (g .nx ≤ mostFieldNodes) × (g .ny ≤ mostFieldNodes)
 short-sides b size g e h =
     subst (λ (g : Grid). (g .nx ≤ mostFieldNodes) × (g .ny ≤ mostFieldNodes)) (sym e)
     (let two = sides b size in

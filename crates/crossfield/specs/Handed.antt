@@ -1,4 +1,5 @@
--- What `field` answers is never refused by 11, when exactly its nodes are lent: a host can hand a field straight to the direction query. Assumes nothing.
+-- What `field` answers is never refused by 11, when exactly its nodes are lent: a host can hand a field straight to the direction query.
+-- Assumes nothing.
 use mathlib.Core.Path.{_≡_, refl, sym, ap, subst}
 use mathlib.Core.Bool.{Bool, true, false, not}
 use mathlib.Core.List.{List}
@@ -22,7 +23,9 @@ use Rattle.crossfield.specs.Grid.{bounds, gridOf, gridNodes, mostFieldNo
 use Rattle.crossfield.specs.Seeds.{FieldLists, seeded}
 use Rattle.crossfield.specs.Sweeps.{sweeps}
 use Rattle.crossfield.specs.Field.{FieldRecord, fieldPlaces, fieldRefusal, fieldOf}
-use Rattle.crossfield.specs.Direction.{leastSpacing, mostSpacing, mostOrigin, within, countsSound, gridSound, valueUnsound, recordRefusal}
+use Rattle.crossfield.specs.Direction.{leastSpacing, mostSpacing, mostOrigin, within, countsSound, gridSound, valueUnsound}
+use Rattle.crossfield.specs.Direction.{recordRefusal}
+use Rattle.crossfield.specs.RecordLaws.{true-of}
 use Rattle.crossfield.specs.Box.{Box, box}
 use Rattle.crossfield.specs.Spacing.{Grown, spacing-held, start-size}
 use Rattle.crossfield.specs.FieldLaws.{unrefused, few-made, sides}
@@ -30,10 +33,6 @@ use Rattle.crossfield.specs.Unit.{Most}
 use Rattle.crossfield.specs.Sound.{seeds-sound, SoundList, sweeps-sound}
 
 -- ---- tests that hold
-
-true-of : (b : Bool) → T b → b ≡ true
-true-of true t = refl
-true-of false t = absurd t
 
 within-true : (m x : Float) (K : ℕ) (s : Bool) (a : ℕ) → Val m false (K * W) → Val x s a → a ≤ K * W → within m x ≡ true
 unfolding within
@@ -83,19 +82,24 @@ most-origin-val = (refl, refl)
 origin-within : (x h : Float) → Within 1000 x → Grown 0 h → within mostOrigin (x ⊖ h) ≡ true
 origin-within x h p g =
     let r = sub-law {K = 1000} {L = 200} p (record { sign = false; size = g .size; val = g .val; small = g .high }) tt tt in
-    within-true mostOrigin (x ⊖ h) 2000 (r .sign) (r .size) most-origin-val (r .val) (bound (r .size) (r .exact) (p .size) (g .size) W (rel (r .size) (r .exact) (r .near) .0) (r .small) (p .small) (g .high))
+    within-true mostOrigin (x ⊖ h) 2000 (r .sign) (r .size) most-origin-val (r .val)
+    (bound (r .size) (r .exact) (p .size) (g .size) W (rel (r .size) (r .exact) (r .near) .0) (r .small) (p .small) (g .high))
   where
     bound : (n m a b w : ℕ) → 10000 * n ≤ 10001 * m → m ≤ a + b → a ≤ 1000 * w → b ≤ 200 * w → n ≤ 2000 * w
     bound n m a b w h l p q = omega arith
 
 least-true : (h : Float) → Grown 0 h → le leastSpacing h ≡ true
-least-true h g = true-of (le leastSpacing h) (le-val leastSpacing h false false least-spacing-units (g .size) least-spacing-val (g .val) .1 (record { le = le→leb least-spacing-units (g .size) (bound least-spacing-units (g .size) W least-spacing-small (g .floor)) }))
+least-true h g = true-of (le leastSpacing h)
+    (le-val leastSpacing h false false least-spacing-units (g .size) least-spacing-val (g .val) .1
+    (record { le = le→leb least-spacing-units (g .size) (bound least-spacing-units (g .size) W least-spacing-small (g .floor)) }))
   where
     bound : (u b w : ℕ) → 1000 * u ≤ 2 * w → 4000 * w ≤ b * 1000000 → u ≤ b
     bound u b w h l = omega arith
 
 most-true : (h : Float) → Grown 0 h → le h mostSpacing ≡ true
-most-true h g = true-of (le h mostSpacing) (le-val h mostSpacing false false (g .size) (1000 * W) (g .val) most-spacing-val .1 (record { le = le→leb (g .size) (1000 * W) (bound (g .size) W (g .high)) }))
+most-true h g = true-of (le h mostSpacing)
+    (le-val h mostSpacing false false (g .size) (1000 * W) (g .val) most-spacing-val .1
+    (record { le = le→leb (g .size) (1000 * W) (bound (g .size) W (g .high)) }))
   where
     bound : (b w : ℕ) → b ≤ 200 * w → b ≤ 1000 * w
     bound b w h = omega arith
@@ -109,17 +113,21 @@ grid-sound b size x held e =
 
 -- ---- the record
 
-counts-true : (r : FieldRecord) → 2 ≤ r .grid .nx → 2 ≤ r .grid .ny → gridNodes (r .grid) ≤ mostFieldNodes → gridNodes (r .grid) ≡ length (r .lists .marks)
+counts-true : (r : FieldRecord) → 2 ≤ r .grid .nx → 2 ≤ r .grid .ny → gridNodes (r .grid) ≤ mostFieldNodes
+    → gridNodes (r .grid) ≡ length (r .lists .marks)
     → 2 * gridNodes (r .grid) ≡ length (r .lists .values) → countsSound r ≡ true
 unfolding countsSound
 counts-true r columns rows few marks values = rw (le-leb _ _ columns, le-leb _ _ rows, le-leb _ _ few, eq-eqb _ _ marks) (eq-eqb _ _ values)
 
-record-true : (r : FieldRecord) → countsSound r ≡ true → gridSound (r .grid) ≡ true → anyFloat valueUnsound (r .lists .values) ≡ false → recordRefusal r ≡ 0
+record-true : (r : FieldRecord) → countsSound r ≡ true → gridSound (r .grid) ≡ true → anyFloat valueUnsound (r .lists .values) ≡ false
+    → recordRefusal r ≡ 0
 unfolding recordRefusal
 record-true r counts grid values = rw (counts, grid, values)
 
-pub field-handed : (o : Outline) (size : Float) (n : ℕ) (f : FieldLists) → OutlineFits o → T (fits binary64 size) → fieldRefusal o size n f ≡ 0
-    → length (f .values) ≡ 2 * gridNodes (gridOf (bounds o) size) → length (f .marks) ≡ gridNodes (gridOf (bounds o) size) → recordRefusal (fieldOf o size n f) ≡ 0
+pub field-handed : (o : Outline) (size : Float) (n : ℕ) (f : FieldLists) → OutlineFits o → T (fits binary64 size)
+    → fieldRefusal o size n f ≡ 0
+    → length (f .values) ≡ 2 * gridNodes (gridOf (bounds o) size) → length (f .marks) ≡ gridNodes (gridOf (bounds o) size)
+    → recordRefusal (fieldOf o size n f) ≡ 0
 unfolding fieldRefusal fieldOf
 field-handed o size n f held double none values marks =
     let b = bounds o in
@@ -130,9 +138,12 @@ field-handed o size n f held double none values marks =
     let turned = mul-comm (g .nx) (g .ny) in
     let room : 2 * (g .ny * g .nx) ≤ 2 * gridNodes g = le-of-eq (ap (λ (z : ℕ). 2 * z) (sym turned)) in
     let s = seeds-sound o held a g (2 * gridNodes g) (gridNodes g) room f values marks in
-    let start : SoundList (2 * gridNodes g) (seeded o g f .values) = record { size = s .values-length; sound = λ k h. s .sound k (subst (λ (z : ℕ). k < 2 * z) turned h) } in
+    let start : SoundList (2 * gridNodes g) (seeded o g f .values) =
+    record { size = s .values-length; sound = λ k h. s .sound k (subst (λ (z : ℕ). k < 2 * z) turned h) } in
     let end = sweeps-sound g (seeded o g f .marks) (2 * gridNodes g) (two .0) room n (seeded o g f .values) start in
     record-true (fieldOf o size n f)
-    (counts-true (fieldOf o size n f) (two .0) (two .1) (few-made o size n (fieldPlaces f) held double none refl) (sym (s .marks-length)) (sym (end .size)))
+    (counts-true (fieldOf o size n f) (two .0) (two .1) (few-made o size n (fieldPlaces f) held double none refl) (sym (s .marks-length))
+    (sym (end .size)))
     (grid-sound b size (box o held a (u .box)) double (u .size))
-    (none-unsound (sweeps n g (seeded o g f .marks) (seeded o g f .values)) (subst (λ (z : ℕ). SoundList z (sweeps n g (seeded o g f .marks) (seeded o g f .values))) (sym (end .size)) end))
+    (none-unsound (sweeps n g (seeded o g f .marks) (seeded o g f .values))
+    (subst (λ (z : ℕ). SoundList z (sweeps n g (seeded o g f .marks) (seeded o g f .values))) (sym (end .size)) end))

@@ -9,6 +9,7 @@ pub mod Box
 pub mod Spacing
 pub mod FieldLaws
 pub mod Past
+pub mod Worst
 pub mod Unit
 pub mod Sound
 pub mod Handed

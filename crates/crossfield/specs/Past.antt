@@ -19,6 +19,40 @@ use Rattle.crossfield.specs.Sweeps.{Swept, swept, relaxed, sweepNode, sw
 use Rattle.crossfield.specs.Field.{fieldOf}
 use Rattle.crossfield.specs.Places.{row-in}
 
+-- ---- what a node's visit keeps of the values, every number of sweeps keeps
+
+module _ (P : List Float → Type 0) (g : Grid) (marks : List ℕ)
+    (visit : (j i : ℕ) (s : Swept) → i < g .nx → j < g .ny → P (s .values) → P (sweepNode g marks j i s .values)) where
+  sweep-keeps : (values : List Float) → P values → P (sweep g marks values .values)
+  unfolding sweep sweepRow
+  sweep-keeps values p =
+      forUp-keeps (λ (j : ℕ) (s : Swept). P (s .values)) (g .ny) (sweepRow g marks) (swept values true) p
+      (λ j s l p. forUp-keeps (λ (i : ℕ) (s : Swept). P (s .values)) (g .nx) (sweepNode g marks j) s p (λ i s h p. visit j i s h l p))
+
+  abbrev Held : Turn (List Float) (List Float) → Type 0
+  Held (go values) = P values
+  Held (out values) = P values
+
+  pub sweeps-keep : (n : ℕ) (values : List Float) → P values → P (sweeps n g marks values)
+  unfolding sweeps run
+  sweeps-keep n values p =
+      last (forUp n (onwards (sweepTurn g marks)) (go values))
+      (forUp-keeps (λ (k : ℕ) (t : Turn (List Float) (List Float)). Held t) n (onwards (sweepTurn g marks)) (go values) p keeps)
+    where
+      after : (s : Swept) (quiet : Bool) → P (s .values) → Held (cond quiet (out (s .values)) (go (s .values)))
+      after s true p = p
+      after s false p = p
+
+      keeps : (k : ℕ) (t : Turn (List Float) (List Float)) → k < n → Held t → Held (onwards (sweepTurn g marks) k t)
+      keeps k (go v) h p = after (sweep g marks v) (sweep g marks v .quiet) (sweep-keeps v p)
+      keeps k (out v) h p = p
+
+      last : (t : Turn (List Float) (List Float)) → Held t → P (answer (λ (v : List Float). v) t)
+      last (go v) p = p
+      last (out v) p = p
+
+-- ---- the places past the nodes
+
 -- the places past the grid's nodes are those of the lists lent
 abbrev pub ValuesPast : Grid → List Float → List Float → Type 0
 ValuesPast g before now = drop (2 * gridNodes g) now ≡ drop (2 * gridNodes g) before
@@ -32,7 +66,8 @@ module _ (g : Grid) where
   node-below : (i j : ℕ) → i < g .nx → j < g .ny → nodeAt g i j < gridNodes g
   node-below i j h l = let r = row-in j (g .ny) (g .nx) l in let e = mul-comm (g .nx) (g .ny) in omega arith
 
-  value-past : (before now : List Float) (id : ℕ) (v : Point) → id < gridNodes g → ValuesPast g before now → ValuesPast g before (setValue now id v)
+  value-past : (before now : List Float) (id : ℕ) (v : Point) → id < gridNodes g → ValuesPast g before now
+      → ValuesPast g before (setValue now id v)
   unfolding setValue
   value-past before now id v h p =
       drop-set-lt (2 * gridNodes g) (set now (2 * id) (v .x)) (2 * id + 1) (v .y) (omega arith)
@@ -61,38 +96,13 @@ module _ (g : Grid) where
       pick true = value-past before (s .values) (nodeAt g i j) _ (node-below i j h l) p
       pick false = p
 
-  sweep-past : (marks : List ℕ) (before now : List Float) → ValuesPast g before now → ValuesPast g before (sweep g marks now .values)
-  unfolding sweep sweepRow
-  sweep-past marks before now p =
-      forUp-keeps (λ (j : ℕ) (s : Swept). ValuesPast g before (s .values)) (g .ny) (sweepRow g marks) (swept now true) p
-      (λ j s l p. forUp-keeps (λ (i : ℕ) (s : Swept). ValuesPast g before (s .values)) (g .nx) (sweepNode g marks j) s p
-      (λ i s h p. visit-past marks before j i s h l p))
-
-  abbrev TurnPast : List Float → Turn (List Float) (List Float) → Type 0
-  TurnPast before (go now) = ValuesPast g before now
-  TurnPast before (out now) = ValuesPast g before now
-
-  sweeps-past : (n : ℕ) (marks : List ℕ) (before now : List Float) → ValuesPast g before now → ValuesPast g before (sweeps n g marks now)
-  unfolding sweeps run
-  sweeps-past n marks before now p =
-      last (forUp n (onwards (sweepTurn g marks)) (go now))
-      (forUp-keeps (λ (k : ℕ) (t : Turn (List Float) (List Float)). TurnPast before t) n (onwards (sweepTurn g marks)) (go now) p keeps)
-    where
-      after : (s : Swept) (quiet : Bool) → ValuesPast g before (s .values) → TurnPast before (cond quiet (out (s .values)) (go (s .values)))
-      after s true p = p
-      after s false p = p
-
-      keeps : (k : ℕ) (t : Turn (List Float) (List Float)) → k < n → TurnPast before t → TurnPast before (onwards (sweepTurn g marks) k t)
-      keeps k (go v) h p = after (sweep g marks v) (sweep g marks v .quiet) (sweep-past marks before v p)
-      keeps k (out v) h p = p
-
-      last : (t : Turn (List Float) (List Float)) → TurnPast before t → ValuesPast g before (answer (λ (v : List Float). v) t)
-      last (go v) p = p
-      last (out v) p = p
-
 pub field-past : (o : Outline) (size : Float) (n : ℕ) (f : FieldLists) → Past (gridOf (bounds o) size) f (fieldOf o size n f .lists)
 unfolding fieldOf
 field-past o size n f =
     let g = gridOf (bounds o) size in
     let s = seeded-past g o f in
-    record { values = sweeps-past g n (seeded o g f .marks) (f .values) (seeded o g f .values) (s .values); marks = s .marks }
+    record {
+      values = sweeps-keep (ValuesPast g (f .values)) g (seeded o g f .marks) (visit-past g (seeded o g f .marks) (f .values)) n
+          (seeded o g f .values) (s .values);
+      marks = s .marks;
+    }

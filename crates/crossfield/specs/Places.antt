@@ -136,7 +136,8 @@ pub high-many : (width height h : Float) → mostFieldNodes < ceilCount (height 
 high-many width height h t = more-rows _ _ _ (let l = count-over height h in omega arith) (count-pos width h)
 
 -- so where a grid has few nodes, no side has more cells
-module _ (b : Bounds) (size h : Float) (few : gridNodes (gridOf b size) ≤ mostFieldNodes) (e : h ≡ spacing (b .xmax ⊖ b .xmin) (b .ymax ⊖ b .ymin) (halfF ⊗ size)) where
+module _ (b : Bounds) (size h : Float) (few : gridNodes (gridOf b size) ≤ mostFieldNodes)
+    (e : h ≡ spacing (b .xmax ⊖ b .xmin) (b .ymax ⊖ b .ymin) (halfF ⊗ size)) where
   abbrev width : Float
   width = b .xmax ⊖ b .xmin
 

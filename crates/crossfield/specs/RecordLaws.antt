@@ -5,7 +5,7 @@ use Prim.Native.Nat.{ℕ}
 use native.Mathlib.Nat.{le-of-eq}
 use native.Mathlib.Omega.{arith}
 use borrow.Author.Tests.{leb-true, eqb-true}
-use lib.Dec.{leb, eqb}
+use lib.Dec.{T, leb, eqb}
 use lib.ListN.{length}
 use Rattle.domain.specs.declared.Point.{Point}
 use Rattle.domain.specs.Accepted.{first-zero}
@@ -14,6 +14,10 @@ use Rattle.crossfield.specs.Grid.{mostFieldNodes, gridNodes}
 use Rattle.crossfield.specs.Field.{FieldRecord}
 use Rattle.crossfield.specs.Direction.{countsSound, gridSound, valueUnsound, recordRefusal, directionRefusal}
 use Rattle.crossfield.specs.Places.{Lent}
+
+pub true-of : (b : Bool) → T b → b ≡ true
+true-of true t = refl
+true-of false t = absurd t
 
 -- of two that hold together, each does
 pub both : (a b : Bool) → a && b ≡ true → (a ≡ true) × (b ≡ true)

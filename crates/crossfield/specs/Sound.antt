@@ -3,14 +3,15 @@ use mathlib.Core.Path.{_≡_, refl, sym, _∙_, subst}
 use mathlib.Core.Bool.{Bool, true, false, cond}
 use mathlib.Core.List.{List}
 use Prim.Native.Nat.{ℕ, zero, suc, _+_, _-_, _*_, _^_, _≤_, _<_}
-use native.Mathlib.Nat.{add-zero, zero-mul, one-mul, suc-mul, mul-le-mul-left, le-trans, le-of-eq, mul-assoc, mul-comm, mul-le-mul-right, le-of-mul-le-mul-right, mul-pos, le-mul-of-pos-right}
+use native.Mathlib.Nat.{add-zero, zero-mul, one-mul, suc-mul, mul-le-mul-left, le-trans, le-of-eq, mul-assoc, mul-comm, mul-le-mul-right}
+use native.Mathlib.Nat.{le-of-mul-le-mul-right, mul-pos, le-mul-of-pos-right}
 use native.Mathlib.Omega.{arith}
 use borrow.Author.Tests.{ltb-false, eqb-true, eqb-false, lt-ltb}
 use lib.Dec.{T, ltb, eqb, leb, leb→le, le→leb, lit≤}
 use lib.ListN.{length, getD, set, length-set}
 use lib.Seq.{getD-set-same, getD-set-other}
 use lib.Ieee.{Float, nan, lt, le, ofBits, ofInt}
-use Rattle.laws.specs.Loop.{Turn, go, out, onwards, answer, forUp, forUp-keeps, run}
+use Rattle.laws.specs.Loop.{forUp, forUp-keeps}
 use Rattle.numbers.specs.Float.{_⊕_, _⊖_, _⊘_, zeroF, oneF, tolerance, toFloat}
 use Rattle.exact.specs.Units.{W, W-pos, Val, Within}
 use Rattle.exact.specs.Operations.{div-law}
@@ -23,10 +24,13 @@ use Rattle.domain.specs.Accepted.{OutlineFits, PointWithin, Accepted, LoopWithi
 use Rattle.geometry.specs.Plane.{norm, tangent}
 use Rattle.crossfield.specs.declared.Grid.{Grid}
 use Rattle.crossfield.specs.Seeds.{FieldLists, nodeAt, gridPoint, seed, setValue, seedNode, seedRow, seeded}
-use Rattle.crossfield.specs.Sweeps.{plusIf, oneIf, neighbourSum, neighbourCount, normalised, average, Swept, swept, relaxed, sweepNode, sweepRow, sweep, sweepTurn, sweeps}
+use Rattle.crossfield.specs.Sweeps.{plusIf, oneIf, neighbourSum, neighbourCount, normalised, average, Swept, relaxed}
+use Rattle.crossfield.specs.Sweeps.{sweepNode, sweeps}
 use Rattle.crossfield.specs.Places.{Node, here-in, right-in, over-in}
 use Rattle.crossfield.specs.Box.{side, outer-near, hole-near}
-use Rattle.crossfield.specs.Unit.{Most, most-more, most-add, UnitPair, unit-lt, unit-not-le, unit-one, unit-first, unit-second, seed-most}
+use Rattle.crossfield.specs.Past.{sweeps-keep}
+use Rattle.crossfield.specs.Unit.{Most, most-more, most-add, UnitPair, unit-lt, unit-not-le, unit-one, unit-first, unit-second}
+use Rattle.crossfield.specs.Unit.{seed-most}
 
 -- ---- the nearest segment's ends are points of the outline, or the origin
 
@@ -75,7 +79,8 @@ tangent-unit a b p q = pick (le (norm (b .x ⊖ a .x) (b .y ⊖ a .y)) tolerance
     dy = b .y ⊖ a .y
 
     pick : (t : Bool) → le (norm dx dy) tolerance ≡ t
-        → UnitPair (cond t (point oneF zeroF) (point (dx ⊘ norm dx dy) (dy ⊘ norm dx dy)) .x) (cond t (point oneF zeroF) (point (dx ⊘ norm dx dy) (dy ⊘ norm dx dy)) .y)
+        → UnitPair (cond t (point oneF zeroF) (point (dx ⊘ norm dx dy) (dy ⊘ norm dx dy)) .x)
+        (cond t (point oneF zeroF) (point (dx ⊘ norm dx dy) (dy ⊘ norm dx dy)) .y)
     pick true e = unit-one
     pick false e = unit-not-le (side (a .x) (b .x) (p .x) (q .x)) (side (a .y) (b .y) (p .y) (q .y)) e
 
@@ -93,18 +98,21 @@ seed-sound n e = let m = seed-most (tangent (n .a) (n .b)) (tangent-unit (n .a) 
 abbrev SoundTo : ℕ → List Float → Type 0
 SoundTo n values = (k : ℕ) → k < n → Most 4000 (getD values k nan)
 
-put : (l : List Float) (i k : ℕ) (v : Float) → i < length l → Most 4000 v → ((k ≡ i → ⊥) → Most 4000 (getD l k nan)) → Most 4000 (getD (set l i v) k nan)
+put : (l : List Float) (i k : ℕ) (v : Float) → i < length l → Most 4000 v → ((k ≡ i → ⊥) → Most 4000 (getD l k nan))
+    → Most 4000 (getD (set l i v) k nan)
 put l i k v h m other = pick (eqb k i) refl
   where
     pick : (t : Bool) → eqb k i ≡ t → Most 4000 (getD (set l i v) k nan)
-    pick true e = subst (λ (z : ℕ). Most 4000 (getD (set l i v) z nan)) (sym (eqb-true k i e)) (subst (Most 4000) (sym (getD-set-same l i v nan h)) m)
+    pick true e = subst (λ (z : ℕ). Most 4000 (getD (set l i v) z nan)) (sym (eqb-true k i e))
+        (subst (Most 4000) (sym (getD-set-same l i v nan h)) m)
     pick false e = subst (Most 4000) (sym (getD-set-other l i k v nan (eqb-false k i e))) (other (eqb-false k i e))
 
 value-put : (values : List Float) (id k : ℕ) (v : Point) → 2 * id + 1 < length values → PointMost 4000 v
     → ((k ≡ 2 * id → ⊥) → (k ≡ 2 * id + 1 → ⊥) → Most 4000 (getD values k nan)) → Most 4000 (getD (setValue values id v) k nan)
 unfolding setValue
 value-put values id k v h m other =
-    put (set values (2 * id) (v .x)) (2 * id + 1) k (v .y) (subst (λ (z : ℕ). 2 * id + 1 < z) (sym (length-set values (2 * id) (v .x))) h) (m .y)
+    put (set values (2 * id) (v .x)) (2 * id + 1) k (v .y) (subst (λ (z : ℕ). 2 * id + 1 < z) (sym (length-set values (2 * id) (v .x))) h)
+    (m .y)
     (λ n. put values (2 * id) k (v .x) (omega arith) (m .x) (λ n'. other n' n))
 
 value-length : (values : List Float) (id : ℕ) (v : Point) → length (setValue values id v) ≡ length values
@@ -118,44 +126,51 @@ pub record Seeded (n floats bytes : ℕ) (f : FieldLists) : Type 0 where
   pub marks-length : length (f .marks) ≡ bytes
   pub sound : (k : ℕ) → k < 2 * n → Most 4000 (getD (f .values) k nan)
 
-module _ (o : Outline) (held : OutlineFits o) (accepted : Accepted o) (g : Grid) (floats bytes : ℕ) (room : 2 * (g .ny * g .nx) ≤ floats) where
-  node-seeded : (j i : ℕ) (f : FieldLists) → i < g .nx → j < g .ny → Seeded (j * g .nx + i) floats bytes f → Seeded (j * g .nx + suc i) floats bytes (seedNode o g j i f)
-  unfolding seedNode
-  node-seeded j i f h l s =
-      let id = nodeAt g i j in
-      let p = gridPoint g i j in
-      let v = seed (tangent (nearestSegment o p .a) (nearestSegment o p .b)) in
-      let m = seed-sound (nearestSegment o p) (nearest-ends o held accepted p) in
-      let node : Node (g .nx) (g .ny) j i id floats = record { at = refl; column = h; row = l; room = room } in
-      record {
-        values-length = value-length (f .values) id v ∙ s .values-length;
-        marks-length = length-set (f .marks) id _ ∙ s .marks-length;
-        sound = λ k t. value-put (f .values) id k v (subst (λ (z : ℕ). 2 * id + 1 < z) (sym (s .values-length)) (here-in node)) m (λ n n'. s .sound k (below k (j * g .nx) i t n n'));
-      }
-    where
-      below : (k b i : ℕ) → k < 2 * (b + suc i) → (k ≡ 2 * (b + i) → ⊥) → (k ≡ 2 * (b + i) + 1 → ⊥) → k < 2 * (b + i)
-      below k b i h n n' = omega arith
+module _ (o : Outline) (held : OutlineFits o) (accepted : Accepted o) (g : Grid) (floats bytes : ℕ) (room : 2 * (g .ny * g .nx) ≤ floats)
+  where
+    node-seeded : (j i : ℕ) (f : FieldLists) → i < g .nx → j < g .ny → Seeded (j * g .nx + i) floats bytes f
+        → Seeded (j * g .nx + suc i) floats bytes (seedNode o g j i f)
+    unfolding seedNode
+    node-seeded j i f h l s =
+        let id = nodeAt g i j in
+        let p = gridPoint g i j in
+        let v = seed (tangent (nearestSegment o p .a) (nearestSegment o p .b)) in
+        let m = seed-sound (nearestSegment o p) (nearest-ends o held accepted p) in
+        let node : Node (g .nx) (g .ny) j i id floats = record { at = refl; column = h; row = l; room = room } in
+        record {
+          values-length = value-length (f .values) id v ∙ s .values-length;
+          marks-length = length-set (f .marks) id _ ∙ s .marks-length;
+          sound = λ k t. value-put (f .values) id k v (subst (λ (z : ℕ). 2 * id + 1 < z) (sym (s .values-length)) (here-in node)) m
+              (λ n n'. s .sound k (below k (j * g .nx) i t n n'));
+        }
+      where
+        below : (k b i : ℕ) → k < 2 * (b + suc i) → (k ≡ 2 * (b + i) → ⊥) → (k ≡ 2 * (b + i) + 1 → ⊥) → k < 2 * (b + i)
+        below k b i h n n' = omega arith
 
-  row-seeded : (j : ℕ) (f : FieldLists) → j < g .ny → Seeded (j * g .nx) floats bytes f → Seeded (suc j * g .nx) floats bytes (seedRow o g j f)
-  unfolding seedRow
-  row-seeded j f l s =
-      subst (λ (n : ℕ). Seeded n floats bytes (forUp (g .nx) (seedNode o g j) f)) (sym (suc-mul j (g .nx)))
-      (forUp-keeps (λ (i : ℕ) (f : FieldLists). Seeded (j * g .nx + i) floats bytes f) (g .nx) (seedNode o g j) f
-      (subst (λ (n : ℕ). Seeded n floats bytes f) (sym (add-zero (j * g .nx))) s) (λ i f h s. node-seeded j i f h l s))
+    row-seeded : (j : ℕ) (f : FieldLists) → j < g .ny → Seeded (j * g .nx) floats bytes f
+        → Seeded (suc j * g .nx) floats bytes (seedRow o g j f)
+    unfolding seedRow
+    row-seeded j f l s =
+        subst (λ (n : ℕ). Seeded n floats bytes (forUp (g .nx) (seedNode o g j) f)) (sym (suc-mul j (g .nx)))
+        (forUp-keeps (λ (i : ℕ) (f : FieldLists). Seeded (j * g .nx + i) floats bytes f) (g .nx) (seedNode o g j) f
+        (subst (λ (n : ℕ). Seeded n floats bytes f) (sym (add-zero (j * g .nx))) s) (λ i f h s. node-seeded j i f h l s))
 
-  pub seeds-sound : (f : FieldLists) → length (f .values) ≡ floats → length (f .marks) ≡ bytes → Seeded (g .ny * g .nx) floats bytes (seeded o g f)
-  unfolding seeded
-  seeds-sound f v m =
-      forUp-keeps (λ (j : ℕ) (f : FieldLists). Seeded (j * g .nx) floats bytes f) (g .ny) (seedRow o g) f
-      (subst (λ (n : ℕ). Seeded n floats bytes f) (sym (zero-mul (g .nx))) (record { values-length = v; marks-length = m; sound = λ k h. absurd (none k h) }))
-      (λ j f l s. row-seeded j f l s)
-    where
-      none : (k : ℕ) → k < 2 * 0 → ⊥
-      none k h = omega arith
+    pub seeds-sound : (f : FieldLists) → length (f .values) ≡ floats → length (f .marks) ≡ bytes
+        → Seeded (g .ny * g .nx) floats bytes (seeded o g f)
+    unfolding seeded
+    seeds-sound f v m =
+        forUp-keeps (λ (j : ℕ) (f : FieldLists). Seeded (j * g .nx) floats bytes f) (g .ny) (seedRow o g) f
+        (subst (λ (n : ℕ). Seeded n floats bytes f) (sym (zero-mul (g .nx)))
+        (record { values-length = v; marks-length = m; sound = λ k h. absurd (none k h) }))
+        (λ j f l s. row-seeded j f l s)
+      where
+        none : (k : ℕ) → k < 2 * 0 → ⊥
+        none k h = omega arith
 
 -- ---- sweeps
 
-plus-most : {c : ℕ} (there : Bool) (v sum : Point) → T (leb c 20000) → (there ≡ true → PointMost 4000 v) → PointMost c sum → PointMost (c + 4010) (plusIf there v sum)
+plus-most : {c : ℕ} (there : Bool) (v sum : Point) → T (leb c 20000) → (there ≡ true → PointMost 4000 v) → PointMost c sum
+    → PointMost (c + 4010) (plusIf there v sum)
 unfolding plusIf
 plus-most {c} true v sum t m s = record { x = add (s .x) (m refl .x); y = add (s .y) (m refl .y) }
   where
@@ -177,13 +192,17 @@ zero-most : Most 0 zeroF
 unfolding ofBits W
 zero-most = record { sign = false; size = 0; val = (refl, refl); most = lit≤ tt }
 
-sum-most : (g : Grid) (values : List Float) (j i floats : ℕ) → Node (g .nx) (g .ny) j i (nodeAt g i j) floats → SoundTo floats values → PointMost 16040 (neighbourSum g values j i)
+sum-most : (g : Grid) (values : List Float) (j i floats : ℕ) → Node (g .nx) (g .ny) j i (nodeAt g i j) floats → SoundTo floats values
+    → PointMost 16040 (neighbourSum g values j i)
 unfolding neighbourSum
 sum-most g values j i floats node s =
     let id = nodeAt g i j in
-    let left = plus-most (ltb 0 i) (pointAt values (id - 1)) (point zeroF zeroF) tt (λ t. point-most floats values (id - 1) s (before id 1 floats (here-in node))) (record { x = zero-most; y = zero-most }) in
-    let right = plus-most (ltb (i + 1) (g .nx)) (pointAt values (id + 1)) _ tt (λ t. point-most floats values (id + 1) s (right-in node t)) left in
-    let under = plus-most (ltb 0 j) (pointAt values (id - g .nx)) _ tt (λ t. point-most floats values (id - g .nx) s (before id (g .nx) floats (here-in node))) right in
+    let left = plus-most (ltb 0 i) (pointAt values (id - 1)) (point zeroF zeroF) tt
+    (λ t. point-most floats values (id - 1) s (before id 1 floats (here-in node))) (record { x = zero-most; y = zero-most }) in
+    let right = plus-most (ltb (i + 1) (g .nx)) (pointAt values (id + 1)) _ tt (λ t. point-most floats values (id + 1) s (right-in node t))
+    left in
+    let under = plus-most (ltb 0 j) (pointAt values (id - g .nx)) _ tt
+    (λ t. point-most floats values (id - g .nx) s (before id (g .nx) floats (here-in node))) right in
     plus-most (ltb (j + 1) (g .ny)) (pointAt values (id + g .nx)) _ tt (λ t. point-most floats values (id + g .nx) s (over-in node t)) under
   where
     before : (id d n : ℕ) → 2 * id + 1 < n → 2 * (id - d) + 1 < n
@@ -211,7 +230,8 @@ count-ge g j i h = pick (ltb 0 i) refl
 
     pick : (t : Bool) → ltb 0 i ≡ t → 1 ≤ oneIf t + oneIf (ltb (i + 1) (g .nx)) + oneIf (ltb 0 j) + oneIf (ltb (j + 1) (g .ny))
     pick true e = omega arith
-    pick false e = subst (λ (b : Bool). 1 ≤ 0 + oneIf b + oneIf (ltb 0 j) + oneIf (ltb (j + 1) (g .ny))) (sym (lt-ltb (i + 1) (g .nx) (first (g .nx) (ltb-false 0 i e) h))) (omega arith)
+    pick false e = subst (λ (b : Bool). 1 ≤ 0 + oneIf b + oneIf (ltb 0 j) + oneIf (ltb (j + 1) (g .ny)))
+        (sym (lt-ltb (i + 1) (g .nx) (first (g .nx) (ltb-false 0 i e) h))) (omega arith)
 
 -- a count from 1 to 4 as a float
 count-val : (n : ℕ) → 1 ≤ n → n ≤ 4 → Val (toFloat n) false (n * W)
@@ -235,7 +255,10 @@ share-within {x} n h l p =
       val = q .val;
       small =
           le-of-mul-le-mul-right
-          (le-trans (share (q .size * b) (p .size * W) b (W * b) (rel-and (q .size * b) (p .size * W) b (q .near) .0) (le-trans (mul-le-mul-right W (seventeen (p .size) W (p .most))) (le-trans (le-of-eq (mul-assoc 17 W W)) (mul-le-mul-left 17 (mul-le-mul-left W one)))) (subst (λ (z : ℕ). b ≤ z) (mul-comm b W) (le-mul-of-pos-right b W-pos)))
+          (le-trans (share (q .size * b) (p .size * W) b (W * b) (rel-and (q .size * b) (p .size * W) b (q .near) .0)
+          (le-trans (mul-le-mul-right W (seventeen (p .size) W (p .most)))
+          (le-trans (le-of-eq (mul-assoc 17 W W)) (mul-le-mul-left 17 (mul-le-mul-left W one))))
+          (subst (λ (z : ℕ). b ≤ z) (mul-comm b W) (le-mul-of-pos-right b W-pos)))
           (le-of-eq (sym (mul-assoc 4000 W b))))
           above;
     }
@@ -261,12 +284,14 @@ normalised-sound v p q = pick (lt tolerance (norm (v .x) (v .y))) refl
     pick true e = most (unit-lt p q e)
     pick false e = most unit-one
 
-average-sound : (g : Grid) (values : List Float) (j i floats : ℕ) → 2 ≤ g .nx → Node (g .nx) (g .ny) j i (nodeAt g i j) floats → SoundTo floats values → PointMost 4000 (average g values j i)
+average-sound : (g : Grid) (values : List Float) (j i floats : ℕ) → 2 ≤ g .nx → Node (g .nx) (g .ny) j i (nodeAt g i j) floats
+    → SoundTo floats values → PointMost 4000 (average g values j i)
 unfolding average
 average-sound g values j i floats wide node s =
     let m = sum-most g values j i floats node s in
     let n = neighbourCount g j i in
-    normalised-sound _ (share-within n (count-ge g j i wide) (count-le g j i) (m .x)) (share-within n (count-ge g j i wide) (count-le g j i) (m .y))
+    normalised-sound _ (share-within n (count-ge g j i wide) (count-le g j i) (m .x))
+    (share-within n (count-ge g j i wide) (count-le g j i) (m .y))
 
 -- a list of so many floats, all at most 4
 pub record SoundList (floats : ℕ) (values : List Float) : Type 0 where
@@ -274,7 +299,8 @@ pub record SoundList (floats : ℕ) (values : List Float) : Type 0 where
   pub sound : (k : ℕ) → k < floats → Most 4000 (getD values k nan)
 
 module _ (g : Grid) (marks : List ℕ) (floats : ℕ) (wide : 2 ≤ g .nx) (room : 2 * (g .ny * g .nx) ≤ floats) where
-  visit-sound : (j i : ℕ) (s : Swept) → i < g .nx → j < g .ny → SoundList floats (s .values) → SoundList floats (sweepNode g marks j i s .values)
+  visit-sound : (j i : ℕ) (s : Swept) → i < g .nx → j < g .ny → SoundList floats (s .values)
+      → SoundList floats (sweepNode g marks j i s .values)
   unfolding sweepNode relaxed
   visit-sound j i s h l p = pick (eqb (getD marks (nodeAt g i j) 0) 0)
     where
@@ -292,31 +318,5 @@ module _ (g : Grid) (marks : List ℕ) (floats : ℕ) (wide : 2 ≤ g .nx) (room
       }
       pick false = p
 
-  sweep-sound : (values : List Float) → SoundList floats values → SoundList floats (sweep g marks values .values)
-  unfolding sweep sweepRow
-  sweep-sound values p =
-      forUp-keeps (λ (j : ℕ) (s : Swept). SoundList floats (s .values)) (g .ny) (sweepRow g marks) (swept values true) p
-      (λ j s l p. forUp-keeps (λ (i : ℕ) (s : Swept). SoundList floats (s .values)) (g .nx) (sweepNode g marks j) s p
-      (λ i s h p. visit-sound j i s h l p))
-
-  abbrev TurnSound : Turn (List Float) (List Float) → Type 0
-  TurnSound (go values) = SoundList floats values
-  TurnSound (out values) = SoundList floats values
-
   pub sweeps-sound : (n : ℕ) (values : List Float) → SoundList floats values → SoundList floats (sweeps n g marks values)
-  unfolding sweeps run
-  sweeps-sound n values p =
-      last (forUp n (onwards (sweepTurn g marks)) (go values))
-      (forUp-keeps (λ (k : ℕ) (t : Turn (List Float) (List Float)). TurnSound t) n (onwards (sweepTurn g marks)) (go values) p keeps)
-    where
-      after : (s : Swept) (quiet : Bool) → SoundList floats (s .values) → TurnSound (cond quiet (out (s .values)) (go (s .values)))
-      after s true p = p
-      after s false p = p
-
-      keeps : (k : ℕ) (t : Turn (List Float) (List Float)) → k < n → TurnSound t → TurnSound (onwards (sweepTurn g marks) k t)
-      keeps k (go v) h p = after (sweep g marks v) (sweep g marks v .quiet) (sweep-sound v p)
-      keeps k (out v) h p = p
-
-      last : (t : Turn (List Float) (List Float)) → TurnSound t → SoundList floats (answer (λ (v : List Float). v) t)
-      last (go v) p = p
-      last (out v) p = p
+  sweeps-sound n values p = sweeps-keep (SoundList floats) g marks visit-sound n values p

@@ -1,9 +1,11 @@
--- The growth of the spacing ends: for a box at most 4,000 wide and high, a spacing that begins at 0.004 or more has grown to 11 or more before the growths that are tried run out, and no grid of that
--- spacing has more than 250,000 nodes. Sizes are in units of the smallest float above 0, of which W make 1. Assumes nothing.
+-- The growth of the spacing ends: for a box at most 4,000 wide and high, a spacing that begins at 0.004 or more has grown to 11 or more
+-- before the growths that are tried run out, and no grid of that spacing has more than 250,000 nodes. Sizes are in units of the smallest
+-- float above 0, of which W make 1. Assumes nothing.
 use mathlib.Core.Path.{_≡_, refl, sym, ap, _∙_, subst}
 use mathlib.Core.Bool.{Bool, true, false, not, _||_, cond, true≢false}
 use Prim.Native.Nat.{ℕ, zero, suc, _+_, _-_, _*_, _/_, _^_, _≤_, _<_}
-use native.Mathlib.Nat.{le-trans, le-of-eq, le-mul-of-pos-right, min-le-left, mul-comm, mul-assoc, mul-left-comm, suc-mul, mul-le-mul, mul-le-mul-right, le-of-mul-le-mul-right, div-lt-iff-lt-mul, le-of-lt, lt-of-not-le}
+use native.Mathlib.Nat.{le-trans, le-of-eq, le-mul-of-pos-right, min-le-left, mul-comm, mul-assoc, mul-left-comm, suc-mul, mul-le-mul}
+use native.Mathlib.Nat.{mul-le-mul-right, le-of-mul-le-mul-right, div-lt-iff-lt-mul, le-of-lt, lt-of-not-le}
 use native.Mathlib.Omega.{arith}
 use borrow.Author.Tests.{le-ltb, ltb-false, not-false}
 use lib.Dec.{T, leb, lit≤, leb→le}
@@ -17,8 +19,10 @@ use Rattle.exact.specs.Order.{not-lt-val, above-of-not-le}
 use Rattle.exact.specs.Operations.{mul-law, div-law}
 use Rattle.domain.specs.Accepted.{neither, cond-zero}
 use Rattle.crossfield.specs.declared.Bounds.{Bounds}
+use Rattle.crossfield.specs.Unit.{zero-val}
 use Rattle.crossfield.specs.Box.{Box}
-use Rattle.crossfield.specs.Grid.{growth, gridCount, tooManyNodes, growTurn, growths, spacing, gridOf, gridNodes, mostFieldNodes, leastSize, mostSize, sizeRefusal}
+use Rattle.crossfield.specs.Grid.{growth, gridCount, tooManyNodes, growTurn, growths, spacing, gridOf, gridNodes, mostFieldNodes}
+use Rattle.crossfield.specs.Grid.{leastSize, mostSize, sizeRefusal}
 
 -- ---- counts
 
@@ -58,7 +62,8 @@ few-nodes width height h a b = le-ltb _ _ (le-trans (mul-le-mul (few-count width
 few-cells : {width : Float} (h : Float) (b : ℕ) → Within 4000 width → Val h false b → 11 * W ≤ b → ceilCount (width ⊘ h) ≤ 400
 few-cells {width} h b p v low =
     let a = p .size in
-    let q = div-law width h (p .sign) false a b (p .val) v (positive W b W-pos low) (le-trans (p .small) (le-trans (far W b low) (mul-le-mul-right b (lit≤ {m = 364} {n = 2 ^ 400} tt)))) in
+    let q = div-law width h (p .sign) false a b (p .val) v (positive W b W-pos low)
+    (le-trans (p .small) (le-trans (far W b low) (mul-le-mul-right b (lit≤ {m = 364} {n = 2 ^ 400} tt)))) in
     cells-le (width ⊘ h) _ (q .size) 400 (q .val)
     (le-of-mul-le-mul-right
     (le-trans
@@ -148,7 +153,9 @@ grow h b v high floor =
           (le-trans (le-of-eq (mul-assoc 6 b W))
           (le-trans (lower (p .size * W) (b * growthUnits) (b * W) W (p .near .1) e l) (le-of-eq (sym (mul-assoc 5 (p .size) W)))))
           W-pos;
-      twice = le-of-mul-le-mul-right (le-trans (upper (p .size * W) (b * growthUnits) (b * W) W (p .near .0) (le-of-eq e) (least-one W (b * W) l)) (le-of-eq (sym (mul-assoc 2 b W)))) W-pos;
+      twice = le-of-mul-le-mul-right (le-trans
+          (upper (p .size * W) (b * growthUnits) (b * W) W (p .near .0) (le-of-eq e) (least-one W (b * W) l))
+          (le-of-eq (sym (mul-assoc 2 b W)))) W-pos;
     }
 
 -- ---- the loop
@@ -167,7 +174,8 @@ module _ (width height : Float) (p : Within 4000 width) (q : Within 4000 height)
   Held k (go h) = Grown k h
   Held k (out h) = Grown 0 h × (tooManyNodes width height h ≡ false)
 
-  one-more : (k : ℕ) (h : Float) (many : Bool) → tooManyNodes width height h ≡ many → Grown k h → Held (suc k) (cond many (go (h ⊗ growth)) (out h))
+  one-more : (k : ℕ) (h : Float) (many : Bool) → tooManyNodes width height h ≡ many → Grown k h
+      → Held (suc k) (cond many (go (h ⊗ growth)) (out h))
   unfolding least
   one-more k h false few g = (record { size = g .size; val = g .val; low = g .floor; floor = g .floor; high = g .high }, few)
   one-more k h true many g =
@@ -211,13 +219,15 @@ module _ (width height : Float) (p : Within 4000 width) (q : Within 4000 height)
       reaches : (w b : ℕ) → least growths * w ≤ b * 1000000 → 11 * w ≤ b
       reaches w b l = let m = mul-le-mul-right w (lit≤ {m = 11000000} {n = least growths} tt) in omega arith
 
-  last-held : (t : Turn Float Float) → Held growths t → Grown 0 (answer (λ (h : Float). h) t) × (tooManyNodes width height (answer (λ (h : Float). h) t) ≡ false)
+  last-held : (t : Turn Float Float) → Held growths t
+      → Grown 0 (answer (λ (h : Float). h) t) × (tooManyNodes width height (answer (λ (h : Float). h) t) ≡ false)
   unfolding least
   last-held (go h) g = (record { size = g .size; val = g .val; low = g .floor; floor = g .floor; high = g .high }, last-large h g)
   last-held (out h) g = g
 
   -- the definition's spacing is grown from h, is at most 200, and has few nodes
-  pub spacing-held : (h : Float) → Grown 0 h → Grown 0 (spacing width height h) × (tooManyNodes width height (spacing width height h) ≡ false)
+  pub spacing-held : (h : Float) → Grown 0 h
+      → Grown 0 (spacing width height h) × (tooManyNodes width height (spacing width height h) ≡ false)
   unfolding spacing run
   spacing-held h g = last-held (forUp growths (onwards (growTurn width height)) (go h)) (start-held h g)
 
@@ -250,10 +260,6 @@ most-val : Val mostSize false (100 * W)
 unfolding W ofBits
 most-val = (refl, refl)
 
-zero-val : Val zeroF false 0
-unfolding W ofBits
-zero-val = (refl, refl)
-
 -- half as many units, rounded
 half-lower : (n x y w : ℕ) → 2 ^ 53 * x ≤ 2 ^ 53 * n + (x + 2 ^ 52 * w) → 2 * x ≡ y → 1000000 * w ≤ y → 10 * y ≤ 21 * n
 half-lower n x y w c e l = omega arith
@@ -278,8 +284,10 @@ start size a v low high =
     let x = half-units * a in
     let e : 2 * x ≡ a * W = sym (mul-assoc 2 half-units a) ∙ ap (λ (z : ℕ). z * a) half-twice ∙ mul-comm W a in
     let l = mul-le-mul-right W (size-units W a (le-trans (lit≤ {m = 1000000000000} {n = 10 ^ 36} tt) W-big) floor) in
-    let more = le-of-mul-le-mul-right (le-trans (le-of-eq (mul-assoc 10 a W)) (le-trans (half-lower (p .size * W) x (a * W) W (p .near .1) e l) (le-of-eq (sym (mul-assoc 21 (p .size) W))))) W-pos in
-    let twice = le-of-mul-le-mul-right (le-trans (half-upper (p .size * W) x (a * W) W (p .near .0) e (least-one W (a * W) l)) (le-of-eq (sym (mul-assoc 2 a W)))) W-pos in
+    let more = le-of-mul-le-mul-right (le-trans (le-of-eq (mul-assoc 10 a W))
+    (le-trans (half-lower (p .size * W) x (a * W) W (p .near .1) e l) (le-of-eq (sym (mul-assoc 21 (p .size) W))))) W-pos in
+    let twice = le-of-mul-le-mul-right (le-trans (half-upper (p .size * W) x (a * W) W (p .near .0) e (least-one W (a * W) l))
+    (le-of-eq (sym (mul-assoc 2 a W)))) W-pos in
     let lower = half-floor a (p .size) W floor more in
     record { size = p .size; val = p .val; low = lower; floor = lower; high = half-high a (p .size) W high twice }
   where
@@ -301,7 +309,8 @@ start-size size held e =
 
 -- ---- the grid of an outline and a size that are not refused has at most 250,000 nodes
 
-pub few-enough : (b : Bounds) (size : Float) → Box b → T (fits binary64 size) → sizeRefusal size ≡ 0 → gridNodes (gridOf b size) ≤ mostFieldNodes
+pub few-enough : (b : Bounds) (size : Float) → Box b → T (fits binary64 size) → sizeRefusal size ≡ 0
+    → gridNodes (gridOf b size) ≤ mostFieldNodes
 unfolding gridOf tooManyNodes
 few-enough b size x held e =
     let r = spacing-held (b .xmax ⊖ b .xmin) (b .ymax ⊖ b .ymin) (x .width) (x .height) (halfF ⊗ size) (start-size size held e) in

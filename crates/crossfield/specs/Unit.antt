@@ -1,8 +1,10 @@
--- Bounds of computed values in thousandths, and that a pair divided by its norm is of length 1 but for rounding. Errors are taken crudely, 10 ^ -4 for each 2 ^ -53. Assumes nothing.
+-- Bounds of computed values in thousandths, and that a pair divided by its norm is of length 1 but for rounding. Errors are taken crudely,
+-- 10 ^ -4 for each 2 ^ -53. Assumes nothing.
 use mathlib.Core.Path.{_≡_, refl, sym, ap, _∙_, subst, subst₂}
 use mathlib.Core.Bool.{Bool, true, false}
 use Prim.Native.Nat.{ℕ, _+_, _-_, _*_, _^_, _≤_, _<_}
-use native.Mathlib.Nat.{le-trans, le-of-eq, le-of-lt, add-comm, add-mul, mul-add, mul-comm, mul-assoc, mul-mul-mul-comm, mul-pos, mul-le-mul, mul-le-mul-left, mul-le-mul-right, le-of-mul-le-mul-right}
+use native.Mathlib.Nat.{le-trans, le-of-eq, le-of-lt, add-comm, add-mul, mul-add, mul-comm, mul-assoc, mul-mul-mul-comm, mul-pos}
+use native.Mathlib.Nat.{mul-le-mul, mul-le-mul-left, mul-le-mul-right, le-of-mul-le-mul-right}
 use native.Mathlib.Omega.{arith}
 use borrow.Author.Tests.{leb-true, leb-false}
 use lib.Dec.{T, leb, lit≤}
@@ -42,12 +44,14 @@ far-above = le-trans (lit≤ {m = 1000000} {n = 10 ^ 36} tt) W-big
 
 -- ---- operations
 
-pub most-mul : {c d : ℕ} {x y : Float} (e : ℕ) → T (leb c (2 ^ 200)) → T (leb d (2 ^ 200)) → 10001 * (c * d) + 10000 ≤ 10000000 * e → Most c x → Most d y → Most e (x ⊗ y)
+pub most-mul : {c d : ℕ} {x y : Float} (e : ℕ) → T (leb c (2 ^ 200)) → T (leb d (2 ^ 200)) → 10001 * (c * d) + 10000 ≤ 10000000 * e
+    → Most c x → Most d y → Most e (x ⊗ y)
 most-mul {c} {d} e tc td h p q =
     let r = mul-law (whole p) (whole q) tc td in
     let z = W * W in
     let a : 1000 * 1000 * (p .size * q .size) ≤ c * d * z =
-    le-trans (le-of-eq (mul-mul-mul-comm 1000 1000 (p .size) (q .size))) (le-trans (mul-le-mul (p .most) (q .most)) (le-of-eq (mul-mul-mul-comm c W d W))) in
+    le-trans (le-of-eq (mul-mul-mul-comm 1000 1000 (p .size) (q .size)))
+    (le-trans (mul-le-mul (p .most) (q .most)) (le-of-eq (mul-mul-mul-comm c W d W))) in
     let b = rel-and (r .size * W) (p .size * q .size) W (r .near) .0 in
     let m = mul-le-mul-right z h in
     record {
@@ -57,7 +61,8 @@ most-mul {c} {d} e tc td h p q =
       most =
           le-of-mul-le-mul-right
           (le-trans (le-of-eq (mul-assoc 1000 (r .size) W))
-          (le-trans (bound (r .size * W) (p .size * q .size) (c * d * z) (e * z) z W b a (mul-le-mul-right W far-above) (spread (c * d) e z m)) (le-of-eq (sym (mul-assoc e W W)))))
+          (le-trans (bound (r .size * W) (p .size * q .size) (c * d * z) (e * z) z W b a (mul-le-mul-right W far-above)
+          (spread (c * d) e z m)) (le-of-eq (sym (mul-assoc e W W)))))
           W-pos;
     }
   where
@@ -67,18 +72,21 @@ most-mul {c} {d} e tc td h p q =
         let f = mul-assoc 10001 k z in
         let g = mul-assoc 10000000 e z in omega arith
 
-    bound : (n m k e z w : ℕ) → 10000 * n ≤ 10001 * m + 10000 * w → 1000 * 1000 * m ≤ k → 1000000 * w ≤ z → 10001 * k + 10000 * z ≤ 10000000 * e → 1000 * n ≤ e
+    bound : (n m k e z w : ℕ) → 10000 * n ≤ 10001 * m + 10000 * w → 1000 * 1000 * m ≤ k → 1000000 * w ≤ z
+        → 10001 * k + 10000 * z ≤ 10000000 * e → 1000 * n ≤ e
     bound n m k e z w b a l h = omega arith
 
 -- a sum or a difference of two within c and d thousandths
-sum-most : {c d : ℕ} {x y z : Float} (e : ℕ) (k : ℤ) (p : Most c x) (q : Most d y) → 10001 * (c + d) ≤ 10000 * e → Sum k (p .size + q .size) z → Most e z
+sum-most : {c d : ℕ} {x y z : Float} (e : ℕ) (k : ℤ) (p : Most c x) (q : Most d y) → 10001 * (c + d) ≤ 10000 * e
+    → Sum k (p .size + q .size) z → Most e z
 sum-most {c} {d} e k p q h s =
     record {
       sign = s .sign;
       size = s .size;
       val = s .val;
       most =
-          bound (s .size) (s .exact) (p .size) (q .size) (c * W) (d * W) (e * W) (rel (s .size) (s .exact) (s .near) .0) (s .small) (p .most) (q .most)
+          bound (s .size) (s .exact) (p .size) (q .size) (c * W) (d * W) (e * W) (rel (s .size) (s .exact) (s .near) .0) (s .small)
+          (p .most) (q .most)
           (spread c d e W (mul-le-mul-right W h));
     }
   where
@@ -88,13 +96,16 @@ sum-most {c} {d} e k p q h s =
         let l = add-mul c d w in
         let g = mul-assoc 10000 e w in omega arith
 
-    bound : (n m a b c d e : ℕ) → 10000 * n ≤ 10001 * m → m ≤ a + b → 1000 * a ≤ c → 1000 * b ≤ d → 10001 * c + 10001 * d ≤ 10000 * e → 1000 * n ≤ e
+    bound : (n m a b c d e : ℕ) → 10000 * n ≤ 10001 * m → m ≤ a + b → 1000 * a ≤ c → 1000 * b ≤ d → 10001 * c + 10001 * d ≤ 10000 * e
+        → 1000 * n ≤ e
     bound n m a b c d e r l p q h = omega arith
 
-pub most-add : {c d : ℕ} {x y : Float} (e : ℕ) → T (leb c (2 ^ 200)) → T (leb d (2 ^ 200)) → 10001 * (c + d) ≤ 10000 * e → Most c x → Most d y → Most e (x ⊕ y)
+pub most-add : {c d : ℕ} {x y : Float} (e : ℕ) → T (leb c (2 ^ 200)) → T (leb d (2 ^ 200)) → 10001 * (c + d) ≤ 10000 * e → Most c x
+    → Most d y → Most e (x ⊕ y)
 most-add {x = x} {y = y} e tc td h p q = sum-most e (units x +ℤ units y) p q h (add-law (whole p) (whole q) tc td)
 
-pub most-sub : {c d : ℕ} {x y : Float} (e : ℕ) → T (leb c (2 ^ 200)) → T (leb d (2 ^ 200)) → 10001 * (c + d) ≤ 10000 * e → Most c x → Most d y → Most e (x ⊖ y)
+pub most-sub : {c d : ℕ} {x y : Float} (e : ℕ) → T (leb c (2 ^ 200)) → T (leb d (2 ^ 200)) → 10001 * (c + d) ≤ 10000 * e → Most c x
+    → Most d y → Most e (x ⊖ y)
 most-sub {x = x} {y = y} e tc td h p q = sum-most e (units x -ℤ units y) p q h (sub-law (whole p) (whole q) tc td)
 
 -- ---- the norm, where it is above 1e-12
@@ -130,10 +141,15 @@ long-of L h = le-trans tolerance-long (mul-le-mul-left (10 ^ 13) (le-of-lt h))
 square : {x : Float} (p : Within 4000 x) → (n : ℕ) × (Val (x ⊗ x) false n) × (n ≤ 2 ^ 200 * W) × RelAnd (n * W) (p .size * p .size) W
 square {x} p =
     let r = mul-law p p tt tt in
-    let l = le-trans (mul-le-mul (p .small) (p .small)) (le-of-eq (mul-mul-mul-comm 4000 W 4000 W)) in
-    (r .size, subst (λ (s : Bool). Val (x ⊗ x) s (r .size)) (unlike-self (p .sign)) (r .val), le-trans (product-small 16000000 (r .size) (p .size * p .size) (r .near) l) (mul-le-mul-right W (lit≤ tt)), rel-and (r .size * W) (p .size * p .size) W (r .near))
+    let l = le-trans (mul-le-mul (p .small) (p .small)) (le-of-eq (mul-mul-mul-comm 4000 W 4000 W)) in (
+      r .size,
+      subst (λ (s : Bool). Val (x ⊗ x) s (r .size)) (unlike-self (p .sign)) (r .val),
+      le-trans (product-small 16000000 (r .size) (p .size * p .size) (r .near) l) (mul-le-mul-right W (lit≤ tt)),
+      rel-and (r .size * W) (p .size * p .size) W (r .near),
+    )
 
-length : {x y : Float} (p : Within 4000 x) (q : Within 4000 y) → ((L : ℕ) → Val (norm x y) false L → tolerance-units < L) → Length (norm x y) (p .size) (q .size)
+length : {x y : Float} (p : Within 4000 x) (q : Within 4000 y) → ((L : ℕ) → Val (norm x y) false L → tolerance-units < L)
+    → Length (norm x y) (p .size) (q .size)
 unfolding norm
 length {x} {y} p q above =
     let a = square p in
@@ -145,7 +161,8 @@ length {x} {y} p q above =
       L = r .L;
       val = r .val;
       long = l;
-      near = length-law (p .size) (q .size) (p .size) (q .size) (a .0) (b .0) (s .size) (r .L) (same-rel (p .size)) (same-rel (q .size)) (a .3) (b .3) (s .near) (r .lower) l;
+      near = length-law (p .size) (q .size) (p .size) (q .size) (a .0) (b .0) (s .size) (r .L) (same-rel (p .size)) (same-rel (q .size))
+          (a .3) (b .3) (s .near) (r .lower) l;
     }
 
 -- ---- a pair divided by its norm
@@ -168,7 +185,9 @@ positive L h = go L W W-pos h
 
 -- neither of a pair is longer than it, but for a thousandth
 side-le : (a b L : ℕ) → 9985 * (a * a + b * b) ≤ 10000 * (L * L) → 1000 * a ≤ 1001 * L
-side-le a b L h = le-of-sq (1000 * a) (1001 * L) (go (1000 * a * (1000 * a)) (1001 * L * (1001 * L)) (a * a) (b * b) (L * L) (mul-mul-mul-comm 1000 a 1000 a) (mul-mul-mul-comm 1001 L 1001 L) h)
+side-le a b L h = le-of-sq (1000 * a) (1001 * L)
+    (go (1000 * a * (1000 * a)) (1001 * L * (1001 * L)) (a * a) (b * b) (L * L) (mul-mul-mul-comm 1000 a 1000 a)
+    (mul-mul-mul-comm 1001 L 1001 L) h)
   where
     go : (x y aa bb ll : ℕ) → x ≡ 1000 * 1000 * aa → y ≡ 1001 * 1001 * ll → 9985 * (aa + bb) ≤ 10000 * ll → x ≤ y
     go x y aa bb ll e f h = omega arith
@@ -200,7 +219,8 @@ quotient-square : (s a L : ℕ) → 10000 * (s * L) ≤ 10001 * (a * W) + 10000 
     → 100000000 * (s * s * (L * L)) ≤ (100020001 * (a * a) + 20024 * (L * L)) * (W * W)
 quotient-square s a L h small =
     let u = 10001 * a + L in
-    let one = scaled (s * L) (a * W) L (u * W) (L * W) h (mul-le-mul-left L (le-trans (lit≤ {m = 10000} {n = 1000000} tt) far-above)) (add-mul (10001 * a) L W ∙ ap (λ (z : ℕ). z + L * W) (mul-assoc 10001 a W)) in
+    let one = scaled (s * L) (a * W) L (u * W) (L * W) h (mul-le-mul-left L (le-trans (lit≤ {m = 10000} {n = 1000000} tt) far-above))
+    (add-mul (10001 * a) L W ∙ ap (λ (z : ℕ). z + L * W) (mul-assoc 10001 a W)) in
     le-trans (le-of-eq (ap (λ (z : ℕ). 100000000 * z) (mul-mul-mul-comm s s L L) ∙ sym (mul-mul-mul-comm 10000 (s * L) 10000 (s * L))))
     (le-trans (mul-le-mul one one) (le-trans (le-of-eq (mul-mul-mul-comm u W u W)) (mul-le-mul-right (W * W) (upper-square a L small))))
   where
@@ -216,10 +236,12 @@ unit-squares s t a b L above near hs ht =
     let ww = W * W in
     let r = 100020001 * (a * a) + 20024 * ll in
     let r' = 100020001 * (b * b) + 20024 * ll in
-    let both = le-trans (le-of-eq (sym (add-mul r r' ww))) (le-trans (mul-le-mul-right ww (rest (a * a) (b * b) ll near)) (le-of-eq (mul-assoc 100300000 ll ww))) in
+    let both = le-trans (le-of-eq (sym (add-mul r r' ww)))
+    (le-trans (mul-le-mul-right ww (rest (a * a) (b * b) ll near)) (le-of-eq (mul-assoc 100300000 ll ww))) in
     le-of-mul-le-mul-right
     (le-trans (le-of-eq (mul-assoc 1000 (s * s + t * t) ll ∙ ap (λ (z : ℕ). 1000 * z) (add-mul (s * s) (t * t) ll)))
-    (le-trans (last (s * s * ll) (t * t * ll) (r * ww) (r' * ww) (ll * ww) hs ht both) (le-of-eq (ap (λ (z : ℕ). 1003 * z) (mul-comm ll ww) ∙ sym (mul-assoc 1003 ww ll)))))
+    (le-trans (last (s * s * ll) (t * t * ll) (r * ww) (r' * ww) (ll * ww) hs ht both)
+    (le-of-eq (ap (λ (z : ℕ). 1003 * z) (mul-comm ll ww) ∙ sym (mul-assoc 1003 ww ll)))))
     (mul-pos above above)
   where
     rest : (aa bb ll : ℕ) → 9985 * (aa + bb) ≤ 10000 * ll → 100020001 * aa + 20024 * ll + (100020001 * bb + 20024 * ll) ≤ 100300000 * ll
@@ -228,12 +250,14 @@ unit-squares s t a b L above near hs ht =
     last : (x y p q z : ℕ) → 100000000 * x ≤ p → 100000000 * y ≤ q → p + q ≤ 100300000 * z → 1000 * (x + y) ≤ 1003 * z
     last x y p q z a b h = omega arith
 
-unit-of : {x y : Float} (p : Within 4000 x) (q : Within 4000 y) → Length (norm x y) (p .size) (q .size) → UnitPair (x ⊘ norm x y) (y ⊘ norm x y)
+unit-of : {x y : Float} (p : Within 4000 x) (q : Within 4000 y) → Length (norm x y) (p .size) (q .size)
+    → UnitPair (x ⊘ norm x y) (y ⊘ norm x y)
 unit-of {x} {y} p q l =
     let L = l .L in
     let above = positive L (l .long) in
     let a = side-le (p .size) (q .size) L (l .near) in
-    let b = side-le (q .size) (p .size) L (subst (λ (z : ℕ). 9985 * z ≤ 10000 * (L * L)) (add-comm (p .size * p .size) (q .size * q .size)) (l .near)) in
+    let b = side-le (q .size) (p .size) L
+    (subst (λ (z : ℕ). 9985 * z ≤ 10000 * (L * L)) (add-comm (p .size * p .size) (q .size * q .size)) (l .near)) in
     let r = div-law x (norm x y) (p .sign) false (p .size) L (p .val) (l .val) above (moderate (p .size) L a) in
     let t = div-law y (norm x y) (q .sign) false (q .size) L (q .val) (l .val) above (moderate (q .size) L b) in
     record {
@@ -257,7 +281,8 @@ unit-of {x} {y} p q l =
 -- divided by a norm that passes the test `1e-12 < n`, or fails the test `n <= 1e-12`
 pub unit-lt : {x y : Float} → Within 4000 x → Within 4000 y → lt tolerance (norm x y) ≡ true → UnitPair (x ⊘ norm x y) (y ⊘ norm x y)
 unit-lt {x} {y} p q t =
-    unit-of p q (length p q (λ L v. above-pos false L tolerance-units (lt-val tolerance (norm x y) false false tolerance-units L tolerance-val v .0 (rw t tt)) .1))
+    unit-of p q (length p q (λ L v. above-pos false L tolerance-units
+    (lt-val tolerance (norm x y) false false tolerance-units L tolerance-val v .0 (rw t tt)) .1))
 
 pub unit-not-le : {x y : Float} → Within 4000 x → Within 4000 y → le (norm x y) tolerance ≡ false → UnitPair (x ⊘ norm x y) (y ⊘ norm x y)
 unit-not-le {x} {y} p q t =
@@ -268,7 +293,7 @@ one-val : Val oneF false W
 unfolding W ofBits
 one-val = (refl, refl)
 
-zero-val : Val zeroF false 0
+pub zero-val : Val zeroF false 0
 unfolding W ofBits
 zero-val = (refl, refl)
 
@@ -280,7 +305,9 @@ unit-one = record { signs = (false, false); a = W; b = 0; u-val = one-val; v-val
 
 -- each of a unit pair is at most 1.002
 side-most : (a b : ℕ) → 1000 * (a * a + b * b) ≤ 1003 * (W * W) → 1000 * a ≤ 1002 * W
-side-most a b h = le-of-sq (1000 * a) (1002 * W) (go (1000 * a * (1000 * a)) (1002 * W * (1002 * W)) (a * a) (b * b) (W * W) (mul-mul-mul-comm 1000 a 1000 a) (mul-mul-mul-comm 1002 W 1002 W) h)
+side-most a b h = le-of-sq (1000 * a) (1002 * W)
+    (go (1000 * a * (1000 * a)) (1002 * W * (1002 * W)) (a * a) (b * b) (W * W) (mul-mul-mul-comm 1000 a 1000 a)
+    (mul-mul-mul-comm 1002 W 1002 W) h)
   where
     go : (x y aa bb ww : ℕ) → x ≡ 1000 * 1000 * aa → y ≡ 1002 * 1002 * ww → 1000 * (aa + bb) ≤ 1003 * ww → x ≤ y
     go x y aa bb ww e f h = omega arith
@@ -328,12 +355,22 @@ difference {s} {t} p =
     let sum =
     le-of-mul-le-mul-right
     (le-trans (le-of-eq (mul-assoc 1000 (x .size + y .size) W ∙ ap (λ (z : ℕ). 1000 * z) (add-mul (x .size) (y .size) W)))
-    (le-trans (both (x .size * W) (y .size * W) (p .a * p .a) (p .b * p .b) (W * W) W (rel-and (x .size * W) (p .a * p .a) W (x .near) .0) (rel-and (y .size * W) (p .b * p .b) W (y .near) .0) (p .squares) (mul-le-mul-right W far-above)) (le-of-eq (sym (mul-assoc 1004 W W)))))
+    (le-trans (both (x .size * W) (y .size * W) (p .a * p .a) (p .b * p .b) (W * W) W (rel-and (x .size * W) (p .a * p .a) W (x .near) .0)
+    (rel-and (y .size * W) (p .b * p .b) W (y .near) .0) (p .squares) (mul-le-mul-right W far-above))
+    (le-of-eq (sym (mul-assoc 1004 W W)))))
     W-pos in
-    let r = sub-law {K = 2} {L = 2} (record { sign = _; size = x .size; val = x .val; small = first (x .size) (y .size) W sum }) (record { sign = _; size = y .size; val = y .val; small = second (x .size) (y .size) W sum }) tt tt in
-    record { sign = r .sign; size = r .size; val = r .val; most = last (r .size) (r .exact) (x .size + y .size) W (rel (r .size) (r .exact) (r .near) .0) (r .small) sum }
+    let r = sub-law {K = 2} {L = 2} (record { sign = _; size = x .size; val = x .val; small = first (x .size) (y .size) W sum })
+    (record { sign = _; size = y .size; val = y .val; small = second (x .size) (y .size) W sum }) tt tt in
+    record {
+      sign = r .sign;
+      size = r .size;
+      val = r .val;
+      most =
+          last (r .size) (r .exact) (x .size + y .size) W (rel (r .size) (r .exact) (r .near) .0) (r .small) sum;
+    }
   where
-    both : (x y aa bb ww w : ℕ) → 10000 * x ≤ 10001 * aa + 10000 * w → 10000 * y ≤ 10001 * bb + 10000 * w → 1000 * (aa + bb) ≤ 1003 * ww → 1000000 * w ≤ ww → 1000 * (x + y) ≤ 1004 * ww
+    both : (x y aa bb ww w : ℕ) → 10000 * x ≤ 10001 * aa + 10000 * w → 10000 * y ≤ 10001 * bb + 10000 * w → 1000 * (aa + bb) ≤ 1003 * ww
+        → 1000000 * w ≤ ww → 1000 * (x + y) ≤ 1004 * ww
     both x y aa bb ww w h k s l = omega arith
 
     first : (x y w : ℕ) → 1000 * (x + y) ≤ 1004 * w → x ≤ 2 * w
@@ -357,7 +394,9 @@ product {s} {t} p =
       most =
           le-of-mul-le-mul-right
           (le-trans (le-of-eq (mul-assoc 1000 (r .size) W))
-          (le-trans (bound (r .size * W) (p .a * p .b) (p .a * p .a + p .b * p .b) (W * W) W (rel-and (r .size * W) (p .a * p .b) W (r .near) .0) (squares-above (p .a) (p .b)) (p .squares) (mul-le-mul-right W far-above)) (le-of-eq (sym (mul-assoc 502 W W)))))
+          (le-trans (bound (r .size * W) (p .a * p .b) (p .a * p .a + p .b * p .b) (W * W) W
+          (rel-and (r .size * W) (p .a * p .b) W (r .near) .0) (squares-above (p .a) (p .b)) (p .squares)
+          (mul-le-mul-right W far-above)) (le-of-eq (sym (mul-assoc 502 W W)))))
           W-pos;
     }
   where

@@ -1,5 +1,5 @@
--- The mesh edges stay known: after a quad is placed every front edge is still a mesh edge, and every mesh edge joins nodes, the smaller stored
--- first. The theorem, `known-placed`, stands at the end; and what the answer of `place` says to its caller.
+-- The mesh edges stay known: where nodes are pushed, where two are joined, and where a quad is placed, every front edge is still a mesh edge, and
+-- every mesh edge joins nodes, the smaller stored first. The theorem, `known-placed`, and what the answer of `place` says to its caller.
 use Prim.Native.Nat.{ℕ, zero, suc, _+_, _*_, _<_, _≤_, min, max}
 use mathlib.Core.List.{List, [], _∷_}
 use mathlib.Core.Path.{_≡_, refl, sym, _∙_, ap, subst}
@@ -7,9 +7,11 @@ use mathlib.Core.Bool.{Bool, true, false, cond}
 use mathlib.Core.Logic.{_≢_, ⊎-elim}
 use native.Mathlib.Nat.{eq-or-lt-of-le}
 use native.Mathlib.Omega.{arith}
+use lib.Dec.{eqb}
 use lib.ListN.{length}
+use borrow.Author.Tests.{eqb-true}
 use Rattle.topology.specs.Sums.{frontSum}
-use Rattle.topology.specs.Links.{off, at, at-is}
+use Rattle.topology.specs.Links.{off, update, at, at-is, link-set}
 use Rattle.topology.specs.Front.{edge-next, next-edge}
 use Rattle.topology.specs.Changes.{Change, remove, add, added}
 use Rattle.topology.specs.Placing.{placing}
@@ -17,7 +19,7 @@ use Rattle.front.specs.declared.Counts.{Counts}
 use Rattle.front.specs.declared.Corner.{Corner}
 use Rattle.front.specs.declared.Corner.the-variants.{Reused, Fresh}
 use Rattle.front.specs.declared.Placed.the-variants.{Full, Done}
-use Rattle.front.specs.State.{State, nextOf, edgeFrom, edgeTo, hasEdge, pushEdge, pushQuad, addEdge, edgePlaces}
+use Rattle.front.specs.State.{State, nextOf, edgeFrom, edgeTo, hasEdge, addFront, pushEdge, pushQuad, addEdge, edgePlaces}
 use Rattle.front.specs.Place.{idC, idD, addEdges, isFull, place}
 use Rattle.front.specs.Sound.{Sound}
 use Rattle.front.specs.FrameLaws.{extends-at}
@@ -56,6 +58,45 @@ joined-added n x y s hx hy xy = by (hasEdge s x y)
         let here = old k l in
         (omega (arith, from, to, here .0), omega (arith, to, here .1)))
         (eq-or-lt-of-le below)
+
+-- ---- sampling
+
+-- the same edges and links, and no fewer nodes
+pub known-same : (s t : State) → t .edges ≡ s .edges → t .counts .edges ≡ s .counts .edges → s .counts .nodes ≤ t .counts .nodes
+    → nextOf t ≡ nextOf s → Known s → Known t
+unfolding hasEdge
+known-same s t e n more next K =
+    record {
+      fronts = λ u v h q. rw (e, n) (K .fronts u v h (rw next at q));
+      joined = λ k h. let j = K .joined k (rw n at h) in rw e (j .0, omega (arith, j .1));
+    }
+
+-- two nodes are joined
+module _ (u v : ℕ) (s : State) (hu : u < s .counts .nodes) (hv : v < s .counts .nodes) (uv : u ≢ v) (long : s .counts .nodes ≤ length (s .next))
+    (room : 2 * addEdge u v (addFront u v s) .counts .edges ≤ length (s .edges)) (K : Known s) where
+  abbrev linked : State
+  linked = addFront u v s
+
+  next-joined : nextOf (addEdge u v linked) ≡ update (nextOf s) u v
+  unfolding addFront
+  next-joined = ap (λ (x : State). nextOf x) (edged u v linked .rest) ∙ link-set (s .counts .nodes) (s .next) u v hu long
+
+  has-joined : (x y : ℕ) → y ≢ off → update (nextOf s) u v x ≡ y → hasEdge (addEdge u v linked) x y ≡ true
+  unfolding addFront hasEdge
+  has-joined x y h = by (eqb u x) refl
+    where
+      by : (t : Bool) → eqb u x ≡ t → cond t v (nextOf s x) ≡ y → hasEdge (addEdge u v linked) x y ≡ true
+      by true p q = rw (← eqb-true u x p, ← q) (has-self u v linked room)
+      by false p q = has-added u v x y linked (K .fronts x y h q)
+
+  pub known-joined : Known (addEdge u v linked)
+  unfolding addFront
+  known-joined =
+      let nodes = ap (λ (x : State). x .counts .nodes) (edged u v linked .rest) in
+      record {
+        fronts = λ x y h q. has-joined x y h (rw next-joined at q);
+        joined = rw nodes (joined-added (s .counts .nodes) u v linked hu hv uv room (K .joined));
+      }
 
 -- ---- the edges of the front
 

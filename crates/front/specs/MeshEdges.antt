@@ -1,21 +1,20 @@
 -- The mesh edges of a quad: adding them changes nothing but their list and its count, which grows by the edges that were missing at most.
 use Prim.Native.Nat.{ℕ, _+_, _*_, _<_, _≤_, min, max}
 use mathlib.Core.List.{List}
-use mathlib.Core.Path.{_≡_, refl, sym, _∙_, ap}
+use mathlib.Core.Path.{_≡_, refl, sym, _∙_, ap, ap₂}
 use mathlib.Core.Bool.{Bool, true, false, _&&_, _||_, cond}
 use native.Mathlib.Numerals.{add-one}
-use native.Mathlib.Nat.{add-zero}
 use native.Mathlib.Omega.{arith}
 use mathlib.Core.Logic.{_≢_}
 use lib.Dec.{eqb}
 use lib.ListN.{length, getD, set, length-set}
 use lib.Seq.{getD-set-same, getD-set-other}
-use borrow.Author.Tests.{eqb-true, eq-eqb, ne-eqb}
+use borrow.Author.Tests.{eqb-true, eqb-false, eq-eqb}
 use Rattle.laws.specs.Loop.{forUp, anyTurn, anyUp, forUp-same}
 use Rattle.front.specs.State.{State, counted, edgeFrom, edgeTo, edgeIs, hasEdge, pushEdge, addEdge}
 use Rattle.front.specs.Place.{addEdges, missing, edgesAdded}
 use Rattle.front.specs.Sound.{Extends}
-use Rattle.front.specs.FrameLaws.{extends-same, extends-set, extends-trans, extends-at}
+use Rattle.front.specs.FrameLaws.{extends-same, extends-trans, extends-at, frame-edge}
 
 -- the same state with other mesh edges
 abbrev pub withEdges : State → List ℕ → ℕ → State
@@ -41,16 +40,7 @@ pub record Edged (s t : State) : Type 0 where
 
 pub pushed : (u v : ℕ) (s : State) → Edged s (pushEdge u v s)
 unfolding pushEdge
-pushed u v s =
-    let n = s .counts .edges in
-    let m = 2 * n in
-    let k = 2 * (n + 1) in
-    record {
-      rest = refl;
-      more = omega arith;
-      list = extends-set m k _ _ (m + 1) v (omega arith) (omega arith)
-          (extends-set m k _ _ m u (omega arith) (omega arith) (extends-same m k (s .edges)));
-    }
+pushed u v s = record { rest = refl; more = omega arith; list = frame-edge u v s .edgeList }
 
 pub edged : (u v : ℕ) (s : State) → Edged s (addEdge u v s)
 unfolding addEdge
@@ -163,6 +153,29 @@ module _ (x y : ℕ) (s : State) (room : 2 * (s .counts .edges + 1) ≤ length (
       let n = s .counts .edges in
       getD-set-same (set (s .edges) (2 * n) x) (2 * n + 1) y 0 (rw length-set (omega arith))
 
+-- the edges after one is pushed are those before and that one
+pub edge-pushed : (s : State) (u v a b : ℕ) → 2 * (s .counts .edges + 1) ≤ length (s .edges)
+    → hasEdge (pushEdge u v s) a b ≡ (hasEdge s a b || (eqb u (min a b) && eqb v (max a b)))
+edge-pushed s u v a b room =
+    push-has u v a b s
+    ∙ ap₂ (λ (x y : ℕ). hasEdge s a b || (eqb x (min a b) && eqb y (max a b))) (from-pushed u v s room) (to-pushed u v s room)
+
+-- an edge is no other's
+pub edge-other : (a b u v : ℕ) → (a ≡ u → b ≢ v) → (b ≡ u → a ≢ v) → (eqb (min u v) (min a b) && eqb (max u v) (max a b)) ≡ false
+edge-other a b u v ne en = by (eqb (min u v) (min a b)) refl (eqb (max u v) (max a b)) refl
+  where
+    same : min u v ≡ min a b → max u v ≡ max a b → ⊥
+    same p q = which (eqb a u) refl
+      where
+        which : (t : Bool) → eqb a u ≡ t → ⊥
+        which true e = let d = eqb-true a u e in ne d (omega arith)
+        which false e = let d = eqb-false a u e in en (omega arith) (omega arith)
+
+    by : (s : Bool) → eqb (min u v) (min a b) ≡ s → (t : Bool) → eqb (max u v) (max a b) ≡ t → (s && t) ≡ false
+    by false p t q = refl
+    by true p false q = refl
+    by true p true q = absurd (same (eqb-true (min u v) (min a b) p) (eqb-true (max u v) (max a b) q))
+
 -- the edge that is added is there
 pub has-self : (x y : ℕ) (s : State) → 2 * addEdge x y s .counts .edges ≤ length (s .edges) → hasEdge (addEdge x y s) x y ≡ true
 unfolding addEdge pushEdge
@@ -172,9 +185,7 @@ has-self x y s = by (hasEdge s x y) refl
         → hasEdge (cond t s (pushEdge (min x y) (max x y) s)) x y ≡ true
     by true e room = e
     by false e room =
-        let p = eq-eqb _ _ (from-pushed (min x y) (max x y) s room) in
-        let q = eq-eqb _ _ (to-pushed (min x y) (max x y) s room) in
-        rw (push-has (min x y) (max x y) x y s, e, p, q)
+        edge-pushed s (min x y) (max x y) x y room ∙ rw (e, eq-eqb (min x y) (min x y) refl, eq-eqb (max x y) (max x y) refl)
 
 -- an edge that ends elsewhere is there as before
 pub has-other : (x y u v : ℕ) (s : State) → 2 * addEdge x y s .counts .edges ≤ length (s .edges) → v ≢ x → v ≢ y
@@ -186,19 +197,8 @@ has-other x y u v s = by (hasEdge s x y)
     or-false true = refl
     or-false false = refl
 
-    differs : (t : Bool) (lo hi : ℕ) → v ≢ x → v ≢ y → lo ≡ min x y → hi ≡ max x y → eqb lo (min u v) ≡ t
-        → (t && eqb hi (max u v)) ≡ false
-    differs true lo hi vx vy p q e =
-        let f = eqb-true lo (min u v) e in
-        ne-eqb hi (max u v) (λ g. omega (arith, f, g))
-    differs false lo hi vx vy p q e = refl
-
     by : (t : Bool) → 2 * cond t s (pushEdge (min x y) (max x y) s) .counts .edges ≤ length (s .edges) → v ≢ x → v ≢ y
         → hasEdge (cond t s (pushEdge (min x y) (max x y) s)) u v ≡ hasEdge s u v
     by true room vx vy = refl
     by false room vx vy =
-        rw (
-          push-has (min x y) (max x y) u v s,
-          differs _ _ _ vx vy (from-pushed (min x y) (max x y) s room) (to-pushed (min x y) (max x y) s room) refl,
-          or-false,
-        )
+        edge-pushed s (min x y) (max x y) u v room ∙ rw (edge-other u v x y (λ p q. vy q) (λ p q. vx p), or-false)

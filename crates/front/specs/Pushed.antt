@@ -5,7 +5,8 @@ use mathlib.Core.Path.{_≡_, refl, _∙_}
 use native.Mathlib.Omega.{arith}
 use lib.Seq.{getD-set-same}
 use lib.Ieee.{nan}
-use Rattle.topology.specs.Links.{off, linkOf, link-more}
+use Rattle.domain.specs.Outline.{point}
+use Rattle.topology.specs.Links.{linkOf, link-more}
 use Rattle.topology.specs.Front.{FrontOf}
 use Rattle.topology.specs.Changes.{grown}
 use Rattle.front.specs.declared.Corner.{Corner}
@@ -13,7 +14,7 @@ use Rattle.front.specs.declared.Corner.the-variants.{Reused, Fresh}
 use Rattle.front.specs.State.{State, nodeIn, node, hasEdge, pushNode, nodePlaces}
 use Rattle.front.specs.Place.{added, cornerId, cornerPoint, idC, idD, pushCorner}
 use Rattle.front.specs.Sound.{Frame}
-use Rattle.front.specs.FrameLaws.{extends-same, extends-set, frame-same, frame-trans, frame-node-places, frame-node}
+use Rattle.front.specs.FrameLaws.{frame-same, frame-trans, frame-node-places, frame-node, frame-push}
 
 -- t is s with k nodes more, which are off the front
 pub record Pushed (ls : List (List ℕ)) (k : ℕ) (s t : State) : Type 0 where
@@ -46,20 +47,8 @@ pushed ls (Reused id) s F room =
     }
 pushed ls (Fresh x y) s F room =
     let n = s .counts .nodes in
-    let below : n < n + 1 = omega arith in
     record {
-      frame = record {
-        nodes = omega arith;
-        quads = omega arith;
-        edges = omega arith;
-        xs = extends-set n (n + 1) _ _ n x (omega arith) below (extends-same _ _ _);
-        ys = extends-set n (n + 1) _ _ n y (omega arith) below (extends-same _ _ _);
-        next = extends-set 0 (n + 1) _ _ n off (omega arith) below (extends-same _ _ _);
-        prev = extends-set 0 (n + 1) _ _ n off (omega arith) below (extends-same _ _ _);
-        snapshot = extends-same _ _ _;
-        quadList = extends-same _ _ _;
-        edgeList = extends-same _ _ _;
-      };
+      frame = frame-push (point x y) s;
       nodes = refl;
       quads = refl;
       edges = refl;

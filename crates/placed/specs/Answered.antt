@@ -17,8 +17,9 @@ use Rattle.front.specs.Place.{idC, idD}
 use Rattle.front.specs.Ready.{Chosen, Choice, Fits, fits}
 use Rattle.paving.specs.declared.Attempt.the-variants.{Quad}
 use Rattle.paving.specs.Checks.{quadFits}
-use Rattle.paving.specs.Attempt.{isReused, cornerAt, cornerC, cornerD, quadIf, attemptQuad}
+use Rattle.paving.specs.Attempt.{isReused, cornerAt, cornerC, cornerD, attemptQuad}
 use Rattle.paving.specs.Advance.{isThere}
+use Rattle.paving.specs.AttemptLaws.{quad-chosen}
 use Rattle.paving.specs.Reach.{Placement}
 
 -- ---- tests
@@ -59,25 +60,6 @@ chosen size s other v p c = by (isReused size s other v p) refl c
     by false e (Reused id) h = absurd (let z : _≡_ {A = ℕ} 0 1 = cc in omega arith)
     by false e (Fresh x y) h = tt
 
--- the corners that an attempt answered, and that every check was passed
-record Attempted (o : Outline) (size : Float) (s : State) (a b : ℕ) (da db : Point) (c d : Corner) : Type 0 where
-  at-c : cornerC size s a b da ≡ c
-  at-d : cornerD size s a b db ≡ d
-  checks : quadFits o size s a b c d ≡ true
-
-attempted : (o : Outline) (size : Float) (s : State) (a b : ℕ) (da db : Point) (c d : Corner)
-    → attemptQuad o size s a b da db ≡ Quad c d → Attempted o size s a b da db c d
-unfolding attemptQuad
-attempted o size s a b da db c d = by (quadFits o size s a b (cornerC size s a b da) (cornerD size s a b db)) refl
-  where
-    by : (t : Bool) → quadFits o size s a b (cornerC size s a b da) (cornerD size s a b db) ≡ t
-        → quadIf t (cornerC size s a b da) (cornerD size s a b db) ≡ Quad c d → Attempted o size s a b da db c d
-    by true e h =
-        let p : cornerC size s a b da ≡ c = cc in
-        let q : cornerD size s a b db ≡ d = cc in
-        record { at-c = p; at-d = q; checks = rw (p, q) at e }
-    by false e h = absurd (let z : _≡_ {A = ℕ} 0 1 = cc in omega arith)
-
 -- ---- the theorems
 
 -- an attempt on a front edge that is there answered a quad: its corners are chosen
@@ -85,7 +67,7 @@ pub choice : (o : Outline) (size : Float) (s : State) (a b : ℕ) (da db : Point
     → attemptQuad o size s a b da db ≡ Quad c d → Choice s a b c d
 unfolding cornerC cornerD quadFits
 choice o size s a b da db c d there answer =
-    let A = attempted o size s a b da db c d answer in
+    let A = quad-chosen o size s a b da db c d answer in
     record {
       edge = eqb-true (nextOf s a) b (and-right (not (eqb b off)) _ there);
       node = differ b off (and-left _ _ there);
@@ -98,6 +80,6 @@ pub answered : (o : Outline) (size : Float) (s : State) (a b : ℕ) (c d : Corne
 answered o size s a b c d P =
     record {
       choice = choice o size s a b (P .da) (P .db) c d (P .there) (P .answered);
-      checks = attempted o size s a b (P .da) (P .db) c d (P .answered) .checks;
+      checks = quad-chosen o size s a b (P .da) (P .db) c d (P .answered) .checks;
       fits = fits s a b c d (P .fits);
     }

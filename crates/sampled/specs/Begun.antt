@@ -13,11 +13,13 @@ use Rattle.laws.specs.Sums.{sum-zero, sum-suc, sum-term}
 use Rattle.laws.specs.Tabulate.{tabulate, tabulate-length}
 use Rattle.domain.specs.Outline.{Outline}
 use Rattle.topology.specs.Sums.{total}
+use Rattle.topology.specs.Links.{link-out}
 use Rattle.topology.specs.Laying.{empty-front}
 use Rattle.front.specs.State.{State, nodePlaces, edgePlaces, hasEdge, cleared}
 use Rattle.front.specs.Sampling.{loopCount, loopNodes, sampledCount, frontRefusal, boundaryTurn, fromBoundary, loopIds, boundaryLoops}
 use Rattle.front.specs.Sound.{Sound, Frame}
 use Rattle.front.specs.FrameLaws.{frame-same, frame-node-places, frame-edge-places}
+use Rattle.front.specs.Ready.{Known}
 use Rattle.sampled.specs.Nodes.{nodesOf, Room, room-places, room-kept}
 use Rattle.sampled.specs.Joins.{OnlyLinked}
 use Rattle.sampled.specs.Laid.{Laid, Added}
@@ -29,6 +31,7 @@ use Rattle.sampled.specs.Outlines.{Threes}
 -- n points were sampled on o into the lists of `lent`: s is the state, and ls are the loops of its front
 pub record Begun (o : Outline) (n : ℕ) (lent s : State) (ls : List (List ℕ)) : Type 0 where
   pub sound : Sound n s ls
+  pub known : Known s
   -- one loop for each loop of the outline
   pub loops : length ls ≡ loopCount o
   pub nodeCount : s .counts .nodes ≡ n
@@ -95,6 +98,14 @@ none-linked : (lent : State) → OnlyLinked (cleared lent)
 unfolding OnlyLinked hasEdge cleared anyUp forUp
 none-linked lent a b ha hb na nb = refl
 
+none-known : (lent : State) → Known (cleared lent)
+unfolding cleared
+none-known lent =
+    record {
+      fronts = λ u v h q. absurd (h (sym q ∙ link-out 0 (lent .next) u (omega arith)));
+      joined = λ k h. absurd (omega arith);
+    }
+
 none-laid : (lent : State) → Laid (cleared lent) (cleared lent) []
 unfolding cleared total
 none-laid lent =
@@ -108,6 +119,7 @@ none-laid lent =
       snapshot = refl;
       quads = refl;
       linked = none-linked lent;
+      known = none-known lent;
     }
 
 -- ---- turn by turn
@@ -167,6 +179,7 @@ begun-in o size lent three P =
         quads-fit = omega (arith, L .quadCount);
         edges-fit = omega (arith, Q .edges, L .edgeCount, frame-edge-places (cleared lent) s (L .frame));
       };
+      known = L .known;
       loops = tabulate-length (loopCount o) (λ k. loopIds o size k (stateAt o size lent k));
       nodeCount = c;
       quadCount = L .quadCount;

@@ -1,5 +1,5 @@
 -- Two nodes are joined, and then all of a path: the links are those of the edges added, and each is a new edge of the mesh.
-use mathlib.Core.Path.{_≡_, refl, _∙_, ap}
+use mathlib.Core.Path.{_≡_, refl, sym, _∙_, ap, subst}
 use mathlib.Core.Bool.{Bool, true, false}
 use mathlib.Core.Logic.{_≢_}
 use mathlib.Core.List.{List, [], _∷_}
@@ -15,8 +15,10 @@ use Rattle.topology.specs.Laying.{joins}
 use Rattle.front.specs.State.{State, nextOf, hasEdge, withFront, addFront, pushEdge, addEdge}
 use Rattle.front.specs.Sound.{Frame}
 use Rattle.front.specs.FrameLaws.{frame-trans, frame-link, frame-edge}
+use Rattle.front.specs.Ready.{Known}
+use Rattle.front.specs.MeshEdges.{edge-pushed, edge-other}
+use Rattle.front.specs.KnownLaws.{known-joined}
 use Rattle.sampled.specs.Nodes.{Room, room-kept}
-use Rattle.sampled.specs.Edges.{edge-pushed, edge-other}
 use Rattle.sampled.specs.OneWay.{OneWay}
 
 -- ---- definitions
@@ -43,6 +45,7 @@ pub record Joined (s t : State) (cs : List Change) : Type 0 where
   pub edgeCount : t .counts .edges ≡ s .counts .edges + length cs
   pub frontCount : t .counts .front ≡ s .counts .front + length cs
   pub linked : OnlyLinked t
+  pub known : Known t
 
 -- what joining asks of a state
 pub record Joinable (n : ℕ) (s : State) (cs : List Change) : Type 0 where
@@ -53,6 +56,7 @@ pub record Joinable (n : ℕ) (s : State) (cs : List Change) : Type 0 where
   pub valid : Valid (nextOf s) cs
   pub one-way : OneWay (nextOf s) cs
   pub linked : OnlyLinked s
+  pub known : Known s
 
 -- ---- one edge
 
@@ -70,7 +74,7 @@ module _ {n : ℕ} (s : State) (u v : ℕ) (J : Joinable n s (add u v ∷ [])) w
   join-is =
       let w = J .within .0 in
       let R = J .room in
-      let none : hasEdge s u v ≡ false = J .linked u v (omega arith) (omega arith) (λ e. omega (arith, J .valid .0, e)) (J .one-way .0) in
+      let none : hasEdge s u v ≡ false = J .linked u v (omega arith) (omega arith) (λ e. omega (arith, J .valid .0, e)) (J .one-way .0 .0) in
       rw (J .valid .0, edge-front s (set (s .next) u v) (set (s .prev) v u) (s .counts .front + 1) u v, none)
 
   next-is : nextOf (withLink u v s) ≡ update (nextOf s) u v
@@ -104,6 +108,15 @@ module _ {n : ℕ} (s : State) (u v : ℕ) (J : Joinable n s (add u v ∷ [])) w
       frame-trans s t (withLink u v s) (frame-link u v (s .counts .front + 1) s (J .within .0 .0) (J .within .0 .1))
       (frame-edge (min u v) (max u v) t)
 
+  known-is : Known (withLink u v s)
+  unfolding pushEdge
+  known-is =
+      let w = J .within .0 in
+      let R = J .room in
+      subst Known join-is
+      (known-joined u v s (w .0) (w .1) (λ e. J .one-way .0 .1 (sym e)) (omega (arith, R .next, J .few))
+      (rw join-is (omega (arith, R .edges, J .edges))) (J .known))
+
   join-one : Joined s (join s u v) (add u v ∷ [])
   unfolding pushEdge
   join-one =
@@ -120,6 +133,7 @@ module _ {n : ℕ} (s : State) (u v : ℕ) (J : Joinable n s (add u v ∷ [])) w
         edgeCount = refl;
         frontCount = refl;
         linked = linked-is;
+        known = known-is;
       })
 
   next-joined : nextOf (join s u v) ≡ update (nextOf s) u v
@@ -142,6 +156,7 @@ join-more {s} {t} {r} {u} {v} {cs} A B =
       edgeCount = omega (arith, A .edgeCount, B .edgeCount);
       frontCount = omega (arith, A .frontCount, B .frontCount);
       linked = B .linked;
+      known = B .known;
     }
 
 -- the edges of a path are added one by one
@@ -158,6 +173,7 @@ join-path {n} u (v ∷ vs) z s J =
       valid = (J .valid .0, tt);
       one-way = (J .one-way .0, tt);
       linked = J .linked;
+      known = J .known;
     } in
     let t = join s u v in
     let A = join-one s u v first in
@@ -170,5 +186,6 @@ join-path {n} u (v ∷ vs) z s J =
       valid = rw (next-joined s u v first) (J .valid .1);
       one-way = rw (next-joined s u v first) (J .one-way .1);
       linked = A .linked;
+      known = A .known;
     } in
     join-more A (join-path v vs z t rest)

@@ -16,6 +16,8 @@ use Rattle.topology.specs.Laying.{joins, Distinct, joined}
 use Rattle.front.specs.State.{State, nextOf, prevOf, hasEdge}
 use Rattle.front.specs.Sound.{Frame}
 use Rattle.front.specs.FrameLaws.{frame-trans}
+use Rattle.front.specs.Ready.{Known}
+use Rattle.front.specs.KnownLaws.{known-same}
 use Rattle.sampled.specs.Lists.{all-append}
 use Rattle.sampled.specs.Nodes.{nodesOf, Room, room-kept, Pushed}
 use Rattle.sampled.specs.OneWay.{one-way}
@@ -35,6 +37,7 @@ pub record Laid (lent s : State) (ls : List (List ℕ)) : Type 0 where
   pub snapshot : s .snapshot ≡ lent .snapshot
   pub quads : s .quads ≡ lent .quads
   pub linked : OnlyLinked s
+  pub known : Known s
 
 -- t is s with the points ps pushed and joined into the loop l
 pub record Added (lent s t : State) (ls : List (List ℕ)) (l : List ℕ) (ps : List Point) : Type 0 where
@@ -117,6 +120,7 @@ module _ {n : ℕ} (lent s t : State) (ls : List (List ℕ)) (ps : List Point) (
           one-way = one-way (t .counts .nodes) (omega (arith, R .few)) (nextOf t) x v w vs
               (each (λ u. u < t .counts .nodes) (λ u h. h .1) (x ∷ v ∷ w ∷ vs) new) d (changes .steps);
           linked = linked-pushed;
+          known = known-same s t (P .edges) (P .edgeCount) (omega (arith, P .count)) (P .next) (L .known);
         })
 
     loop-on : Added lent s (stored join (joins x (v ∷ w ∷ vs) x) t) ls (x ∷ v ∷ w ∷ vs) ps
@@ -140,6 +144,7 @@ module _ {n : ℕ} (lent s t : State) (ls : List (List ℕ)) (ps : List Point) (
             snapshot = J .snapshot ∙ P .snapshot ∙ L .snapshot;
             quads = J .quads ∙ P .quads ∙ L .quads;
             linked = J .linked;
+            known = J .known;
           };
           nodes = nodes-same t r (J .xs) (J .ys) (J .nodeCount) ∙ P .nodes;
           count = J .nodeCount ∙ P .count;

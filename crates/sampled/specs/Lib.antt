@@ -4,7 +4,6 @@ pub mod Cuts
 pub mod Rings
 pub mod OneWay
 pub mod RingJoins
-pub mod Edges
 pub mod Joins
 pub mod Laid
 pub mod Turn

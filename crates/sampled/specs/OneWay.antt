@@ -1,4 +1,4 @@
--- A ring of three ids or more is joined one way: no edge is added whose edge back is there.
+-- A ring of three ids or more is joined one way: no edge is added whose edge back is there, and none from a node to itself.
 use mathlib.Core.Path.{_≡_, refl, sym, _∙_}
 use mathlib.Core.Logic.{_≢_}
 use mathlib.Core.List.{List, [], _∷_}
@@ -10,11 +10,11 @@ use Rattle.topology.specs.Links.{off, update, update-other}
 use Rattle.topology.specs.Changes.{Change, add, remove, Valid}
 use Rattle.topology.specs.Laying.{joins, Distinct}
 
--- where u to v is added, v is not linked to u
+-- where u to v is added, v is not u, nor linked to u
 abbrev pub OneWay : (ℕ → ℕ) → List Change → Type 0
 OneWay f [] = Unit {0}
 OneWay f (remove u v ∷ cs) = OneWay (update f u off) cs
-OneWay f (add u v ∷ cs) = (f v ≢ u) × OneWay (update f u v) cs
+OneWay f (add u v ∷ cs) = ((f v ≢ u) × (v ≢ u)) × OneWay (update f u v) cs
 
 -- the last of u ∷ vs
 abbrev endOf : ℕ → List ℕ → ℕ
@@ -38,15 +38,15 @@ module _ (n : ℕ) (few : n ≤ off) where
 
   one-way-path : (f : ℕ → ℕ) (u : ℕ) (vs : List ℕ) (z : ℕ) → All (λ v. v < n) (u ∷ vs) → Distinct (u ∷ vs) → All (λ v. v ≢ z) (u ∷ vs)
       → f z ≢ endOf u vs → Valid f (joins u vs z) → OneWay f (joins u vs z)
-  one-way-path f u [] z b d nz ne h = (ne, tt)
+  one-way-path f u [] z b d nz ne h = ((ne, λ e. nz .0 (sym e)), tt)
   one-way-path f u (v ∷ vs) z b d nz ne h = (
-    unlinked f u v vs z (b .0) (d .0 .0) (h .1),
+    (unlinked f u v vs z (b .0) (d .0 .0) (h .1), d .0 .0),
     one-way-path (update f u v) v vs z (b .1) (d .1) (nz .1) (λ e. ne (sym (update-other f u v z (nz .0)) ∙ e)) (h .1),
   )
 
   pub one-way : (f : ℕ → ℕ) (x v w : ℕ) (vs : List ℕ) → All (λ u. u < n) (x ∷ v ∷ w ∷ vs) → Distinct (x ∷ v ∷ w ∷ vs)
       → Valid f (joins x (v ∷ w ∷ vs) x) → OneWay f (joins x (v ∷ w ∷ vs) x)
   one-way f x v w vs b d h = (
-    unlinked f x v (w ∷ vs) x (b .0) (d .0 .0) (h .1),
+    (unlinked f x v (w ∷ vs) x (b .0) (d .0 .0) (h .1), d .0 .0),
     one-way-path (update f x v) v (w ∷ vs) x (b .1) (d .1) (d .0) (rw (eq-eqb x x refl) (λ e. end-all (λ u. u ≢ v) w vs (d .1 .0) (sym e))) (h .1),
   )

@@ -32,7 +32,8 @@ is-within-requires c κs = search needs
 
 returns : tie.Need-returns Inv-loop μ-loop
 unfolding anyFloat
-returns c = scan-hit _ (c .before .before .before .before .loop .inv) (c .before .before .before .loop-test .taken) (sym (ap not (c .before .is-within .ensures)) ∙ c .if1 .taken)
+returns c = scan-hit _ (c .before .before .before .before .loop .inv) (c .before .before .before .loop-test .taken)
+    (sym (ap not (c .before .is-within .ensures)) ∙ c .if1 .taken)
 
 add-i : tie.Need-add-i Inv-loop μ-loop
 add-i c = omega arith
@@ -41,7 +42,8 @@ loop-less : tie.Need-loop-less Inv-loop μ-loop
 loop-less c = omega arith
 
 loop-again : tie.Need-loop-again Inv-loop μ-loop
-loop-again c = scan-next _ (c .before .before .before .before .loop .inv) (c .before .before .before .loop-test .taken) (sym (ap not (c .before .is-within .ensures)) ∙ c .if1 .left)
+loop-again c = scan-next _ (c .before .before .before .before .loop .inv) (c .before .before .before .loop-test .taken)
+    (sym (ap not (c .before .is-within .ensures)) ∙ c .if1 .left)
 
 returns-2 : tie.Need-returns-2 Inv-loop μ-loop
 unfolding anyFloat

@@ -11,7 +11,9 @@ use Rattle.crossfield.proofs.bounds_of.Statement.{statement}
 use Rattle.crossfield.proofs.bounds_of.Tie as tie
 
 abbrev Inv-loop : tie.InvT-loop
-Inv-loop outer holes lens wide₀ k₀ start₀ wide k start = Passed (outline outer holes lens) k start × Loop (holeBounds (outline outer holes lens)) (loopBounds outer noBounds) (length lens) k wide
+Inv-loop outer holes lens wide₀ k₀ start₀ wide k start =
+    Passed (outline outer holes lens) k start × Loop (holeBounds (outline outer holes lens)) (loopBounds outer noBounds) (length lens) k
+    wide
 
 abbrev μ-loop : tie.MeasureT-loop
 μ-loop outer holes lens wide₀ k₀ start₀ wide k start = length lens - k
@@ -26,8 +28,10 @@ loop-bounds-requires : tie.Need-loop-bounds-requires Inv-loop μ-loop
 loop-bounds-requires c κs = search needs
 
 loop-holds : tie.Need-loop-holds Inv-loop μ-loop
-loop-holds c = let points = outer-points _ (c .before .before .loop-points .ensures) in
-    (passed-none (c .before .before .before .before .before .before .pre), rw (c .loop-bounds .ensures, c .before .no-bounds .ensures, points) (loop-start _ _ _))
+loop-holds c = let points = outer-points _ (c .before .before .loop-points .ensures) in (
+  passed-none (c .before .before .before .before .before .before .pre),
+  rw (c .loop-bounds .ensures, c .before .no-bounds .ensures, points) (loop-start _ _ _),
+)
 
 add-loop-points : tie.Need-add-loop-points Inv-loop μ-loop
 add-loop-points c = omega arith
@@ -39,7 +43,11 @@ loop-bounds-requires-2 : tie.Need-loop-bounds-requires-2 Inv-loop μ-loop
 loop-bounds-requires-2 c κs = search needs
 
 mul-start : tie.Need-mul-start Inv-loop μ-loop
-mul-start c = omega (arith, c .before .before .loop-test .taken, c .before .before .before .before .before .before .before .before .before .before .good .1 .1 .0)
+mul-start c = omega (
+  arith,
+  c .before .before .loop-test .taken,
+  c .before .before .before .before .before .before .before .before .before .before .good .1 .1 .0,
+)
 
 shared-slice-read-start : tie.Need-shared-slice-read-start Inv-loop μ-loop
 shared-slice-read-start c = omega arith

@@ -48,19 +48,40 @@ floor-quotient-requires : tie.Need-floor-quotient-requires
 floor-quotient-requires c κs = search needs
 
 returns : tie.Need-returns
-returns c = (low (read (c .before .floor-quotient .result)) (c .before .before .args .n) (c .if1 .taken) ∙ ap (λ (z : ℤ). cellOf z (c .before .before .args .n)) (same _ _ (record { sfits = c .before .floor-quotient .ok }) (c .before .floor-quotient .ensures)), omega arith)
+returns c = (
+  low (read (c .before .floor-quotient .result)) (c .before .before .args .n) (c .if1 .taken) ∙ ap
+      (λ (z : ℤ). cellOf z (c .before .before .args .n))
+      (same _ _ (record { sfits = c .before .floor-quotient .ok }) (c .before .floor-quotient .ensures)),
+  omega arith,
+)
 
 cast-k : tie.Need-cast-k
-cast-k c = (sign (read (c .before .floor-quotient .result)) (c .if1 .left), rw (toZ-ofZ w64 (c .before .floor-quotient .result) (record { sfits = c .before .floor-quotient .ok })) (size (c .before .floor-quotient .result) (rw (toZ-ofZ w64 (c .before .floor-quotient .result) (record { sfits = c .before .floor-quotient .ok })) at (c .if1 .left)) (record { sfits = c .before .floor-quotient .ok })))
+cast-k c = (
+  sign (read (c .before .floor-quotient .result)) (c .if1 .left),
+  rw (toZ-ofZ w64 (c .before .floor-quotient .result) (record { sfits = c .before .floor-quotient .ok }))
+      (size (c .before .floor-quotient .result)
+      (rw (toZ-ofZ w64 (c .before .floor-quotient .result) (record { sfits = c .before .floor-quotient .ok })) at (c .if1 .left))
+      (record { sfits = c .before .floor-quotient .ok })),
+)
 
 sub-last : tie.Need-sub-last
 sub-last c = search needs
 
 returns-2 : tie.Need-returns-2
-returns-2 c = (near (read (c .before .before .floor-quotient .result)) (c .before .before .before .args .n) (c .before .if1 .left) (c .if2 .taken) ∙ ap (λ (z : ℤ). cellOf z (c .before .before .before .args .n)) (same _ _ (record { sfits = c .before .before .floor-quotient .ok }) (c .before .before .floor-quotient .ensures)), omega arith)
+returns-2 c = (
+  near (read (c .before .before .floor-quotient .result)) (c .before .before .before .args .n) (c .before .if1 .left)
+      (c .if2 .taken) ∙ ap (λ (z : ℤ). cellOf z (c .before .before .before .args .n))
+      (same _ _ (record { sfits = c .before .before .floor-quotient .ok }) (c .before .before .floor-quotient .ensures)),
+  omega arith,
+)
 
 returns-3 : tie.Need-returns-3
-returns-3 c = (far (read (c .before .before .floor-quotient .result)) (c .before .before .before .args .n) (c .before .if1 .left) (c .if2 .left) ∙ ap (λ (z : ℤ). cellOf z (c .before .before .before .args .n)) (same _ _ (record { sfits = c .before .before .floor-quotient .ok }) (c .before .before .floor-quotient .ensures)), omega arith)
+returns-3 c = (
+  far (read (c .before .before .floor-quotient .result)) (c .before .before .before .args .n) (c .before .if1 .left)
+      (c .if2 .left) ∙ ap (λ (z : ℤ). cellOf z (c .before .before .before .args .n))
+      (same _ _ (record { sfits = c .before .before .floor-quotient .ok }) (c .before .before .floor-quotient .ensures)),
+  omega arith,
+)
 
 pub cell-of-spec : {M : Type 1} → statement M
 cell-of-spec =

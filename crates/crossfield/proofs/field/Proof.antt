@@ -24,13 +24,31 @@ bounds-of-requires : tie.Need-bounds-of-requires
 bounds-of-requires c κs = accepted _ (unrefused _ _ _ _ (sym (c .before .field-refusal .ensures) ∙ c .if1 .left) .outline) .shape
 
 grid-of-requires : tie.Need-grid-of-requires
-grid-of-requires c κs = few-made _ _ _ _ (record { outer = λ i h. c .before .before .before .before .before .before .before .before .shared-slice-known .given i; holes = λ i h. c .before .before .before .before .before .before .before .shared-slice-known2 .given i }) (subst T (sym (c .before .before .before .before .before .before .before .before .before .good .1 .1 .1 .0 .1)) tt) (sym (c .before .before .field-refusal .ensures) ∙ c .before .if1 .left) (c .bounds-of .ensures)
+grid-of-requires c κs = few-made _ _ _ _ (record {
+  outer = λ i h. c .before .before .before .before .before .before .before .before .shared-slice-known .given i;
+  holes =
+      λ i h. c .before .before .before .before .before .before .before .shared-slice-known2 .given i;
+})
+    (subst T (sym (c .before .before .before .before .before .before .before .before .before .good .1 .1 .1 .0 .1)) tt)
+    (sym (c .before .before .field-refusal .ensures) ∙ c .before .if1 .left) (c .bounds-of .ensures)
 
 seed-all-requires : tie.Need-seed-all-requires
-seed-all-requires c κs = seeds-ask _ _ _ _ _ _ (record { outer = λ i h. c .before .before .before .before .before .before .before .before .before .before .before .shared-slice-known .given i; holes = λ i h. c .before .before .before .before .before .before .before .before .before .before .shared-slice-known2 .given i }) (subst T (sym (c .before .before .before .before .before .before .before .before .before .before .before .before .good .1 .1 .1 .0 .1)) tt) (sym (c .before .before .before .before .before .field-refusal .ensures) ∙ c .before .before .before .before .if1 .left) (c .before .before .before .before .before .before .lesser .ensures) (c .before .before .before .bounds-of .ensures) (c .before .before .grid-of .ensures)
+seed-all-requires c κs = seeds-ask _ _ _ _ _ _
+    (record { outer = λ i h. c .before .before .before .before .before .before .before .before .before .before .before .shared-slice-known .given i; holes = λ i h. c .before .before .before .before .before .before .before .before .before .before .shared-slice-known2 .given i })
+    (subst T (sym (c .before .before .before .before .before .before .before .before .before .before .before .before .good .1 .1 .1 .0 .1))
+    tt) (sym (c .before .before .before .before .before .field-refusal .ensures) ∙ c .before .before .before .before .if1 .left)
+    (c .before .before .before .before .before .before .lesser .ensures) (c .before .before .before .bounds-of .ensures)
+    (c .before .before .grid-of .ensures)
 
 sweeps-requires : tie.Need-sweeps-requires
-sweeps-requires c κs = room-of (room-made _ _ _ _ _ _ (sym (c .before .before .before .before .before .before .before .before .before .before .before .before .field-refusal .ensures) ∙ c .before .before .before .before .before .before .before .before .before .before .before .if1 .left) (c .before .before .before .before .before .before .before .before .before .before .before .before .before .lesser .ensures) (c .before .before .before .before .before .before .before .before .before .before .bounds-of .ensures) (c .before .before .before .before .before .before .before .before .before .grid-of .ensures)) (c .before .before .before .before .before .before .seed-all .kept .1 .1 .1 .1 .0) (c .before .before .before .before .before .before .seed-all .kept .1 .1 .1 .1 .1 .0)
+sweeps-requires c κs = room-of (room-made _ _ _ _ _ _
+    (sym (c .before .before .before .before .before .before .before .before .before .before .before .before .field-refusal .ensures)
+    ∙ c .before .before .before .before .before .before .before .before .before .before .before .if1 .left)
+    (c .before .before .before .before .before .before .before .before .before .before .before .before .before .lesser .ensures)
+    (c .before .before .before .before .before .before .before .before .before .before .bounds-of .ensures)
+    (c .before .before .before .before .before .before .before .before .before .grid-of .ensures))
+    (c .before .before .before .before .before .before .seed-all .kept .1 .1 .1 .1 .0)
+    (c .before .before .before .before .before .before .seed-all .kept .1 .1 .1 .1 .1 .0)
 
 same-length : tie.Need-same-length
 same-length c = search needs
@@ -40,7 +58,15 @@ same-length-2 c = search needs
 
 returns-2 : tie.Need-returns-2
 unfolding fieldAnswer fieldRefusal fieldOf
-returns-2 c = rw (← c .before .before .before .before .before .before .before .before .before .before .before .before .before .before .before .before .lesser .ensures, sym (c .before .before .before .before .before .before .before .before .before .before .before .before .before .before .before .field-refusal .ensures) ∙ c .before .before .before .before .before .before .before .before .before .before .before .before .before .before .if1 .left, ← c .before .before .before .before .before .before .before .before .before .before .before .before .before .bounds-of .ensures, ← c .before .before .before .before .before .before .before .before .before .before .before .before .grid-of .ensures, ← c .before .before .before .before .before .before .before .before .before .seed-all .ensures, ← c .before .before .sweeps .ensures)
+returns-2 c = rw (
+  ← c .before .before .before .before .before .before .before .before .before .before .before .before .before .before .before .before .lesser .ensures,
+  sym (c .before .before .before .before .before .before .before .before .before .before .before .before .before .before .before .field-refusal .ensures)
+      ∙ c .before .before .before .before .before .before .before .before .before .before .before .before .before .before .if1 .left,
+  ← c .before .before .before .before .before .before .before .before .before .before .before .before .before .bounds-of .ensures,
+  ← c .before .before .before .before .before .before .before .before .before .before .before .before .grid-of .ensures,
+  ← c .before .before .before .before .before .before .before .before .before .seed-all .ensures,
+  ← c .before .before .sweeps .ensures,
+)
 
 pub field-spec : {M : Type 1} → statement M
 field-spec =

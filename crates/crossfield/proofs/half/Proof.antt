@@ -22,14 +22,26 @@ scaled-requires-2 c κs = search needs
 
 returns-2 : tie.Need-returns-2
 unfolding half
-returns-2 c = rw (← c .before .before .before .before .before .before .before .norm .ensures, c .before .before .before .before .before .if1 .left, c .before .if2 .taken, ← c .before .before .before .abs-f64 .ensures) (c .scaled2 .ensures)
+returns-2 c = rw (
+  ← c .before .before .before .before .before .before .before .norm .ensures,
+  c .before .before .before .before .before .if1 .left,
+  c .before .if2 .taken,
+  ← c .before .before .before .abs-f64 .ensures,
+)
+    (c .scaled2 .ensures)
 
 scaled-requires-3 : tie.Need-scaled-requires-3
 scaled-requires-3 c κs = search needs
 
 returns-3 : tie.Need-returns-3
 unfolding half
-returns-3 c = rw (← c .before .before .before .before .before .before .before .norm .ensures, c .before .before .before .before .before .if1 .left, c .before .if2 .left, ← c .before .before .before .abs-f64 .ensures) (c .scaled3 .ensures)
+returns-3 c = rw (
+  ← c .before .before .before .before .before .before .before .norm .ensures,
+  c .before .before .before .before .before .if1 .left,
+  c .before .if2 .left,
+  ← c .before .before .before .abs-f64 .ensures,
+)
+    (c .scaled3 .ensures)
 
 pub half-spec : {M : Type 1} → statement M
 half-spec =

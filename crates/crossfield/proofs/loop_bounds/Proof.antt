@@ -29,7 +29,8 @@ loop-less : tie.Need-loop-less Inv-loop μ-loop
 loop-less c = omega arith
 
 loop-again : tie.Need-loop-again Inv-loop μ-loop
-loop-again c = rw (c .widened .ensures, c .before .point-at .ensures) (loop-next _ _ (c .before .before .before .loop .inv) (c .before .before .loop-test .taken))
+loop-again c = rw (c .widened .ensures, c .before .point-at .ensures)
+    (loop-next _ _ (c .before .before .before .loop .inv) (c .before .before .loop-test .taken))
 
 returns : tie.Need-returns Inv-loop μ-loop
 unfolding loopBounds

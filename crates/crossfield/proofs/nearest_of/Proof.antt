@@ -15,7 +15,8 @@ closer-of-requires-3 c κs = search needs
 
 returns : tie.Need-returns
 unfolding nearestOf
-returns c = rw (← c .before .before .before .before .before .closer-of .ensures, ← c .before .before .closer-of2 .ensures) (c .closer-of3 .ensures)
+returns c = rw (← c .before .before .before .before .before .closer-of .ensures, ← c .before .before .closer-of2 .ensures)
+    (c .closer-of3 .ensures)
 
 pub nearest-of-spec : {M : Type 1} → statement M
 nearest-of-spec =

@@ -33,7 +33,12 @@ add-result-3 c = search needs
 
 returns : tie.Need-returns
 unfolding neighbourCount
-returns c = rw (← c .before .before .before .one-if .ensures .0, ← c .before .before .one-if2 .ensures .0, ← c .before .one-if3 .ensures .0, ← c .one-if4 .ensures .0)
+returns c = rw (
+  ← c .before .before .before .one-if .ensures .0,
+  ← c .before .before .one-if2 .ensures .0,
+  ← c .before .one-if3 .ensures .0,
+  ← c .one-if4 .ensures .0,
+)
 
 pub neighbour-count-spec : {M : Type 1} → statement M
 neighbour-count-spec =

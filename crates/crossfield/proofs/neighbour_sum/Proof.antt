@@ -25,7 +25,12 @@ plus-after-requires-2 c κs = over-in (c .before .before .before .before .pre)
 
 returns : tie.Need-returns
 unfolding neighbourSum
-returns c = rw (← c .before .before .before .before .before .pre .at, ← c .before .before .before .plus-before .ensures, ← c .before .before .plus-after .ensures, ← c .before .plus-before2 .ensures) (c .plus-after2 .ensures)
+returns c = rw (
+  ← c .before .before .before .before .before .pre .at,
+  ← c .before .before .before .plus-before .ensures,
+  ← c .before .before .plus-after .ensures,
+  ← c .before .plus-before2 .ensures,
+) (c .plus-after2 .ensures)
 
 pub neighbour-sum-spec : {M : Type 1} → statement M
 neighbour-sum-spec =

@@ -18,18 +18,33 @@ grid-sound-requires c κs = search needs
 
 returns-2 : tie.Need-returns-2
 unfolding recordRefusal
-returns-2 c = rw (sym (c .before .before .before .counts-sound .ensures) ∙ not-false _ (c .before .before .if1 .left), sym (c .before .grid-sound .ensures) ∙ not-true _ (c .if2 .taken))
+returns-2 c = rw (
+  sym (c .before .before .before .counts-sound .ensures) ∙ not-false _ (c .before .before .if1 .left),
+  sym (c .before .grid-sound .ensures) ∙ not-true _ (c .if2 .taken),
+)
 
 any-unsound-requires : tie.Need-any-unsound-requires
 any-unsound-requires c κs = search needs
 
 returns-3 : tie.Need-returns-3
 unfolding recordRefusal
-returns-3 c = rw (sym (c .before .before .before .before .before .counts-sound .ensures) ∙ not-false _ (c .before .before .before .before .if1 .left), sym (c .before .before .before .grid-sound .ensures) ∙ not-false _ (c .before .before .if2 .left), sym (c .before .any-unsound .ensures) ∙ c .if3 .taken)
+returns-3 c = rw (
+  sym (c .before .before .before .before .before .counts-sound .ensures) ∙ not-false _
+      (c .before .before .before .before .if1 .left),
+  sym (c .before .before .before .grid-sound .ensures) ∙ not-false _
+      (c .before .before .if2 .left),
+  sym (c .before .any-unsound .ensures) ∙ c .if3 .taken,
+)
 
 returns-4 : tie.Need-returns-4
 unfolding recordRefusal
-returns-4 c = rw (sym (c .before .before .before .before .before .counts-sound .ensures) ∙ not-false _ (c .before .before .before .before .if1 .left), sym (c .before .before .before .grid-sound .ensures) ∙ not-false _ (c .before .before .if2 .left), sym (c .before .any-unsound .ensures) ∙ c .if3 .left)
+returns-4 c = rw (
+  sym (c .before .before .before .before .before .counts-sound .ensures) ∙ not-false _
+      (c .before .before .before .before .if1 .left),
+  sym (c .before .before .before .grid-sound .ensures) ∙ not-false _
+      (c .before .before .if2 .left),
+  sym (c .before .any-unsound .ensures) ∙ c .if3 .left,
+)
 
 pub record-refusal-spec : {M : Type 1} → statement M
 record-refusal-spec =

@@ -44,7 +44,12 @@ mul-values-2 : tie.Need-mul-values-2
 mul-values-2 c = omega (arith, here-in (c .before .before .before .before .before .pre))
 
 slice-write-values-2 : tie.Need-slice-write-values-2
-slice-write-values-2 c = omega (arith, here-in (c .before .before .before .before .before .pre), length-set (c .before .before .before .before .before .args .values .now) (2 * c .before .before .before .before .before .args .id) (c .before .before .average .result .x))
+slice-write-values-2 c = omega (
+  arith,
+  here-in (c .before .before .before .before .before .pre),
+  length-set (c .before .before .before .before .before .args .values .now) (2 * c .before .before .before .before .before .args .id)
+      (c .before .before .average .result .x),
+)
 
 change-requires : tie.Need-change-requires
 change-requires c κs = search needs
@@ -54,14 +59,24 @@ same-length c = search needs
 
 returns : tie.Need-returns
 unfolding relaxed setValue pointAt
-returns c = rw (← c .before .before .before .before .before .before .before .pre .at, ← c .before .before .before .before .average .ensures, ← c .before .change .ensures, c .if1 .taken)
+returns c = rw (
+  ← c .before .before .before .before .before .before .before .pre .at,
+  ← c .before .before .before .before .average .ensures,
+  ← c .before .change .ensures,
+  c .if1 .taken,
+)
 
 same-length-2 : tie.Need-same-length-2
 same-length-2 c = search needs
 
 returns-2 : tie.Need-returns-2
 unfolding relaxed setValue pointAt
-returns-2 c = rw (← c .before .before .before .before .before .before .before .pre .at, ← c .before .before .before .before .average .ensures, ← c .before .change .ensures, c .if1 .left)
+returns-2 c = rw (
+  ← c .before .before .before .before .before .before .before .pre .at,
+  ← c .before .before .before .before .average .ensures,
+  ← c .before .change .ensures,
+  c .if1 .left,
+)
 
 pub relax-spec : {M : Type 1} → statement M
 relax-spec =

@@ -11,7 +11,9 @@ use Rattle.crossfield.proofs.seed_row.Statement.{statement}
 use Rattle.crossfield.proofs.seed_row.Tie as tie
 
 abbrev Inv-loop : tie.InvT-loop
-Inv-loop outer holes lens g values₀ marks₀ j base nx i₀ values marks i = (length values ≡ length values₀) × (length marks ≡ length marks₀) × Loop (seedNode (outline outer holes lens) g j) (fieldLists values₀ marks₀) nx i (fieldLists values marks)
+Inv-loop outer holes lens g values₀ marks₀ j base nx i₀ values marks i =
+    (length values ≡ length values₀) × (length marks ≡ length marks₀) × Loop (seedNode (outline outer holes lens) g j)
+    (fieldLists values₀ marks₀) nx i (fieldLists values marks)
 
 abbrev μ-loop : tie.MeasureT-loop
 μ-loop outer holes lens g values₀ marks₀ j base nx i₀ values marks i = nx - i
@@ -20,10 +22,22 @@ loop-holds : tie.Need-loop-holds Inv-loop μ-loop
 loop-holds c = (refl, refl, loop-start _ _ _)
 
 add-seed-node : tie.Need-add-seed-node Inv-loop μ-loop
-add-seed-node c = omega (arith, c .before .before .before .before .before .before .before .before .before .pre .1 .1 .marks, c .before .before .before .loop .inv .1)
+add-seed-node c = omega (
+  arith,
+  c .before .before .before .before .before .before .before .before .before .pre .1 .1 .marks,
+  c .before .before .before .loop .inv .1,
+)
 
 seed-node-requires : tie.Need-seed-node-requires Inv-loop μ-loop
-seed-node-requires c κs = (c .before .before .before .before .before .before .before .before .before .pre .0, (node-of (c .before .before .before .loop .i) (c .before .before .before .before .before .before .before .before .before .pre .1 .0) (c .before .before .loop-test .taken) (c .before .before .before .loop .inv .0), mark-of (c .before .before .before .loop .i) (c .before .before .before .before .before .before .before .before .before .pre .1 .1) (c .before .before .loop-test .taken) (c .before .before .before .loop .inv .1)))
+seed-node-requires c κs = (
+  c .before .before .before .before .before .before .before .before .before .pre .0,
+  (
+    node-of (c .before .before .before .loop .i) (c .before .before .before .before .before .before .before .before .before .pre .1 .0)
+        (c .before .before .loop-test .taken) (c .before .before .before .loop .inv .0),
+    mark-of (c .before .before .before .loop .i) (c .before .before .before .before .before .before .before .before .before .pre .1 .1)
+        (c .before .before .loop-test .taken) (c .before .before .before .loop .inv .1),
+  ),
+)
 
 add-i : tie.Need-add-i Inv-loop μ-loop
 add-i c = omega arith
@@ -32,7 +46,15 @@ loop-less : tie.Need-loop-less Inv-loop μ-loop
 loop-less c = omega arith
 
 loop-again : tie.Need-loop-again Inv-loop μ-loop
-loop-again c = (c .before .before .before .before .seed-node .kept .1 .1 .1 .1 .0 ∙ c .before .before .before .before .before .before .before .before .loop .inv .0, c .before .before .before .before .seed-node .kept .1 .1 .1 .1 .1 .0 ∙ c .before .before .before .before .before .before .before .before .loop .inv .1, rw (c .before .before .before .before .seed-node .ensures) (loop-next _ _ (c .before .before .before .before .before .before .before .before .loop .inv .2) (c .before .before .before .before .before .before .before .loop-test .taken)))
+loop-again c = (
+  c .before .before .before .before .seed-node .kept .1 .1 .1 .1 .0
+      ∙ c .before .before .before .before .before .before .before .before .loop .inv .0,
+  c .before .before .before .before .seed-node .kept .1 .1 .1 .1 .1 .0
+      ∙ c .before .before .before .before .before .before .before .before .loop .inv .1,
+  rw (c .before .before .before .before .seed-node .ensures)
+      (loop-next _ _ (c .before .before .before .before .before .before .before .before .loop .inv .2)
+      (c .before .before .before .before .before .before .before .loop-test .taken)),
+)
 
 same-length : tie.Need-same-length Inv-loop μ-loop
 same-length c = c .before .loop .inv .0

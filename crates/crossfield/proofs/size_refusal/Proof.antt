@@ -19,15 +19,29 @@ returns-2 c = rw (sym (c .before .before .is-finite-f64 .ensures) ∙ not-false 
 
 returns-3 : tie.Need-returns-3
 unfolding sizeRefusal
-returns-3 c = rw (sym (c .before .before .before .is-finite-f64 .ensures) ∙ not-false _ (c .before .before .if1 .left), c .before .if2 .left, c .if3 .taken)
+returns-3 c = rw (
+  sym (c .before .before .before .is-finite-f64 .ensures) ∙ not-false _ (c .before .before .if1 .left),
+  c .before .if2 .left,
+  c .if3 .taken,
+)
 
 returns-4 : tie.Need-returns-4
 unfolding sizeRefusal
-returns-4 c = rw (sym (c .before .before .before .before .is-finite-f64 .ensures) ∙ not-false _ (c .before .before .before .if1 .left), c .before .before .if2 .left, c .before .if3 .left, c .if4 .taken)
+returns-4 c = rw (
+  sym (c .before .before .before .before .is-finite-f64 .ensures) ∙ not-false _ (c .before .before .before .if1 .left),
+  c .before .before .if2 .left,
+  c .before .if3 .left,
+  c .if4 .taken,
+)
 
 returns-5 : tie.Need-returns-5
 unfolding sizeRefusal
-returns-5 c = rw (sym (c .before .before .before .before .is-finite-f64 .ensures) ∙ not-false _ (c .before .before .before .if1 .left), c .before .before .if2 .left, c .before .if3 .left, c .if4 .left)
+returns-5 c = rw (
+  sym (c .before .before .before .before .is-finite-f64 .ensures) ∙ not-false _ (c .before .before .before .if1 .left),
+  c .before .before .if2 .left,
+  c .before .if3 .left,
+  c .if4 .left,
+)
 
 pub size-refusal-spec : {M : Type 1} → statement M
 size-refusal-spec =

@@ -24,7 +24,8 @@ too-many-nodes-requires c κs = search needs
 
 returns : tie.Need-returns Inv-loop μ-loop
 unfolding spacing
-returns c = run-out _ _ _ _ (c .before .before .before .loop .inv) (c .before .before .loop-test .taken) (rw (sym (c .before .too-many-nodes .ensures) ∙ not-true _ (c .if1 .taken)))
+returns c = run-out _ _ _ _ (c .before .before .before .loop .inv) (c .before .before .loop-test .taken)
+    (rw (sym (c .before .too-many-nodes .ensures) ∙ not-true _ (c .if1 .taken)))
 
 add-k : tie.Need-add-k Inv-loop μ-loop
 add-k c = omega arith
@@ -33,7 +34,8 @@ loop-less : tie.Need-loop-less Inv-loop μ-loop
 loop-less c = omega arith
 
 loop-again : tie.Need-loop-again Inv-loop μ-loop
-loop-again c = run-go _ (λ (last : Float). last) _ _ (c .before .before .before .loop .inv) (c .before .before .loop-test .taken) (rw (sym (c .before .too-many-nodes .ensures) ∙ not-false _ (c .if1 .left)))
+loop-again c = run-go _ (λ (last : Float). last) _ _ (c .before .before .before .loop .inv) (c .before .before .loop-test .taken)
+    (rw (sym (c .before .too-many-nodes .ensures) ∙ not-false _ (c .if1 .left)))
 
 returns-2 : tie.Need-returns-2 Inv-loop μ-loop
 unfolding spacing

@@ -11,7 +11,8 @@ use Rattle.crossfield.proofs.sweep.Statement.{statement}
 use Rattle.crossfield.proofs.sweep.Tie as tie
 
 abbrev Inv-loop : tie.InvT-loop
-Inv-loop g marks values₀ nx ny quiet₀ base₀ j₀ values quiet base j = (length values ≡ length values₀) × (base ≡ j * nx) × Loop (sweepRow g marks) (swept values₀ true) ny j (swept values quiet)
+Inv-loop g marks values₀ nx ny quiet₀ base₀ j₀ values quiet base j =
+    (length values ≡ length values₀) × (base ≡ j * nx) × Loop (sweepRow g marks) (swept values₀ true) ny j (swept values quiet)
 
 abbrev μ-loop : tie.MeasureT-loop
 μ-loop g marks values₀ nx ny quiet₀ base₀ j₀ values quiet base j = ny - j
@@ -20,10 +21,25 @@ loop-holds : tie.Need-loop-holds Inv-loop μ-loop
 loop-holds c = (refl, omega arith, loop-start _ _ _)
 
 sweep-row-requires : tie.Need-sweep-row-requires Inv-loop μ-loop
-sweep-row-requires c κs = (row-of (c .before .before .loop .j) (c .before .before .loop .inv .1) (c .before .loop-test .taken) (c .before .before .before .before .before .pre .values) (c .before .before .loop .inv .0), omega (arith, c .before .before .before .before .before .pre .marks, row-in (c .before .before .loop .j) (c .before .before .before .before .before .args .g .ny) (c .before .before .before .before .before .args .g .nx) (c .before .loop-test .taken)))
+sweep-row-requires c κs = (
+  row-of (c .before .before .loop .j) (c .before .before .loop .inv .1) (c .before .loop-test .taken)
+      (c .before .before .before .before .before .pre .values) (c .before .before .loop .inv .0),
+  omega (
+    arith,
+    c .before .before .before .before .before .pre .marks,
+    row-in (c .before .before .loop .j) (c .before .before .before .before .before .args .g .ny)
+        (c .before .before .before .before .before .args .g .nx) (c .before .loop-test .taken),
+  ),
+)
 
 add-base : tie.Need-add-base Inv-loop μ-loop
-add-base c = omega (arith, c .before .before .before .before .before .before .before .before .pre .marks, row-in (c .before .before .before .before .before .loop .j) (c .before .before .before .before .before .before .before .before .args .g .ny) (c .before .before .before .before .before .before .before .before .args .g .nx) (c .before .before .before .before .loop-test .taken))
+add-base c = omega (
+  arith,
+  c .before .before .before .before .before .before .before .before .pre .marks,
+  row-in (c .before .before .before .before .before .loop .j)
+      (c .before .before .before .before .before .before .before .before .args .g .ny)
+      (c .before .before .before .before .before .before .before .before .args .g .nx) (c .before .before .before .before .loop-test .taken),
+)
 
 add-j : tie.Need-add-j Inv-loop μ-loop
 add-j c = omega arith
@@ -32,7 +48,12 @@ loop-less : tie.Need-loop-less Inv-loop μ-loop
 loop-less c = omega arith
 
 loop-again : tie.Need-loop-again Inv-loop μ-loop
-loop-again c = (c .before .before .sweep-row .kept .1 .1 .0 ∙ c .before .before .before .before .before .loop .inv .0, omega (arith, c .before .before .before .before .before .loop .inv .1), rw (c .before .before .sweep-row .ensures) (loop-next _ _ (c .before .before .before .before .before .loop .inv .2) (c .before .before .before .before .loop-test .taken)))
+loop-again c = (
+  c .before .before .sweep-row .kept .1 .1 .0 ∙ c .before .before .before .before .before .loop .inv .0,
+  omega (arith, c .before .before .before .before .before .loop .inv .1),
+  rw (c .before .before .sweep-row .ensures)
+      (loop-next _ _ (c .before .before .before .before .before .loop .inv .2) (c .before .before .before .before .loop-test .taken)),
+)
 
 same-length : tie.Need-same-length Inv-loop μ-loop
 same-length c = c .before .loop .inv .0

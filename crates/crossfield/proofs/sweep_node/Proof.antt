@@ -16,7 +16,10 @@ same-length c = search needs
 
 returns : tie.Need-returns
 unfolding sweepNode
-returns c = rw (← c .before .before .before .before .before .before .before .before .pre .0 .at, eq-eqb _ _ (c .before .before .before .before .if1 .taken)) (c .before .before .relax .ensures)
+returns c = rw (
+  ← c .before .before .before .before .before .before .before .before .pre .0 .at,
+  eq-eqb _ _ (c .before .before .before .before .if1 .taken),
+) (c .before .before .relax .ensures)
 
 returns-2 : tie.Need-returns-2
 unfolding sweepNode

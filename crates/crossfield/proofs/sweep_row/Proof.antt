@@ -10,7 +10,8 @@ use Rattle.crossfield.proofs.sweep_row.Statement.{statement}
 use Rattle.crossfield.proofs.sweep_row.Tie as tie
 
 abbrev Inv-loop : tie.InvT-loop
-Inv-loop g marks values₀ quiet j base nx still₀ i₀ values still i = (length values ≡ length values₀) × Loop (sweepNode g marks j) (swept values₀ quiet) nx i (swept values still)
+Inv-loop g marks values₀ quiet j base nx still₀ i₀ values still i =
+    (length values ≡ length values₀) × Loop (sweepNode g marks j) (swept values₀ quiet) nx i (swept values still)
 
 abbrev μ-loop : tie.MeasureT-loop
 μ-loop g marks values₀ quiet j base nx still₀ i₀ values still i = nx - i
@@ -22,7 +23,11 @@ add-sweep-node : tie.Need-add-sweep-node Inv-loop μ-loop
 add-sweep-node c = omega (arith, c .before .before .before .before .before .pre .1)
 
 sweep-node-requires : tie.Need-sweep-node-requires Inv-loop μ-loop
-sweep-node-requires c κs = (node-of (c .before .before .loop .i) (c .before .before .before .before .before .pre .0) (c .before .loop-test .taken) (c .before .before .loop .inv .0), omega (arith, c .before .before .before .before .before .pre .1))
+sweep-node-requires c κs = (
+  node-of (c .before .before .loop .i) (c .before .before .before .before .before .pre .0)
+      (c .before .loop-test .taken) (c .before .before .loop .inv .0),
+  omega (arith, c .before .before .before .before .before .pre .1),
+)
 
 add-i : tie.Need-add-i Inv-loop μ-loop
 add-i c = omega arith
@@ -31,7 +36,11 @@ loop-less : tie.Need-loop-less Inv-loop μ-loop
 loop-less c = omega arith
 
 loop-again : tie.Need-loop-again Inv-loop μ-loop
-loop-again c = (c .before .before .sweep-node .kept .1 .1 .0 ∙ c .before .before .before .before .before .loop .inv .0, rw (c .before .before .sweep-node .ensures) (loop-next _ _ (c .before .before .before .before .before .loop .inv .1) (c .before .before .before .before .loop-test .taken)))
+loop-again c = (
+  c .before .before .sweep-node .kept .1 .1 .0 ∙ c .before .before .before .before .before .loop .inv .0,
+  rw (c .before .before .sweep-node .ensures)
+      (loop-next _ _ (c .before .before .before .before .before .loop .inv .1) (c .before .before .before .before .loop-test .taken)),
+)
 
 same-length : tie.Need-same-length Inv-loop μ-loop
 same-length c = c .before .loop .inv .0

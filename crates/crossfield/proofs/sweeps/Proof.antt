@@ -12,7 +12,8 @@ use Rattle.crossfield.proofs.sweeps.Statement.{statement}
 use Rattle.crossfield.proofs.sweeps.Tie as tie
 
 abbrev Inv-loop : tie.InvT-loop
-Inv-loop n g marks values₀ k₀ values k = (length values ≡ length values₀) × Run (sweepTurn g marks) (λ (last : List Float). last) values₀ n k values
+Inv-loop n g marks values₀ k₀ values k = (length values ≡ length values₀) × Run (sweepTurn g marks) (λ (last : List Float). last) values₀ n
+    k values
 
 abbrev μ-loop : tie.MeasureT-loop
 μ-loop n g marks values₀ k₀ values k = n - k
@@ -28,7 +29,8 @@ same-length c = c .before .before .before .sweep .kept .1 .1 .0 ∙ c .before .b
 
 returns : tie.Need-returns Inv-loop μ-loop
 unfolding sweeps
-returns c = run-out _ _ _ _ (c .before .before .before .before .before .before .loop .inv .1) (c .before .before .before .before .before .loop-test .taken) (rw (← c .before .before .before .sweep .ensures, c .if1 .taken))
+returns c = run-out _ _ _ _ (c .before .before .before .before .before .before .loop .inv .1)
+    (c .before .before .before .before .before .loop-test .taken) (rw (← c .before .before .before .sweep .ensures, c .if1 .taken))
 
 add-k : tie.Need-add-k Inv-loop μ-loop
 add-k c = omega arith
@@ -37,7 +39,11 @@ loop-less : tie.Need-loop-less Inv-loop μ-loop
 loop-less c = omega arith
 
 loop-again : tie.Need-loop-again Inv-loop μ-loop
-loop-again c = (c .before .before .before .sweep .kept .1 .1 .0 ∙ c .before .before .before .before .before .before .loop .inv .0, run-go _ (λ (last : List Float). last) _ _ (c .before .before .before .before .before .before .loop .inv .1) (c .before .before .before .before .before .loop-test .taken) (rw (← c .before .before .before .sweep .ensures, c .if1 .left)))
+loop-again c = (
+  c .before .before .before .sweep .kept .1 .1 .0 ∙ c .before .before .before .before .before .before .loop .inv .0,
+  run-go _ (λ (last : List Float). last) _ _ (c .before .before .before .before .before .before .loop .inv .1)
+      (c .before .before .before .before .before .loop-test .taken) (rw (← c .before .before .before .sweep .ensures, c .if1 .left)),
+)
 
 same-length-2 : tie.Need-same-length-2 Inv-loop μ-loop
 same-length-2 c = c .before .loop .inv .0

@@ -18,7 +18,12 @@ max-f64-requires-2 c κs = search needs
 
 returns : tie.Need-returns
 unfolding widened
-returns c = rw (← c .before .before .before .min-f64 .ensures, ← c .before .before .max-f64 .ensures, ← c .before .min-f642 .ensures, ← c .max-f642 .ensures)
+returns c = rw (
+  ← c .before .before .before .min-f64 .ensures,
+  ← c .before .before .max-f64 .ensures,
+  ← c .before .min-f642 .ensures,
+  ← c .max-f642 .ensures,
+)
 
 pub widened-spec : {M : Type 1} → statement M
 widened-spec =

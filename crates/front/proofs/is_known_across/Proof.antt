@@ -31,7 +31,10 @@ scan-edges-requires : tie.Need-scan-edges-requires
 scan-edges-requires c κs = search needs
 
 returns-3 : tie.Need-returns-3
-returns-3 c = rw (c .before .before .before .before .before .before .before .c .given .1, c .before .before .before .before .d .given .1, ← c .before .before .smaller .ensures, ← c .before .larger .ensures) (c .scan-edges .ensures)
+returns-3 c =
+    let d = c .before .before .before .before in
+    let e = d .before .before .before in
+    rw (e .c .given .1, d .d .given .1, ← c .before .before .smaller .ensures, ← c .before .larger .ensures) (c .scan-edges .ensures)
 
 pub is-known-across-spec : {M : Type 1} → statement M
 is-known-across-spec =

@@ -21,10 +21,13 @@ same-length-2 c = search needs
 
 returns : tie.Need-returns
 unfolding storeNext storePrev
-returns c = let p = c .before .before .before .before .before .before .before .before .before .before .before .before .before .before .before .before .before .before .link-side .ensures in
-    let q = c .before .before .before .before .before .before .before .before .before .before .before .link .ensures in
-    let r = c .before .before .before .before .link-side2 .ensures in
-    (rw (← p .0, ← q .0) (r .0), rw (← p .1, ← q .1) (r .1))
+returns c =
+    let r = c .before .before .before .before in
+    let q = r .before .before .before .before .before .before .before in
+    let p = q .before .before .before .before .before .before .before in (
+      rw (← p .link-side .ensures .0, ← q .link .ensures .0) (r .link-side2 .ensures .0),
+      rw (← p .link-side .ensures .1, ← q .link .ensures .1) (r .link-side2 .ensures .1),
+    )
 
 pub move-front-spec : {M : Type 1} → statement M
 move-front-spec =

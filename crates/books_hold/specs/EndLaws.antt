@@ -24,12 +24,13 @@ use Rattle.paving.specs.declared.Attempt.the-variants.{Nothing, Quad}
 use Rattle.paving.specs.declared.End.{End}
 use Rattle.paving.specs.declared.End.the-variants.{Still, Passes, Cap, Full}
 use Rattle.paving.specs.Attempt.{tryEdge}
-use Rattle.paving.specs.Advance.{Paved, paved, Passing, passing, Passed, mostQuads, afterQuad, settle, isThere, passTurn, copyTurn, copied, withSnapshot, afterPass, pass, mostPasses, passesTurn, allUsed, advance}
+use Rattle.paving.specs.Advance.{paved, Passing, passing, Passed, mostQuads, afterQuad, settle, isThere, passTurn, afterPass, pass}
+use Rattle.paving.specs.Advance.{copyTurn, copied, withSnapshot, mostPasses, passesTurn, allUsed, advance}
 use Rattle.paving.specs.Reach.{Placement, Reaches, begin, snapshot, placed}
 use Rattle.paving.specs.ReachLaws.{Reached, tried}
 use Rattle.placed.specs.Step.{step}
 use Rattle.books_hold.specs.Stages.{Start, standing}
-use Rattle.books_hold.specs.Ends.{StillAt, FullAt, PassesLead, UsedUp, Ended}
+use Rattle.books_hold.specs.Ends.{StillAt, FullAt, PassesLead, LastPass, UsedUp, Ended}
 use Rattle.books_hold.specs.Ends as ends
 
 -- i is the last of the numbers below n + 1, or below n
@@ -38,7 +39,7 @@ last-or-less i n h last less = ⊎-elim last less (eq-or-lt-of-le (le-of-suc-le-
 
 -- ---- the snapshot holds the links
 
-copied-at : (n : ℕ) (links l : List ℕ) → n ≤ length l → (a : ℕ) → a < n → getD (copied n links l) a 0 ≡ getD links a off
+pub copied-at : (n : ℕ) (links l : List ℕ) → n ≤ length l → (a : ℕ) → a < n → getD (copied n links l) a 0 ≡ getD links a off
 unfolding copied
 copied-at n links l long a h =
     forUp-keeps (λ k m. (length m ≡ length l) × ((a : ℕ) → a < k → getD m a 0 ≡ getD links a off)) n (copyTurn links) l
@@ -141,7 +142,7 @@ module _ (o : Outline) (size : Float) (field : FieldRecord) (s : State) (ls : Li
             let A = tried o size field (p .state) a b c d e in
             let r = I .between .reached in
             let P : Placement o size (p .state) a b c d = record { there = there; da = A .da; db = A .db; answered = A .answered; fits = f } in
-            let Y = standing o size s ls S (r .by) in
+            let Y = standing (S .sound) (r .by) in
             let X = step (sampledCount o size) (p .state) (Y .loops) o size a b c d (Y .sound) P in
             let more = no-fewer a (p .state) (p .placed) (I .progress) in
             quad-placed a (place a b c d (p .state)) (record { quads = suc (r .quads); by = placed (r .by) P })
@@ -171,7 +172,7 @@ module _ (o : Outline) (size : Float) (field : FieldRecord) (s : State) (ls : Li
         by : (b : Bool) → ltb a (t .counts .nodes) ≡ b → (a < t .counts .nodes) × (follower first a ≡ nextOf first a)
         by true e =
             let h = ltb-true a (t .counts .nodes) e in
-            let room = standing o size s ls S (B .reached .by) .sound .nodes-fit in
+            let room = standing (S .sound) (B .reached .by) .sound .nodes-fit in
             (h, copied-at (t .counts .nodes) (t .next) (t .snapshot) (omega (arith, room)) a h ∙ sym (link-in (t .counts .nodes) (t .next) a h))
         by false e = absurd (on (link-out (t .counts .nodes) (t .next) a (ltb-false a (t .counts .nodes) e)))
 
@@ -209,16 +210,17 @@ module _ (o : Outline) (size : Float) (field : FieldRecord) (s : State) (ls : Li
     between : Between t
     passes : PassesLead o size field s n t
 
-  ended-in : (n : ℕ) (t : State) (e : End) → EndedIn t e → Ended o size field n s t e
-  ended-in n t Still h = h
-  ended-in n t Passes h = absurd h
-  ended-in n t Cap h = h
-  ended-in n t Full h = h
+  ended-in : (n : ℕ) (t : State) (e : End) → EndedIn t e → LastPass o size field n s t e → Ended o size field n s t e
+  ended-in n t Still h L = (h, L)
+  ended-in n t Passes h L = absurd h
+  ended-in n t Cap h L = (h, L)
+  ended-in n t Full h L = (h, L)
 
-  passed-on : (n i : ℕ) (t : State) (L : Lead i t) (x : Passed) → pass o size field t ≡ x → Leaves t (L .between) x
+  passed-on : (n i : ℕ) (t : State) → i < min n mostPasses → (L : Lead i t) (x : Passed) → pass o size field t ≡ x → Leaves t (L .between) x
       → Kept (Lead (suc i)) (λ r. Ended o size field n s (r .state) (r .end)) x
-  passed-on n i t L (go u) e h = record { between = h .0; passes = ends.onward (L .passes) e (h .1) }
-  passed-on n i t L (out r) e h = ended-in n (r .state) (r .end) h
+  passed-on n i t h L (go u) e g = record { between = g .0; passes = ends.onward (L .passes) e (g .1) }
+  passed-on n i t h L (out r) e g =
+      ended-in n (r .state) (r .end) g (record { before = i; allowed = h; began = t; passes = L .passes; left = e })
 
   -- how `advance` ends
   pub advance-ends : (n : ℕ) → Ended o size field n s (advance o size field n s .state) (advance o size field n s .end)
@@ -226,5 +228,5 @@ module _ (o : Outline) (size : Float) (field : FieldRecord) (s : State) (ls : Li
   advance-ends n =
       run-keeps-at Lead (λ r. Ended o size field n s (r .state) (r .end)) (min n mostPasses) (passesTurn o size field) allUsed s
       (record { between = record { reached = record { quads = 0; by = begin }; below = omega (arith, S .none) }; passes = ends.begin })
-      (λ i t h L. passed-on n i t L (pass o size field t) refl (pass-leaves t (L .between)))
+      (λ i t h L. passed-on n i t h L (pass o size field t) refl (pass-leaves t (L .between)))
       (λ t L. record { below = L .between .below; passes = L .passes })

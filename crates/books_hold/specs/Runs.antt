@@ -54,10 +54,10 @@ pub record RunFacts (o : Outline) (size : Float) (field : FieldRecord) (passes :
 -- at most 250,000 quads
 ended-few : (o : Outline) (size : Float) (field : FieldRecord) (n : ℕ) (s t : State) (e : End) → Ended o size field n s t e
     → t .counts .quads ≤ mostQuads
-ended-few o size field n s t Still E = omega (arith, E .below)
+ended-few o size field n s t Still E = omega (arith, E .0 .below)
 ended-few o size field n s t Passes E = omega (arith, E .below)
-ended-few o size field n s t Cap E = omega arith
-ended-few o size field n s t Full E = omega (arith, E .below)
+ended-few o size field n s t Cap E = omega (arith, E .0)
+ended-few o size field n s t Full E = omega (arith, E .0 .below)
 
 module _ (o : Outline) (size : Float) (lent : State) (A : Accepted o size lent) where
   abbrev sampled : State
@@ -74,7 +74,7 @@ module _ (o : Outline) (size : Float) (lent : State) (A : Accepted o size lent) 
 
   turns : QuadsTurn o size sampled
   turns k t a b c d r P =
-      placement-holds o (A .doubles) (A .outline) (standing o size sampled loops start r .sound)
+      placement-holds o (A .doubles) (A .outline) (standing (start .sound) r .sound)
       (run-bounded o size (A .doubles) (A .outline) lent (A .front) r) P
 
   module _ (field : FieldRecord) (n : ℕ) where
@@ -92,7 +92,7 @@ module _ (o : Outline) (size : Float) (lent : State) (A : Accepted o size lent) 
           ends = ends;
           few = ended-few o size field n sampled (run .state) (run .end) ends;
           nodes = run-bounded o size (A .doubles) (A .outline) lent (A .front) (reached .by);
-          past = frame-trans (cleared lent) sampled (run .state) (begins .frame) (standing o size sampled loops start (reached .by) .frame);
+          past = frame-trans (cleared lent) sampled (run .state) (begins .frame) (standing (start .sound) (reached .by) .frame);
         }
 
 -- ---- the run

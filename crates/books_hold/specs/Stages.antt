@@ -199,10 +199,25 @@ module _ (o : Outline) (size : Float) (s : State) (ls : List (List ℕ)) (final 
 -- ---- every state of a run
 
 -- a state of a run, sound and after the one that the run began with
-pub record Standing (o : Outline) (size : Float) (s t : State) : Type 0 where
+pub record Standing (n : ℕ) (s t : State) : Type 0 where
   pub loops : List (List ℕ)
-  pub sound : Sound (sampledCount o size) t loops
+  pub sound : Sound n t loops
   pub frame : Frame s t
+
+pub standing : {n : ℕ} {o : Outline} {size : Float} {s : State} {ls : List (List ℕ)} {k : ℕ} {t : State} → Sound n s ls → Reaches o size s k t
+    → Standing n s t
+standing {s = s} {ls = ls} S begin = record { loops = ls; sound = S; frame = frame-same s }
+standing {n = n} {s = s} S (snapshot {t = t} r) =
+    let Y = standing S r in
+    record {
+      loops = Y .loops;
+      sound = snapshot-sound n t (Y .loops) (Y .sound);
+      frame = frame-trans s t (withSnapshot t) (Y .frame) (snapshot-frame t);
+    }
+standing {n = n} {o = o} {size = size} {s = s} S (placed {t = t} {a = a} {b = b} {c = c} {d = d} r P) =
+    let Y = standing S r in
+    let X = step n t (Y .loops) o size a b c d (Y .sound) P in
+    record { loops = X .loops; sound = X .sound; frame = frame-trans s t (place a b c d t) (Y .frame) (X .frame) }
 
 -- each quad that is placed turns left
 abbrev pub QuadsTurn : Outline → Float → State → Type 0
@@ -215,24 +230,10 @@ pub record StageOf (o : Outline) (size : Float) (s : State) (ls : List (List ℕ
   pub stage : Stage o size s ls final k state
 
 module _ (o : Outline) (size : Float) (s : State) (ls : List (List ℕ)) (S : Start o size s ls) where
-  pub standing : {k : ℕ} {t : State} → Reaches o size s k t → Standing o size s t
-  standing begin = record { loops = ls; sound = S .sound; frame = frame-same s }
-  standing (snapshot {t = t} r) =
-      let Y = standing r in
-      record {
-        loops = Y .loops;
-        sound = snapshot-sound (sampledCount o size) t (Y .loops) (Y .sound);
-        frame = frame-trans s t (withSnapshot t) (Y .frame) (snapshot-frame t);
-      }
-  standing (placed {t = t} {a = a} {b = b} {c = c} {d = d} r P) =
-      let Y = standing r in
-      let X = step (sampledCount o size) t (Y .loops) o size a b c d (Y .sound) P in
-      record { loops = X .loops; sound = X .sound; frame = frame-trans s t (place a b c d t) (Y .frame) (X .frame) }
-
   -- a placing comes after what was there
   place-frame : {k : ℕ} {t : State} {a b : ℕ} {c d : Corner} → Reaches o size s k t → Placement o size t a b c d → Frame t (place a b c d t)
   place-frame {t = t} {a = a} {b = b} {c = c} {d = d} r P =
-      let Y = standing r in
+      let Y = standing (S .sound) r in
       step (sampledCount o size) t (Y .loops) o size a b c d (Y .sound) P .frame
 
   module _ (turns : QuadsTurn o size s) (final : State) where

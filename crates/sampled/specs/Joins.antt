@@ -61,7 +61,7 @@ pub record Joinable (n : ℕ) (s : State) (cs : List Change) : Type 0 where
 -- ---- one edge
 
 -- s with v after u, and the edge of u and v
-abbrev withLink : ℕ → ℕ → State → State
+abbrev pub withLink : ℕ → ℕ → State → State
 withLink u v s = pushEdge (min u v) (max u v) (withFront s (set (s .next) u v) (set (s .prev) v u) (s .counts .front + 1))
 
 edge-front : (s : State) (next prev : List ℕ) (front u v : ℕ) → hasEdge (withFront s next prev front) u v ≡ hasEdge s u v
@@ -69,7 +69,7 @@ unfolding hasEdge
 edge-front s next prev front u v = refl
 
 module _ {n : ℕ} (s : State) (u v : ℕ) (J : Joinable n s (add u v ∷ [])) where
-  join-is : join s u v ≡ withLink u v s
+  pub join-is : join s u v ≡ withLink u v s
   unfolding addEdge addFront OnlyLinked
   join-is =
       let w = J .within .0 in
@@ -117,7 +117,7 @@ module _ {n : ℕ} (s : State) (u v : ℕ) (J : Joinable n s (add u v ∷ [])) w
       (known-joined u v s (w .0) (w .1) (λ e. J .one-way .0 .1 (sym e)) (omega (arith, R .next, J .few))
       (rw join-is (omega (arith, R .edges, J .edges))) (J .known))
 
-  join-one : Joined s (join s u v) (add u v ∷ [])
+  pub join-one : Joined s (join s u v) (add u v ∷ [])
   unfolding pushEdge
   join-one =
       rw join-is (record {
@@ -136,7 +136,7 @@ module _ {n : ℕ} (s : State) (u v : ℕ) (J : Joinable n s (add u v ∷ [])) w
         known = known-is;
       })
 
-  next-joined : nextOf (join s u v) ≡ update (nextOf s) u v
+  pub next-joined : nextOf (join s u v) ≡ update (nextOf s) u v
   next-joined = ap nextOf join-is ∙ next-is
 
 -- ---- a path

@@ -73,7 +73,7 @@ edges-same s t a b p q =
 
 module _ {n : ℕ} (lent s t : State) (ls : List (List ℕ)) (ps : List Point) (L : Laid lent s ls) (P : Pushed s t ps) (R : Room n s)
     (fit : t .counts .nodes ≤ n) where
-  linked-pushed : OnlyLinked t
+  pub linked-pushed : OnlyLinked t
   unfolding OnlyLinked
   linked-pushed a b ha hb na nb =
       edges-same s t a b (P .edges) (P .edgeCount)
@@ -85,10 +85,10 @@ module _ {n : ℕ} (lent s t : State) (ls : List (List ℕ)) (ps : List Point) (
       (front-more (s .counts .nodes) (t .counts .nodes) (nextOf s) (prevOf s) ls (omega (arith, P .count)) (omega (arith, R .few)) (L .front))
 
   -- the new nodes
-  abbrev New : ℕ → Type 0
+  abbrev pub New : ℕ → Type 0
   New u = (s .counts .nodes ≤ u) × (u < t .counts .nodes)
 
-  off-pushed : (u : ℕ) → New u → OffFront (t .counts .nodes) (nextOf t) (prevOf t) u
+  pub off-pushed : (u : ℕ) → New u → OffFront (t .counts .nodes) (nextOf t) (prevOf t) u
   off-pushed u h =
       record {
         node = h .1;

@@ -106,7 +106,7 @@ sampled-same {ps = ps} P Q e = P .nodes ∙ ap (λ (l : List Point). l ++ ps) e 
 
 module _ (o : Outline) (size : Float) (a b : State) (three : Threes o) (A : Places (sampledCount o size) a) (B : Places (sampledCount o size) b) where
   -- turn k pushes the same points and lays the same loop
-  turn-same : (k : ℕ) → k < loopCount o → nodesOf (stateAt o size a k) ≡ nodesOf (stateAt o size b k)
+  pub turn-same : (k : ℕ) → k < loopCount o → nodesOf (stateAt o size a k) ≡ nodesOf (stateAt o size b k)
       → (loopIds o size k (stateAt o size a k) ≡ loopIds o size k (stateAt o size b k))
       × (turnPoints o size k (stateAt o size a k) ≡ turnPoints o size k (stateAt o size b k))
   unfolding turnPoints
@@ -128,7 +128,7 @@ module _ (o : Outline) (size : Float) (a b : State) (three : Threes o) (A : Plac
             (added-same k (s .counts .nodes) s′ t′ u more ∙ ap (λ (base : ℕ). addedPoints k base t′) c),
       )
 
-  same-at : (k : ℕ) → k ≤ loopCount o
+  pub same-at : (k : ℕ) → k ≤ loopCount o
       → (nodesOf (stateAt o size a k) ≡ nodesOf (stateAt o size b k)) × (loopsAt o size a k ≡ loopsAt o size b k)
   unfolding forUp tabulate
   same-at zero h = (no-nodes a ∙ sym (no-nodes b), refl)

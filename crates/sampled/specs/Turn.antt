@@ -53,7 +53,7 @@ split-length r st = by (r .split)
     by true = refl
     by false = refl
 
-split-pushed : {n : ℕ} (r : Ring) (st : State) → Room n st → st .counts .nodes + cond (r .split) 1 0 ≤ n
+pub split-pushed : {n : ℕ} (r : Ring) (st : State) → Room n st → st .counts .nodes + cond (r .split) 1 0 ≤ n
     → Pushed st (splitLongest r st) (splitPoints r st)
 unfolding splitLongest splitPoints
 split-pushed {n} r st R = by (r .split)
@@ -65,7 +65,7 @@ split-pushed {n} r st R = by (r .split)
     by true h = push-one p st R (omega arith)
     by false h = push-none st
 
-split-count : (r : Ring) (st : State) (ps : List Point) → r .count ≡ length ps → r .split ≡ eqb (r .count % 2) 1
+pub split-count : (r : Ring) (st : State) (ps : List Point) → r .count ≡ length ps → r .split ≡ eqb (r .count % 2) 1
     → (length (ps ++ splitPoints r st) ≡ ringCount r) × (ringCount r ≡ length ps + length ps % 2)
 split-count r st ps count split =
     (rw (length-append, split-length r st, count), rw (split, count) (even-up (length ps)))
@@ -99,11 +99,11 @@ module _ {n : ℕ} (lent : State) (o : Outline) (size : Float) (k : ℕ) (s : St
   unfolding loopNodes
   turn-sampled = loop-pushed size (loopAt o k) s R (omega arith)
 
-  sampled-count : sampleLoop size (loopAt o k) s .counts .nodes - s .counts .nodes ≡ length (loopCuts size (loopAt o k))
+  pub sampled-count : sampleLoop size (loopAt o k) s .counts .nodes - s .counts .nodes ≡ length (loopCuts size (loopAt o k))
   sampled-count = omega (arith, turn-sampled .count)
 
   module _ (three : 3 ≤ points (loopAt o k)) where
-    cuts-three : 3 ≤ length (loopCuts size (loopAt o k))
+    pub cuts-three : 3 ≤ length (loopCuts size (loopAt o k))
     cuts-three = omega (arith, cuts-length size (loopAt o k), cuts-least size (loopAt o k))
 
     -- loop k of the outline becomes the last loop of the front

@@ -1,0 +1,1 @@
+// Specifications only: runs in lists of different lengths. No function.

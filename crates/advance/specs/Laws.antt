@@ -29,7 +29,7 @@ use Rattle.paving.specs.declared.End.{End}
 use Rattle.paving.specs.declared.End.the-variants.{Still, Passes, Cap, Full}
 use Rattle.paving.specs.Attempt.{tryEdge}
 use Rattle.paving.specs.Advance.{Paved, paved, Passing, passing, Passed, mostQuads, afterQuad, settle, isThere, passTurn, copyTurn, copied, withSnapshot, afterPass, pass, passesTurn, allUsed, advance}
-use Rattle.paving.specs.ReachLaws.{Answers, try-answers, Reached, AtPassing, AtPassed, AtEnd, turn-kept, pass-kept}
+use Rattle.paving.specs.ReachLaws.{tried, Reached, AtPassing, AtPassed, AtEnd, turn-kept, pass-kept}
 use Rattle.paving.specs.Reach.{begin}
 use Rattle.placed.specs.Answered.{choice}
 use Rattle.attempts.specs.Reads.{link-read}
@@ -74,15 +74,11 @@ module _ (o : Outline) (size : Float) (field : FieldRecord) (s : State) (a : ℕ
   -- a quad is answered only for an edge that is there, by a try
   pub attempt-quad : (c d : Corner) → edgeAttempt o size field s a ≡ Quad c d → Choice s a b c d
   unfolding edgeAttempt
-  attempt-quad c d = by (isThere s a b) refl (tryEdge o size field s a b) (try-answers o size field s a b)
+  attempt-quad c d = by (isThere s a b) refl
     where
-      by : (there : Bool) → isThere s a b ≡ there → (t : Attempt) → Answers o size s a b t → cond there t Nothing ≡ Quad c d → Choice s a b c d
-      by true e Nothing A q = absurd (let z : _≡_ {A = ℕ} 0 1 = cc in omega arith)
-      by true e (Quad c′ d′) A q =
-          let p : c′ ≡ c = cc in
-          let p′ : d′ ≡ d = cc in
-          rw (← p, ← p′) (choice o size s a b (A .da) (A .db) c′ d′ e (A .answered))
-      by false e t A q = absurd (let z : _≡_ {A = ℕ} 0 1 = cc in omega arith)
+      by : (there : Bool) → isThere s a b ≡ there → cond there (tryEdge o size field s a b) Nothing ≡ Quad c d → Choice s a b c d
+      by true e q = let A = tried o size field s a b c d q in choice o size s a b (A .da) (A .db) c d e (A .answered)
+      by false e q = absurd (let z : _≡_ {A = ℕ} 0 1 = cc in omega arith)
 
   -- a turn of a pass settles that attempt
   pub turn-is : (some : Bool) → passTurn o size field a (passing s some) ≡ settle a b (edgeAttempt o size field s a) (passing s some)

@@ -30,7 +30,7 @@ pub record Attempted (o : Outline) (size : Float) (s : State) (a b : ℕ) (c d :
   pub db : Point
   pub answered : attemptQuad o size s a b da db ≡ Quad c d
 
-abbrev pub Answers : Outline → Float → State → ℕ → ℕ → Attempt → Type 0
+abbrev Answers : Outline → Float → State → ℕ → ℕ → Attempt → Type 0
 Answers o size s a b Nothing = Unit {0}
 Answers o size s a b (Quad c d) = Attempted o size s a b c d
 
@@ -46,7 +46,7 @@ or-answers : (o : Outline) (size : Float) (s : State) (a b : ℕ) (t u : Attempt
 or-answers o size s a b Nothing u p q = q
 or-answers o size s a b (Quad c d) u p q = p
 
-pub try-answers : (o : Outline) (size : Float) (field : FieldRecord) (s : State) (a b : ℕ) → Answers o size s a b (tryEdge o size field s a b)
+try-answers : (o : Outline) (size : Float) (field : FieldRecord) (s : State) (a b : ℕ) → Answers o size s a b (tryEdge o size field s a b)
 unfolding tryEdge tryToward
 try-answers o size field s a b =
     let bx = node s b .x ⊖ node s a .x in

@@ -91,7 +91,22 @@ fn edge_attempt<'a>(
     if attempts::link_at(next, k.nodes, a) != b {
         return Attempt::Nothing;
     }
-    attempts::try_edge(outer, holes, lens, size, grid, values, xs, ys, next, prev, edges, k, a, b)
+    attempts::try_edge(
+        outer,
+        holes,
+        lens,
+        size,
+        grid,
+        values,
+        xs,
+        ys,
+        next,
+        prev,
+        edges,
+        k,
+        a,
+        b,
+    )
 }
 
 // After a quad: on, or the end at the cap.
@@ -127,9 +142,25 @@ fn settle<'a>(
         (stateOf (now xs) (now ys) (now next) (now prev) (now snapshot) (now quads) (now edges) k) × (a < k .nodes) ⌝ }
     ensures { λ r. ⌜ Settles (outline (now (outer .entry)) (now (holes .entry)) (now (lens .entry))) size (fieldRecord grid (now (values .entry)) [])
         (stateOf (now (xs .entry)) (now (ys .entry)) (now (next .entry)) (now (prev .entry)) (now (snapshot .entry)) (now (quads .entry)) (now (edges .entry)) k) a r
-        (stateOf (now (xs .exit)) (now (ys .exit)) (now (next .exit)) (now (prev .exit)) (now (snapshot .entry)) (now (quads .exit)) (now (edges .exit)) (settledCounts k r)) ⌝ }
+        (stateOf (now (xs .exit)) (now (ys .exit)) (now (next .exit)) (now (prev .exit)) (now (snapshot .entry)) (now (quads .exit)) (now (edges .exit))
+        (settledCounts k r)) ⌝ }
 {
-    let attempt = edge_attempt(outer, holes, lens, size, grid, values, xs, ys, next, prev, snapshot, edges, k, a);
+    let attempt = edge_attempt(
+        outer,
+        holes,
+        lens,
+        size,
+        grid,
+        values,
+        xs,
+        ys,
+        next,
+        prev,
+        snapshot,
+        edges,
+        k,
+        a,
+    );
     let b = snapshot[a as usize];
     match attempt {
         Attempt::Nothing => Settled::Same,
@@ -149,7 +180,11 @@ fn settle<'a>(
 fn after_pass(placed: bool, k: Counts) -> Swept
     ensures { λ r. ⌜ r ≡ passAnswer placed k ⌝ }
 {
-    if placed { Swept::On(k) } else { Swept::Over(End::Still, k) }
+    if placed {
+        Swept::On(k)
+    } else {
+        Swept::Over(End::Still, k)
+    }
 }
 
 // The edges of the snapshot in the order of their first nodes.
@@ -172,9 +207,14 @@ fn sweep<'a>(
     requires { ⌜ Paveable (outline (now outer) (now holes) (now lens)) grid (now values)
         (stateOf (now xs) (now ys) (now next) (now prev) (now snapshot) (now quads) (now edges) k) ⌝ }
     ensures { λ r. ⌜
-        passed r (stateOf (now (xs .exit)) (now (ys .exit)) (now (next .exit)) (now (prev .exit)) (now (snapshot .entry)) (now (quads .exit)) (now (edges .exit)) (passedCounts r))
-        ≡ run (k .nodes) (passTurn (outline (now (outer .entry)) (now (holes .entry)) (now (lens .entry))) size (fieldRecord grid (now (values .entry)) [])) afterPass
-        (passing (stateOf (now (xs .entry)) (now (ys .entry)) (now (next .entry)) (now (prev .entry)) (now (snapshot .entry)) (now (quads .entry)) (now (edges .entry)) k) false) ⌝ }
+        passed r
+        (stateOf (now (xs .exit)) (now (ys .exit)) (now (next .exit)) (now (prev .exit)) (now (snapshot .entry)) (now (quads .exit)) (now (edges .exit))
+        (passedCounts r))
+        ≡ run (k .nodes)
+        (passTurn (outline (now (outer .entry)) (now (holes .entry)) (now (lens .entry))) size (fieldRecord grid (now (values .entry)) []))
+        afterPass (passing
+        (stateOf (now (xs .entry)) (now (ys .entry)) (now (next .entry)) (now (prev .entry)) (now (snapshot .entry)) (now (quads .entry)) (now (edges .entry)) k)
+        false) ⌝ }
 {
     let n = k.nodes;
     let mut j = k;
@@ -183,7 +223,23 @@ fn sweep<'a>(
     while a < n {
         let i = a;
         a += 1;
-        let t = settle(outer, holes, lens, size, grid, values, xs, ys, next, prev, snapshot, quads, edges, j, i);
+        let t = settle(
+            outer,
+            holes,
+            lens,
+            size,
+            grid,
+            values,
+            xs,
+            ys,
+            next,
+            prev,
+            snapshot,
+            quads,
+            edges,
+            j,
+            i,
+        );
         match t {
             Settled::Same => {}
             Settled::Put(m) => {
@@ -218,12 +274,29 @@ fn pass<'a>(
     requires { ⌜ Paveable (outline (now outer) (now holes) (now lens)) grid (now values)
         (stateOf (now xs) (now ys) (now next) (now prev) (now snapshot) (now quads) (now edges) k) ⌝ }
     ensures { λ r. ⌜
-        passed r (stateOf (now (xs .exit)) (now (ys .exit)) (now (next .exit)) (now (prev .exit)) (now (snapshot .exit)) (now (quads .exit)) (now (edges .exit)) (passedCounts r))
+        passed r
+        (stateOf (now (xs .exit)) (now (ys .exit)) (now (next .exit)) (now (prev .exit)) (now (snapshot .exit)) (now (quads .exit)) (now (edges .exit))
+        (passedCounts r))
         ≡ pass (outline (now (outer .entry)) (now (holes .entry)) (now (lens .entry))) size (fieldRecord grid (now (values .entry)) [])
         (stateOf (now (xs .entry)) (now (ys .entry)) (now (next .entry)) (now (prev .entry)) (now (snapshot .entry)) (now (quads .entry)) (now (edges .entry)) k) ⌝ }
 {
     copy_links(next, snapshot, k.nodes);
-    sweep(outer, holes, lens, size, grid, values, xs, ys, next, prev, snapshot, quads, edges, k)
+    sweep(
+        outer,
+        holes,
+        lens,
+        size,
+        grid,
+        values,
+        xs,
+        ys,
+        next,
+        prev,
+        snapshot,
+        quads,
+        edges,
+        k,
+    )
 }
 
 // ---- `advance`
@@ -231,7 +304,11 @@ fn pass<'a>(
 fn most_passes(passes: usize) -> usize
     ensures { λ r. ⌜ r ≡ min passes 600 ⌝ }
 {
-    if passes < Advanced::MOST_PASSES { passes } else { Advanced::MOST_PASSES }
+    if passes < Advanced::MOST_PASSES {
+        passes
+    } else {
+        Advanced::MOST_PASSES
+    }
 }
 
 // Pass after pass, until one places nothing, the cap is reached, the places lent are full, or as many are done as asked for, at most 600.
@@ -255,24 +332,44 @@ pub fn advance<'a>(
     requires { ⌜ Paveable (outline (now outer) (now holes) (now lens)) grid (now values)
         (stateOf (now xs) (now ys) (now next) (now prev) (now snapshot) (now quads) (now edges) k) ⌝ }
     ensures { λ r. ⌜
-        paved (stateOf (now (xs .exit)) (now (ys .exit)) (now (next .exit)) (now (prev .exit)) (now (snapshot .exit)) (now (quads .exit)) (now (edges .exit)) (r .counts)) (r .end)
+        paved
+        (stateOf (now (xs .exit)) (now (ys .exit)) (now (next .exit)) (now (prev .exit)) (now (snapshot .exit)) (now (quads .exit)) (now (edges .exit))
+        (r .counts)) (r .end)
         ≡ advance (outline (now (outer .entry)) (now (holes .entry)) (now (lens .entry))) size (fieldRecord grid (now (values .entry)) []) passes
         (stateOf (now (xs .entry)) (now (ys .entry)) (now (next .entry)) (now (prev .entry)) (now (snapshot .entry)) (now (quads .entry)) (now (edges .entry)) k) ⌝ }
 {
     let most = most_passes(passes);
-    let mut j = k;
+    let mut counts = k;
     let mut i = 0;
     while i < most {
         i += 1;
-        let p = pass(outer, holes, lens, size, grid, values, xs, ys, next, prev, snapshot, quads, edges, j);
+        let p = pass(
+            outer,
+            holes,
+            lens,
+            size,
+            grid,
+            values,
+            xs,
+            ys,
+            next,
+            prev,
+            snapshot,
+            quads,
+            edges,
+            counts,
+        );
         match p {
             Swept::On(m) => {
-                j = m;
+                counts = m;
             }
             Swept::Over(end, m) => {
                 return Advanced { end, counts: m };
             }
         }
     }
-    Advanced { end: End::Passes, counts: j }
+    Advanced {
+        end: End::Passes,
+        counts,
+    }
 }

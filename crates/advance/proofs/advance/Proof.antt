@@ -1,25 +1,26 @@
 -- `advance::advance` meets its contract: the loop is the run over the passes. Assumes nothing.
-use Prim.Native.Nat.{_-_}
-use Rattle.advance.specs.Laws.{in-advance, pass-on, pass-over, advance-whole}
-use Rattle.crossfield.specs.Field.{FieldRecord, fieldRecord}
-use Rattle.domain.specs.Outline.{Outline, outline}
-use Rattle.front.specs.State.{State, stateOf}
-use Rattle.laws.specs.Loop.{Run, run-start, run-go, run-out, run-end}
-use Rattle.paving.specs.Advance.{passesTurn, allUsed}
-use borrow.Author.Needs.{needs}
 use mathlib.Core.List.{[]}
 use mathlib.Core.Path.{_∙_}
+use Prim.Native.Nat.{_-_}
 use native.Mathlib.Omega.{arith}
+use borrow.Author.Needs.{needs}
+use Rattle.laws.specs.Loop.{Run, run-start, run-go, run-out, run-end}
+use Rattle.domain.specs.Outline.{Outline, outline}
+use Rattle.crossfield.specs.Field.{FieldRecord, fieldRecord}
+use Rattle.front.specs.State.{State, stateOf}
+use Rattle.paving.specs.Advance.{passesTurn, allUsed}
+use Rattle.advance.specs.Laws.{in-advance, pass-on, pass-over, advance-whole}
+use Rattle.advance.specs.Paveable.{Later}
 use Rattle.advance.proofs.advance.Statement.{statement}
 use Rattle.advance.proofs.advance.Tie as tie
 
 abbrev Inv-loop : tie.InvT-loop
-Inv-loop outer holes lens size grid values xs₀ ys₀ next₀ prev₀ snapshot₀ quads₀ edges₀ passes most j₀ i₀ xs ys next prev snapshot quads edges j i =
+Inv-loop outer holes lens size grid values xs₀ ys₀ next₀ prev₀ snapshot₀ quads₀ edges₀ passes most counts₀ i₀ xs ys next prev snapshot quads edges counts i =
     Run (passesTurn (outline outer holes lens) size (fieldRecord grid values [])) allUsed
-    (stateOf xs₀ ys₀ next₀ prev₀ snapshot₀ quads₀ edges₀ j₀) most i (stateOf xs ys next prev snapshot quads edges j)
+    (stateOf xs₀ ys₀ next₀ prev₀ snapshot₀ quads₀ edges₀ counts₀) most i (stateOf xs ys next prev snapshot quads edges counts)
 
 abbrev μ-loop : tie.MeasureT-loop
-μ-loop outer holes lens size grid values xs₀ ys₀ next₀ prev₀ snapshot₀ quads₀ edges₀ passes most j₀ i₀ xs ys next prev snapshot quads edges j i =
+μ-loop outer holes lens size grid values xs₀ ys₀ next₀ prev₀ snapshot₀ quads₀ edges₀ passes most counts₀ i₀ xs ys next prev snapshot quads edges counts i =
     most - i
 
 -- the outline, the field and the state as they are lent
@@ -31,7 +32,16 @@ field s = fieldRecord (s .args .grid) (s .args .values .now) []
 
 abbrev lent : tie.Start Inv-loop μ-loop → State
 lent s =
-    stateOf (s .args .xs .now) (s .args .ys .now) (s .args .next .now) (s .args .prev .now) (s .args .snapshot .now) (s .args .quads .now) (s .args .edges .now) (s .args .k)
+    stateOf (s .args .xs .now) (s .args .ys .now) (s .args .next .now) (s .args .prev .now) (s .args .snapshot .now) (s .args .quads .now)
+    (s .args .edges .now) (s .args .k)
+
+-- the state in the loop comes after the one that is lent
+abbrev start : tie.At-loop Inv-loop μ-loop → tie.Start Inv-loop μ-loop
+start c = c .before .before .before .before .before .before .before .before .before .before .before .before .before
+
+later : (c : tie.At-loop Inv-loop μ-loop) → Later (around (start c)) (start c .args .grid) (start c .args .values .now) (lent (start c))
+    (stateOf (c .loop .xs) (c .loop .ys) (c .loop .next) (c .loop .prev) (c .loop .snapshot) (c .loop .quads) (c .loop .edges) (c .loop .counts))
+later c = in-advance (around (start c)) (start c .args .size) _ _ (field (start c)) (lent (start c)) (start c .pre) (c .loop .inv)
 
 most-passes-requires : tie.Need-most-passes-requires Inv-loop μ-loop
 most-passes-requires c κs = search needs
@@ -45,8 +55,7 @@ add-i c = omega arith
 pass-requires : tie.Need-pass-requires Inv-loop μ-loop
 pass-requires c κs =
     let at-loop = c .before .before .before .before .before .before .before .before in
-    let start = at-loop .before .before .before .before .before .before .before .before .before .before .before .before .before in
-    in-advance (around start) (start .args .size) _ _ (field start) (lent start) (start .pre) (at-loop .loop .inv) .paveable
+    later at-loop .paveable
 
 enum-known-p : tie.Need-enum-known-p Inv-loop μ-loop
 enum-known-p c = search needs
@@ -57,8 +66,8 @@ loop-less c = omega arith
 loop-again : tie.Need-loop-again Inv-loop μ-loop
 loop-again c =
     let at-p = c .before in
-    let at-xs = at-p .before .before .before .before .before .before .before .before .before .before .before .before .before .before .before in
-    let at-pass = at-xs .before in
+    let at-slice-known9 = at-p .before .before .before .before .before .before .before .before .before .before .before .before in
+    let at-pass = at-slice-known9 .before .before .before .before in
     let at-loop-test = at-pass .before .before .before .before .before .before .before .before in
     let at-loop = at-loop-test .before in
     run-go _ allUsed _ _ (at-loop .loop .inv) (at-loop-test .loop-test .taken)
@@ -69,65 +78,58 @@ enum-known-p-2 c = search needs
 
 same-length : tie.Need-same-length Inv-loop μ-loop
 same-length c =
-    let at-slice-known8 = c .before .before .before .before .before .before .before .before .before .before .before .before .before .before .before in
-    let at-pass = at-slice-known8 .before .before in
+    let at-next = c .before .before .before .before .before .before .before .before .before .before .before .before in
+    let at-pass = at-next .before .before .before .before .before in
     let at-loop = at-pass .before .before .before .before .before .before .before .before .before in
-    let start = at-loop .before .before .before .before .before .before .before .before .before .before .before .before .before in
-    at-pass .pass .kept .1 .1 .1 .1 .1 .1 .0 ∙ (in-advance (around start) (start .args .size) _ _ (field start) (lent start) (start .pre) (at-loop .loop .inv)) .frame .xs .long
+    at-pass .pass .kept .1 .1 .1 .1 .1 .1 .0 ∙ later at-loop .frame .xs .long
 
 same-length-2 : tie.Need-same-length-2 Inv-loop μ-loop
 same-length-2 c =
-    let at-slice-known8 = c .before .before .before .before .before .before .before .before .before .before .before .before .before .before .before in
-    let at-pass = at-slice-known8 .before .before in
+    let at-next = c .before .before .before .before .before .before .before .before .before .before .before .before in
+    let at-pass = at-next .before .before .before .before .before in
     let at-loop = at-pass .before .before .before .before .before .before .before .before .before in
-    let start = at-loop .before .before .before .before .before .before .before .before .before .before .before .before .before in
-    at-pass .pass .kept .1 .1 .1 .1 .1 .1 .1 .0 ∙ (in-advance (around start) (start .args .size) _ _ (field start) (lent start) (start .pre) (at-loop .loop .inv)) .frame .ys .long
+    at-pass .pass .kept .1 .1 .1 .1 .1 .1 .1 .0 ∙ later at-loop .frame .ys .long
 
 same-length-3 : tie.Need-same-length-3 Inv-loop μ-loop
 same-length-3 c =
-    let at-slice-known8 = c .before .before .before .before .before .before .before .before .before .before .before .before .before .before .before in
-    let at-pass = at-slice-known8 .before .before in
+    let at-next = c .before .before .before .before .before .before .before .before .before .before .before .before in
+    let at-pass = at-next .before .before .before .before .before in
     let at-loop = at-pass .before .before .before .before .before .before .before .before .before in
-    let start = at-loop .before .before .before .before .before .before .before .before .before .before .before .before .before in
-    at-pass .pass .kept .1 .1 .1 .1 .1 .1 .1 .1 .0 ∙ (in-advance (around start) (start .args .size) _ _ (field start) (lent start) (start .pre) (at-loop .loop .inv)) .frame .next .long
+    at-pass .pass .kept .1 .1 .1 .1 .1 .1 .1 .1 .0 ∙ later at-loop .frame .next .long
 
 same-length-4 : tie.Need-same-length-4 Inv-loop μ-loop
 same-length-4 c =
-    let at-slice-known8 = c .before .before .before .before .before .before .before .before .before .before .before .before .before .before .before in
-    let at-pass = at-slice-known8 .before .before in
+    let at-next = c .before .before .before .before .before .before .before .before .before .before .before .before in
+    let at-pass = at-next .before .before .before .before .before in
     let at-loop = at-pass .before .before .before .before .before .before .before .before .before in
-    let start = at-loop .before .before .before .before .before .before .before .before .before .before .before .before .before in
-    at-pass .pass .kept .1 .1 .1 .1 .1 .1 .1 .1 .1 .0 ∙ (in-advance (around start) (start .args .size) _ _ (field start) (lent start) (start .pre) (at-loop .loop .inv)) .frame .prev .long
+    at-pass .pass .kept .1 .1 .1 .1 .1 .1 .1 .1 .1 .0 ∙ later at-loop .frame .prev .long
 
 same-length-5 : tie.Need-same-length-5 Inv-loop μ-loop
 same-length-5 c =
-    let at-slice-known8 = c .before .before .before .before .before .before .before .before .before .before .before .before .before .before .before in
-    let at-pass = at-slice-known8 .before .before in
+    let at-next = c .before .before .before .before .before .before .before .before .before .before .before .before in
+    let at-pass = at-next .before .before .before .before .before in
     let at-loop = at-pass .before .before .before .before .before .before .before .before .before in
-    let start = at-loop .before .before .before .before .before .before .before .before .before .before .before .before .before in
-    at-pass .pass .kept .1 .1 .1 .1 .1 .1 .1 .1 .1 .1 .0 ∙ (in-advance (around start) (start .args .size) _ _ (field start) (lent start) (start .pre) (at-loop .loop .inv)) .frame .snapshot .long
+    at-pass .pass .kept .1 .1 .1 .1 .1 .1 .1 .1 .1 .1 .0 ∙ later at-loop .frame .snapshot .long
 
 same-length-6 : tie.Need-same-length-6 Inv-loop μ-loop
 same-length-6 c =
-    let at-slice-known8 = c .before .before .before .before .before .before .before .before .before .before .before .before .before .before .before in
-    let at-pass = at-slice-known8 .before .before in
+    let at-next = c .before .before .before .before .before .before .before .before .before .before .before .before in
+    let at-pass = at-next .before .before .before .before .before in
     let at-loop = at-pass .before .before .before .before .before .before .before .before .before in
-    let start = at-loop .before .before .before .before .before .before .before .before .before .before .before .before .before in
-    at-pass .pass .kept .1 .1 .1 .1 .1 .1 .1 .1 .1 .1 .1 .0 ∙ (in-advance (around start) (start .args .size) _ _ (field start) (lent start) (start .pre) (at-loop .loop .inv)) .frame .quadList .long
+    at-pass .pass .kept .1 .1 .1 .1 .1 .1 .1 .1 .1 .1 .1 .0 ∙ later at-loop .frame .quadList .long
 
 same-length-7 : tie.Need-same-length-7 Inv-loop μ-loop
 same-length-7 c =
-    let at-slice-known8 = c .before .before .before .before .before .before .before .before .before .before .before .before .before .before .before in
-    let at-pass = at-slice-known8 .before .before in
+    let at-next = c .before .before .before .before .before .before .before .before .before .before .before .before in
+    let at-pass = at-next .before .before .before .before .before in
     let at-loop = at-pass .before .before .before .before .before .before .before .before .before in
-    let start = at-loop .before .before .before .before .before .before .before .before .before .before .before .before .before in
-    at-pass .pass .kept .1 .1 .1 .1 .1 .1 .1 .1 .1 .1 .1 .1 .0 ∙ (in-advance (around start) (start .args .size) _ _ (field start) (lent start) (start .pre) (at-loop .loop .inv)) .frame .edgeList .long
+    at-pass .pass .kept .1 .1 .1 .1 .1 .1 .1 .1 .1 .1 .1 .1 .0 ∙ later at-loop .frame .edgeList .long
 
 returns : tie.Need-returns Inv-loop μ-loop
 returns c =
     let at-p2 = c .before in
-    let at-xs = at-p2 .before .before .before .before .before .before .before .before .before .before .before .before .before .before .before in
-    let at-pass = at-xs .before in
+    let at-slice-known9 = at-p2 .before .before .before .before .before .before .before .before .before .before .before .before in
+    let at-pass = at-slice-known9 .before .before .before .before in
     let at-loop-test = at-pass .before .before .before .before .before .before .before .before in
     let at-loop = at-loop-test .before in
     let at-most-passes = at-loop .before in
@@ -139,44 +141,37 @@ returns c =
 same-length-8 : tie.Need-same-length-8 Inv-loop μ-loop
 same-length-8 c =
     let at-loop = c .before in
-    let start = at-loop .before .before .before .before .before .before .before .before .before .before .before .before .before in
-    (in-advance (around start) (start .args .size) _ _ (field start) (lent start) (start .pre) (at-loop .loop .inv)) .frame .xs .long
+    later at-loop .frame .xs .long
 
 same-length-9 : tie.Need-same-length-9 Inv-loop μ-loop
 same-length-9 c =
     let at-loop = c .before in
-    let start = at-loop .before .before .before .before .before .before .before .before .before .before .before .before .before in
-    (in-advance (around start) (start .args .size) _ _ (field start) (lent start) (start .pre) (at-loop .loop .inv)) .frame .ys .long
+    later at-loop .frame .ys .long
 
 same-length-10 : tie.Need-same-length-10 Inv-loop μ-loop
 same-length-10 c =
     let at-loop = c .before in
-    let start = at-loop .before .before .before .before .before .before .before .before .before .before .before .before .before in
-    (in-advance (around start) (start .args .size) _ _ (field start) (lent start) (start .pre) (at-loop .loop .inv)) .frame .next .long
+    later at-loop .frame .next .long
 
 same-length-11 : tie.Need-same-length-11 Inv-loop μ-loop
 same-length-11 c =
     let at-loop = c .before in
-    let start = at-loop .before .before .before .before .before .before .before .before .before .before .before .before .before in
-    (in-advance (around start) (start .args .size) _ _ (field start) (lent start) (start .pre) (at-loop .loop .inv)) .frame .prev .long
+    later at-loop .frame .prev .long
 
 same-length-12 : tie.Need-same-length-12 Inv-loop μ-loop
 same-length-12 c =
     let at-loop = c .before in
-    let start = at-loop .before .before .before .before .before .before .before .before .before .before .before .before .before in
-    (in-advance (around start) (start .args .size) _ _ (field start) (lent start) (start .pre) (at-loop .loop .inv)) .frame .snapshot .long
+    later at-loop .frame .snapshot .long
 
 same-length-13 : tie.Need-same-length-13 Inv-loop μ-loop
 same-length-13 c =
     let at-loop = c .before in
-    let start = at-loop .before .before .before .before .before .before .before .before .before .before .before .before .before in
-    (in-advance (around start) (start .args .size) _ _ (field start) (lent start) (start .pre) (at-loop .loop .inv)) .frame .quadList .long
+    later at-loop .frame .quadList .long
 
 same-length-14 : tie.Need-same-length-14 Inv-loop μ-loop
 same-length-14 c =
     let at-loop = c .before in
-    let start = at-loop .before .before .before .before .before .before .before .before .before .before .before .before .before in
-    (in-advance (around start) (start .args .size) _ _ (field start) (lent start) (start .pre) (at-loop .loop .inv)) .frame .edgeList .long
+    later at-loop .frame .edgeList .long
 
 returns-2 : tie.Need-returns-2 Inv-loop μ-loop
 returns-2 c =

@@ -1,6 +1,6 @@
 -- `advance::after_quad` meets its contract. Assumes nothing.
-use Rattle.advance.specs.Answers.{quadSettled}
 use borrow.Author.Tests.{le-leb, lt-leb}
+use Rattle.advance.specs.Answers.{quadSettled}
 use Rattle.advance.proofs.after_quad.Statement.{statement}
 use Rattle.advance.proofs.after_quad.Tie as tie
 

@@ -1,11 +1,11 @@
 -- `advance::copy_links` meets its contract: the loop is the definition's. Assumes nothing.
+use mathlib.Core.Path.{_≡_, refl}
 use Prim.Native.Nat.{_-_}
-use Rattle.advance.specs.Laws.{copy-next}
+use native.Mathlib.Omega.{arith}
+use lib.ListN.{length, length-set}
 use Rattle.laws.specs.Loop.{Loop, loop-start, loop-end}
 use Rattle.paving.specs.Advance.{copyTurn, copied}
-use lib.ListN.{length, length-set}
-use mathlib.Core.Path.{_≡_, refl}
-use native.Mathlib.Omega.{arith}
+use Rattle.advance.specs.Laws.{copy-next}
 use Rattle.advance.proofs.copy_links.Statement.{statement}
 use Rattle.advance.proofs.copy_links.Tie as tie
 

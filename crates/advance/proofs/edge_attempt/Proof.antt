@@ -1,12 +1,12 @@
 -- `advance::edge_attempt` meets its contract: the edge is off the front, gone, or tried. Assumes nothing.
-use Rattle.advance.specs.Laws.{attempt-off, attempt-gone, attempt-there}
-use Rattle.attempts.specs.SeenLaws.{try-seen}
-use Rattle.crossfield.specs.Field.{FieldRecord, fieldRecord}
-use Rattle.domain.specs.Outline.{Outline, outline}
-use Rattle.front.specs.State.{State, stateOf}
-use borrow.Author.Needs.{needs}
 use mathlib.Core.List.{[]}
 use mathlib.Core.Path.{_∙_}
+use borrow.Author.Needs.{needs}
+use Rattle.domain.specs.Outline.{Outline, outline}
+use Rattle.crossfield.specs.Field.{FieldRecord, fieldRecord}
+use Rattle.front.specs.State.{State, stateOf}
+use Rattle.attempts.specs.SeenLaws.{try-seen}
+use Rattle.advance.specs.Laws.{attempt-off, attempt-gone, attempt-there}
 use Rattle.advance.proofs.edge_attempt.Statement.{statement}
 use Rattle.advance.proofs.edge_attempt.Tie as tie
 
@@ -19,7 +19,8 @@ field s = fieldRecord (s .args .grid) (s .args .values .now) []
 
 abbrev lent : tie.Start → State
 lent s =
-    stateOf (s .args .xs .now) (s .args .ys .now) (s .args .next .now) (s .args .prev .now) (s .args .snapshot .now) [] (s .args .edges .now) (s .args .k)
+    stateOf (s .args .xs .now) (s .args .ys .now) (s .args .next .now) (s .args .prev .now) (s .args .snapshot .now) []
+    (s .args .edges .now) (s .args .k)
 
 mul-b : tie.Need-mul-b
 mul-b c = search needs

@@ -1,16 +1,12 @@
 -- `advance::pass` meets its contract. Assumes nothing.
-use Prim.Native.Nat.{ℕ}
-use Rattle.advance.specs.Laws.{pass-whole, pass-begun}
-use Rattle.advance.specs.Paveable.{Paveable, places, snapshot-paveable}
-use Rattle.crossfield.specs.Field.{FieldRecord, fieldRecord}
-use Rattle.domain.specs.Outline.{Outline, outline}
-use Rattle.front.specs.State.{State, stateOf}
-use Rattle.paving.specs.Advance.{withSnapshot}
-use borrow.Author.Needs.{needs}
-use mathlib.Core.List.{List}
 use mathlib.Core.List.{[]}
-use mathlib.Core.Path.{sym, subst}
 use native.Mathlib.Omega.{arith}
+use borrow.Author.Needs.{needs}
+use Rattle.domain.specs.Outline.{Outline, outline}
+use Rattle.crossfield.specs.Field.{FieldRecord, fieldRecord}
+use Rattle.front.specs.State.{State, stateOf}
+use Rattle.advance.specs.Laws.{pass-whole, pass-begun}
+use Rattle.advance.specs.Paveable.{places}
 use Rattle.advance.proofs.pass.Statement.{statement}
 use Rattle.advance.proofs.pass.Tie as tie
 
@@ -23,18 +19,21 @@ field s = fieldRecord (s .args .grid) (s .args .values .now) []
 
 abbrev lent : tie.Start → State
 lent s =
-    stateOf (s .args .xs .now) (s .args .ys .now) (s .args .next .now) (s .args .prev .now) (s .args .snapshot .now) (s .args .quads .now) (s .args .edges .now) (s .args .k)
+    stateOf (s .args .xs .now) (s .args .ys .now) (s .args .next .now) (s .args .prev .now) (s .args .snapshot .now) (s .args .quads .now)
+    (s .args .edges .now) (s .args .k)
 
 copy-links-requires : tie.Need-copy-links-requires
 copy-links-requires c κs =
-    let start = c .before .before .before .before .before .before .before .before .before .before .before .before .before in
+    let at-shared-slice-known = c .before .before .before .before .before .before .before .before .before .before .before .before in
+    let start = at-shared-slice-known .before in
     let P = places _ _ _ _ (start .pre) in
     (P .next, P .snapshot)
 
 sweep-requires : tie.Need-sweep-requires
 sweep-requires c κs =
     let at-copy-links = c .before .before .before .before .before .before .before .before .before in
-    let start = at-copy-links .before .before .before .before .before .before .before .before .before .before .before .before .before .before in
+    let at-shared-slice-known2 = at-copy-links .before .before .before .before .before .before .before .before .before .before .before .before in
+    let start = at-shared-slice-known2 .before .before in
     pass-begun _ _ _ (lent start) (start .pre) (at-copy-links .copy-links .ensures)
 
 same-length : tie.Need-same-length
@@ -62,7 +61,8 @@ returns : tie.Need-returns
 returns c =
     let at-sweep = c .before .before .before .before .before .before .before .before .before .before .before .before in
     let at-copy-links = at-sweep .before .before .before .before .before .before .before .before .before .before in
-    let start = at-copy-links .before .before .before .before .before .before .before .before .before .before .before .before .before .before in
+    let at-shared-slice-known2 = at-copy-links .before .before .before .before .before .before .before .before .before .before .before .before in
+    let start = at-shared-slice-known2 .before .before in
     pass-whole (around start) (start .args .size) (field start) (lent start) _ _ (at-copy-links .copy-links .ensures) (at-sweep .sweep .ensures)
 
 pub pass-spec : {M : Type 1} → statement M

@@ -1,12 +1,12 @@
 -- `advance::settle` meets its contract: the attempt answers nothing, a quad that is full, or a quad that is placed. Assumes nothing.
-use Rattle.advance.specs.Laws.{settle-same, settle-ready, settle-full, settle-done}
-use Rattle.advance.specs.Paveable.{places, try-lent}
-use Rattle.crossfield.specs.Field.{FieldRecord, fieldRecord}
-use Rattle.domain.specs.Outline.{Outline, outline}
-use Rattle.front.specs.State.{State, stateOf}
-use borrow.Author.Needs.{needs}
 use mathlib.Core.List.{[]}
 use native.Mathlib.Omega.{arith}
+use borrow.Author.Needs.{needs}
+use Rattle.domain.specs.Outline.{Outline, outline}
+use Rattle.crossfield.specs.Field.{FieldRecord, fieldRecord}
+use Rattle.front.specs.State.{State, stateOf}
+use Rattle.advance.specs.Laws.{settle-same, settle-ready, settle-full, settle-done}
+use Rattle.advance.specs.Paveable.{places, try-lent}
 use Rattle.advance.proofs.settle.Statement.{statement}
 use Rattle.advance.proofs.settle.Tie as tie
 
@@ -19,12 +19,13 @@ field s = fieldRecord (s .args .grid) (s .args .values .now) []
 
 abbrev lent : tie.Start → State
 lent s =
-    stateOf (s .args .xs .now) (s .args .ys .now) (s .args .next .now) (s .args .prev .now) (s .args .snapshot .now) (s .args .quads .now) (s .args .edges .now) (s .args .k)
+    stateOf (s .args .xs .now) (s .args .ys .now) (s .args .next .now) (s .args .prev .now) (s .args .snapshot .now) (s .args .quads .now)
+    (s .args .edges .now) (s .args .k)
 
 edge-attempt-requires : tie.Need-edge-attempt-requires
 edge-attempt-requires c κs =
-    let at-shared-slice-known = c .before .before .before .before .before .before .before .before .before .before .before .before .before .before .before in
-    let start = at-shared-slice-known .before in
+    let at-shared-slice-known4 = c .before .before .before .before .before .before .before .before .before .before .before .before in
+    let start = at-shared-slice-known4 .before .before .before .before in
     (try-lent _ _ _ _ (start .pre .0), omega (arith, places _ _ _ _ (start .pre .0) .snapshot, start .pre .1))
 
 mul-b : tie.Need-mul-b
@@ -32,8 +33,8 @@ mul-b c = search needs
 
 shared-slice-read-b : tie.Need-shared-slice-read-b
 shared-slice-read-b c =
-    let at-shared-slice-known3 = c .before .before .before .before .before .before .before .before .before .before .before .before .before .before .before in
-    let start = at-shared-slice-known3 .before .before .before in
+    let at-slice-known2 = c .before .before .before .before .before .before .before .before .before .before .before .before in
+    let start = at-slice-known2 .before .before .before .before .before .before in
     omega (arith, places _ _ _ _ (start .pre .0) .snapshot, start .pre .1)
 
 enum-told : tie.Need-enum-told
@@ -46,9 +47,10 @@ place-requires : tie.Need-place-requires
 place-requires c κs =
     let at-attempt = c .before .before .before .before .before .before .before in
     let at-edge-attempt = at-attempt .before .before .before in
-    let at-shared-slice-known2 = at-edge-attempt .before .before .before .before .before .before .before .before .before .before .before .before .before .before .before in
-    let start = at-shared-slice-known2 .before .before in
-    settle-ready (around start) (start .args .size) (field start) (lent start) (start .args .a) _ (at-edge-attempt .edge-attempt .ensures) _ _ (at-attempt .attempt .given .1) _ _ (start .pre .0)
+    let at-slice-known = at-edge-attempt .before .before .before .before .before .before .before .before .before .before .before .before in
+    let start = at-slice-known .before .before .before .before .before in
+    settle-ready (around start) (start .args .size) (field start) (lent start) (start .args .a) _
+    (at-edge-attempt .edge-attempt .ensures) _ _ (at-attempt .attempt .given .1) _ _ (start .pre .0)
 
 enum-told-2 : tie.Need-enum-told-2
 enum-told-2 c = search needs
@@ -77,9 +79,10 @@ same-length-5 c = search needs
 returns : tie.Need-returns
 returns c =
     let at-edge-attempt = c .before .before .before in
-    let at-shared-slice-known2 = at-edge-attempt .before .before .before .before .before .before .before .before .before .before .before .before .before .before .before in
-    let start = at-shared-slice-known2 .before .before in
-    settle-same (around start) (start .args .size) (field start) (lent start) (start .args .a) _ (at-edge-attempt .edge-attempt .ensures) (c .enum-told .given .1)
+    let at-slice-known = at-edge-attempt .before .before .before .before .before .before .before .before .before .before .before .before in
+    let start = at-slice-known .before .before .before .before .before in
+    settle-same (around start) (start .args .size) (field start) (lent start) (start .args .a) _
+    (at-edge-attempt .edge-attempt .ensures) (c .enum-told .given .1)
 
 same-length-6 : tie.Need-same-length-6
 same-length-6 c = search needs
@@ -101,12 +104,15 @@ same-length-11 c = search needs
 
 returns-2 : tie.Need-returns-2
 returns-2 c =
-    let at-place = c .before .before .before .before .before .before .before .before .before .before .before .before .before .before in
+    let at-slice-known7 = c .before .before .before .before .before .before .before .before .before .before .before .before in
+    let at-place = at-slice-known7 .before .before in
     let at-attempt = at-place .before .before .before .before .before .before .before .before in
     let at-edge-attempt = at-attempt .before .before .before in
-    let at-shared-slice-known2 = at-edge-attempt .before .before .before .before .before .before .before .before .before .before .before .before .before .before .before in
-    let start = at-shared-slice-known2 .before .before in
-    settle-full (around start) (start .args .size) (field start) (lent start) (start .args .a) _ (at-edge-attempt .edge-attempt .ensures) _ _ (at-attempt .attempt .given .1) (start .args .k) (at-place .place .ensures) (c .enum-told2 .given .1)
+    let at-slice-known = at-edge-attempt .before .before .before .before .before .before .before .before .before .before .before .before in
+    let start = at-slice-known .before .before .before .before .before in
+    settle-full (around start) (start .args .size) (field start) (lent start) (start .args .a) _
+    (at-edge-attempt .edge-attempt .ensures) _ _ (at-attempt .attempt .given .1) (start .args .k)
+    (at-place .place .ensures) (c .enum-told2 .given .1)
 
 same-length-12 : tie.Need-same-length-12
 same-length-12 c = search needs
@@ -129,12 +135,15 @@ same-length-17 c = search needs
 returns-3 : tie.Need-returns-3
 returns-3 c =
     let at-placed = c .before .before in
-    let at-place = at-placed .before .before .before .before .before .before .before .before .before .before .before .before .before .before in
+    let at-slice-known7 = at-placed .before .before .before .before .before .before .before .before .before .before .before .before in
+    let at-place = at-slice-known7 .before .before in
     let at-attempt = at-place .before .before .before .before .before .before .before .before in
     let at-edge-attempt = at-attempt .before .before .before in
-    let at-shared-slice-known2 = at-edge-attempt .before .before .before .before .before .before .before .before .before .before .before .before .before .before .before in
-    let start = at-shared-slice-known2 .before .before in
-    settle-done (around start) (start .args .size) (field start) (lent start) (start .args .a) _ (at-edge-attempt .edge-attempt .ensures) _ _ (at-attempt .attempt .given .1) (start .args .k) (at-place .place .ensures) (at-placed .placed .given .1) (c .after-quad .ensures)
+    let at-slice-known = at-edge-attempt .before .before .before .before .before .before .before .before .before .before .before .before in
+    let start = at-slice-known .before .before .before .before .before in
+    settle-done (around start) (start .args .size) (field start) (lent start) (start .args .a) _
+    (at-edge-attempt .edge-attempt .ensures) _ _ (at-attempt .attempt .given .1) (start .args .k)
+    (at-place .place .ensures) (at-placed .placed .given .1) (c .after-quad .ensures)
 
 pub settle-spec : {M : Type 1} → statement M
 settle-spec =

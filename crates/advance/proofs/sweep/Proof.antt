@@ -1,16 +1,17 @@
 -- `advance::sweep` meets its contract: the loop is the run over the turns of a pass. Assumes nothing.
-use Prim.Native.Nat.{_-_}
-use Rattle.advance.specs.Laws.{in-pass, went-same, went-put, went-over, pass-ends}
-use Rattle.crossfield.specs.Field.{FieldRecord, fieldRecord}
-use Rattle.domain.specs.Outline.{Outline, outline}
-use Rattle.front.specs.State.{State, stateOf}
-use Rattle.laws.specs.Loop.{Run, run-start, run-go, run-out}
-use Rattle.paving.specs.Advance.{passing, passTurn, afterPass}
-use borrow.Author.Needs.{needs}
 use mathlib.Core.Bool.{false}
 use mathlib.Core.List.{[]}
 use mathlib.Core.Path.{_∙_}
+use Prim.Native.Nat.{_-_}
 use native.Mathlib.Omega.{arith}
+use borrow.Author.Needs.{needs}
+use Rattle.laws.specs.Loop.{Run, run-start, run-go, run-out}
+use Rattle.domain.specs.Outline.{Outline, outline}
+use Rattle.crossfield.specs.Field.{FieldRecord, fieldRecord}
+use Rattle.front.specs.State.{State, stateOf}
+use Rattle.paving.specs.Advance.{passing, passTurn, afterPass}
+use Rattle.advance.specs.Laws.{in-pass, went-same, went-put, went-over, pass-ends}
+use Rattle.advance.specs.Paveable.{Later}
 use Rattle.advance.proofs.sweep.Statement.{statement}
 use Rattle.advance.proofs.sweep.Tie as tie
 
@@ -32,7 +33,16 @@ field s = fieldRecord (s .args .grid) (s .args .values .now) []
 
 abbrev lent : tie.Start Inv-loop μ-loop → State
 lent s =
-    stateOf (s .args .xs .now) (s .args .ys .now) (s .args .next .now) (s .args .prev .now) (s .args .snapshot .now) (s .args .quads .now) (s .args .edges .now) (s .args .k)
+    stateOf (s .args .xs .now) (s .args .ys .now) (s .args .next .now) (s .args .prev .now) (s .args .snapshot .now) (s .args .quads .now)
+    (s .args .edges .now) (s .args .k)
+
+-- the state in the loop comes after the one that is lent
+abbrev start : tie.At-loop Inv-loop μ-loop → tie.Start Inv-loop μ-loop
+start c = c .before .before .before .before .before .before .before .before .before .before .before .before
+
+later : (c : tie.At-loop Inv-loop μ-loop) → Later (around (start c)) (start c .args .grid) (start c .args .values .now) (lent (start c))
+    (stateOf (c .loop .xs) (c .loop .ys) (c .loop .next) (c .loop .prev) (start c .args .snapshot .now) (c .loop .quads) (c .loop .edges) (c .loop .j))
+later c = in-pass (around (start c)) (start c .args .size) _ _ (field (start c)) (lent (start c)) (start c .pre) (c .loop .inv)
 
 loop-holds : tie.Need-loop-holds Inv-loop μ-loop
 loop-holds c = run-start _ afterPass _ _
@@ -44,8 +54,7 @@ settle-requires : tie.Need-settle-requires Inv-loop μ-loop
 settle-requires c κs =
     let at-loop-test = c .before .before .before .before .before .before in
     let at-loop = at-loop-test .before in
-    let start = at-loop .before .before .before .before .before .before .before .before .before .before .before .before in
-    let L = in-pass (around start) (start .args .size) _ _ (field start) (lent start) (start .pre) (at-loop .loop .inv) in
+    let L = later at-loop in
     (L .paveable, omega (arith, L .frame .nodes, at-loop-test .loop-test .taken))
 
 enum-told : tie.Need-enum-told Inv-loop μ-loop
@@ -56,7 +65,8 @@ loop-less c = omega arith
 
 loop-again : tie.Need-loop-again Inv-loop μ-loop
 loop-again c =
-    let at-settle = c .before .before .before .before .before .before .before .before .before .before .before .before .before .before in
+    let at-slice-known7 = c .before .before .before .before .before .before .before .before .before .before .before .before in
+    let at-settle = at-slice-known7 .before .before in
     let at-loop-test = at-settle .before .before .before .before .before .before .before in
     let at-loop = at-loop-test .before in
     run-go _ afterPass _ _ (at-loop .loop .inv) (at-loop-test .loop-test .taken)
@@ -71,7 +81,8 @@ loop-less-2 c = omega arith
 loop-again-2 : tie.Need-loop-again-2 Inv-loop μ-loop
 loop-again-2 c =
     let at-t = c .before in
-    let at-settle = at-t .before .before .before .before .before .before .before .before .before .before .before .before .before .before in
+    let at-slice-known7 = at-t .before .before .before .before .before .before .before .before .before .before .before .before in
+    let at-settle = at-slice-known7 .before .before in
     let at-loop-test = at-settle .before .before .before .before .before .before .before in
     let at-loop = at-loop-test .before in
     run-go _ afterPass _ _ (at-loop .loop .inv) (at-loop-test .loop-test .taken)
@@ -82,50 +93,51 @@ enum-known-t-2 c = search needs
 
 same-length : tie.Need-same-length Inv-loop μ-loop
 same-length c =
-    let at-settle = c .before .before .before .before .before .before .before .before .before .before .before .before .before .before .before in
+    let at-ys = c .before .before .before .before .before .before .before .before .before .before .before .before in
+    let at-settle = at-ys .before .before .before in
     let at-loop = at-settle .before .before .before .before .before .before .before .before in
-    let start = at-loop .before .before .before .before .before .before .before .before .before .before .before .before in
-    at-settle .settle .kept .1 .1 .1 .1 .1 .1 .0 ∙ (in-pass (around start) (start .args .size) _ _ (field start) (lent start) (start .pre) (at-loop .loop .inv)) .frame .xs .long
+    at-settle .settle .kept .1 .1 .1 .1 .1 .1 .0 ∙ later at-loop .frame .xs .long
 
 same-length-2 : tie.Need-same-length-2 Inv-loop μ-loop
 same-length-2 c =
-    let at-settle = c .before .before .before .before .before .before .before .before .before .before .before .before .before .before .before in
+    let at-ys = c .before .before .before .before .before .before .before .before .before .before .before .before in
+    let at-settle = at-ys .before .before .before in
     let at-loop = at-settle .before .before .before .before .before .before .before .before in
-    let start = at-loop .before .before .before .before .before .before .before .before .before .before .before .before in
-    at-settle .settle .kept .1 .1 .1 .1 .1 .1 .1 .0 ∙ (in-pass (around start) (start .args .size) _ _ (field start) (lent start) (start .pre) (at-loop .loop .inv)) .frame .ys .long
+    at-settle .settle .kept .1 .1 .1 .1 .1 .1 .1 .0 ∙ later at-loop .frame .ys .long
 
 same-length-3 : tie.Need-same-length-3 Inv-loop μ-loop
 same-length-3 c =
-    let at-settle = c .before .before .before .before .before .before .before .before .before .before .before .before .before .before .before in
+    let at-ys = c .before .before .before .before .before .before .before .before .before .before .before .before in
+    let at-settle = at-ys .before .before .before in
     let at-loop = at-settle .before .before .before .before .before .before .before .before in
-    let start = at-loop .before .before .before .before .before .before .before .before .before .before .before .before in
-    at-settle .settle .kept .1 .1 .1 .1 .1 .1 .1 .1 .0 ∙ (in-pass (around start) (start .args .size) _ _ (field start) (lent start) (start .pre) (at-loop .loop .inv)) .frame .next .long
+    at-settle .settle .kept .1 .1 .1 .1 .1 .1 .1 .1 .0 ∙ later at-loop .frame .next .long
 
 same-length-4 : tie.Need-same-length-4 Inv-loop μ-loop
 same-length-4 c =
-    let at-settle = c .before .before .before .before .before .before .before .before .before .before .before .before .before .before .before in
+    let at-ys = c .before .before .before .before .before .before .before .before .before .before .before .before in
+    let at-settle = at-ys .before .before .before in
     let at-loop = at-settle .before .before .before .before .before .before .before .before in
-    let start = at-loop .before .before .before .before .before .before .before .before .before .before .before .before in
-    at-settle .settle .kept .1 .1 .1 .1 .1 .1 .1 .1 .1 .0 ∙ (in-pass (around start) (start .args .size) _ _ (field start) (lent start) (start .pre) (at-loop .loop .inv)) .frame .prev .long
+    at-settle .settle .kept .1 .1 .1 .1 .1 .1 .1 .1 .1 .0 ∙ later at-loop .frame .prev .long
 
 same-length-5 : tie.Need-same-length-5 Inv-loop μ-loop
 same-length-5 c =
-    let at-settle = c .before .before .before .before .before .before .before .before .before .before .before .before .before .before .before in
+    let at-ys = c .before .before .before .before .before .before .before .before .before .before .before .before in
+    let at-settle = at-ys .before .before .before in
     let at-loop = at-settle .before .before .before .before .before .before .before .before in
-    let start = at-loop .before .before .before .before .before .before .before .before .before .before .before .before in
-    at-settle .settle .kept .1 .1 .1 .1 .1 .1 .1 .1 .1 .1 .1 .0 ∙ (in-pass (around start) (start .args .size) _ _ (field start) (lent start) (start .pre) (at-loop .loop .inv)) .frame .quadList .long
+    at-settle .settle .kept .1 .1 .1 .1 .1 .1 .1 .1 .1 .1 .1 .0 ∙ later at-loop .frame .quadList .long
 
 same-length-6 : tie.Need-same-length-6 Inv-loop μ-loop
 same-length-6 c =
-    let at-settle = c .before .before .before .before .before .before .before .before .before .before .before .before .before .before .before in
+    let at-ys = c .before .before .before .before .before .before .before .before .before .before .before .before in
+    let at-settle = at-ys .before .before .before in
     let at-loop = at-settle .before .before .before .before .before .before .before .before in
-    let start = at-loop .before .before .before .before .before .before .before .before .before .before .before .before in
-    at-settle .settle .kept .1 .1 .1 .1 .1 .1 .1 .1 .1 .1 .1 .1 .0 ∙ (in-pass (around start) (start .args .size) _ _ (field start) (lent start) (start .pre) (at-loop .loop .inv)) .frame .edgeList .long
+    at-settle .settle .kept .1 .1 .1 .1 .1 .1 .1 .1 .1 .1 .1 .1 .0 ∙ later at-loop .frame .edgeList .long
 
 returns : tie.Need-returns Inv-loop μ-loop
 returns c =
     let at-t2 = c .before in
-    let at-settle = at-t2 .before .before .before .before .before .before .before .before .before .before .before .before .before .before in
+    let at-slice-known7 = at-t2 .before .before .before .before .before .before .before .before .before .before .before .before in
+    let at-settle = at-slice-known7 .before .before in
     let at-loop-test = at-settle .before .before .before .before .before .before .before in
     let at-loop = at-loop-test .before in
     run-out _ afterPass _ _ (at-loop .loop .inv) (at-loop-test .loop-test .taken)
@@ -137,38 +149,32 @@ after-pass-requires c κs = search needs
 same-length-7 : tie.Need-same-length-7 Inv-loop μ-loop
 same-length-7 c =
     let at-loop = c .before .before in
-    let start = at-loop .before .before .before .before .before .before .before .before .before .before .before .before in
-    (in-pass (around start) (start .args .size) _ _ (field start) (lent start) (start .pre) (at-loop .loop .inv)) .frame .xs .long
+    later at-loop .frame .xs .long
 
 same-length-8 : tie.Need-same-length-8 Inv-loop μ-loop
 same-length-8 c =
     let at-loop = c .before .before in
-    let start = at-loop .before .before .before .before .before .before .before .before .before .before .before .before in
-    (in-pass (around start) (start .args .size) _ _ (field start) (lent start) (start .pre) (at-loop .loop .inv)) .frame .ys .long
+    later at-loop .frame .ys .long
 
 same-length-9 : tie.Need-same-length-9 Inv-loop μ-loop
 same-length-9 c =
     let at-loop = c .before .before in
-    let start = at-loop .before .before .before .before .before .before .before .before .before .before .before .before in
-    (in-pass (around start) (start .args .size) _ _ (field start) (lent start) (start .pre) (at-loop .loop .inv)) .frame .next .long
+    later at-loop .frame .next .long
 
 same-length-10 : tie.Need-same-length-10 Inv-loop μ-loop
 same-length-10 c =
     let at-loop = c .before .before in
-    let start = at-loop .before .before .before .before .before .before .before .before .before .before .before .before in
-    (in-pass (around start) (start .args .size) _ _ (field start) (lent start) (start .pre) (at-loop .loop .inv)) .frame .prev .long
+    later at-loop .frame .prev .long
 
 same-length-11 : tie.Need-same-length-11 Inv-loop μ-loop
 same-length-11 c =
     let at-loop = c .before .before in
-    let start = at-loop .before .before .before .before .before .before .before .before .before .before .before .before in
-    (in-pass (around start) (start .args .size) _ _ (field start) (lent start) (start .pre) (at-loop .loop .inv)) .frame .quadList .long
+    later at-loop .frame .quadList .long
 
 same-length-12 : tie.Need-same-length-12 Inv-loop μ-loop
 same-length-12 c =
     let at-loop = c .before .before in
-    let start = at-loop .before .before .before .before .before .before .before .before .before .before .before .before in
-    (in-pass (around start) (start .args .size) _ _ (field start) (lent start) (start .pre) (at-loop .loop .inv)) .frame .edgeList .long
+    later at-loop .frame .edgeList .long
 
 returns-2 : tie.Need-returns-2 Inv-loop μ-loop
 returns-2 c =

@@ -1,39 +1,39 @@
 -- The turns of the code: an edge of a pass, a pass, `advance`. Assumes nothing.
 use mathlib.Core.Path.{_≡_, refl, sym, _∙_, ap, subst}
-use mathlib.Core.Bool.{Bool, true, false, not, _&&_, cond}
+use mathlib.Core.Bool.{Bool, true, false, cond}
 use mathlib.Core.List.{List, []}
 use mathlib.Core.Logic.{_≢_}
 use Prim.Native.Nat.{ℕ, _+_, _≤_, _<_, min}
 use native.Mathlib.Omega.{arith}
-use lib.Dec.{leb, eqb}
+use lib.Dec.{leb}
 use lib.ListN.{length, getD, set}
 use lib.Ieee.{Float}
 use borrow.Author.Tests.{eq-eqb, ne-eqb}
-use Rattle.laws.specs.Loop.{Loop, loop-next, Turn, go, out, onwards, forUp-keeps, Run, run-start, run-go, run-out, run-end, Kept, run}
-use Rattle.topology.specs.Links.{off, linkOf, link-in}
+use Rattle.laws.specs.Loop.{Loop, loop-next, Turn, go, out, onwards, forUp-keeps, Run, run-end, Kept, run}
+use Rattle.topology.specs.Links.{off, link-in}
 use Rattle.domain.specs.Outline.{Outline}
 use Rattle.crossfield.specs.declared.Grid.{Grid}
-use Rattle.crossfield.specs.Field.{FieldRecord, fieldRecord}
+use Rattle.crossfield.specs.Field.{FieldRecord}
 use Rattle.front.specs.declared.Corner.{Corner}
 use Rattle.front.specs.declared.Counts.{Counts}
 use Rattle.front.specs.declared.Placed.{Placed}
 use Rattle.front.specs.declared.Placed.the-variants as placed-is
 use Rattle.front.specs.State.{State, stateOf, nextOf}
-use Rattle.front.specs.Place.{place, isFull}
+use Rattle.front.specs.Place.{place}
 use Rattle.front.specs.Stores.{Places, countsAfter}
 use Rattle.front.specs.KnownLaws.{placed-full, placed-done}
 use Rattle.front.specs.Ready.{Choice, Ready}
 use Rattle.paving.specs.declared.Attempt.{Attempt}
 use Rattle.paving.specs.declared.Attempt.the-variants.{Nothing, Quad}
 use Rattle.paving.specs.declared.End.{End}
-use Rattle.paving.specs.declared.End.the-variants.{Still, Passes, Cap, Full}
+use Rattle.paving.specs.declared.End.the-variants.{Cap, Full}
 use Rattle.paving.specs.Attempt.{tryEdge}
-use Rattle.paving.specs.Advance.{Paved, paved, Passing, passing, Passed, mostQuads, afterQuad, settle, isThere, passTurn, copyTurn, copied, withSnapshot, afterPass, pass, passesTurn, allUsed, advance}
+use Rattle.paving.specs.Advance.{Paved, paved, Passing, passing, Passed, mostQuads, afterQuad, settle, isThere, passTurn}
+use Rattle.paving.specs.Advance.{copyTurn, copied, withSnapshot, afterPass, pass, passesTurn, allUsed, advance}
 use Rattle.paving.specs.ReachLaws.{tried, Reached, AtPassing, AtPassed, AtEnd, turn-kept, pass-kept}
 use Rattle.paving.specs.Reach.{begin}
 use Rattle.placed.specs.Answered.{choice}
 use Rattle.attempts.specs.Reads.{link-read}
-use Rattle.attempts.specs.Seen.{seenOf}
 use Rattle.attempts.specs.SeenLaws.{try-seen}
 use Rattle.advance.specs.declared.Settled.{Settled}
 use Rattle.advance.specs.declared.Settled.the-variants.{Same, Put}

@@ -1,6 +1,6 @@
 -- What holds of a paving all the way through a run, and what it gives the code of an attempt and of a placing.
 use mathlib.Core.Path.{_≡_}
-use mathlib.Core.Bool.{true, false}
+use mathlib.Core.Bool.{false}
 use mathlib.Core.List.{List}
 use Prim.Native.Nat.{ℕ, _*_, _≤_}
 use native.Mathlib.Omega.{arith}
@@ -18,7 +18,7 @@ use Rattle.front.specs.Ready.{Known, Choice, Ready}
 use Rattle.front.specs.Step.{step}
 use Rattle.front.specs.KnownLaws.{known-placed}
 use Rattle.paving.specs.Advance.{withSnapshot}
-use Rattle.paving.specs.Reach.{Placement, Reaches, begin, snapshot, placed}
+use Rattle.paving.specs.Reach.{Reaches, begin, snapshot, placed}
 use Rattle.placed.specs.Answered.{answered}
 use Rattle.placed.specs.Snapshot.{snapshot-frame, snapshot-sound}
 use Rattle.attempts.specs.Seen.{TryLent}
@@ -85,7 +85,8 @@ module _ (o : Outline) (g : Grid) (values : List Float) where
 
 -- ---- what the code of an attempt and of a placing asks
 
-pub record Places (s : State) : Type 0 where
+-- the nodes and edges counted are in the lists lent
+pub record Held (s : State) : Type 0 where
   pub few : s .counts .nodes ≤ 4294967294
   pub next : s .counts .nodes ≤ length (s .next)
   pub prev : s .counts .nodes ≤ length (s .prev)
@@ -93,9 +94,9 @@ pub record Places (s : State) : Type 0 where
   pub edges : 2 * s .counts .edges ≤ length (s .edges)
 
 module _ (o : Outline) (g : Grid) (values : List Float) (s : State) (P : Paveable o g values s) where
-  pub places : Places s
+  pub held : Held s
   unfolding nodePlaces edgePlaces
-  places =
+  held =
       let S = P .sound in
       record {
         few = omega (arith, S .nodes-fit);
@@ -107,7 +108,7 @@ module _ (o : Outline) (g : Grid) (values : List Float) (s : State) (P : Paveabl
 
   pub try-lent : TryLent o g values (s .next) (s .prev) (s .edges) (s .counts)
   try-lent =
-      let L = places in
+      let L = held in
       record {
         attempt = record {
           quad = record { shape = P .shape; within = record { nodes-few = L .few; edges-fit = L .edges } };

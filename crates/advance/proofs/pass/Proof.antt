@@ -1,12 +1,11 @@
 -- `advance::pass` meets its contract. Assumes nothing.
 use mathlib.Core.List.{[]}
-use native.Mathlib.Omega.{arith}
 use borrow.Author.Needs.{needs}
 use Rattle.domain.specs.Outline.{Outline, outline}
 use Rattle.crossfield.specs.Field.{FieldRecord, fieldRecord}
 use Rattle.front.specs.State.{State, stateOf}
 use Rattle.advance.specs.Laws.{pass-whole, pass-begun}
-use Rattle.advance.specs.Paveable.{places}
+use Rattle.advance.specs.Paveable.{held}
 use Rattle.advance.proofs.pass.Statement.{statement}
 use Rattle.advance.proofs.pass.Tie as tie
 
@@ -26,7 +25,7 @@ copy-links-requires : tie.Need-copy-links-requires
 copy-links-requires c κs =
     let at-shared-slice-known = c .before .before .before .before .before .before .before .before .before .before .before .before in
     let start = at-shared-slice-known .before in
-    let P = places _ _ _ _ (start .pre) in
+    let P = held _ _ _ _ (start .pre) in
     (P .next, P .snapshot)
 
 sweep-requires : tie.Need-sweep-requires

@@ -6,7 +6,7 @@ use Rattle.domain.specs.Outline.{Outline, outline}
 use Rattle.crossfield.specs.Field.{FieldRecord, fieldRecord}
 use Rattle.front.specs.State.{State, stateOf}
 use Rattle.advance.specs.Laws.{settle-same, settle-ready, settle-full, settle-done}
-use Rattle.advance.specs.Paveable.{places, try-lent}
+use Rattle.advance.specs.Paveable.{held, try-lent}
 use Rattle.advance.proofs.settle.Statement.{statement}
 use Rattle.advance.proofs.settle.Tie as tie
 
@@ -26,7 +26,7 @@ edge-attempt-requires : tie.Need-edge-attempt-requires
 edge-attempt-requires c κs =
     let at-shared-slice-known4 = c .before .before .before .before .before .before .before .before .before .before .before .before in
     let start = at-shared-slice-known4 .before .before .before .before in
-    (try-lent _ _ _ _ (start .pre .0), omega (arith, places _ _ _ _ (start .pre .0) .snapshot, start .pre .1))
+    (try-lent _ _ _ _ (start .pre .0), omega (arith, held _ _ _ _ (start .pre .0) .snapshot, start .pre .1))
 
 mul-b : tie.Need-mul-b
 mul-b c = search needs
@@ -35,7 +35,7 @@ shared-slice-read-b : tie.Need-shared-slice-read-b
 shared-slice-read-b c =
     let at-slice-known2 = c .before .before .before .before .before .before .before .before .before .before .before .before in
     let start = at-slice-known2 .before .before .before .before .before .before in
-    omega (arith, places _ _ _ _ (start .pre .0) .snapshot, start .pre .1)
+    omega (arith, held _ _ _ _ (start .pre .0) .snapshot, start .pre .1)
 
 enum-told : tie.Need-enum-told
 enum-told c = search needs

@@ -15,8 +15,10 @@ use Rattle.front.specs.declared.Corner.the-variants.{Reused, Fresh}
 use Rattle.front.specs.State.{State, nextOf, prevOf}
 use Rattle.front.specs.Place.{idC, idD}
 use Rattle.front.specs.Ready.{Chosen, Choice, Fits, fits}
+use Rattle.paving.specs.declared.Attempt.the-variants.{Quad}
 use Rattle.paving.specs.Checks.{quadFits}
-use Rattle.paving.specs.Attempt.{isReused, cornerAt, cornerC, cornerD}
+use Rattle.paving.specs.Attempt.{isReused, cornerAt, cornerC, cornerD, attemptQuad}
+use Rattle.paving.specs.Advance.{isThere}
 use Rattle.paving.specs.AttemptLaws.{quad-chosen}
 use Rattle.paving.specs.Reach.{Placement}
 
@@ -58,21 +60,26 @@ chosen size s other v p c = by (isReused size s other v p) refl c
     by false e (Reused id) h = absurd (let z : _≡_ {A = ℕ} 0 1 = cc in omega arith)
     by false e (Fresh x y) h = tt
 
--- ---- the theorem
+-- ---- the theorems
+
+-- an attempt on a front edge that is there answered a quad: its corners are chosen
+pub choice : (o : Outline) (size : Float) (s : State) (a b : ℕ) (da db : Point) (c d : Corner) → isThere s a b ≡ true
+    → attemptQuad o size s a b da db ≡ Quad c d → Choice s a b c d
+unfolding cornerC cornerD quadFits
+choice o size s a b da db c d there answer =
+    let A = quad-chosen o size s a b da db c d answer in
+    record {
+      edge = eqb-true (nextOf s a) b (and-right (not (eqb b off)) _ there);
+      node = differ b off (and-left _ _ there);
+      chosen-c = chosen size s b (prevOf s a) _ c (A .at-c);
+      chosen-d = chosen size s a (nextOf s b) _ d (A .at-d);
+      apart = differ (idC s c) (idD s c d) (and-left _ _ (A .checks));
+    }
 
 pub answered : (o : Outline) (size : Float) (s : State) (a b : ℕ) (c d : Corner) → Placement o size s a b c d → Answered o size s a b c d
-unfolding cornerC cornerD quadFits
 answered o size s a b c d P =
-    let A = quad-chosen o size s a b (P .da) (P .db) c d (P .answered) in
-    let edge = eqb-true (nextOf s a) b (and-right (not (eqb b off)) _ (P .there)) in
     record {
-      choice = record {
-        edge = edge;
-        node = differ b off (and-left _ _ (P .there));
-        chosen-c = chosen size s b (prevOf s a) _ c (A .at-c);
-        chosen-d = chosen size s a (nextOf s b) _ d (A .at-d);
-        apart = differ (idC s c) (idD s c d) (and-left _ _ (A .checks));
-      };
-      checks = A .checks;
+      choice = choice o size s a b (P .da) (P .db) c d (P .there) (P .answered);
+      checks = quad-chosen o size s a b (P .da) (P .db) c d (P .answered) .checks;
       fits = fits s a b c d (P .fits);
     }

@@ -1,0 +1,180 @@
+-- `advance::settle` meets its contract: the attempt answers nothing, a quad that is full, or a quad that is placed. Assumes nothing.
+use mathlib.Core.List.{[]}
+use native.Mathlib.Omega.{arith}
+use borrow.Author.Needs.{needs}
+use Rattle.domain.specs.Outline.{Outline, outline}
+use Rattle.crossfield.specs.Field.{FieldRecord, fieldRecord}
+use Rattle.front.specs.State.{State, stateOf}
+use Rattle.advance.specs.Laws.{settle-same, settle-ready, settle-full, settle-done}
+use Rattle.advance.specs.Paveable.{held, try-lent}
+use Rattle.advance.proofs.settle.Statement.{statement}
+use Rattle.advance.proofs.settle.Tie as tie
+
+-- the outline, the field and the state as they are lent
+abbrev around : tie.Start → Outline
+around s = outline (s .args .outer .now) (s .args .holes .now) (s .args .lens .now)
+
+abbrev field : tie.Start → FieldRecord
+field s = fieldRecord (s .args .grid) (s .args .values .now) []
+
+abbrev lent : tie.Start → State
+lent s =
+    stateOf (s .args .xs .now) (s .args .ys .now) (s .args .next .now) (s .args .prev .now) (s .args .snapshot .now) (s .args .quads .now)
+    (s .args .edges .now) (s .args .k)
+
+edge-attempt-requires : tie.Need-edge-attempt-requires
+edge-attempt-requires c κs =
+    let at-shared-slice-known4 = c .before .before .before .before .before .before .before .before .before .before .before .before in
+    let start = at-shared-slice-known4 .before .before .before .before in
+    (try-lent _ _ _ _ (start .pre .0), omega (arith, held _ _ _ _ (start .pre .0) .snapshot, start .pre .1))
+
+mul-b : tie.Need-mul-b
+mul-b c = search needs
+
+shared-slice-read-b : tie.Need-shared-slice-read-b
+shared-slice-read-b c =
+    let at-slice-known2 = c .before .before .before .before .before .before .before .before .before .before .before .before in
+    let start = at-slice-known2 .before .before .before .before .before .before in
+    omega (arith, held _ _ _ _ (start .pre .0) .snapshot, start .pre .1)
+
+enum-told : tie.Need-enum-told
+enum-told c = search needs
+
+enum-known-attempt : tie.Need-enum-known-attempt
+enum-known-attempt c = search needs
+
+place-requires : tie.Need-place-requires
+place-requires c κs =
+    let at-attempt = c .before .before .before .before .before .before .before in
+    let at-edge-attempt = at-attempt .before .before .before in
+    let at-slice-known = at-edge-attempt .before .before .before .before .before .before .before .before .before .before .before .before in
+    let start = at-slice-known .before .before .before .before .before in
+    settle-ready (around start) (start .args .size) (field start) (lent start) (start .args .a) _
+    (at-edge-attempt .edge-attempt .ensures) _ _ (at-attempt .attempt .given .1) _ _ (start .pre .0)
+
+enum-told-2 : tie.Need-enum-told-2
+enum-told-2 c = search needs
+
+enum-known-placed : tie.Need-enum-known-placed
+enum-known-placed c = search needs
+
+after-quad-requires : tie.Need-after-quad-requires
+after-quad-requires c κs = search needs
+
+same-length : tie.Need-same-length
+same-length c = search needs
+
+same-length-2 : tie.Need-same-length-2
+same-length-2 c = search needs
+
+same-length-3 : tie.Need-same-length-3
+same-length-3 c = search needs
+
+same-length-4 : tie.Need-same-length-4
+same-length-4 c = search needs
+
+same-length-5 : tie.Need-same-length-5
+same-length-5 c = search needs
+
+returns : tie.Need-returns
+returns c =
+    let at-edge-attempt = c .before .before .before in
+    let at-slice-known = at-edge-attempt .before .before .before .before .before .before .before .before .before .before .before .before in
+    let start = at-slice-known .before .before .before .before .before in
+    settle-same (around start) (start .args .size) (field start) (lent start) (start .args .a) _
+    (at-edge-attempt .edge-attempt .ensures) (c .enum-told .given .1)
+
+same-length-6 : tie.Need-same-length-6
+same-length-6 c = search needs
+
+same-length-7 : tie.Need-same-length-7
+same-length-7 c = search needs
+
+same-length-8 : tie.Need-same-length-8
+same-length-8 c = search needs
+
+same-length-9 : tie.Need-same-length-9
+same-length-9 c = search needs
+
+same-length-10 : tie.Need-same-length-10
+same-length-10 c = search needs
+
+same-length-11 : tie.Need-same-length-11
+same-length-11 c = search needs
+
+returns-2 : tie.Need-returns-2
+returns-2 c =
+    let at-slice-known7 = c .before .before .before .before .before .before .before .before .before .before .before .before in
+    let at-place = at-slice-known7 .before .before in
+    let at-attempt = at-place .before .before .before .before .before .before .before .before in
+    let at-edge-attempt = at-attempt .before .before .before in
+    let at-slice-known = at-edge-attempt .before .before .before .before .before .before .before .before .before .before .before .before in
+    let start = at-slice-known .before .before .before .before .before in
+    settle-full (around start) (start .args .size) (field start) (lent start) (start .args .a) _
+    (at-edge-attempt .edge-attempt .ensures) _ _ (at-attempt .attempt .given .1) (start .args .k)
+    (at-place .place .ensures) (c .enum-told2 .given .1)
+
+same-length-12 : tie.Need-same-length-12
+same-length-12 c = search needs
+
+same-length-13 : tie.Need-same-length-13
+same-length-13 c = search needs
+
+same-length-14 : tie.Need-same-length-14
+same-length-14 c = search needs
+
+same-length-15 : tie.Need-same-length-15
+same-length-15 c = search needs
+
+same-length-16 : tie.Need-same-length-16
+same-length-16 c = search needs
+
+same-length-17 : tie.Need-same-length-17
+same-length-17 c = search needs
+
+returns-3 : tie.Need-returns-3
+returns-3 c =
+    let at-placed = c .before .before in
+    let at-slice-known7 = at-placed .before .before .before .before .before .before .before .before .before .before .before .before in
+    let at-place = at-slice-known7 .before .before in
+    let at-attempt = at-place .before .before .before .before .before .before .before .before in
+    let at-edge-attempt = at-attempt .before .before .before in
+    let at-slice-known = at-edge-attempt .before .before .before .before .before .before .before .before .before .before .before .before in
+    let start = at-slice-known .before .before .before .before .before in
+    settle-done (around start) (start .args .size) (field start) (lent start) (start .args .a) _
+    (at-edge-attempt .edge-attempt .ensures) _ _ (at-attempt .attempt .given .1) (start .args .k)
+    (at-place .place .ensures) (at-placed .placed .given .1) (c .after-quad .ensures)
+
+pub settle-spec : {M : Type 1} → statement M
+settle-spec =
+    tie.close
+    (tie.spec
+    edge-attempt-requires
+    mul-b
+    shared-slice-read-b
+    enum-told
+    enum-known-attempt
+    place-requires
+    enum-told-2
+    enum-known-placed
+    after-quad-requires
+    same-length
+    same-length-2
+    same-length-3
+    same-length-4
+    same-length-5
+    returns
+    same-length-6
+    same-length-7
+    same-length-8
+    same-length-9
+    same-length-10
+    same-length-11
+    returns-2
+    same-length-12
+    same-length-13
+    same-length-14
+    same-length-15
+    same-length-16
+    same-length-17
+    returns-3)

@@ -1,0 +1,215 @@
+-- `advance::sweep` meets its contract: the loop is the run over the turns of a pass. Assumes nothing.
+use mathlib.Core.Bool.{false}
+use mathlib.Core.List.{[]}
+use mathlib.Core.Path.{_∙_}
+use Prim.Native.Nat.{_-_}
+use native.Mathlib.Omega.{arith}
+use borrow.Author.Needs.{needs}
+use Rattle.laws.specs.Loop.{Run, run-start, run-go, run-out}
+use Rattle.domain.specs.Outline.{Outline, outline}
+use Rattle.crossfield.specs.Field.{FieldRecord, fieldRecord}
+use Rattle.front.specs.State.{State, stateOf}
+use Rattle.paving.specs.Advance.{passing, passTurn, afterPass}
+use Rattle.advance.specs.Laws.{in-pass, went-same, went-put, went-over, pass-ends}
+use Rattle.advance.specs.Paveable.{Later}
+use Rattle.advance.proofs.sweep.Statement.{statement}
+use Rattle.advance.proofs.sweep.Tie as tie
+
+abbrev Inv-loop : tie.InvT-loop
+Inv-loop outer holes lens size grid values xs₀ ys₀ next₀ prev₀ snapshot quads₀ edges₀ n j₀ some₀ a₀ xs ys next prev quads edges j some a =
+    Run (passTurn (outline outer holes lens) size (fieldRecord grid values [])) afterPass
+    (passing (stateOf xs₀ ys₀ next₀ prev₀ snapshot quads₀ edges₀ j₀) false) n a (passing (stateOf xs ys next prev snapshot quads edges j) some)
+
+abbrev μ-loop : tie.MeasureT-loop
+μ-loop outer holes lens size grid values xs₀ ys₀ next₀ prev₀ snapshot quads₀ edges₀ n j₀ some₀ a₀ xs ys next prev quads edges j some a =
+    n - a
+
+-- the outline, the field and the state as they are lent
+abbrev around : tie.Start Inv-loop μ-loop → Outline
+around s = outline (s .args .outer .now) (s .args .holes .now) (s .args .lens .now)
+
+abbrev field : tie.Start Inv-loop μ-loop → FieldRecord
+field s = fieldRecord (s .args .grid) (s .args .values .now) []
+
+abbrev lent : tie.Start Inv-loop μ-loop → State
+lent s =
+    stateOf (s .args .xs .now) (s .args .ys .now) (s .args .next .now) (s .args .prev .now) (s .args .snapshot .now) (s .args .quads .now)
+    (s .args .edges .now) (s .args .k)
+
+-- the state in the loop comes after the one that is lent
+abbrev start : tie.At-loop Inv-loop μ-loop → tie.Start Inv-loop μ-loop
+start c = c .before .before .before .before .before .before .before .before .before .before .before .before
+
+later : (c : tie.At-loop Inv-loop μ-loop) → Later (around (start c)) (start c .args .grid) (start c .args .values .now) (lent (start c))
+    (stateOf (c .loop .xs) (c .loop .ys) (c .loop .next) (c .loop .prev) (start c .args .snapshot .now) (c .loop .quads) (c .loop .edges) (c .loop .j))
+later c = in-pass (around (start c)) (start c .args .size) _ _ (field (start c)) (lent (start c)) (start c .pre) (c .loop .inv)
+
+loop-holds : tie.Need-loop-holds Inv-loop μ-loop
+loop-holds c = run-start _ afterPass _ _
+
+add-a : tie.Need-add-a Inv-loop μ-loop
+add-a c = omega arith
+
+settle-requires : tie.Need-settle-requires Inv-loop μ-loop
+settle-requires c κs =
+    let at-loop-test = c .before .before .before .before .before .before in
+    let at-loop = at-loop-test .before in
+    let L = later at-loop in
+    (L .paveable, omega (arith, L .frame .nodes, at-loop-test .loop-test .taken))
+
+enum-told : tie.Need-enum-told Inv-loop μ-loop
+enum-told c = search needs
+
+loop-less : tie.Need-loop-less Inv-loop μ-loop
+loop-less c = omega arith
+
+loop-again : tie.Need-loop-again Inv-loop μ-loop
+loop-again c =
+    let at-slice-known7 = c .before .before .before .before .before .before .before .before .before .before .before .before in
+    let at-settle = at-slice-known7 .before .before in
+    let at-loop-test = at-settle .before .before .before .before .before .before .before in
+    let at-loop = at-loop-test .before in
+    run-go _ afterPass _ _ (at-loop .loop .inv) (at-loop-test .loop-test .taken)
+    (went-same (at-loop .loop .j) (at-loop .loop .some) (at-settle .settle .result) (at-settle .settle .ensures (at-loop .loop .some)) (c .enum-told .given .1))
+
+enum-known-t : tie.Need-enum-known-t Inv-loop μ-loop
+enum-known-t c = search needs
+
+loop-less-2 : tie.Need-loop-less-2 Inv-loop μ-loop
+loop-less-2 c = omega arith
+
+loop-again-2 : tie.Need-loop-again-2 Inv-loop μ-loop
+loop-again-2 c =
+    let at-t = c .before in
+    let at-slice-known7 = at-t .before .before .before .before .before .before .before .before .before .before .before .before in
+    let at-settle = at-slice-known7 .before .before in
+    let at-loop-test = at-settle .before .before .before .before .before .before .before in
+    let at-loop = at-loop-test .before in
+    run-go _ afterPass _ _ (at-loop .loop .inv) (at-loop-test .loop-test .taken)
+    (went-put (at-loop .loop .j) (at-loop .loop .some) (at-settle .settle .result) (at-settle .settle .ensures (at-loop .loop .some)) (at-t .t .given .1))
+
+enum-known-t-2 : tie.Need-enum-known-t-2 Inv-loop μ-loop
+enum-known-t-2 c = search needs
+
+same-length : tie.Need-same-length Inv-loop μ-loop
+same-length c =
+    let at-ys = c .before .before .before .before .before .before .before .before .before .before .before .before in
+    let at-settle = at-ys .before .before .before in
+    let at-loop = at-settle .before .before .before .before .before .before .before .before in
+    at-settle .settle .kept .1 .1 .1 .1 .1 .1 .0 ∙ later at-loop .frame .xs .long
+
+same-length-2 : tie.Need-same-length-2 Inv-loop μ-loop
+same-length-2 c =
+    let at-ys = c .before .before .before .before .before .before .before .before .before .before .before .before in
+    let at-settle = at-ys .before .before .before in
+    let at-loop = at-settle .before .before .before .before .before .before .before .before in
+    at-settle .settle .kept .1 .1 .1 .1 .1 .1 .1 .0 ∙ later at-loop .frame .ys .long
+
+same-length-3 : tie.Need-same-length-3 Inv-loop μ-loop
+same-length-3 c =
+    let at-ys = c .before .before .before .before .before .before .before .before .before .before .before .before in
+    let at-settle = at-ys .before .before .before in
+    let at-loop = at-settle .before .before .before .before .before .before .before .before in
+    at-settle .settle .kept .1 .1 .1 .1 .1 .1 .1 .1 .0 ∙ later at-loop .frame .next .long
+
+same-length-4 : tie.Need-same-length-4 Inv-loop μ-loop
+same-length-4 c =
+    let at-ys = c .before .before .before .before .before .before .before .before .before .before .before .before in
+    let at-settle = at-ys .before .before .before in
+    let at-loop = at-settle .before .before .before .before .before .before .before .before in
+    at-settle .settle .kept .1 .1 .1 .1 .1 .1 .1 .1 .1 .0 ∙ later at-loop .frame .prev .long
+
+same-length-5 : tie.Need-same-length-5 Inv-loop μ-loop
+same-length-5 c =
+    let at-ys = c .before .before .before .before .before .before .before .before .before .before .before .before in
+    let at-settle = at-ys .before .before .before in
+    let at-loop = at-settle .before .before .before .before .before .before .before .before in
+    at-settle .settle .kept .1 .1 .1 .1 .1 .1 .1 .1 .1 .1 .1 .0 ∙ later at-loop .frame .quadList .long
+
+same-length-6 : tie.Need-same-length-6 Inv-loop μ-loop
+same-length-6 c =
+    let at-ys = c .before .before .before .before .before .before .before .before .before .before .before .before in
+    let at-settle = at-ys .before .before .before in
+    let at-loop = at-settle .before .before .before .before .before .before .before .before in
+    at-settle .settle .kept .1 .1 .1 .1 .1 .1 .1 .1 .1 .1 .1 .1 .0 ∙ later at-loop .frame .edgeList .long
+
+returns : tie.Need-returns Inv-loop μ-loop
+returns c =
+    let at-t2 = c .before in
+    let at-slice-known7 = at-t2 .before .before .before .before .before .before .before .before .before .before .before .before in
+    let at-settle = at-slice-known7 .before .before in
+    let at-loop-test = at-settle .before .before .before .before .before .before .before in
+    let at-loop = at-loop-test .before in
+    run-out _ afterPass _ _ (at-loop .loop .inv) (at-loop-test .loop-test .taken)
+    (went-over (at-loop .loop .j) (at-loop .loop .some) (at-settle .settle .result) (at-settle .settle .ensures (at-loop .loop .some)) (at-t2 .t2 .given .1))
+
+after-pass-requires : tie.Need-after-pass-requires Inv-loop μ-loop
+after-pass-requires c κs = search needs
+
+same-length-7 : tie.Need-same-length-7 Inv-loop μ-loop
+same-length-7 c =
+    let at-loop = c .before .before in
+    later at-loop .frame .xs .long
+
+same-length-8 : tie.Need-same-length-8 Inv-loop μ-loop
+same-length-8 c =
+    let at-loop = c .before .before in
+    later at-loop .frame .ys .long
+
+same-length-9 : tie.Need-same-length-9 Inv-loop μ-loop
+same-length-9 c =
+    let at-loop = c .before .before in
+    later at-loop .frame .next .long
+
+same-length-10 : tie.Need-same-length-10 Inv-loop μ-loop
+same-length-10 c =
+    let at-loop = c .before .before in
+    later at-loop .frame .prev .long
+
+same-length-11 : tie.Need-same-length-11 Inv-loop μ-loop
+same-length-11 c =
+    let at-loop = c .before .before in
+    later at-loop .frame .quadList .long
+
+same-length-12 : tie.Need-same-length-12 Inv-loop μ-loop
+same-length-12 c =
+    let at-loop = c .before .before in
+    later at-loop .frame .edgeList .long
+
+returns-2 : tie.Need-returns-2 Inv-loop μ-loop
+returns-2 c =
+    let at-loop-test = c .before in
+    let at-loop = at-loop-test .before in
+    pass-ends _ (at-loop .loop .inv) (at-loop-test .loop-test .left) (c .after-pass .ensures)
+
+pub sweep-spec : {M : Type 1} → statement M
+sweep-spec =
+    tie.close
+    (tie.spec
+    Inv-loop
+    μ-loop
+    loop-holds
+    add-a
+    settle-requires
+    enum-told
+    loop-less
+    loop-again
+    enum-known-t
+    loop-less-2
+    loop-again-2
+    enum-known-t-2
+    same-length
+    same-length-2
+    same-length-3
+    same-length-4
+    same-length-5
+    same-length-6
+    returns
+    after-pass-requires
+    same-length-7
+    same-length-8
+    same-length-9
+    same-length-10
+    same-length-11
+    same-length-12
+    returns-2)

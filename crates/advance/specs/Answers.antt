@@ -1,0 +1,66 @@
+-- What the answers of the code say, in the words of the definitions of a pass. Definitions only.
+use mathlib.Core.Path.{_≡_}
+use mathlib.Core.Bool.{Bool, true, cond}
+use Prim.Native.Nat.{ℕ}
+use lib.Dec.{leb}
+use lib.ListN.{getD}
+use lib.Ieee.{Float}
+use Rattle.laws.specs.Loop.{Turn, go, out}
+use Rattle.domain.specs.Outline.{Outline}
+use Rattle.crossfield.specs.Field.{FieldRecord}
+use Rattle.front.specs.declared.Counts.{Counts}
+use Rattle.front.specs.State.{State}
+use Rattle.paving.specs.declared.Attempt.{Attempt}
+use Rattle.paving.specs.declared.Attempt.the-variants.{Nothing}
+use Rattle.paving.specs.declared.End.the-variants.{Still, Cap}
+use Rattle.paving.specs.Attempt.{tryEdge}
+use Rattle.paving.specs.Advance.{Passing, passing, Passed, paved, isThere, passTurn, mostQuads}
+use Rattle.advance.specs.declared.Settled.{Settled}
+use Rattle.advance.specs.declared.Settled.the-variants.{Same, Put}
+use Rattle.advance.specs.declared.Settled.the-variants as settled-is
+use Rattle.advance.specs.declared.Swept.{Swept}
+use Rattle.advance.specs.declared.Swept.the-variants.{On}
+use Rattle.advance.specs.declared.Swept.the-variants as swept-is
+
+-- ---- one edge of a pass
+
+-- the attempt on the snapshot's edge from node a, none where that edge is gone
+unfoldable pub edgeAttempt : Outline → Float → FieldRecord → State → ℕ → Attempt
+edgeAttempt o size field s a =
+    let b = getD (s .snapshot) a 0 in
+    cond (isThere s a b) (tryEdge o size field s a b) Nothing
+
+-- what became of the edge, where the state is s then, and `some` says whether the pass had placed something before
+abbrev pub settled : Settled → Bool → State → Turn Passing Passed
+settled Same some s = go (passing s some)
+settled (Put m) some s = go (passing s true)
+settled (settled-is.Over e m) some s = out (out (paved s e))
+
+-- the counts then, of k before
+abbrev pub settledCounts : Counts → Settled → Counts
+settledCounts k Same = k
+settledCounts k (Put m) = m
+settledCounts k (settled-is.Over e m) = m
+
+-- a turn of the pass on the snapshot's edge from node a, where the code answers r and leaves t of s
+abbrev pub Settles : Outline → Float → FieldRecord → State → ℕ → Settled → State → Type 0
+Settles o size field s a r t = (some : Bool) → settled r some t ≡ passTurn o size field a (passing s some)
+
+-- the answer after a quad that leaves the counts m
+unfoldable pub quadSettled : Counts → Settled
+quadSettled m = cond (leb mostQuads (m .quads)) (settled-is.Over Cap m) (Put m)
+
+-- ---- a pass
+
+-- what a pass answers, where the state is s then
+abbrev pub passed : Swept → State → Passed
+passed (On m) s = go s
+passed (swept-is.Over e m) s = out (paved s e)
+
+abbrev pub passedCounts : Swept → Counts
+passedCounts (On m) = m
+passedCounts (swept-is.Over e m) = m
+
+-- the answer of a pass that tried its last edge
+abbrev pub passAnswer : Bool → Counts → Swept
+passAnswer placed k = cond placed (On k) (swept-is.Over Still k)

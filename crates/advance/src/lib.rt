@@ -1,0 +1,375 @@
+// The passes of the paving (src/alt_crossfield.rs): a pass over the front edges present at its start, and `advance` with its four ends.
+// All seven lists of a `Paving` are lent; the counts go in and come back by value.
+ghost use mathlib.Core.Path.{_≡_};
+ghost use mathlib.Core.Bool.{false};
+ghost use mathlib.Core.List.{[]};
+ghost use Prim.Native.Nat.{_≤_, _<_, min};
+ghost use lib.ListN.{length};
+ghost use Rattle.laws.specs.Loop.{run};
+ghost use Rattle.domain.specs.Outline.{outline};
+ghost use Rattle.crossfield.specs.Field.{fieldRecord};
+ghost use Rattle.front.specs.State.{stateOf};
+ghost use Rattle.attempts.specs.Seen.{TryLent};
+ghost use Rattle.paving.specs.Advance.{copied, passing, passTurn, afterPass, pass, paved, advance};
+ghost use Rattle.advance.specs.Answers.{edgeAttempt, Settles, settledCounts, quadSettled, passed, passedCounts, passAnswer};
+ghost use Rattle.advance.specs.Paveable.{Paveable};
+use crossfield::Grid;
+use front::Counts;
+use front::Placed;
+use paving::Attempt;
+use paving::End;
+
+// What became of one edge of a pass: nothing; a quad, with the counts after it; or the end of the paving, with the counts there.
+pub enum Settled {
+    Same,
+    Put(Counts),
+    Over(End, Counts),
+}
+
+// What a pass answers: the counts with which the next one begins, or the end of the paving, with the counts there.
+pub enum Swept {
+    On(Counts),
+    Over(End, Counts),
+}
+
+// How `advance` ended, and the counts then.
+pub struct Advanced {
+    pub end: End,
+    pub counts: Counts,
+}
+
+impl Advanced {
+    // So many quads are the end.
+    pub const MOST_QUADS: usize = 250000;
+
+    pub const MOST_PASSES: usize = 600;
+}
+
+// Marks a node off the front.
+const OFF: u32 = 4294967295;
+
+// Copies the links of the first n nodes.
+fn copy_links(next: &[u32], snapshot: &mut [u32], n: u32)
+    requires { ⌜ (n ≤ length (now next)) × (n ≤ length (now snapshot)) ⌝ }
+    ensures { λ r. ⌜ now (snapshot .exit) ≡ copied n (now (next .entry)) (now (snapshot .entry)) ⌝ }
+{
+    let m = n as usize;
+    let mut i = 0;
+    while i < m {
+        snapshot[i] = next[i];
+        i += 1;
+    }
+}
+
+// ---- one edge of a pass
+
+// The attempt on the snapshot's edge from node a, none where that edge is gone.
+fn edge_attempt<'a>(
+    outer: &'a [f64],
+    holes: &'a [f64],
+    lens: &[usize],
+    size: f64,
+    grid: Grid,
+    values: &[f64],
+    xs: &[f64],
+    ys: &[f64],
+    next: &[u32],
+    prev: &[u32],
+    snapshot: &[u32],
+    edges: &[u32],
+    k: Counts,
+    a: u32,
+) -> Attempt
+    requires { ⌜ TryLent (outline (now outer) (now holes) (now lens)) grid (now values) (now next) (now prev) (now edges) k × (a < length (now snapshot)) ⌝ }
+    ensures { λ r. ⌜ r ≡ edgeAttempt (outline (now (outer .entry)) (now (holes .entry)) (now (lens .entry))) size (fieldRecord grid (now (values .entry)) [])
+        (stateOf (now (xs .entry)) (now (ys .entry)) (now (next .entry)) (now (prev .entry)) (now (snapshot .entry)) [] (now (edges .entry)) k) a ⌝ }
+{
+    let b = snapshot[a as usize];
+    if b == OFF {
+        return Attempt::Nothing;
+    }
+    if attempts::link_at(next, k.nodes, a) != b {
+        return Attempt::Nothing;
+    }
+    attempts::try_edge(
+        outer,
+        holes,
+        lens,
+        size,
+        grid,
+        values,
+        xs,
+        ys,
+        next,
+        prev,
+        edges,
+        k,
+        a,
+        b,
+    )
+}
+
+// After a quad: on, or the end at the cap.
+fn after_quad(m: Counts) -> Settled
+    ensures { λ r. ⌜ r ≡ quadSettled m ⌝ }
+{
+    if m.quads >= Advanced::MOST_QUADS {
+        Settled::Over(End::Cap, m)
+    } else {
+        Settled::Put(m)
+    }
+}
+
+// Tries the snapshot's edge from node a, and places the quad that is answered.
+fn settle<'a>(
+    outer: &'a [f64],
+    holes: &'a [f64],
+    lens: &[usize],
+    size: f64,
+    grid: Grid,
+    values: &[f64],
+    xs: &mut [f64],
+    ys: &mut [f64],
+    next: &mut [u32],
+    prev: &mut [u32],
+    snapshot: &[u32],
+    quads: &mut [u32],
+    edges: &mut [u32],
+    k: Counts,
+    a: u32,
+) -> Settled
+    requires { ⌜ Paveable (outline (now outer) (now holes) (now lens)) grid (now values)
+        (stateOf (now xs) (now ys) (now next) (now prev) (now snapshot) (now quads) (now edges) k) × (a < k .nodes) ⌝ }
+    ensures { λ r. ⌜ Settles (outline (now (outer .entry)) (now (holes .entry)) (now (lens .entry))) size (fieldRecord grid (now (values .entry)) [])
+        (stateOf (now (xs .entry)) (now (ys .entry)) (now (next .entry)) (now (prev .entry)) (now (snapshot .entry)) (now (quads .entry)) (now (edges .entry)) k) a r
+        (stateOf (now (xs .exit)) (now (ys .exit)) (now (next .exit)) (now (prev .exit)) (now (snapshot .entry)) (now (quads .exit)) (now (edges .exit))
+        (settledCounts k r)) ⌝ }
+{
+    let attempt = edge_attempt(
+        outer,
+        holes,
+        lens,
+        size,
+        grid,
+        values,
+        xs,
+        ys,
+        next,
+        prev,
+        snapshot,
+        edges,
+        k,
+        a,
+    );
+    let b = snapshot[a as usize];
+    match attempt {
+        Attempt::Nothing => Settled::Same,
+        Attempt::Quad(c, d) => {
+            let placed = front::place(xs, ys, next, prev, snapshot, quads, edges, k, a, b, c, d);
+            match placed {
+                Placed::Full => Settled::Over(End::Full, k),
+                Placed::Done(m) => after_quad(m),
+            }
+        }
+    }
+}
+
+// ---- a pass
+
+// After the last edge: on with the next pass, or still where this one placed nothing.
+fn after_pass(placed: bool, k: Counts) -> Swept
+    ensures { λ r. ⌜ r ≡ passAnswer placed k ⌝ }
+{
+    if placed {
+        Swept::On(k)
+    } else {
+        Swept::Over(End::Still, k)
+    }
+}
+
+// The edges of the snapshot in the order of their first nodes.
+fn sweep<'a>(
+    outer: &'a [f64],
+    holes: &'a [f64],
+    lens: &[usize],
+    size: f64,
+    grid: Grid,
+    values: &[f64],
+    xs: &mut [f64],
+    ys: &mut [f64],
+    next: &mut [u32],
+    prev: &mut [u32],
+    snapshot: &[u32],
+    quads: &mut [u32],
+    edges: &mut [u32],
+    k: Counts,
+) -> Swept
+    requires { ⌜ Paveable (outline (now outer) (now holes) (now lens)) grid (now values)
+        (stateOf (now xs) (now ys) (now next) (now prev) (now snapshot) (now quads) (now edges) k) ⌝ }
+    ensures { λ r. ⌜
+        passed r
+        (stateOf (now (xs .exit)) (now (ys .exit)) (now (next .exit)) (now (prev .exit)) (now (snapshot .entry)) (now (quads .exit)) (now (edges .exit))
+        (passedCounts r))
+        ≡ run (k .nodes)
+        (passTurn (outline (now (outer .entry)) (now (holes .entry)) (now (lens .entry))) size (fieldRecord grid (now (values .entry)) []))
+        afterPass (passing
+        (stateOf (now (xs .entry)) (now (ys .entry)) (now (next .entry)) (now (prev .entry)) (now (snapshot .entry)) (now (quads .entry)) (now (edges .entry)) k)
+        false) ⌝ }
+{
+    let n = k.nodes;
+    let mut j = k;
+    let mut some = false;
+    let mut a: u32 = 0;
+    while a < n {
+        let i = a;
+        a += 1;
+        let t = settle(
+            outer,
+            holes,
+            lens,
+            size,
+            grid,
+            values,
+            xs,
+            ys,
+            next,
+            prev,
+            snapshot,
+            quads,
+            edges,
+            j,
+            i,
+        );
+        match t {
+            Settled::Same => {}
+            Settled::Put(m) => {
+                j = m;
+                some = true;
+            }
+            Settled::Over(e, m) => {
+                return Swept::Over(e, m);
+            }
+        }
+    }
+    after_pass(some, j)
+}
+
+// A pass: the snapshot is taken, and its edges are tried.
+fn pass<'a>(
+    outer: &'a [f64],
+    holes: &'a [f64],
+    lens: &[usize],
+    size: f64,
+    grid: Grid,
+    values: &[f64],
+    xs: &mut [f64],
+    ys: &mut [f64],
+    next: &mut [u32],
+    prev: &mut [u32],
+    snapshot: &mut [u32],
+    quads: &mut [u32],
+    edges: &mut [u32],
+    k: Counts,
+) -> Swept
+    requires { ⌜ Paveable (outline (now outer) (now holes) (now lens)) grid (now values)
+        (stateOf (now xs) (now ys) (now next) (now prev) (now snapshot) (now quads) (now edges) k) ⌝ }
+    ensures { λ r. ⌜
+        passed r
+        (stateOf (now (xs .exit)) (now (ys .exit)) (now (next .exit)) (now (prev .exit)) (now (snapshot .exit)) (now (quads .exit)) (now (edges .exit))
+        (passedCounts r))
+        ≡ pass (outline (now (outer .entry)) (now (holes .entry)) (now (lens .entry))) size (fieldRecord grid (now (values .entry)) [])
+        (stateOf (now (xs .entry)) (now (ys .entry)) (now (next .entry)) (now (prev .entry)) (now (snapshot .entry)) (now (quads .entry)) (now (edges .entry)) k) ⌝ }
+{
+    copy_links(next, snapshot, k.nodes);
+    sweep(
+        outer,
+        holes,
+        lens,
+        size,
+        grid,
+        values,
+        xs,
+        ys,
+        next,
+        prev,
+        snapshot,
+        quads,
+        edges,
+        k,
+    )
+}
+
+// ---- `advance`
+
+fn most_passes(passes: usize) -> usize
+    ensures { λ r. ⌜ r ≡ min passes 600 ⌝ }
+{
+    if passes < Advanced::MOST_PASSES {
+        passes
+    } else {
+        Advanced::MOST_PASSES
+    }
+}
+
+// Pass after pass, until one places nothing, the cap is reached, the places lent are full, or as many are done as asked for, at most 600.
+pub fn advance<'a>(
+    outer: &'a [f64],
+    holes: &'a [f64],
+    lens: &[usize],
+    size: f64,
+    grid: Grid,
+    values: &[f64],
+    xs: &mut [f64],
+    ys: &mut [f64],
+    next: &mut [u32],
+    prev: &mut [u32],
+    snapshot: &mut [u32],
+    quads: &mut [u32],
+    edges: &mut [u32],
+    k: Counts,
+    passes: usize,
+) -> Advanced
+    requires { ⌜ Paveable (outline (now outer) (now holes) (now lens)) grid (now values)
+        (stateOf (now xs) (now ys) (now next) (now prev) (now snapshot) (now quads) (now edges) k) ⌝ }
+    ensures { λ r. ⌜
+        paved
+        (stateOf (now (xs .exit)) (now (ys .exit)) (now (next .exit)) (now (prev .exit)) (now (snapshot .exit)) (now (quads .exit)) (now (edges .exit))
+        (r .counts)) (r .end)
+        ≡ advance (outline (now (outer .entry)) (now (holes .entry)) (now (lens .entry))) size (fieldRecord grid (now (values .entry)) []) passes
+        (stateOf (now (xs .entry)) (now (ys .entry)) (now (next .entry)) (now (prev .entry)) (now (snapshot .entry)) (now (quads .entry)) (now (edges .entry)) k) ⌝ }
+{
+    let most = most_passes(passes);
+    let mut counts = k;
+    let mut i = 0;
+    while i < most {
+        i += 1;
+        let p = pass(
+            outer,
+            holes,
+            lens,
+            size,
+            grid,
+            values,
+            xs,
+            ys,
+            next,
+            prev,
+            snapshot,
+            quads,
+            edges,
+            counts,
+        );
+        match p {
+            Swept::On(m) => {
+                counts = m;
+            }
+            Swept::Over(end, m) => {
+                return Advanced { end, counts: m };
+            }
+        }
+    }
+    Advanced {
+        end: End::Passes,
+        counts,
+    }
+}

@@ -532,7 +532,7 @@ fn sweeps(n: usize, g: Grid, marks: &[u8], values: &mut [f64])
 // ---- the field
 
 // Refusals 1 to 9.
-fn field_refusal<'a>(
+pub fn field_refusal<'a>(
     outer: &'a [f64],
     holes: &'a [f64],
     lens: &[usize],
@@ -562,7 +562,7 @@ fn field_refusal<'a>(
     places_refusal(grid_of(b, size), places)
 }
 
-fn lesser(a: usize, b: usize) -> usize
+pub fn lesser(a: usize, b: usize) -> usize
     ensures { λ r. ⌜ r ≡ min a b ⌝ }
 {
     if a < b { a } else { b }

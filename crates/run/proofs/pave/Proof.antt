@@ -1,0 +1,133 @@
+-- `run::pave` meets its contract: refused, with nothing written; or run, in the part of the snapshot that counts. Assumes nothing.
+use mathlib.Core.Path.{_≡_, _∙_, sym, ap}
+use Prim.Native.Nat.{min}
+use native.Mathlib.Omega.{arith}
+use lib.Seq.{length-take-le}
+use Rattle.domain.specs.Outline.{Outline, outline}
+use Rattle.domain.specs.declared.Settings.{Settings}
+use Rattle.run.specs.Run.{settings, Lent, lent, snapshotPlaces, refusalOf}
+use Rattle.run.specs.Laws.{number-is, can-run, paves-accepted, paves-refused}
+use borrow.Author.Needs.{needs}
+use Rattle.run.proofs.pave.Statement.{statement}
+use Rattle.run.proofs.pave.Tie as tie
+
+-- the outline, the settings and the lists as they are lent
+abbrev around : tie.Start → Outline
+around s = outline (s .args .outer .now) (s .args .holes .now) (s .args .lens .now)
+
+abbrev set : tie.Start → Settings
+set s = settings (s .args .size) (s .args .sweeps) (s .args .passes)
+
+abbrev given : tie.Start → Lent
+given s =
+    lent (s .args .values .now) (s .args .marks .now) (s .args .xs .now) (s .args .ys .now) (s .args .next .now) (s .args .prev .now)
+    (s .args .snapshot .now) (s .args .quads .now) (s .args .edges .now) (s .args .loops .now) (s .args .lengths .now)
+
+places-are : (c : tie.After-lesser2) → c .lesser2 .result ≡ snapshotPlaces (given (c .before .before .before .before .before .before .before .before .before .before .before .before .before .before .before .before))
+places-are c = c .lesser2 .ensures ∙ ap (min _) (c .before .lesser .ensures)
+
+number-at : (c : tie.After-refusal) → c .refusal .result ≡ refusalOf (around (c .before .before .before .before .before .before .before .before .before .before .before .before .before .before .before .before .before .before .before)) (set (c .before .before .before .before .before .before .before .before .before .before .before .before .before .before .before .before .before .before .before)) (given (c .before .before .before .before .before .before .before .before .before .before .before .before .before .before .before .before .before .before .before))
+number-at c =
+    let start = c .before .before .before .before .before .before .before .before .before .before .before .before .before .before .before .before .before .before .before in
+    number-is (around start) (set start) (given start) _ (places-are (c .before .before .before)) _ _ _ (c .before .before .lesser3 .ensures) (c .before .node-places .ensures) (c .refusal .ensures)
+
+lesser-requires : tie.Need-lesser-requires
+lesser-requires c κs = search needs
+
+lesser-requires-2 : tie.Need-lesser-requires-2
+lesser-requires-2 c κs = search needs
+
+lesser-requires-3 : tie.Need-lesser-requires-3
+lesser-requires-3 c κs = search needs
+
+node-places-requires : tie.Need-node-places-requires
+node-places-requires c κs = search needs
+
+refusal-requires : tie.Need-refusal-requires
+refusal-requires c κs = search needs
+
+refused-requires : tie.Need-refused-requires
+refused-requires c κs = search needs
+
+returns : tie.Need-returns
+returns c =
+    let start = c .before .before .before .before .before .before .before .before .before .before .before .before .before .before .before .before .before .before .before .before .before in
+    paves-refused (around start) (set start) (given start) _ (number-at (c .before .before)) (c .before .if1 .taken) _ (c .refused .ensures)
+
+slice-relend-prefix-pave-in : tie.Need-slice-relend-prefix-pave-in
+slice-relend-prefix-pave-in c = search needs
+
+slice-aggregate-pave-in : tie.Need-slice-aggregate-pave-in
+slice-aggregate-pave-in c = sym (length-take-le _ _ (omega (arith, c .before .before .before .before .before .before .before .before .before .before .before .lesser2 .ensures)))
+
+pave-in-requires : tie.Need-pave-in-requires
+pave-in-requires c κs =
+    let start = c .before .before .before .before .before .before .before .before .before .before .before .before .before .before .before .before .before .before .before .before .before .before .before .before .before .before .before .before .before .before .before in
+    can-run (around start) (set start) (given start) _ (places-are (c .before .before .before .before .before .before .before .before .before .before .before .before .before .before .before)) (sym (number-at (c .before .before .before .before .before .before .before .before .before .before .before .before)) ∙ c .before .before .before .before .before .before .before .before .before .before .before .if1 .left)
+
+same-length : tie.Need-same-length
+same-length c = search needs
+
+same-length-2 : tie.Need-same-length-2
+same-length-2 c = search needs
+
+same-length-3 : tie.Need-same-length-3
+same-length-3 c = search needs
+
+same-length-4 : tie.Need-same-length-4
+same-length-4 c = search needs
+
+same-length-5 : tie.Need-same-length-5
+same-length-5 c = search needs
+
+same-length-6 : tie.Need-same-length-6
+same-length-6 c = search needs
+
+same-length-7 : tie.Need-same-length-7
+same-length-7 c = search needs
+
+same-length-8 : tie.Need-same-length-8
+same-length-8 c = search needs
+
+same-length-9 : tie.Need-same-length-9
+same-length-9 c = search needs
+
+same-length-10 : tie.Need-same-length-10
+same-length-10 c = search needs
+
+same-length-11 : tie.Need-same-length-11
+same-length-11 c = search needs
+
+returns-2 : tie.Need-returns-2
+returns-2 c =
+    let start = c .before .before .before .before .before .before .before .before .before .before .before .before .before .before .before .before .before .before .before .before .before .before .before .before .before .before .before .before .before .before .before .before .before .before .before .before .before .before .before .before .before .before .before .before .before .before .before .before .before .before .before .before .before .before in
+    paves-accepted (around start) (set start) (given start) _ (places-are (c .before .before .before .before .before .before .before .before .before .before .before .before .before .before .before .before .before .before .before .before .before .before .before .before .before .before .before .before .before .before .before .before .before .before .before .before .before .before)) (sym (number-at (c .before .before .before .before .before .before .before .before .before .before .before .before .before .before .before .before .before .before .before .before .before .before .before .before .before .before .before .before .before .before .before .before .before .before .before)) ∙ c .before .before .before .before .before .before .before .before .before .before .before .before .before .before .before .before .before .before .before .before .before .before .before .before .before .before .before .before .before .before .before .before .before .before .if1 .left)
+    (record { outer = λ i h. c .before .before .before .before .before .before .before .before .before .before .before .before .before .before .before .before .before .before .before .before .before .before .before .before .before .before .before .before .before .before .before .before .before .before .before .before .before .before .before .before .before .before .before .before .before .before .before .before .before .before .before .before .before .shared-slice-known .given i; holes = λ i h. c .before .before .before .before .before .before .before .before .before .before .before .before .before .before .before .before .before .before .before .before .before .before .before .before .before .before .before .before .before .before .before .before .before .before .before .before .before .before .before .before .before .before .before .before .before .before .before .before .before .before .before .before .shared-slice-known2 .given i })
+    _ _ (c .before .before .before .before .before .before .before .before .before .before .before .before .before .before .before .before .before .before .before .before .before .before .pave-in .ensures)
+
+pub pave-spec : {M : Type 1} → statement M
+pave-spec =
+    tie.close
+    (tie.spec
+    lesser-requires
+    lesser-requires-2
+    lesser-requires-3
+    node-places-requires
+    refusal-requires
+    refused-requires
+    returns
+    slice-relend-prefix-pave-in
+    slice-aggregate-pave-in
+    pave-in-requires
+    same-length
+    same-length-2
+    same-length-3
+    same-length-4
+    same-length-5
+    same-length-6
+    same-length-7
+    same-length-8
+    same-length-9
+    same-length-10
+    same-length-11
+    returns-2)

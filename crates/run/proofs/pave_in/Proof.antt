@@ -1,0 +1,106 @@
+-- `run::pave_in` meets its contract: each stage gives what the next one asks, and together they are the run. Assumes nothing.
+use mathlib.Core.Path.{_∙_, sym, subst}
+use lib.Dec.{T}
+use Rattle.domain.specs.Outline.{Outline, outline}
+use Rattle.domain.specs.declared.Settings.{Settings}
+use Rattle.run.specs.Run.{settings, Lent, lent, statePart}
+use Rattle.run.specs.Laws.{none-field, can-pave, can-list, run-whole}
+use borrow.Author.Needs.{needs}
+use Rattle.run.proofs.pave_in.Statement.{statement}
+use Rattle.run.proofs.pave_in.Tie as tie
+
+-- the outline, the settings and the lists as they are lent
+abbrev around : tie.Start → Outline
+around s = outline (s .args .outer .now) (s .args .holes .now) (s .args .lens .now)
+
+abbrev set : tie.Start → Settings
+set s = settings (s .args .size) (s .args .sweeps) (s .args .passes)
+
+abbrev given : tie.Start → Lent
+given s =
+    lent (s .args .values .now) (s .args .marks .now) (s .args .xs .now) (s .args .ys .now) (s .args .next .now) (s .args .prev .now)
+    (s .args .snapshot .now) (s .args .quads .now) (s .args .edges .now) (s .args .loops .now) (s .args .lengths .now)
+
+make-field-requires : tie.Need-make-field-requires
+make-field-requires c κs =
+    let start = c .before .before .before .before .before .before .before .before .before .before .before .before .before .before .before .before in
+    none-field (around start) (set start) (given start) (start .pre)
+
+sample-and-advance-requires : tie.Need-sample-and-advance-requires
+sample-and-advance-requires c κs =
+    let start = c .before .before .before .before .before .before .before .before .before .before .before .before .before .before .before .before .before .before .before .before .before .before .before .before .before .before .before .before .before in
+    can-pave (around start) (set start) (given start) (start .pre)
+      (record { outer = λ i h. c .before .before .before .before .before .before .before .before .before .before .before .before .before .before .before .before .before .before .before .before .before .before .before .before .before .before .before .before .shared-slice-known .given i; holes = λ i h. c .before .before .before .before .before .before .before .before .before .before .before .before .before .before .before .before .before .before .before .before .before .before .before .before .before .before .before .shared-slice-known2 .given i })
+      (subst T (sym (start .good .1 .1 .1 .0 .1)) tt) _ _ _ (c .before .before .before .before .before .before .before .before .before .before .before .before .make-field .ensures) (c .before .before .before .before .before .before .before .before .before .before .before .before .make-field .kept .1 .1 .1 .1 .1 .0)
+
+front-loops-requires : tie.Need-front-loops-requires
+front-loops-requires c κs =
+    let start = c .before .before .before .before .before .before .before .before .before .before .before .before .before .before .before .before .before .before .before .before .before .before .before .before .before .before .before .before .before .before .before .before .before .before .before .before .before .before .before .before .before .before .before .before .before .before .before .before in
+    can-list (around start) (start .args .size) _ _ (statePart (given start))
+    (can-pave (around start) (set start) (given start) (start .pre)
+      (record { outer = λ i h. c .before .before .before .before .before .before .before .before .before .before .before .before .before .before .before .before .before .before .before .before .before .before .before .before .before .before .before .before .before .before .before .before .before .before .before .before .before .before .before .before .before .before .before .before .before .before .before .shared-slice-known .given i; holes = λ i h. c .before .before .before .before .before .before .before .before .before .before .before .before .before .before .before .before .before .before .before .before .before .before .before .before .before .before .before .before .before .before .before .before .before .before .before .before .before .before .before .before .before .before .before .before .before .before .shared-slice-known2 .given i })
+      (subst T (sym (start .good .1 .1 .1 .0 .1)) tt) _ _ _ (c .before .before .before .before .before .before .before .before .before .before .before .before .before .before .before .before .before .before .before .before .before .before .before .before .before .before .before .before .before .before .before .make-field .ensures) (c .before .before .before .before .before .before .before .before .before .before .before .before .before .before .before .before .before .before .before .before .before .before .before .before .before .before .before .before .before .before .before .make-field .kept .1 .1 .1 .1 .1 .0))
+    _ (start .args .passes) _ (c .before .before .before .before .before .before .before .before .before .before .before .before .before .before .before .before .before .before .sample-and-advance .ensures) _ _ (start .pre .loops) (start .pre .lengths)
+
+answer-requires : tie.Need-answer-requires
+answer-requires c κs = search needs
+
+same-length : tie.Need-same-length
+same-length c = c .before .before .before .before .before .before .before .before .before .before .before .before .before .before .before .before .before .before .before .before .before .before .before .before .before .before .before .before .before .before .before .before .before .before .before .before .before .before .before .make-field .kept .1 .1 .1 .1 .1 .0
+
+same-length-2 : tie.Need-same-length-2
+same-length-2 c = c .before .before .before .before .before .before .before .before .before .before .before .before .before .before .before .before .before .before .before .before .before .before .before .before .before .before .before .before .before .before .before .before .before .before .before .before .before .before .before .make-field .kept .1 .1 .1 .1 .1 .1 .0
+
+same-length-3 : tie.Need-same-length-3
+same-length-3 c = c .before .before .before .before .before .before .before .before .before .before .before .before .before .before .before .before .before .before .before .before .before .before .before .before .before .before .sample-and-advance .kept .1 .1 .1 .1 .1 .1 .0
+
+same-length-4 : tie.Need-same-length-4
+same-length-4 c = c .before .before .before .before .before .before .before .before .before .before .before .before .before .before .before .before .before .before .before .before .before .before .before .before .before .before .sample-and-advance .kept .1 .1 .1 .1 .1 .1 .1 .0
+
+same-length-5 : tie.Need-same-length-5
+same-length-5 c = c .before .before .before .before .before .before .before .before .before .before .before .before .before .before .before .before .before .before .before .before .before .before .before .before .before .before .sample-and-advance .kept .1 .1 .1 .1 .1 .1 .1 .1 .0
+
+same-length-6 : tie.Need-same-length-6
+same-length-6 c = c .before .before .before .before .before .before .before .before .before .before .before .before .before .before .before .before .before .before .before .before .before .before .before .before .before .before .sample-and-advance .kept .1 .1 .1 .1 .1 .1 .1 .1 .1 .0
+
+same-length-7 : tie.Need-same-length-7
+same-length-7 c = c .before .before .before .before .before .before .before .front-loops .kept .1 .1 .0 ∙ c .before .before .before .before .before .before .before .before .before .before .before .before .before .before .before .before .before .before .before .before .before .before .before .before .before .before .sample-and-advance .kept .1 .1 .1 .1 .1 .1 .1 .1 .1 .1 .0
+
+same-length-8 : tie.Need-same-length-8
+same-length-8 c = c .before .before .before .before .before .before .before .before .before .before .before .before .before .before .before .before .before .before .before .before .before .before .before .before .before .before .sample-and-advance .kept .1 .1 .1 .1 .1 .1 .1 .1 .1 .1 .1 .0
+
+same-length-9 : tie.Need-same-length-9
+same-length-9 c = c .before .before .before .before .before .before .before .before .before .before .before .before .before .before .before .before .before .before .before .before .before .before .before .before .before .before .sample-and-advance .kept .1 .1 .1 .1 .1 .1 .1 .1 .1 .1 .1 .1 .0
+
+same-length-10 : tie.Need-same-length-10
+same-length-10 c = c .before .before .before .before .before .before .before .front-loops .kept .1 .1 .1 .0
+
+same-length-11 : tie.Need-same-length-11
+same-length-11 c = c .before .before .before .before .before .before .before .front-loops .kept .1 .1 .1 .1 .0
+
+returns : tie.Need-returns
+returns c =
+    let start = c .before .before .before .before .before .before .before .before .before .before .before .before .before .before .before .before .before .before .before .before .before .before .before .before .before .before .before .before .before .before .before .before .before .before .before .before .before .before .before .before .before .before .before .before .before .before .before .before .before .before .before .before .before .before .before .before in
+    run-whole (around start) (set start) (given start) _ _ _ (c .before .before .before .before .before .before .before .before .before .before .before .before .before .before .before .before .before .before .before .before .before .before .before .before .before .before .before .before .before .before .before .before .before .before .before .before .before .before .before .make-field .ensures) _ (c .before .before .before .before .before .before .before .before .before .before .before .before .before .before .before .before .before .before .before .before .before .before .before .before .before .before .sample-and-advance .ensures) _ (c .before .before .before .before .before .before .before .front-loops .ensures) _
+    (c .answer .ensures)
+
+pub pave-in-spec : {M : Type 1} → statement M
+pave-in-spec =
+    tie.close
+    (tie.spec
+    make-field-requires
+    sample-and-advance-requires
+    front-loops-requires
+    answer-requires
+    same-length
+    same-length-2
+    same-length-3
+    same-length-4
+    same-length-5
+    same-length-6
+    same-length-7
+    same-length-8
+    same-length-9
+    same-length-10
+    same-length-11
+    returns)

@@ -1,0 +1,75 @@
+-- `run::sample_and_advance` meets its contract: the refusals give what the two calls ask. Assumes nothing.
+use mathlib.Core.Path.{_∙_, ap, sym}
+use Rattle.domain.specs.Outline.{Outline, outline}
+use Rattle.front.specs.State.{State, stateOf}
+use Rattle.boundary.specs.Progress.{can-sample}
+use Rattle.paving.specs.Advance.{advance}
+use Rattle.crossfield.specs.Field.{fieldRecord}
+use mathlib.Core.List.{[]}
+use Rattle.run.specs.Run.{unused}
+use Rattle.run.specs.Laws.{paveable-at}
+use borrow.Author.Needs.{needs}
+use Rattle.run.proofs.sample_and_advance.Statement.{statement}
+use Rattle.run.proofs.sample_and_advance.Tie as tie
+
+-- the outline and the state as they are lent
+abbrev around : tie.Start → Outline
+around s = outline (s .args .outer .now) (s .args .holes .now) (s .args .lens .now)
+
+abbrev given : tie.Start → State
+given s =
+    stateOf (s .args .xs .now) (s .args .ys .now) (s .args .next .now) (s .args .prev .now) (s .args .snapshot .now) (s .args .quads .now)
+    (s .args .edges .now) unused
+
+from-boundary-requires : tie.Need-from-boundary-requires
+from-boundary-requires c κs =
+    let start = c .before .before .before .before .before .before .before .before .before .before .before .before .before .before .before .before in
+    can-sample (around start) (start .args .size) (given start) (start .pre .outline) (start .pre .front)
+
+advance-requires : tie.Need-advance-requires
+advance-requires c κs =
+    let start = c .before .before .before .before .before .before .before .before .before .before .before .before .before .before .before .before .before .before .before .before .before .before .before .before .before .before .before .before .before .before .before .before .before .before in
+    paveable-at (around start) (start .args .size) _ _ (given start) (start .pre) _
+    (c .before .before .before .before .before .before .before .before .before .before .before .before .before .before .before .before .before .from-boundary .ensures (start .args .snapshot .now) (start .args .quads .now) unused (start .pre .front))
+
+same-length : tie.Need-same-length
+same-length c = c .before .before .before .before .before .before .before .before .before .before .before .before .before .before .advance .kept .1 .1 .1 .1 .1 .1 .0 ∙ c .before .before .before .before .before .before .before .before .before .before .before .before .before .before .before .before .before .before .before .before .before .before .before .before .before .before .before .before .before .before .before .before .from-boundary .kept .1 .1 .1 .1 .0
+
+same-length-2 : tie.Need-same-length-2
+same-length-2 c = c .before .before .before .before .before .before .before .before .before .before .before .before .before .before .advance .kept .1 .1 .1 .1 .1 .1 .1 .0 ∙ c .before .before .before .before .before .before .before .before .before .before .before .before .before .before .before .before .before .before .before .before .before .before .before .before .before .before .before .before .before .before .before .before .from-boundary .kept .1 .1 .1 .1 .1 .0
+
+same-length-3 : tie.Need-same-length-3
+same-length-3 c = c .before .before .before .before .before .before .before .before .before .before .before .before .before .before .advance .kept .1 .1 .1 .1 .1 .1 .1 .1 .0 ∙ c .before .before .before .before .before .before .before .before .before .before .before .before .before .before .before .before .before .before .before .before .before .before .before .before .before .before .before .before .before .before .before .before .from-boundary .kept .1 .1 .1 .1 .1 .1 .0
+
+same-length-4 : tie.Need-same-length-4
+same-length-4 c = c .before .before .before .before .before .before .before .before .before .before .before .before .before .before .advance .kept .1 .1 .1 .1 .1 .1 .1 .1 .1 .0 ∙ c .before .before .before .before .before .before .before .before .before .before .before .before .before .before .before .before .before .before .before .before .before .before .before .before .before .before .before .before .before .before .before .before .from-boundary .kept .1 .1 .1 .1 .1 .1 .1 .0
+
+same-length-5 : tie.Need-same-length-5
+same-length-5 c = search needs
+
+same-length-6 : tie.Need-same-length-6
+same-length-6 c = search needs
+
+same-length-7 : tie.Need-same-length-7
+same-length-7 c = c .before .before .before .before .before .before .before .before .before .before .before .before .before .before .advance .kept .1 .1 .1 .1 .1 .1 .1 .1 .1 .1 .1 .1 .0 ∙ c .before .before .before .before .before .before .before .before .before .before .before .before .before .before .before .before .before .before .before .before .before .before .before .before .before .before .before .before .before .before .before .before .from-boundary .kept .1 .1 .1 .1 .1 .1 .1 .1 .0
+
+returns : tie.Need-returns
+returns c =
+    let start = c .before .before .before .before .before .before .before .before .before .before .before .before .before .before .before .before .before .before .before .before .before .before .before .before .before .before .before .before .before .before .before .before .before .before .before .before .before .before .before .before .before .before .before .before .before .before .before .before .before in
+    c .before .before .before .before .before .before .before .before .before .before .before .before .before .before .advance .ensures ∙ ap (advance (around start) (start .args .size) (fieldRecord (start .args .grid) (start .args .values .now) []) (start .args .passes))
+    (c .before .before .before .before .before .before .before .before .before .before .before .before .before .before .before .before .before .before .before .before .before .before .before .before .before .before .before .before .before .before .before .before .from-boundary .ensures (start .args .snapshot .now) (start .args .quads .now) unused (start .pre .front))
+
+pub sample-and-advance-spec : {M : Type 1} → statement M
+sample-and-advance-spec =
+    tie.close
+    (tie.spec
+    from-boundary-requires
+    advance-requires
+    same-length
+    same-length-2
+    same-length-3
+    same-length-4
+    same-length-5
+    same-length-6
+    same-length-7
+    returns)

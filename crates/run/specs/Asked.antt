@@ -1,0 +1,26 @@
+-- What the stages of a run ask. Definitions only.
+use mathlib.Core.List.{List}
+use mathlib.Core.Path.{_≡_}
+use Prim.Native.Nat.{_≤_}
+use lib.ListN.{length}
+use lib.Ieee.{Float}
+use Rattle.domain.specs.declared.Settings.{Settings}
+use Rattle.domain.specs.Outline.{Outline, outlineRefusal}
+use Rattle.crossfield.specs.declared.Grid.{Grid}
+use Rattle.crossfield.specs.Places.{Lent}
+use Rattle.front.specs.State.{State}
+use Rattle.front.specs.Sampling.{frontRefusal}
+use Rattle.paving.specs.Run.{runRefusal}
+use Rattle.run.specs.Run as run
+
+-- of sampling and paving: neither the outline nor the places lent are refused, and the field is lent
+pub record CanPave (o : Outline) (size : Float) (g : Grid) (values : List Float) (lent : State) : Type 0 where
+  pub outline : outlineRefusal o ≡ 0
+  pub front : frontRefusal o size lent ≡ 0
+  pub field : Lent g values
+
+-- of a run in all of the lists: none of 1 to 10 refuses it, and the lists of the loops have a place for each of the snapshot's
+pub record CanRun (o : Outline) (set : Settings) (l : run.Lent) : Type 0 where
+  pub none : runRefusal o set (run.fieldPart l) (run.statePart l) ≡ 0
+  pub loops : length (l .snapshot) ≤ length (l .loops)
+  pub lengths : length (l .snapshot) ≤ length (l .lengths)

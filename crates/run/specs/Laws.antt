@@ -1,0 +1,219 @@
+-- Laws of the run: what each stage asks follows from the refusals, the stages make up the definition, and what a caller gets.
+use mathlib.Core.Bool.{true, false}
+use mathlib.Core.List.{List, [], _++_}
+use mathlib.Core.Path.{_≡_, refl, sym, _∙_, ap, subst, fun-ext}
+use Prim.Native.Nat.{ℕ, _*_, _/_, _≤_, min}
+use native.Mathlib.Omega.{arith}
+use lib.Dec.{T}
+use lib.ListN.{length, take, drop}
+use lib.Seq.{length-take-le}
+use lib.Ieee.{Float, binary64, fits}
+use Rattle.laws.specs.Loop.{run}
+use Rattle.numbers.specs.Float.{zeroF}
+use Rattle.domain.specs.declared.Settings.{Settings}
+use Rattle.domain.specs.Outline.{Outline, outlineRefusal, firstOf}
+use Rattle.domain.specs.Accepted.{OutlineFits, accepted, first-zero}
+use Rattle.domain.specs.RefusalLaws.{answer-refused}
+use Rattle.crossfield.specs.declared.Grid.{Grid}
+use Rattle.crossfield.specs.Grid.{bounds, gridOf, gridNodes}
+use Rattle.crossfield.specs.declared.FieldAnswer.{FieldAnswer}
+use Rattle.crossfield.specs.declared.FieldAnswer.the-variants as answer-is
+use Rattle.crossfield.specs.Seeds.{FieldLists}
+use Rattle.crossfield.specs.Field.{FieldRecord, fieldRecord, fieldPlaces, refusalFor, fieldRefusal, fieldOf}
+use Rattle.crossfield.specs.Field.{FieldResult, fieldResult, madeOf, fieldAnswer}
+use Rattle.crossfield.specs.FieldLaws.{unrefused, few-made, sides}
+use Rattle.crossfield.specs.Places as field-places
+use Rattle.crossfield.specs.Direction.{nearestDirection}
+use Rattle.front.specs.State.{State, nodePlaces, edgePlaces}
+use Rattle.front.specs.Sampling.{sampledCount, frontRefusal, fromBoundary, boundaryLoops}
+use Rattle.paving.specs.Attempt.{tryToward, tryEdge}
+use Rattle.paving.specs.Advance.{Passing, Passed, passing, passTurn, afterPass, withSnapshot, pass, mostPasses, allUsed, advance}
+use Rattle.paving.specs.Advance as paving
+use Rattle.paving.specs.ReachLaws.{advance-reaches}
+use Rattle.paving.specs.Run.{runRefusal, runOf}
+use Rattle.loops.specs.Listed.{lists, Lists, Listable, listedIn}
+use Rattle.loops.specs.ListedLaws.{sound-listable}
+use Rattle.advance.specs.Paveable.{Paveable, Later, reached-later}
+use Rattle.sampled.specs.Outlines.{outline-three}
+use Rattle.sampled.specs.Begun.{Begun, begun}
+use Rattle.books_hold.specs.Theorem.{books-hold}
+use Rattle.run.specs.declared.Paved.{Paved}
+use Rattle.run.specs.Run as run-is
+use Rattle.run.specs.Run.{Lent, Ran, ran, lent, unused, fieldPart, statePart, snapshotPlaces, narrowed, widened, fewest}
+use Rattle.run.specs.Run.{refusedAnswer, pavedAnswer, refusalOf, endState, acceptedIn, acceptedRun, runAnswer, Paves}
+use Rattle.run.specs.Asked.{CanPave, CanRun}
+
+-- ---- a paving doesn't read the field's marks
+
+module _ (o : Outline) (size : Float) (g : Grid) (values : List Float) (marks other : List ℕ) where
+  turn-unread : passTurn o size (fieldRecord g values marks) ≡ passTurn o size (fieldRecord g values other)
+  unfolding passTurn tryEdge tryToward nearestDirection
+  turn-unread = fun-ext (λ a. fun-ext (λ p. refl))
+
+  pass-unread : pass o size (fieldRecord g values marks) ≡ pass o size (fieldRecord g values other)
+  unfolding pass
+  pass-unread = fun-ext (λ s. ap (λ turn. run (s .counts .nodes) turn afterPass (passing (withSnapshot s) false)) turn-unread)
+
+  advance-unread : (n : ℕ) (s : State) → advance o size (fieldRecord g values marks) n s ≡ advance o size (fieldRecord g values other) n s
+  unfolding advance
+  advance-unread n s = ap (λ (p : State → Passed). run (min n mostPasses) (λ k. p) allUsed s) pass-unread
+
+-- ---- the field that is made
+
+-- the grid of an answer, zeros where it is refused
+unfoldable pub gridIn : FieldAnswer → Grid
+gridIn (answer-is.Refused n) = record { xmin = zeroF; ymin = zeroF; h = zeroF; nx = 0; ny = 0 }
+gridIn (answer-is.Made g) = g
+
+pub field-made : (o : Outline) (size : Float) (n : ℕ) (f : FieldLists) → fieldRefusal o size n f ≡ 0
+    → (r : FieldAnswer) (values : List Float) (marks : List ℕ) → fieldResult r values marks ≡ fieldAnswer o size n f
+    → (g : Grid) → g ≡ gridIn r → fieldRecord g values marks ≡ fieldOf o size n f
+unfolding fieldAnswer fieldOf gridIn
+field-made o size n f none r values marks e g same =
+    let made : fieldResult r values marks ≡ madeOf (fieldOf o size n f) = rw none at e in
+    rw same (ap (λ (w : FieldResult). fieldRecord (gridIn (w .answer)) (w .lists .values) (w .lists .marks)) made)
+
+-- ---- what sampling and paving ask
+
+halves : (n floats bytes : ℕ) → n ≤ min (floats / 2) bytes → 2 * n ≤ floats
+halves n floats bytes h = omega arith
+
+module _ (o : Outline) (set : Settings) (l : Lent) (C : CanRun o set l) where
+  pub none-field : fieldRefusal o (set .size) (set .sweeps) (fieldPart l) ≡ 0
+  unfolding runRefusal
+  none-field = first-zero _ _ (C .none) .0
+
+  none-front : frontRefusal o (set .size) (statePart l) ≡ 0
+  unfolding runRefusal
+  none-front = first-zero (fieldRefusal o (set .size) (set .sweeps) (fieldPart l)) (frontRefusal o (set .size) (statePart l)) (C .none) .1
+
+  none-for : refusalFor o (set .size) (set .sweeps) (fieldPlaces (fieldPart l)) ≡ 0
+  unfolding fieldRefusal
+  none-for = none-field
+
+  lent-made : OutlineFits o → T (fits binary64 (set .size)) → field-places.Lent (gridOf (bounds o) (set .size)) (l .values)
+  lent-made doubles held =
+      let u = unrefused o (set .size) (set .sweeps) (fieldPlaces (fieldPart l)) none-for in
+      let two = sides (bounds o) (set .size) in
+      record {
+        columns = two .0;
+        rows = two .1;
+        few = few-made o (set .size) (set .sweeps) (fieldPlaces (fieldPart l)) doubles held none-for refl;
+        room = halves (gridNodes (gridOf (bounds o) (set .size))) (length (l .values)) (length (l .marks)) (u .room);
+      }
+
+  pub can-pave : OutlineFits o → T (fits binary64 (set .size)) → (g : Grid) (values : List Float) (marks : List ℕ)
+      → fieldRecord g values marks ≡ fieldOf o (set .size) (set .sweeps) (fieldPart l) → length values ≡ length (l .values)
+      → CanPave o (set .size) g values (statePart l)
+  unfolding fieldOf
+  can-pave doubles held g values marks e long =
+      let L = lent-made doubles held in
+      let same : g ≡ gridOf (bounds o) (set .size) = ap (λ (r : FieldRecord). r .grid) e in
+      record {
+        outline = unrefused o (set .size) (set .sweeps) (fieldPlaces (fieldPart l)) none-for .outline;
+        front = none-front;
+        field = rw same (record { columns = L .columns; rows = L .rows; few = L .few; room = rw long (L .room) });
+      }
+
+module _ (o : Outline) (size : Float) (g : Grid) (values : List Float) (s : State) (C : CanPave o size g values s) where
+  begins : Begun o (sampledCount o size) s (fromBoundary o size s) (boundaryLoops o size s)
+  begins = begun o size s (outline-three o (C .outline)) (C .front)
+
+  pub paveable : Paveable o g values (fromBoundary o size s)
+  paveable =
+      record {
+        shape = accepted o (C .outline) .shape;
+        field = C .field;
+        sampled = sampledCount o size;
+        loops = boundaryLoops o size s;
+        sound = begins .sound;
+        known = begins .known;
+      }
+
+  pub paveable-at : (t : State) → t ≡ fromBoundary o size s → Paveable o g values t
+  paveable-at t e = subst (Paveable o g values) (sym e) paveable
+
+  -- ---- what the loops ask
+
+  pub can-list : (field : FieldRecord) (passes : ℕ) (end : paving.Paved) → end ≡ advance o size field passes (fromBoundary o size s)
+      → (loops lengths : List ℕ) → length (s .snapshot) ≤ length loops → length (s .snapshot) ≤ length lengths
+      → Listable (end .state .counts) (end .state .next) (end .state .snapshot) loops lengths
+  unfolding nodePlaces
+  can-list field passes end e loops lengths a b = rw e listable
+    where
+      t : State
+      t = advance o size field passes (fromBoundary o size s) .state
+
+      L : Later o g values (fromBoundary o size s) t
+      L = let r = advance-reaches o size (fromBoundary o size s) field passes in
+          reached-later o g values size (fromBoundary o size s) t (r .quads) paveable (r .by)
+
+      long : length (t .snapshot) ≡ length (s .snapshot)
+      long = L .frame .snapshot .long ∙ ap length (begins .snapshot)
+
+      listable : Listable (t .counts) (t .next) (t .snapshot) loops lengths
+      listable =
+          let S = L .paveable .sound in
+          sound-listable (L .paveable .sampled) t (L .paveable .loops) S loops lengths (omega (arith, S .nodes-fit, long, a))
+          (omega (arith, S .nodes-fit, long, b))
+
+-- ---- the stages make up the run
+
+pub run-whole : (o : Outline) (set : Settings) (l : Lent) (g : Grid) (values : List Float) (marks : List ℕ)
+    → fieldRecord g values marks ≡ fieldOf o (set .size) (set .sweeps) (fieldPart l)
+    → (a : paving.Paved) → a ≡ advance o (set .size) (fieldRecord g values []) (set .passes) (fromBoundary o (set .size) (statePart l))
+    → (p : Lists) → p ≡ listedIn (a .state .counts) (a .state .next) (a .state .snapshot) (l .loops) (l .lengths)
+    → (r : Paved) → r ≡ pavedAnswer g (a .end) (a .state .counts) (p .listed)
+    → ran r (lent values marks (a .state .xs) (a .state .ys) (a .state .next) (a .state .prev) (p .marks) (a .state .quads) (a .state .edges)
+    (p .loops) (p .lengths)) ≡ acceptedIn o set l
+unfolding acceptedIn runOf
+run-whole o set l g values marks ef a ea p ep r er =
+    rw (er, ← ef, advance-unread o (set .size) g values marks [] (set .passes) (fromBoundary o (set .size) (statePart l)), ← ea, ← ep) refl
+
+-- ---- the refusals, by the numbers of places
+
+module _ (o : Outline) (set : Settings) (l : Lent) (m : ℕ) (e : m ≡ snapshotPlaces l) where
+  part-long : length (take m (l .snapshot)) ≡ m
+  part-long = length-take-le m (l .snapshot) (omega (arith, e))
+
+  pub number-is : (field nodes number : ℕ) → field ≡ min (length (l .values) / 2) (length (l .marks))
+      → nodes ≡ fewest (length (l .xs)) (length (l .ys)) (length (l .next)) (length (l .prev)) m
+      → ((s : State) → nodePlaces s ≡ nodes → edgePlaces s ≡ length (l .edges) / 2
+        → number ≡ firstOf (refusalFor o (set .size) (set .sweeps) field) (frontRefusal o (set .size) s))
+      → number ≡ refusalOf o set l
+  unfolding refusalOf runRefusal fieldRefusal nodePlaces edgePlaces fewest
+  number-is field nodes number ef en h =
+      rw (← e, ← ef) (h (statePart (run-is.withSnapshot l (take m (l .snapshot)))) (rw (part-long, en) refl) refl)
+
+  pub can-run : refusalOf o set l ≡ 0 → CanRun o set (run-is.withSnapshot l (take m (l .snapshot)))
+  unfolding refusalOf
+  can-run z =
+      record {
+        none = rw e z;
+        loops = rw part-long (omega (arith, e));
+        lengths = rw part-long (omega (arith, e));
+      }
+
+  -- ---- what a caller gets
+
+  pub paves-accepted : refusalOf o set l ≡ 0 → OutlineFits o → (r : Paved) (after : Lent)
+      → ran r after ≡ acceptedIn o set (run-is.withSnapshot l (take m (l .snapshot)))
+      → Paves o set l r (run-is.withSnapshot after (after .snapshot ++ drop m (l .snapshot)))
+  unfolding runAnswer acceptedRun acceptedIn refusalOf endState
+  paves-accepted z doubles r after q =
+      let same : ran r after ≡ acceptedIn o set (narrowed l) = rw e at q in
+      record {
+        equal = rw (z, e) (ap (λ (w : Ran). ran (w .answer) (widened l (w .lists))) same);
+        refused = λ n. absurd (n (ap (λ (w : Ran). w .answer .refusal) same));
+        books = λ _. books-hold o set (fieldPart l) (statePart (narrowed l)) doubles z;
+      }
+
+pub paves-refused : (o : Outline) (set : Settings) (l : Lent) (number : ℕ) → number ≡ refusalOf o set l → (number ≡ 0 → ⊥)
+    → (r : Paved) → r ≡ refusedAnswer number → Paves o set l r l
+unfolding runAnswer refusedAnswer
+paves-refused o set l number e n r q =
+    record {
+      equal = rw (← e, q) (sym (answer-refused _ _ _ n));
+      refused = λ _. refl;
+      books = λ z. absurd (n (sym (ap (λ (v : Paved). v .refusal) q) ∙ z));
+    }

@@ -1,0 +1,155 @@
+-- THE RUN: what is lent, what is answered, and what a caller gets. Definitions only.
+use mathlib.Core.List.{List, _++_}
+use mathlib.Core.Path.{_≡_}
+use Prim.Native.Nat.{ℕ, min}
+use lib.ListN.{length, take, drop}
+use lib.Ieee.{Float}
+use Rattle.numbers.specs.Float.{zeroF}
+use Rattle.domain.specs.declared.Settings.{Settings}
+use Rattle.domain.specs.Outline.{Outline}
+use Rattle.domain.specs.Queries.{answerBy}
+use Rattle.crossfield.specs.declared.Grid.{Grid}
+use Rattle.crossfield.specs.Seeds.{FieldLists, fieldLists}
+use Rattle.front.specs.declared.Counts.{Counts}
+use Rattle.front.specs.State.{State, stateOf, counted}
+use Rattle.paving.specs.declared.End.{End}
+use Rattle.paving.specs.declared.End.the-variants.{Still, Passes, Cap, Full}
+use Rattle.paving.specs.Run.{runRefusal, runOf}
+use Rattle.loops.specs.declared.Listed.{Listed}
+use Rattle.loops.specs.Listed as loops
+use Rattle.books.specs.Holds.{BooksHold}
+use Rattle.run.specs.declared.Paved.{Paved}
+
+-- ---- what is handed over
+
+abbrev pub settings : Float → ℕ → ℕ → Settings
+settings size sweeps passes = record { size = size; sweeps = sweeps; passes = passes }
+
+-- every list that the caller lends: the field's two, the seven of a paving's state, and two for the loops of the front
+pub record Lent : Type 0 where
+  pub values : List Float
+  pub marks : List ℕ
+  pub xs : List Float
+  pub ys : List Float
+  pub next : List ℕ
+  pub prev : List ℕ
+  pub snapshot : List ℕ
+  pub quads : List ℕ
+  pub edges : List ℕ
+  pub loops : List ℕ
+  pub lengths : List ℕ
+
+abbrev pub lent : List Float → List ℕ → List Float → List Float → List ℕ → List ℕ → List ℕ → List ℕ → List ℕ → List ℕ → List ℕ → Lent
+lent values marks xs ys next prev snapshot quads edges loops lengths =
+    record {
+      values = values;
+      marks = marks;
+      xs = xs;
+      ys = ys;
+      next = next;
+      prev = prev;
+      snapshot = snapshot;
+      quads = quads;
+      edges = edges;
+      loops = loops;
+      lengths = lengths;
+    }
+
+-- the same lists with another snapshot
+abbrev pub withSnapshot : Lent → List ℕ → Lent
+withSnapshot l snapshot =
+    lent (l .values) (l .marks) (l .xs) (l .ys) (l .next) (l .prev) snapshot (l .quads) (l .edges) (l .loops) (l .lengths)
+
+-- no node, quad or edge yet
+abbrev pub unused : Counts
+unused = counted 0 0 0 0
+
+abbrev pub fieldPart : Lent → FieldLists
+fieldPart l = fieldLists (l .values) (l .marks)
+
+abbrev pub statePart : Lent → State
+statePart l = stateOf (l .xs) (l .ys) (l .next) (l .prev) (l .snapshot) (l .quads) (l .edges) unused
+
+-- ---- node places: of the lists that hold a number a node the shortest counts, those of the loops among them
+
+-- so many places of the snapshot count
+abbrev pub snapshotPlaces : Lent → ℕ
+snapshotPlaces l = min (length (l .snapshot)) (min (length (l .loops)) (length (l .lengths)))
+
+-- the lists of which the run is made: no more of the snapshot than that
+abbrev pub narrowed : Lent → Lent
+narrowed l = withSnapshot l (take (snapshotPlaces l) (l .snapshot))
+
+-- the snapshot's other places keep their contents
+abbrev pub widened : Lent → Lent → Lent
+widened l after = withSnapshot after (after .snapshot ++ drop (snapshotPlaces l) (l .snapshot))
+
+-- the node places of lists so long
+unfoldable pub fewest : ℕ → ℕ → ℕ → ℕ → ℕ → ℕ
+fewest xs ys next prev snapshot = min (min (min xs ys) (min next prev)) (min snapshot 4294967294)
+
+-- ---- the answer
+
+abbrev pub endNumber : End → ℕ
+endNumber Still = 0
+endNumber Passes = 1
+endNumber Cap = 2
+endNumber Full = 3
+
+unfoldable pub refusedAnswer : ℕ → Paved
+refusedAnswer number =
+    record {
+      refusal = number;
+      end = 0;
+      grid = record { xmin = zeroF; ymin = zeroF; h = zeroF; nx = 0; ny = 0 };
+      counts = unused;
+      listed = loops.counted 0 0;
+    }
+
+abbrev pub pavedAnswer : Grid → End → Counts → Listed → Paved
+pavedAnswer grid end counts listed = record { refusal = 0; end = endNumber end; grid = grid; counts = counts; listed = listed }
+
+-- the answer, and every list as the run leaves it
+pub record Ran : Type 0 where
+  pub answer : Paved
+  pub lists : Lent
+
+abbrev pub ran : Paved → Lent → Ran
+ran r l = record { answer = r; lists = l }
+
+-- ---- the run
+
+-- 1 to 10, in rising number
+unfoldable pub refusalOf : Outline → Settings → Lent → ℕ
+refusalOf o set l = runRefusal o set (fieldPart l) (statePart (narrowed l))
+
+-- the state in which the paving ends
+unfoldable pub endState : Outline → Settings → Lent → State
+endState o set l = runOf o set (fieldPart l) (statePart (narrowed l)) .paving .state
+
+-- field, sampling and paving, then the loops of the front, in all of the lists given
+unfoldable pub acceptedIn : Outline → Settings → Lent → Ran
+acceptedIn o set l =
+    let r = runOf o set (fieldPart l) (statePart l) in
+    let s = r .paving .state in
+    let p = loops.listedIn (s .counts) (s .next) (s .snapshot) (l .loops) (l .lengths) in
+    ran (pavedAnswer (r .field .grid) (r .paving .end) (s .counts) (p .listed))
+    (lent (r .field .lists .values) (r .field .lists .marks) (s .xs) (s .ys) (s .next) (s .prev) (p .marks) (s .quads) (s .edges)
+    (p .loops) (p .lengths))
+
+unfoldable pub acceptedRun : Outline → Settings → Lent → Ran
+acceptedRun o set l = let r = acceptedIn o set (narrowed l) in ran (r .answer) (widened l (r .lists))
+
+-- refused, with nothing written; or run
+unfoldable pub runAnswer : Outline → Settings → Lent → Ran
+runAnswer o set l = answerBy (λ number. ran (refusedAnswer number) l) (acceptedRun o set l) (refusalOf o set l)
+
+-- ---- what a caller gets
+
+pub record Paves (o : Outline) (set : Settings) (before : Lent) (r : Paved) (after : Lent) : Type 0 where
+  -- the answer and every list are the definition's
+  pub equal : ran r after ≡ runAnswer o set before
+  -- a refusal leaves every list as it was
+  pub refused : (r .refusal ≡ 0 → ⊥) → after ≡ before
+  -- the exact books hold of the state in which the paving ends
+  pub books : r .refusal ≡ 0 → BooksHold o (set .size) (endState o set before)

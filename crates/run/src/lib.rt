@@ -1,0 +1,271 @@
+// The run whole in one call: field, sampling, paving and the loops of the front, in the lists lent.
+ghost use mathlib.Core.Path.{_≡_};
+ghost use mathlib.Core.List.{[]};
+ghost use Prim.Native.Nat.{_≤_, min};
+ghost use lib.ListN.{length};
+ghost use Rattle.domain.specs.Outline.{outline, firstOf};
+ghost use Rattle.crossfield.specs.Seeds.{fieldLists};
+ghost use Rattle.crossfield.specs.Field.{fieldRecord, refusalFor, fieldRefusal, fieldOf};
+ghost use Rattle.front.specs.State.{State, stateOf, nodePlaces, edgePlaces};
+ghost use Rattle.front.specs.Sampling.{frontRefusal, fromBoundary};
+ghost use Rattle.paving.specs.Advance.{paved, advance};
+ghost use Rattle.run.specs.Run.{settings, lent, ran, fewest, endNumber, refusedAnswer, pavedAnswer, unused, acceptedIn, Paves};
+ghost use Rattle.run.specs.Asked.{CanPave, CanRun};
+use advance::Advanced;
+use crossfield::FieldAnswer;
+use crossfield::Grid;
+use front::Counts;
+use loops::Listed;
+use paving::End;
+
+// `refusal` is document 01's number, 0 where nothing is refused; `end` is 0 for still, 1 for passes, 2 for cap and 3 for full. All is 0 on a
+// refusal.
+pub struct Paved {
+    pub refusal: u32,
+    pub end: u32,
+    pub grid: Grid,
+    pub counts: Counts,
+    pub listed: Listed,
+}
+
+// ---- the answer
+
+fn end_number(end: End) -> u32
+    ensures { λ r. ⌜ r ≡ endNumber end ⌝ }
+{
+    match end {
+        End::Still => 0,
+        End::Passes => 1,
+        End::Cap => 2,
+        End::Full => 3,
+    }
+}
+
+fn refused(number: u32) -> Paved
+    ensures { λ r. ⌜ r ≡ refusedAnswer number ⌝ }
+{
+    Paved {
+        refusal: number,
+        end: 0,
+        grid: Grid {
+            xmin: 0.0,
+            ymin: 0.0,
+            h: 0.0,
+            nx: 0,
+            ny: 0,
+        },
+        counts: Counts {
+            nodes: 0,
+            quads: 0,
+            edges: 0,
+            front: 0,
+        },
+        listed: Listed { count: 0, ids: 0 },
+    }
+}
+
+fn answer(grid: Grid, a: Advanced, listed: Listed) -> Paved
+    ensures { λ r. ⌜ r ≡ pavedAnswer grid (a .end) (a .counts) listed ⌝ }
+{
+    let end = a.end;
+    let counts = a.counts;
+    Paved {
+        refusal: 0,
+        end: end_number(end),
+        grid,
+        counts,
+        listed,
+    }
+}
+
+// ---- refusals 1 to 10
+
+// The places of the shortest of the lists of nodes.
+fn node_places(xs: usize, ys: usize, next: usize, prev: usize, snapshot: usize) -> usize
+    ensures { λ r. ⌜ r ≡ fewest xs ys next prev snapshot ⌝ }
+{
+    let coordinates = crossfield::lesser(xs, ys);
+    let links = crossfield::lesser(next, prev);
+    let most = crossfield::lesser(snapshot, 4294967294);
+    crossfield::lesser(crossfield::lesser(coordinates, links), most)
+}
+
+// Where there are so many places for field nodes, nodes and edges.
+fn refusal<'a>(
+    outer: &'a [f64],
+    holes: &'a [f64],
+    lens: &[usize],
+    size: f64,
+    sweeps: usize,
+    field: usize,
+    nodes: usize,
+    edges: usize,
+) -> u32
+    ensures { λ r. ⌜ ((s : State) → nodePlaces s ≡ nodes → edgePlaces s ≡ edges
+        → r ≡ firstOf (refusalFor (outline (now (outer .entry)) (now (holes .entry)) (now (lens .entry))) size sweeps field)
+        (frontRefusal (outline (now (outer .entry)) (now (holes .entry)) (now (lens .entry))) size s)) ⌝ }
+{
+    let number = crossfield::field_refusal(outer, holes, lens, size, sweeps, field);
+    if number != 0 {
+        return number;
+    }
+    boundary::front_refusal(outer, holes, lens, size, nodes, edges)
+}
+
+// ---- the stages
+
+// The field, where none of 1 to 9 refuses it.
+fn make_field<'a>(
+    outer: &'a [f64],
+    holes: &'a [f64],
+    lens: &[usize],
+    size: f64,
+    sweeps: usize,
+    values: &mut [f64],
+    marks: &mut [u8],
+) -> Grid
+    requires { ⌜ fieldRefusal (outline (now outer) (now holes) (now lens)) size sweeps (fieldLists (now values) (now marks)) ≡ 0 ⌝ }
+    ensures { λ r. ⌜ fieldRecord r (now (values .exit)) (now (marks .exit))
+        ≡ fieldOf (outline (now (outer .entry)) (now (holes .entry)) (now (lens .entry))) size sweeps (fieldLists (now (values .entry)) (now (marks .entry))) ⌝ }
+{
+    let made = crossfield::field(outer, holes, lens, size, sweeps, values, marks);
+    match made {
+        FieldAnswer::Refused(_) => Grid {
+            xmin: 0.0,
+            ymin: 0.0,
+            h: 0.0,
+            nx: 0,
+            ny: 0,
+        },
+        FieldAnswer::Made(grid) => grid,
+    }
+}
+
+// Sampling and paving, where 10 doesn't refuse them.
+fn sample_and_advance<'a>(
+    outer: &'a [f64],
+    holes: &'a [f64],
+    lens: &[usize],
+    size: f64,
+    grid: Grid,
+    values: &[f64],
+    xs: &mut [f64],
+    ys: &mut [f64],
+    next: &mut [u32],
+    prev: &mut [u32],
+    snapshot: &mut [u32],
+    quads: &mut [u32],
+    edges: &mut [u32],
+    passes: usize,
+) -> Advanced
+    requires { ⌜ CanPave (outline (now outer) (now holes) (now lens)) size grid (now values)
+        (stateOf (now xs) (now ys) (now next) (now prev) (now snapshot) (now quads) (now edges) unused) ⌝ }
+    ensures { λ r. ⌜
+        paved
+        (stateOf (now (xs .exit)) (now (ys .exit)) (now (next .exit)) (now (prev .exit)) (now (snapshot .exit)) (now (quads .exit)) (now (edges .exit))
+        (r .counts)) (r .end)
+        ≡ advance (outline (now (outer .entry)) (now (holes .entry)) (now (lens .entry))) size (fieldRecord grid (now (values .entry)) []) passes
+        (fromBoundary (outline (now (outer .entry)) (now (holes .entry)) (now (lens .entry))) size
+        (stateOf (now (xs .entry)) (now (ys .entry)) (now (next .entry)) (now (prev .entry)) (now (snapshot .entry)) (now (quads .entry)) (now (edges .entry)) unused)) ⌝ }
+{
+    let k = boundary::from_boundary(outer, holes, lens, size, xs, ys, next, prev, edges);
+    advance::advance(
+        outer, holes, lens, size, grid, values, xs, ys, next, prev, snapshot, quads, edges, k, passes,
+    )
+}
+
+// A run that isn't refused, where `snapshot` is no longer than the lists of the loops.
+fn pave_in<'a>(
+    outer: &'a [f64],
+    holes: &'a [f64],
+    lens: &[usize],
+    size: f64,
+    sweeps: usize,
+    passes: usize,
+    values: &mut [f64],
+    marks: &mut [u8],
+    xs: &mut [f64],
+    ys: &mut [f64],
+    next: &mut [u32],
+    prev: &mut [u32],
+    snapshot: &mut [u32],
+    quads: &mut [u32],
+    edges: &mut [u32],
+    loops: &mut [u32],
+    lengths: &mut [u32],
+) -> Paved
+    requires { ⌜ CanRun (outline (now outer) (now holes) (now lens)) (settings size sweeps passes)
+        (lent (now values) (now marks) (now xs) (now ys) (now next) (now prev) (now snapshot) (now quads) (now edges) (now loops) (now lengths)) ⌝ }
+    ensures { λ r. ⌜
+        ran r
+        (lent (now (values .exit)) (now (marks .exit)) (now (xs .exit)) (now (ys .exit)) (now (next .exit)) (now (prev .exit)) (now (snapshot .exit))
+        (now (quads .exit)) (now (edges .exit)) (now (loops .exit)) (now (lengths .exit)))
+        ≡ acceptedIn (outline (now (outer .entry)) (now (holes .entry)) (now (lens .entry))) (settings size sweeps passes)
+        (lent (now (values .entry)) (now (marks .entry)) (now (xs .entry)) (now (ys .entry)) (now (next .entry)) (now (prev .entry))
+        (now (snapshot .entry)) (now (quads .entry)) (now (edges .entry)) (now (loops .entry)) (now (lengths .entry))) ⌝ }
+{
+    let grid = make_field(outer, holes, lens, size, sweeps, values, marks);
+    let a = sample_and_advance(
+        outer, holes, lens, size, grid, values, xs, ys, next, prev, snapshot, quads, edges, passes,
+    );
+    let listed = loops::front_loops(a.counts, next, snapshot, loops, lengths);
+    answer(grid, a, listed)
+}
+
+// ---- the run
+
+// Paves an outline, in the lists that the caller lends; on a refusal nothing is written. Of the lists of nodes the shortest counts, those of
+// the loops among them: so the run gets no more of `snapshot` than they have places.
+pub fn pave<'a>(
+    outer: &'a [f64],
+    holes: &'a [f64],
+    lens: &[usize],
+    size: f64,
+    sweeps: usize,
+    passes: usize,
+    values: &mut [f64],
+    marks: &mut [u8],
+    xs: &mut [f64],
+    ys: &mut [f64],
+    next: &mut [u32],
+    prev: &mut [u32],
+    snapshot: &mut [u32],
+    quads: &mut [u32],
+    edges: &mut [u32],
+    loops: &mut [u32],
+    lengths: &mut [u32],
+) -> Paved
+    ensures { λ r. ⌜ Paves (outline (now (outer .entry)) (now (holes .entry)) (now (lens .entry))) (settings size sweeps passes)
+        (lent (now (values .entry)) (now (marks .entry)) (now (xs .entry)) (now (ys .entry)) (now (next .entry)) (now (prev .entry))
+        (now (snapshot .entry)) (now (quads .entry)) (now (edges .entry)) (now (loops .entry)) (now (lengths .entry)))
+        r
+        (lent (now (values .exit)) (now (marks .exit)) (now (xs .exit)) (now (ys .exit)) (now (next .exit)) (now (prev .exit)) (now (snapshot .exit))
+        (now (quads .exit)) (now (edges .exit)) (now (loops .exit)) (now (lengths .exit))) ⌝ }
+{
+    let m = crossfield::lesser(snapshot.len(), crossfield::lesser(loops.len(), lengths.len()));
+    let field = crossfield::lesser(values.len() / 2, marks.len());
+    let nodes = node_places(xs.len(), ys.len(), next.len(), prev.len(), m);
+    let number = refusal(outer, holes, lens, size, sweeps, field, nodes, edges.len() / 2);
+    if number != 0 {
+        return refused(number);
+    }
+    pave_in(
+        outer,
+        holes,
+        lens,
+        size,
+        sweeps,
+        passes,
+        values,
+        marks,
+        xs,
+        ys,
+        next,
+        prev,
+        &mut snapshot[..m],
+        quads,
+        edges,
+        loops,
+        lengths,
+    )
+}

@@ -179,7 +179,7 @@ module _ (o : Outline) (set : Settings) (l : Lent) (m : ℕ) (e : m ≡ snapshot
   pub number-is : (field nodes number : ℕ) → field ≡ min (length (l .values) / 2) (length (l .marks))
       → nodes ≡ fewest (length (l .xs)) (length (l .ys)) (length (l .next)) (length (l .prev)) m
       → ((s : State) → nodePlaces s ≡ nodes → edgePlaces s ≡ length (l .edges) / 2
-        → number ≡ firstOf (refusalFor o (set .size) (set .sweeps) field) (frontRefusal o (set .size) s))
+      → number ≡ firstOf (refusalFor o (set .size) (set .sweeps) field) (frontRefusal o (set .size) s))
       → number ≡ refusalOf o set l
   unfolding refusalOf runRefusal fieldRefusal nodePlaces edgePlaces fewest
   number-is field nodes number ef en h =

@@ -170,7 +170,21 @@ fn sample_and_advance<'a>(
 {
     let k = boundary::from_boundary(outer, holes, lens, size, xs, ys, next, prev, edges);
     advance::advance(
-        outer, holes, lens, size, grid, values, xs, ys, next, prev, snapshot, quads, edges, k, passes,
+        outer,
+        holes,
+        lens,
+        size,
+        grid,
+        values,
+        xs,
+        ys,
+        next,
+        prev,
+        snapshot,
+        quads,
+        edges,
+        k,
+        passes,
     )
 }
 
@@ -206,7 +220,20 @@ fn pave_in<'a>(
 {
     let grid = make_field(outer, holes, lens, size, sweeps, values, marks);
     let a = sample_and_advance(
-        outer, holes, lens, size, grid, values, xs, ys, next, prev, snapshot, quads, edges, passes,
+        outer,
+        holes,
+        lens,
+        size,
+        grid,
+        values,
+        xs,
+        ys,
+        next,
+        prev,
+        snapshot,
+        quads,
+        edges,
+        passes,
     );
     let listed = loops::front_loops(a.counts, next, snapshot, loops, lengths);
     answer(grid, a, listed)
@@ -242,10 +269,22 @@ pub fn pave<'a>(
         (lent (now (values .exit)) (now (marks .exit)) (now (xs .exit)) (now (ys .exit)) (now (next .exit)) (now (prev .exit)) (now (snapshot .exit))
         (now (quads .exit)) (now (edges .exit)) (now (loops .exit)) (now (lengths .exit))) ⌝ }
 {
-    let m = crossfield::lesser(snapshot.len(), crossfield::lesser(loops.len(), lengths.len()));
+    let m = crossfield::lesser(
+        snapshot.len(),
+        crossfield::lesser(loops.len(), lengths.len()),
+    );
     let field = crossfield::lesser(values.len() / 2, marks.len());
     let nodes = node_places(xs.len(), ys.len(), next.len(), prev.len(), m);
-    let number = refusal(outer, holes, lens, size, sweeps, field, nodes, edges.len() / 2);
+    let number = refusal(
+        outer,
+        holes,
+        lens,
+        size,
+        sweeps,
+        field,
+        nodes,
+        edges.len() / 2,
+    );
     if number != 0 {
         return refused(number);
     }

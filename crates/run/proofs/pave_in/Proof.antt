@@ -30,16 +30,16 @@ sample-and-advance-requires : tie.Need-sample-and-advance-requires
 sample-and-advance-requires c κs =
     let start = c .before .before .before .before .before .before .before .before .before .before .before .before .before .before .before .before .before .before .before .before .before .before .before .before .before .before .before .before .before in
     can-pave (around start) (set start) (given start) (start .pre)
-      (record { outer = λ i h. c .before .before .before .before .before .before .before .before .before .before .before .before .before .before .before .before .before .before .before .before .before .before .before .before .before .before .before .before .shared-slice-known .given i; holes = λ i h. c .before .before .before .before .before .before .before .before .before .before .before .before .before .before .before .before .before .before .before .before .before .before .before .before .before .before .before .shared-slice-known2 .given i })
-      (subst T (sym (start .good .1 .1 .1 .0 .1)) tt) _ _ _ (c .before .before .before .before .before .before .before .before .before .before .before .before .make-field .ensures) (c .before .before .before .before .before .before .before .before .before .before .before .before .make-field .kept .1 .1 .1 .1 .1 .0)
+    (record { outer = λ i h. c .before .before .before .before .before .before .before .before .before .before .before .before .before .before .before .before .before .before .before .before .before .before .before .before .before .before .before .before .shared-slice-known .given i; holes = λ i h. c .before .before .before .before .before .before .before .before .before .before .before .before .before .before .before .before .before .before .before .before .before .before .before .before .before .before .before .shared-slice-known2 .given i })
+    (subst T (sym (start .good .1 .1 .1 .0 .1)) tt) _ _ _ (c .before .before .before .before .before .before .before .before .before .before .before .before .make-field .ensures) (c .before .before .before .before .before .before .before .before .before .before .before .before .make-field .kept .1 .1 .1 .1 .1 .0)
 
 front-loops-requires : tie.Need-front-loops-requires
 front-loops-requires c κs =
     let start = c .before .before .before .before .before .before .before .before .before .before .before .before .before .before .before .before .before .before .before .before .before .before .before .before .before .before .before .before .before .before .before .before .before .before .before .before .before .before .before .before .before .before .before .before .before .before .before .before in
     can-list (around start) (start .args .size) _ _ (statePart (given start))
     (can-pave (around start) (set start) (given start) (start .pre)
-      (record { outer = λ i h. c .before .before .before .before .before .before .before .before .before .before .before .before .before .before .before .before .before .before .before .before .before .before .before .before .before .before .before .before .before .before .before .before .before .before .before .before .before .before .before .before .before .before .before .before .before .before .before .shared-slice-known .given i; holes = λ i h. c .before .before .before .before .before .before .before .before .before .before .before .before .before .before .before .before .before .before .before .before .before .before .before .before .before .before .before .before .before .before .before .before .before .before .before .before .before .before .before .before .before .before .before .before .before .before .shared-slice-known2 .given i })
-      (subst T (sym (start .good .1 .1 .1 .0 .1)) tt) _ _ _ (c .before .before .before .before .before .before .before .before .before .before .before .before .before .before .before .before .before .before .before .before .before .before .before .before .before .before .before .before .before .before .before .make-field .ensures) (c .before .before .before .before .before .before .before .before .before .before .before .before .before .before .before .before .before .before .before .before .before .before .before .before .before .before .before .before .before .before .before .make-field .kept .1 .1 .1 .1 .1 .0))
+    (record { outer = λ i h. c .before .before .before .before .before .before .before .before .before .before .before .before .before .before .before .before .before .before .before .before .before .before .before .before .before .before .before .before .before .before .before .before .before .before .before .before .before .before .before .before .before .before .before .before .before .before .before .shared-slice-known .given i; holes = λ i h. c .before .before .before .before .before .before .before .before .before .before .before .before .before .before .before .before .before .before .before .before .before .before .before .before .before .before .before .before .before .before .before .before .before .before .before .before .before .before .before .before .before .before .before .before .before .before .shared-slice-known2 .given i })
+    (subst T (sym (start .good .1 .1 .1 .0 .1)) tt) _ _ _ (c .before .before .before .before .before .before .before .before .before .before .before .before .before .before .before .before .before .before .before .before .before .before .before .before .before .before .before .before .before .before .before .make-field .ensures) (c .before .before .before .before .before .before .before .before .before .before .before .before .before .before .before .before .before .before .before .before .before .before .before .before .before .before .before .before .before .before .before .make-field .kept .1 .1 .1 .1 .1 .0))
     _ (start .args .passes) _ (c .before .before .before .before .before .before .before .before .before .before .before .before .before .before .before .before .before .before .sample-and-advance .ensures) _ _ (start .pre .loops) (start .pre .lengths)
 
 answer-requires : tie.Need-answer-requires

@@ -1,7 +1,7 @@
 -- Laws of the run: what each stage asks follows from the refusals, the stages make up the definition, and what a caller gets.
-use mathlib.Core.Bool.{true, false}
+use mathlib.Core.Bool.{false}
 use mathlib.Core.List.{List, [], _++_}
-use mathlib.Core.Path.{_≡_, refl, sym, _∙_, ap, subst, fun-ext}
+use mathlib.Core.Path.{_≡_, refl, sym, _∙_, ap, subst, subst⁻¹, fun-ext}
 use Prim.Native.Nat.{ℕ, _*_, _/_, _≤_, min}
 use native.Mathlib.Omega.{arith}
 use lib.Dec.{T}
@@ -11,7 +11,7 @@ use lib.Ieee.{Float, binary64, fits}
 use Rattle.laws.specs.Loop.{run}
 use Rattle.numbers.specs.Float.{zeroF}
 use Rattle.domain.specs.declared.Settings.{Settings}
-use Rattle.domain.specs.Outline.{Outline, outlineRefusal, firstOf}
+use Rattle.domain.specs.Outline.{Outline, firstOf}
 use Rattle.domain.specs.Accepted.{OutlineFits, accepted, first-zero}
 use Rattle.domain.specs.RefusalLaws.{answer-refused}
 use Rattle.crossfield.specs.declared.Grid.{Grid}
@@ -24,23 +24,26 @@ use Rattle.crossfield.specs.Field.{FieldResult, fieldResult, madeOf, fieldAnswe
 use Rattle.crossfield.specs.FieldLaws.{unrefused, few-made, sides}
 use Rattle.crossfield.specs.Places as field-places
 use Rattle.crossfield.specs.Direction.{nearestDirection}
-use Rattle.front.specs.State.{State, nodePlaces, edgePlaces}
+use Rattle.front.specs.State.{State, stateOf, nodePlaces, edgePlaces}
 use Rattle.front.specs.Sampling.{sampledCount, frontRefusal, fromBoundary, boundaryLoops}
 use Rattle.paving.specs.Attempt.{tryToward, tryEdge}
-use Rattle.paving.specs.Advance.{Passing, Passed, passing, passTurn, afterPass, withSnapshot, pass, mostPasses, allUsed, advance}
+use Rattle.paving.specs.Advance.{Passed, passing, passTurn, afterPass, withSnapshot, pass, mostPasses, allUsed, advance}
 use Rattle.paving.specs.Advance as paving
 use Rattle.paving.specs.ReachLaws.{advance-reaches}
+use Rattle.paving.specs.Loops.{frontLoops}
 use Rattle.paving.specs.Run.{runRefusal, runOf}
 use Rattle.loops.specs.Listed.{lists, Lists, Listable, listedIn}
 use Rattle.loops.specs.ListedLaws.{sound-listable}
 use Rattle.advance.specs.Paveable.{Paveable, Later, reached-later}
 use Rattle.sampled.specs.Outlines.{outline-three}
 use Rattle.sampled.specs.Begun.{Begun, begun}
+use Rattle.books.specs.Book.{quadAt, newNode, side, bookQuad, bookAfter, quadsArea}
+use Rattle.books.specs.Holds.{BooksHold}
 use Rattle.books_hold.specs.Theorem.{books-hold}
 use Rattle.run.specs.declared.Paved.{Paved}
 use Rattle.run.specs.Run as run-is
-use Rattle.run.specs.Run.{Lent, Ran, ran, lent, unused, fieldPart, statePart, snapshotPlaces, narrowed, widened, fewest}
-use Rattle.run.specs.Run.{refusedAnswer, pavedAnswer, refusalOf, endState, acceptedIn, acceptedRun, runAnswer, Paves}
+use Rattle.run.specs.Run.{Lent, Ran, ran, lent, fieldPart, statePart, snapshotPlaces, narrowed, widened, fewest}
+use Rattle.run.specs.Run.{refusedAnswer, pavedAnswer, refusalOf, acceptedIn, acceptedRun, runAnswer, answered, Paves}
 use Rattle.run.specs.Asked.{CanPave, CanRun}
 
 -- ---- a paving doesn't read the field's marks
@@ -157,6 +160,24 @@ module _ (o : Outline) (size : Float) (g : Grid) (values : List Float) (s : Stat
           sound-listable (L .paveable .sampled) t (L .paveable .loops) S loops lengths (omega (arith, S .nodes-fit, long, a))
           (omega (arith, S .nodes-fit, long, b))
 
+-- ---- the books don't read the snapshot
+
+module _ (o : Outline) (size : Float) (s : State) (snapshot : List ℕ) where
+  books-unread : BooksHold o size s
+      → BooksHold o size (stateOf (s .xs) (s .ys) (s .next) (s .prev) snapshot (s .quads) (s .edges) (s .counts))
+  unfolding bookAfter bookQuad side newNode quadAt quadsArea frontLoops
+  books-unread B =
+      record {
+        each =
+            λ k h.
+            let H = B .each k h in
+            record { book = H .book; steps = H .steps; areas = H .areas; quads = H .quads; loops = H .loops; counts = H .counts };
+        closes =
+            λ b e.
+            let C = B .closes b e in
+            record { xs = C .xs; ys = C .ys; front = C .front; nodes = C .nodes; edges = C .edges; loops = C .loops };
+      }
+
 -- ---- the stages make up the run
 
 pub run-whole : (o : Outline) (set : Settings) (l : Lent) (g : Grid) (values : List Float) (marks : List ℕ)
@@ -199,13 +220,18 @@ module _ (o : Outline) (set : Settings) (l : Lent) (m : ℕ) (e : m ≡ snapshot
   pub paves-accepted : refusalOf o set l ≡ 0 → OutlineFits o → (r : Paved) (after : Lent)
       → ran r after ≡ acceptedIn o set (run-is.withSnapshot l (take m (l .snapshot)))
       → Paves o set l r (run-is.withSnapshot after (after .snapshot ++ drop m (l .snapshot)))
-  unfolding runAnswer acceptedRun acceptedIn refusalOf endState
+  unfolding runAnswer acceptedRun acceptedIn refusalOf
   paves-accepted z doubles r after q =
       let same : ran r after ≡ acceptedIn o set (narrowed l) = rw e at q in
       record {
         equal = rw (z, e) (ap (λ (w : Ran). ran (w .answer) (widened l (w .lists))) same);
         refused = λ n. absurd (n (ap (λ (w : Ran). w .answer .refusal) same));
-        books = λ _. books-hold o set (fieldPart l) (statePart (narrowed l)) doubles z;
+        books =
+            λ _.
+            let snapshot = after .snapshot ++ drop m (l .snapshot) in
+            subst⁻¹ (λ (w : Ran). BooksHold o (set .size) (answered (w .answer) (run-is.withSnapshot (w .lists) snapshot))) same
+            (books-unread o (set .size) (runOf o set (fieldPart l) (statePart (narrowed l)) .paving .state) snapshot
+            (books-hold o set (fieldPart l) (statePart (narrowed l)) doubles z));
       }
 
 pub paves-refused : (o : Outline) (set : Settings) (l : Lent) (number : ℕ) → number ≡ refusalOf o set l → (number ≡ 0 → ⊥)

@@ -123,10 +123,6 @@ ran r l = record { answer = r; lists = l }
 unfoldable pub refusalOf : Outline → Settings → Lent → ℕ
 refusalOf o set l = runRefusal o set (fieldPart l) (statePart (narrowed l))
 
--- the state in which the paving ends
-unfoldable pub endState : Outline → Settings → Lent → State
-endState o set l = runOf o set (fieldPart l) (statePart (narrowed l)) .paving .state
-
 -- field, sampling and paving, then the loops of the front, in all of the lists given
 unfoldable pub acceptedIn : Outline → Settings → Lent → Ran
 acceptedIn o set l =
@@ -146,10 +142,15 @@ runAnswer o set l = answerBy (λ number. ran (refusedAnswer number) l) (accepted
 
 -- ---- what a caller gets
 
+-- the state that is answered: the lists as they are left, with the counts answered
+abbrev pub answered : Paved → Lent → State
+answered r after =
+    stateOf (after .xs) (after .ys) (after .next) (after .prev) (after .snapshot) (after .quads) (after .edges) (r .counts)
+
 pub record Paves (o : Outline) (set : Settings) (before : Lent) (r : Paved) (after : Lent) : Type 0 where
-  -- the answer and every list are the definition's
+  -- the answer and every list are the definition's: demand 2
   pub equal : ran r after ≡ runAnswer o set before
   -- a refusal leaves every list as it was
   pub refused : (r .refusal ≡ 0 → ⊥) → after ≡ before
-  -- the exact books hold of the state in which the paving ends
-  pub books : r .refusal ≡ 0 → BooksHold o (set .size) (endState o set before)
+  -- the exact books of the outline, the size and the quads and coordinates answered hold: demand 3
+  pub books : r .refusal ≡ 0 → BooksHold o (set .size) (answered r after)

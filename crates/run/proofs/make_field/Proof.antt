@@ -22,7 +22,10 @@ same-length-2 c = search needs
 
 returns : tie.Need-returns
 unfolding gridIn
-returns c = field-made _ _ _ _ (c .before .before .before .before .before .before .before .before .before .before .before .before .before .before .pre) _ _ _ (c .before .before .before .before .before .before .field .ensures) _ (rw (c .enum-told .given .1) refl)
+returns c =
+    let at-field = c .before .before .before .before .before .before in
+    let start = at-field .before .before .before .before .before .before .before .before in
+    field-made _ _ _ _ (start .pre) _ _ _ (at-field .field .ensures) _ (rw (c .enum-told .given .1) refl)
 
 same-length-3 : tie.Need-same-length-3
 same-length-3 c = search needs
@@ -32,7 +35,11 @@ same-length-4 c = search needs
 
 returns-2 : tie.Need-returns-2
 unfolding gridIn
-returns-2 c = field-made _ _ _ _ (c .before .before .before .before .before .before .before .before .before .before .before .before .before .before .before .pre) _ _ _ (c .before .before .before .before .before .before .before .field .ensures) _ (rw (c .before .made .given .1) refl)
+returns-2 c =
+    let at-made = c .before in
+    let at-field = at-made .before .before .before .before .before .before in
+    let start = at-field .before .before .before .before .before .before .before .before in
+    field-made _ _ _ _ (start .pre) _ _ _ (at-field .field .ensures) _ (rw (at-made .made .given .1) refl)
 
 pub make-field-spec : {M : Type 1} → statement M
 make-field-spec =

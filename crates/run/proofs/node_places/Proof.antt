@@ -22,7 +22,12 @@ lesser-requires-5 c κs = search needs
 
 returns : tie.Need-returns
 unfolding fewest
-returns c = c .lesser5 .ensures ∙ rw (c .before .lesser4 .ensures, c .before .before .before .before .lesser .ensures, c .before .before .before .lesser2 .ensures, c .before .before .lesser3 .ensures) refl
+returns c =
+    let at-lesser4 = c .before in
+    let at-lesser3 = at-lesser4 .before in
+    let at-lesser2 = at-lesser3 .before in
+    let at-lesser = at-lesser2 .before in
+    c .lesser5 .ensures ∙ rw (at-lesser4 .lesser4 .ensures, at-lesser .lesser .ensures, at-lesser2 .lesser2 .ensures, at-lesser3 .lesser3 .ensures) refl
 
 pub node-places-spec : {M : Type 1} → statement M
 node-places-spec =

@@ -23,13 +23,20 @@ given s =
     lent (s .args .values .now) (s .args .marks .now) (s .args .xs .now) (s .args .ys .now) (s .args .next .now) (s .args .prev .now)
     (s .args .snapshot .now) (s .args .quads .now) (s .args .edges .now) (s .args .loops .now) (s .args .lengths .now)
 
-places-are : (c : tie.After-lesser2) → c .lesser2 .result ≡ snapshotPlaces (given (c .before .before .before .before .before .before .before .before .before .before .before .before .before .before .before .before))
+abbrev start-of : tie.After-lesser2 → tie.Start
+start-of c = c .before .before .before .before .before .before .before .before .before .before .before .before .before .before .before .before
+
+places-are : (c : tie.After-lesser2) → c .lesser2 .result ≡ snapshotPlaces (given (start-of c))
 places-are c = c .lesser2 .ensures ∙ ap (min _) (c .before .lesser .ensures)
 
-number-at : (c : tie.After-refusal) → c .refusal .result ≡ refusalOf (around (c .before .before .before .before .before .before .before .before .before .before .before .before .before .before .before .before .before .before .before)) (set (c .before .before .before .before .before .before .before .before .before .before .before .before .before .before .before .before .before .before .before)) (given (c .before .before .before .before .before .before .before .before .before .before .before .before .before .before .before .before .before .before .before))
+number-at : (c : tie.After-refusal)
+    → c .refusal .result ≡ refusalOf (around (start-of (c .before .before .before))) (set (start-of (c .before .before .before)))
+    (given (start-of (c .before .before .before)))
 number-at c =
-    let start = c .before .before .before .before .before .before .before .before .before .before .before .before .before .before .before .before .before .before .before in
-    number-is (around start) (set start) (given start) _ (places-are (c .before .before .before)) _ _ _ (c .before .before .lesser3 .ensures) (c .before .node-places .ensures) (c .refusal .ensures)
+    let at-lesser2 = c .before .before .before in
+    let start = start-of at-lesser2 in
+    number-is (around start) (set start) (given start) _ (places-are at-lesser2) _ _ _ (c .before .before .lesser3 .ensures)
+    (c .before .node-places .ensures) (c .refusal .ensures)
 
 lesser-requires : tie.Need-lesser-requires
 lesser-requires c κs = search needs
@@ -51,19 +58,27 @@ refused-requires c κs = search needs
 
 returns : tie.Need-returns
 returns c =
-    let start = c .before .before .before .before .before .before .before .before .before .before .before .before .before .before .before .before .before .before .before .before .before in
-    paves-refused (around start) (set start) (given start) _ (number-at (c .before .before)) (c .before .if1 .taken) _ (c .refused .ensures)
+    let at-if1 = c .before in
+    let at-refusal = at-if1 .before in
+    let at-shared-slice-known2 = at-refusal .before .before .before .before .before .before .before .before .before .before .before .before .before .before .before .before .before in
+    let start = at-shared-slice-known2 .before .before in
+    paves-refused (around start) (set start) (given start) _ (number-at (at-refusal)) (at-if1 .if1 .taken) _ (c .refused .ensures)
 
 slice-relend-prefix-pave-in : tie.Need-slice-relend-prefix-pave-in
 slice-relend-prefix-pave-in c = search needs
 
 slice-aggregate-pave-in : tie.Need-slice-aggregate-pave-in
-slice-aggregate-pave-in c = sym (length-take-le _ _ (omega (arith, c .before .before .before .before .before .before .before .before .before .before .before .lesser2 .ensures)))
+slice-aggregate-pave-in c =
+    let at-lesser2 = c .before .before .before .before .before .before .before .before .before .before .before in
+    sym (length-take-le _ _ (omega (arith, at-lesser2 .lesser2 .ensures)))
 
 pave-in-requires : tie.Need-pave-in-requires
 pave-in-requires c κs =
-    let start = c .before .before .before .before .before .before .before .before .before .before .before .before .before .before .before .before .before .before .before .before .before .before .before .before .before .before .before .before .before .before .before in
-    can-run (around start) (set start) (given start) _ (places-are (c .before .before .before .before .before .before .before .before .before .before .before .before .before .before .before)) (sym (number-at (c .before .before .before .before .before .before .before .before .before .before .before .before)) ∙ c .before .before .before .before .before .before .before .before .before .before .before .if1 .left)
+    let at-if1 = c .before .before .before .before .before .before .before .before .before .before .before in
+    let at-refusal = at-if1 .before in
+    let at-lesser2 = at-refusal .before .before .before in
+    let start = at-lesser2 .before .before .before .before .before .before .before .before .before .before .before .before .before .before .before .before in
+    can-run (around start) (set start) (given start) _ (places-are (at-lesser2)) (sym (number-at (at-refusal)) ∙ at-if1 .if1 .left)
 
 same-length : tie.Need-same-length
 same-length c = search needs
@@ -100,10 +115,17 @@ same-length-11 c = search needs
 
 returns-2 : tie.Need-returns-2
 returns-2 c =
-    let start = c .before .before .before .before .before .before .before .before .before .before .before .before .before .before .before .before .before .before .before .before .before .before .before .before .before .before .before .before .before .before .before .before .before .before .before .before .before .before .before .before .before .before .before .before .before .before .before .before .before .before .before .before .before .before in
-    paves-accepted (around start) (set start) (given start) _ (places-are (c .before .before .before .before .before .before .before .before .before .before .before .before .before .before .before .before .before .before .before .before .before .before .before .before .before .before .before .before .before .before .before .before .before .before .before .before .before .before)) (sym (number-at (c .before .before .before .before .before .before .before .before .before .before .before .before .before .before .before .before .before .before .before .before .before .before .before .before .before .before .before .before .before .before .before .before .before .before .before)) ∙ c .before .before .before .before .before .before .before .before .before .before .before .before .before .before .before .before .before .before .before .before .before .before .before .before .before .before .before .before .before .before .before .before .before .before .if1 .left)
-    (record { outer = λ i h. c .before .before .before .before .before .before .before .before .before .before .before .before .before .before .before .before .before .before .before .before .before .before .before .before .before .before .before .before .before .before .before .before .before .before .before .before .before .before .before .before .before .before .before .before .before .before .before .before .before .before .before .before .before .shared-slice-known .given i; holes = λ i h. c .before .before .before .before .before .before .before .before .before .before .before .before .before .before .before .before .before .before .before .before .before .before .before .before .before .before .before .before .before .before .before .before .before .before .before .before .before .before .before .before .before .before .before .before .before .before .before .before .before .before .before .before .shared-slice-known2 .given i })
-    _ _ (c .before .before .before .before .before .before .before .before .before .before .before .before .before .before .before .before .before .before .before .before .before .before .pave-in .ensures)
+    let at-xs = c .before .before .before .before .before .before .before .before .before .before .before .before .before .before .before .before .before in
+    let at-pave-in = at-xs .before .before .before .before .before in
+    let at-if1 = at-pave-in .before .before .before .before .before .before .before .before .before .before .before .before in
+    let at-refusal = at-if1 .before in
+    let at-lesser2 = at-refusal .before .before .before in
+    let at-shared-slice-known2 = at-lesser2 .before .before .before .before .before .before .before .before .before .before .before .before .before .before in
+    let at-shared-slice-known = at-shared-slice-known2 .before in
+    let start = at-shared-slice-known .before in
+    paves-accepted (around start) (set start) (given start) _ (places-are (at-lesser2)) (sym (number-at (at-refusal)) ∙ at-if1 .if1 .left)
+    (record { outer = λ i h. at-shared-slice-known .shared-slice-known .given i; holes = λ i h. at-shared-slice-known2 .shared-slice-known2 .given i })
+    _ _ (at-pave-in .pave-in .ensures)
 
 pub pave-spec : {M : Type 1} → statement M
 pave-spec =

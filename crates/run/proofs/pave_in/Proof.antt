@@ -28,60 +28,106 @@ make-field-requires c κs =
 
 sample-and-advance-requires : tie.Need-sample-and-advance-requires
 sample-and-advance-requires c κs =
-    let start = c .before .before .before .before .before .before .before .before .before .before .before .before .before .before .before .before .before .before .before .before .before .before .before .before .before .before .before .before .before in
+    let at-make-field = c .before .before .before .before .before .before .before .before .before .before .before .before in
+    let at-shared-slice-known2 = at-make-field .before .before .before .before .before .before .before .before .before .before .before .before .before .before .before in
+    let at-shared-slice-known = at-shared-slice-known2 .before in
+    let start = at-shared-slice-known .before in
     can-pave (around start) (set start) (given start) (start .pre)
-    (record { outer = λ i h. c .before .before .before .before .before .before .before .before .before .before .before .before .before .before .before .before .before .before .before .before .before .before .before .before .before .before .before .before .shared-slice-known .given i; holes = λ i h. c .before .before .before .before .before .before .before .before .before .before .before .before .before .before .before .before .before .before .before .before .before .before .before .before .before .before .before .shared-slice-known2 .given i })
-    (subst T (sym (start .good .1 .1 .1 .0 .1)) tt) _ _ _ (c .before .before .before .before .before .before .before .before .before .before .before .before .make-field .ensures) (c .before .before .before .before .before .before .before .before .before .before .before .before .make-field .kept .1 .1 .1 .1 .1 .0)
+    (record { outer = λ i h. at-shared-slice-known .shared-slice-known .given i; holes = λ i h. at-shared-slice-known2 .shared-slice-known2 .given i })
+    (subst T (sym (start .good .1 .1 .1 .0 .1)) tt) _ _ _ (at-make-field .make-field .ensures) (at-make-field .make-field .kept .1 .1 .1 .1 .1 .0)
 
 front-loops-requires : tie.Need-front-loops-requires
 front-loops-requires c κs =
-    let start = c .before .before .before .before .before .before .before .before .before .before .before .before .before .before .before .before .before .before .before .before .before .before .before .before .before .before .before .before .before .before .before .before .before .before .before .before .before .before .before .before .before .before .before .before .before .before .before .before in
+    let at-xs = c .before .before .before .before .before .before .before .before .before .before .before .before .before .before .before .before .before in
+    let at-sample-and-advance = at-xs .before in
+    let at-make-field = at-sample-and-advance .before .before .before .before .before .before .before .before .before .before .before .before .before in
+    let at-shared-slice-known2 = at-make-field .before .before .before .before .before .before .before .before .before .before .before .before .before .before .before in
+    let at-shared-slice-known = at-shared-slice-known2 .before in
+    let start = at-shared-slice-known .before in
     can-list (around start) (start .args .size) _ _ (statePart (given start))
     (can-pave (around start) (set start) (given start) (start .pre)
-    (record { outer = λ i h. c .before .before .before .before .before .before .before .before .before .before .before .before .before .before .before .before .before .before .before .before .before .before .before .before .before .before .before .before .before .before .before .before .before .before .before .before .before .before .before .before .before .before .before .before .before .before .before .shared-slice-known .given i; holes = λ i h. c .before .before .before .before .before .before .before .before .before .before .before .before .before .before .before .before .before .before .before .before .before .before .before .before .before .before .before .before .before .before .before .before .before .before .before .before .before .before .before .before .before .before .before .before .before .before .shared-slice-known2 .given i })
-    (subst T (sym (start .good .1 .1 .1 .0 .1)) tt) _ _ _ (c .before .before .before .before .before .before .before .before .before .before .before .before .before .before .before .before .before .before .before .before .before .before .before .before .before .before .before .before .before .before .before .make-field .ensures) (c .before .before .before .before .before .before .before .before .before .before .before .before .before .before .before .before .before .before .before .before .before .before .before .before .before .before .before .before .before .before .before .make-field .kept .1 .1 .1 .1 .1 .0))
-    _ (start .args .passes) _ (c .before .before .before .before .before .before .before .before .before .before .before .before .before .before .before .before .before .before .sample-and-advance .ensures) _ _ (start .pre .loops) (start .pre .lengths)
+    (record { outer = λ i h. at-shared-slice-known .shared-slice-known .given i; holes = λ i h. at-shared-slice-known2 .shared-slice-known2 .given i })
+    (subst T (sym (start .good .1 .1 .1 .0 .1)) tt) _ _ _ (at-make-field .make-field .ensures) (at-make-field .make-field .kept .1 .1 .1 .1 .1 .0))
+    _ (start .args .passes) _ (at-sample-and-advance .sample-and-advance .ensures) _ _ (start .pre .loops) (start .pre .lengths)
 
 answer-requires : tie.Need-answer-requires
 answer-requires c κs = search needs
 
 same-length : tie.Need-same-length
-same-length c = c .before .before .before .before .before .before .before .before .before .before .before .before .before .before .before .before .before .before .before .before .before .before .before .before .before .before .before .before .before .before .before .before .before .before .before .before .before .before .before .make-field .kept .1 .1 .1 .1 .1 .0
+same-length c =
+    let at-snapshot = c .before .before .before .before .before .before .before .before .before .before .before .before .before .before .before .before .before in
+    let at-sample-and-advance-arg = at-snapshot .before .before .before .before .before .before .before .before .before .before .before .before .before .before .before .before .before in
+    let at-make-field = at-sample-and-advance-arg .before .before .before .before .before in
+    at-make-field .make-field .kept .1 .1 .1 .1 .1 .0
 
 same-length-2 : tie.Need-same-length-2
-same-length-2 c = c .before .before .before .before .before .before .before .before .before .before .before .before .before .before .before .before .before .before .before .before .before .before .before .before .before .before .before .before .before .before .before .before .before .before .before .before .before .before .before .make-field .kept .1 .1 .1 .1 .1 .1 .0
+same-length-2 c =
+    let at-snapshot = c .before .before .before .before .before .before .before .before .before .before .before .before .before .before .before .before .before in
+    let at-sample-and-advance-arg = at-snapshot .before .before .before .before .before .before .before .before .before .before .before .before .before .before .before .before .before in
+    let at-make-field = at-sample-and-advance-arg .before .before .before .before .before in
+    at-make-field .make-field .kept .1 .1 .1 .1 .1 .1 .0
 
 same-length-3 : tie.Need-same-length-3
-same-length-3 c = c .before .before .before .before .before .before .before .before .before .before .before .before .before .before .before .before .before .before .before .before .before .before .before .before .before .before .sample-and-advance .kept .1 .1 .1 .1 .1 .1 .0
+same-length-3 c =
+    let at-snapshot = c .before .before .before .before .before .before .before .before .before .before .before .before .before .before .before .before .before in
+    let at-sample-and-advance = at-snapshot .before .before .before .before .before .before .before .before .before in
+    at-sample-and-advance .sample-and-advance .kept .1 .1 .1 .1 .1 .1 .0
 
 same-length-4 : tie.Need-same-length-4
-same-length-4 c = c .before .before .before .before .before .before .before .before .before .before .before .before .before .before .before .before .before .before .before .before .before .before .before .before .before .before .sample-and-advance .kept .1 .1 .1 .1 .1 .1 .1 .0
+same-length-4 c =
+    let at-snapshot = c .before .before .before .before .before .before .before .before .before .before .before .before .before .before .before .before .before in
+    let at-sample-and-advance = at-snapshot .before .before .before .before .before .before .before .before .before in
+    at-sample-and-advance .sample-and-advance .kept .1 .1 .1 .1 .1 .1 .1 .0
 
 same-length-5 : tie.Need-same-length-5
-same-length-5 c = c .before .before .before .before .before .before .before .before .before .before .before .before .before .before .before .before .before .before .before .before .before .before .before .before .before .before .sample-and-advance .kept .1 .1 .1 .1 .1 .1 .1 .1 .0
+same-length-5 c =
+    let at-snapshot = c .before .before .before .before .before .before .before .before .before .before .before .before .before .before .before .before .before in
+    let at-sample-and-advance = at-snapshot .before .before .before .before .before .before .before .before .before in
+    at-sample-and-advance .sample-and-advance .kept .1 .1 .1 .1 .1 .1 .1 .1 .0
 
 same-length-6 : tie.Need-same-length-6
-same-length-6 c = c .before .before .before .before .before .before .before .before .before .before .before .before .before .before .before .before .before .before .before .before .before .before .before .before .before .before .sample-and-advance .kept .1 .1 .1 .1 .1 .1 .1 .1 .1 .0
+same-length-6 c =
+    let at-snapshot = c .before .before .before .before .before .before .before .before .before .before .before .before .before .before .before .before .before in
+    let at-sample-and-advance = at-snapshot .before .before .before .before .before .before .before .before .before in
+    at-sample-and-advance .sample-and-advance .kept .1 .1 .1 .1 .1 .1 .1 .1 .1 .0
 
 same-length-7 : tie.Need-same-length-7
-same-length-7 c = c .before .before .before .before .before .before .before .front-loops .kept .1 .1 .0 ∙ c .before .before .before .before .before .before .before .before .before .before .before .before .before .before .before .before .before .before .before .before .before .before .before .before .before .before .sample-and-advance .kept .1 .1 .1 .1 .1 .1 .1 .1 .1 .1 .0
+same-length-7 c =
+    let at-front-loops = c .before .before .before .before .before .before .before in
+    let at-slice-known14 = at-front-loops .before .before .before .before .before .before .before .before .before .before .before .before .before .before .before .before .before in
+    let at-sample-and-advance = at-slice-known14 .before .before in
+    at-front-loops .front-loops .kept .1 .1 .0 ∙ at-sample-and-advance .sample-and-advance .kept .1 .1 .1 .1 .1 .1 .1 .1 .1 .1 .0
 
 same-length-8 : tie.Need-same-length-8
-same-length-8 c = c .before .before .before .before .before .before .before .before .before .before .before .before .before .before .before .before .before .before .before .before .before .before .before .before .before .before .sample-and-advance .kept .1 .1 .1 .1 .1 .1 .1 .1 .1 .1 .1 .0
+same-length-8 c =
+    let at-snapshot = c .before .before .before .before .before .before .before .before .before .before .before .before .before .before .before .before .before in
+    let at-sample-and-advance = at-snapshot .before .before .before .before .before .before .before .before .before in
+    at-sample-and-advance .sample-and-advance .kept .1 .1 .1 .1 .1 .1 .1 .1 .1 .1 .1 .0
 
 same-length-9 : tie.Need-same-length-9
-same-length-9 c = c .before .before .before .before .before .before .before .before .before .before .before .before .before .before .before .before .before .before .before .before .before .before .before .before .before .before .sample-and-advance .kept .1 .1 .1 .1 .1 .1 .1 .1 .1 .1 .1 .1 .0
+same-length-9 c =
+    let at-snapshot = c .before .before .before .before .before .before .before .before .before .before .before .before .before .before .before .before .before in
+    let at-sample-and-advance = at-snapshot .before .before .before .before .before .before .before .before .before in
+    at-sample-and-advance .sample-and-advance .kept .1 .1 .1 .1 .1 .1 .1 .1 .1 .1 .1 .1 .0
 
 same-length-10 : tie.Need-same-length-10
-same-length-10 c = c .before .before .before .before .before .before .before .front-loops .kept .1 .1 .1 .0
+same-length-10 c =
+    let at-front-loops = c .before .before .before .before .before .before .before in
+    at-front-loops .front-loops .kept .1 .1 .1 .0
 
 same-length-11 : tie.Need-same-length-11
-same-length-11 c = c .before .before .before .before .before .before .before .front-loops .kept .1 .1 .1 .1 .0
+same-length-11 c =
+    let at-front-loops = c .before .before .before .before .before .before .before in
+    at-front-loops .front-loops .kept .1 .1 .1 .1 .0
 
 returns : tie.Need-returns
 returns c =
-    let start = c .before .before .before .before .before .before .before .before .before .before .before .before .before .before .before .before .before .before .before .before .before .before .before .before .before .before .before .before .before .before .before .before .before .before .before .before .before .before .before .before .before .before .before .before .before .before .before .before .before .before .before .before .before .before .before .before in
-    run-whole (around start) (set start) (given start) _ _ _ (c .before .before .before .before .before .before .before .before .before .before .before .before .before .before .before .before .before .before .before .before .before .before .before .before .before .before .before .before .before .before .before .before .before .before .before .before .before .before .before .make-field .ensures) _ (c .before .before .before .before .before .before .before .before .before .before .before .before .before .before .before .before .before .before .before .before .before .before .before .before .before .before .sample-and-advance .ensures) _ (c .before .before .before .before .before .before .before .front-loops .ensures) _
+    let at-front-loops = c .before .before .before .before .before .before .before in
+    let at-slice-known14 = at-front-loops .before .before .before .before .before .before .before .before .before .before .before .before .before .before .before .before .before in
+    let at-sample-and-advance = at-slice-known14 .before .before in
+    let at-make-field = at-sample-and-advance .before .before .before .before .before .before .before .before .before .before .before .before .before in
+    let start = at-make-field .before .before .before .before .before .before .before .before .before .before .before .before .before .before .before .before .before in
+    run-whole (around start) (set start) (given start) _ _ _ (at-make-field .make-field .ensures) _ (at-sample-and-advance .sample-and-advance .ensures) _ (at-front-loops .front-loops .ensures) _
     (c .answer .ensures)
 
 pub pave-in-spec : {M : Type 1} → statement M

@@ -1,5 +1,5 @@
 -- `run::sample_and_advance` meets its contract: the refusals give what the two calls ask. Assumes nothing.
-use mathlib.Core.Path.{_∙_, ap, sym}
+use mathlib.Core.Path.{_∙_, ap}
 use Rattle.domain.specs.Outline.{Outline, outline}
 use Rattle.front.specs.State.{State, stateOf}
 use Rattle.boundary.specs.Progress.{can-sample}
@@ -28,21 +28,38 @@ from-boundary-requires c κs =
 
 advance-requires : tie.Need-advance-requires
 advance-requires c κs =
-    let start = c .before .before .before .before .before .before .before .before .before .before .before .before .before .before .before .before .before .before .before .before .before .before .before .before .before .before .before .before .before .before .before .before .before .before in
+    let at-from-boundary = c .before .before .before .before .before .before .before .before .before .before .before .before .before .before .before .before .before in
+    let start = at-from-boundary .before .before .before .before .before .before .before .before .before .before .before .before .before .before .before .before .before in
     paveable-at (around start) (start .args .size) _ _ (given start) (start .pre) _
-    (c .before .before .before .before .before .before .before .before .before .before .before .before .before .before .before .before .before .from-boundary .ensures (start .args .snapshot .now) (start .args .quads .now) unused (start .pre .front))
+    (at-from-boundary .from-boundary .ensures (start .args .snapshot .now) (start .args .quads .now) unused (start .pre .front))
 
 same-length : tie.Need-same-length
-same-length c = c .before .before .before .before .before .before .before .before .before .before .before .before .before .before .advance .kept .1 .1 .1 .1 .1 .1 .0 ∙ c .before .before .before .before .before .before .before .before .before .before .before .before .before .before .before .before .before .before .before .before .before .before .before .before .before .before .before .before .before .before .before .before .from-boundary .kept .1 .1 .1 .1 .0
+same-length c =
+    let at-advance = c .before .before .before .before .before .before .before .before .before .before .before .before .before .before in
+    let at-xs = at-advance .before .before .before .before .before .before .before .before .before .before .before .before .before .before .before .before .before in
+    let at-from-boundary = at-xs .before in
+    at-advance .advance .kept .1 .1 .1 .1 .1 .1 .0 ∙ at-from-boundary .from-boundary .kept .1 .1 .1 .1 .0
 
 same-length-2 : tie.Need-same-length-2
-same-length-2 c = c .before .before .before .before .before .before .before .before .before .before .before .before .before .before .advance .kept .1 .1 .1 .1 .1 .1 .1 .0 ∙ c .before .before .before .before .before .before .before .before .before .before .before .before .before .before .before .before .before .before .before .before .before .before .before .before .before .before .before .before .before .before .before .before .from-boundary .kept .1 .1 .1 .1 .1 .0
+same-length-2 c =
+    let at-advance = c .before .before .before .before .before .before .before .before .before .before .before .before .before .before in
+    let at-xs = at-advance .before .before .before .before .before .before .before .before .before .before .before .before .before .before .before .before .before in
+    let at-from-boundary = at-xs .before in
+    at-advance .advance .kept .1 .1 .1 .1 .1 .1 .1 .0 ∙ at-from-boundary .from-boundary .kept .1 .1 .1 .1 .1 .0
 
 same-length-3 : tie.Need-same-length-3
-same-length-3 c = c .before .before .before .before .before .before .before .before .before .before .before .before .before .before .advance .kept .1 .1 .1 .1 .1 .1 .1 .1 .0 ∙ c .before .before .before .before .before .before .before .before .before .before .before .before .before .before .before .before .before .before .before .before .before .before .before .before .before .before .before .before .before .before .before .before .from-boundary .kept .1 .1 .1 .1 .1 .1 .0
+same-length-3 c =
+    let at-advance = c .before .before .before .before .before .before .before .before .before .before .before .before .before .before in
+    let at-xs = at-advance .before .before .before .before .before .before .before .before .before .before .before .before .before .before .before .before .before in
+    let at-from-boundary = at-xs .before in
+    at-advance .advance .kept .1 .1 .1 .1 .1 .1 .1 .1 .0 ∙ at-from-boundary .from-boundary .kept .1 .1 .1 .1 .1 .1 .0
 
 same-length-4 : tie.Need-same-length-4
-same-length-4 c = c .before .before .before .before .before .before .before .before .before .before .before .before .before .before .advance .kept .1 .1 .1 .1 .1 .1 .1 .1 .1 .0 ∙ c .before .before .before .before .before .before .before .before .before .before .before .before .before .before .before .before .before .before .before .before .before .before .before .before .before .before .before .before .before .before .before .before .from-boundary .kept .1 .1 .1 .1 .1 .1 .1 .0
+same-length-4 c =
+    let at-advance = c .before .before .before .before .before .before .before .before .before .before .before .before .before .before in
+    let at-xs = at-advance .before .before .before .before .before .before .before .before .before .before .before .before .before .before .before .before .before in
+    let at-from-boundary = at-xs .before in
+    at-advance .advance .kept .1 .1 .1 .1 .1 .1 .1 .1 .1 .0 ∙ at-from-boundary .from-boundary .kept .1 .1 .1 .1 .1 .1 .1 .0
 
 same-length-5 : tie.Need-same-length-5
 same-length-5 c = search needs
@@ -51,13 +68,20 @@ same-length-6 : tie.Need-same-length-6
 same-length-6 c = search needs
 
 same-length-7 : tie.Need-same-length-7
-same-length-7 c = c .before .before .before .before .before .before .before .before .before .before .before .before .before .before .advance .kept .1 .1 .1 .1 .1 .1 .1 .1 .1 .1 .1 .1 .0 ∙ c .before .before .before .before .before .before .before .before .before .before .before .before .before .before .before .before .before .before .before .before .before .before .before .before .before .before .before .before .before .before .before .before .from-boundary .kept .1 .1 .1 .1 .1 .1 .1 .1 .0
+same-length-7 c =
+    let at-advance = c .before .before .before .before .before .before .before .before .before .before .before .before .before .before in
+    let at-xs = at-advance .before .before .before .before .before .before .before .before .before .before .before .before .before .before .before .before .before in
+    let at-from-boundary = at-xs .before in
+    at-advance .advance .kept .1 .1 .1 .1 .1 .1 .1 .1 .1 .1 .1 .1 .0 ∙ at-from-boundary .from-boundary .kept .1 .1 .1 .1 .1 .1 .1 .1 .0
 
 returns : tie.Need-returns
 returns c =
-    let start = c .before .before .before .before .before .before .before .before .before .before .before .before .before .before .before .before .before .before .before .before .before .before .before .before .before .before .before .before .before .before .before .before .before .before .before .before .before .before .before .before .before .before .before .before .before .before .before .before .before in
-    c .before .before .before .before .before .before .before .before .before .before .before .before .before .before .advance .ensures ∙ ap (advance (around start) (start .args .size) (fieldRecord (start .args .grid) (start .args .values .now) []) (start .args .passes))
-    (c .before .before .before .before .before .before .before .before .before .before .before .before .before .before .before .before .before .before .before .before .before .before .before .before .before .before .before .before .before .before .before .before .from-boundary .ensures (start .args .snapshot .now) (start .args .quads .now) unused (start .pre .front))
+    let at-advance = c .before .before .before .before .before .before .before .before .before .before .before .before .before .before in
+    let at-xs = at-advance .before .before .before .before .before .before .before .before .before .before .before .before .before .before .before .before .before in
+    let at-from-boundary = at-xs .before in
+    let start = at-from-boundary .before .before .before .before .before .before .before .before .before .before .before .before .before .before .before .before .before in
+    at-advance .advance .ensures ∙ ap (advance (around start) (start .args .size) (fieldRecord (start .args .grid) (start .args .values .now) []) (start .args .passes))
+    (at-from-boundary .from-boundary .ensures (start .args .snapshot .now) (start .args .quads .now) unused (start .pre .front))
 
 pub sample-and-advance-spec : {M : Type 1} → statement M
 sample-and-advance-spec =

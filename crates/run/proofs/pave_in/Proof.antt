@@ -127,8 +127,8 @@ returns c =
     let at-sample-and-advance = at-slice-known14 .before .before in
     let at-make-field = at-sample-and-advance .before .before .before .before .before .before .before .before .before .before .before .before .before in
     let start = at-make-field .before .before .before .before .before .before .before .before .before .before .before .before .before .before .before .before .before in
-    run-whole (around start) (set start) (given start) _ _ _ (at-make-field .make-field .ensures) _ (at-sample-and-advance .sample-and-advance .ensures) _ (at-front-loops .front-loops .ensures) _
-    (c .answer .ensures)
+    run-whole (around start) (set start) (given start) _ _ _ (at-make-field .make-field .ensures) _
+    (at-sample-and-advance .sample-and-advance .ensures) _ (at-front-loops .front-loops .ensures) _ (c .answer .ensures)
 
 pub pave-in-spec : {M : Type 1} → statement M
 pave-in-spec =

@@ -46,6 +46,11 @@ class Examples(unittest.TestCase):
     def test_the_oracles(self):
         self.same("--program", f"{ORACLE} pave")
 
+    def test_the_pictures_are_of_the_listings_kept(self):
+        for name in names(".csv"):
+            status, said, _ = run(EXAMPLES / "make", "--check", name, "--program", f"cat {EXAMPLES / name}.listing")
+            self.assertEqual((status, said.decode().count("  same ")), (0, 2), name)
+
     def test_a_change_is_noticed(self):
         with tempfile.TemporaryDirectory() as folder:
             for name in ("examples", "tools"):

@@ -149,6 +149,11 @@ class Refusals(unittest.TestCase):
         self.refused("-1000,-1000\n1000,-1000\n1000,1000\n", 9, "1,849 field nodes; the program lends 1,600; no size fits, so draw it smaller", size=100.0)
         self.refused("0,0\n9,9\n0,9\n9,0\n" * 50, 10, "3,600 nodes; the program lends 800; size 2.86 fits", size=0.6)
 
+    def test_points_sampled(self):
+        for text, size, nodes in (("0,0\n1.05,0\n0,1\n1,1\n", 1.0, 1 + 2 + 1 + 2), ("0,0\n1.06,0\n1,1\n0,1\n", 1.0, 2 + 1 + 1 + 1 + 1),
+                                  ("0,0\n2,0\n1,2\n", 3.0, 3 + 1), (SQUARE + "\n0,0\n2,0\n1,2\n", 3.0, 4 + 3 + 1)):
+            self.assertEqual(outlines.sampled_nodes(outlines.read_points(text), size), nodes)
+
     def test_the_size_named_fits_and_the_one_below_does_not(self):
         loops = outlines.read_points("0,0\n40,0\n40,40\n0,40\n")
         self.assertTrue(outlines.fits(loops, 2.17))

@@ -149,6 +149,17 @@ class Refusals(unittest.TestCase):
         self.refused("-1000,-1000\n1000,-1000\n1000,1000\n", 9, "1,849 field nodes; the program lends 1,600; no size fits, so draw it smaller", size=100.0)
         self.refused("0,0\n9,9\n0,9\n9,0\n" * 50, 10, "3,600 nodes; the program lends 800; size 2.86 fits", size=0.6)
 
+    def test_the_space_to_the_last_place(self):
+        zigzag = "0,0\n9,9\n0,9\n9,0\n" * 50
+        self.accepted(zigzag, size=2.86)
+        self.assertEqual(outlines.sampled_nodes(outlines.read_points(zigzag), 2.86), 800)
+        self.accepted("0,0\n37,0\n37,37\n0,37\n", size=2.0)
+        self.assertEqual(outlines.field_nodes(outlines.read_points("0,0\n37,0\n37,37\n0,37\n"), 2.0), 1_600)
+        self.refused("0,0\n38,0\n38,37\n0,37\n", 9, "1,640 field nodes; the program lends 1,600; size 2.06 fits", size=2.0)
+
+    def test_a_field_of_too_many_nodes_is_made_coarser(self):
+        self.assertEqual(outlines.field_nodes(outlines.read_points("0,0\n520,0\n520,520\n"), 1.0), 429 * 429)
+
     def test_points_sampled(self):
         for text, size, nodes in (("0,0\n1.05,0\n0,1\n1,1\n", 1.0, 1 + 2 + 1 + 2), ("0,0\n1.06,0\n1,1\n0,1\n", 1.0, 2 + 1 + 1 + 1 + 1),
                                   ("0,0\n2,0\n1,2\n", 3.0, 3 + 1), (SQUARE + "\n0,0\n2,0\n1,2\n", 3.0, 4 + 3 + 1)):

@@ -1,12 +1,13 @@
 """The listing that the program prints, read and checked line by line."""
 
-import math
 import re
 import struct
 from typing import NamedTuple
 
 from outlines import Point, Unusable
 from refusals import WORDS, Refused
+
+FURTHEST = 1_001  # proved of every run
 
 ENDS = {
     "still": "the last pass placed nothing",
@@ -30,8 +31,8 @@ def coordinate(bits):
     if not re.fullmatch("[0-9a-f]{16}", bits):
         raise Unusable(f"16 hexadecimal digits are wanted: {bits}")
     x = struct.unpack(">d", bytes.fromhex(bits))[0]
-    if not math.isfinite(x):
-        raise Unusable(f"a node's coordinate is infinite or not a number: {bits}")
+    if not abs(x) <= FURTHEST:
+        raise Unusable(f"no node of a run is beyond {FURTHEST:,} either way: {bits} is {x!r}")
     return x
 
 
@@ -80,7 +81,7 @@ def read(text):
         if loops < 0 or nodes == 0:
             raise Unusable(f"{nodes:,} nodes and {quads:,} quads are promised, and {len(rows) - 1:,} lines follow")
         if whole != (loops == 0):
-            raise Unusable(f"'whole' is for no loops and 'open' for some, and {loops:,} lines follow the quads")
+            raise Unusable(f"'whole' is for no loops and 'open' for some; lines after the quads: {loops:,}")
         read_rows = {"n": [], "q": [], "l": []}
         for line, kind in enumerate("n" * nodes + "q" * quads + "l" * loops, start=2):
             read_rows[kind].append(read_row(rows[line - 1], kind, nodes))

@@ -12,8 +12,6 @@ import outlines
 from outlines import Point, Settings, Unusable
 from refusals import Refused, in_words
 
-HOLE = "\n0.5,0.5\n1,0.5\n1,1\n"
-
 
 def plain(loops):
     return [[(p.x, p.y) for p in points] for points in loops]

@@ -53,14 +53,15 @@ class Reading(unittest.TestCase):
         self.wrong(changed(2, "q 0 1 8 7"), "line 2: a line with 'n' is wanted here")
         self.wrong(changed(3, "n 3ff0000000000000"), "line 3: a node has two coordinates")
         self.wrong(changed(3, "n 3FF0000000000000 0000000000000000"), "line 3: 16 hexadecimal digits are wanted: 3FF0000000000000")
-        self.wrong(changed(4, "n 7ff0000000000000 0000000000000000"), "line 4: a node's coordinate is infinite or not a number")
+        for bits, value in (("7ff0000000000000", "inf"), ("7ff8000000000000", "nan"), ("c08f500000000000", "-1002.0")):
+            self.wrong(changed(4, f"n {bits} 0000000000000000"), f"line 4: no node of a run is beyond 1,001 either way: {bits} is {value}")
         self.wrong(changed(11, "q 0 1 9 7"), "line 11: there is no node 9")
         self.wrong(changed(11, "q 0 1 8"), "line 11: a quad has four nodes")
         self.wrong(changed(11, "q 0 1 8  7"), "line 11: a quad has four nodes")
         self.wrong("\n".join(lines[:-2]), "line 1: 9 nodes and 4 quads are promised, and 12 lines follow")
-        self.wrong(SQUARE_LISTING + "l 1 2 3\n", "line 1: 'whole' is for no loops and 'open' for some, and 1 lines follow the quads")
+        self.wrong(SQUARE_LISTING + "l 1 2 3\n", "line 1: 'whole' is for no loops and 'open' for some; lines after the quads: 1")
         self.wrong(OPEN.replace("l 5 6 7 8", "l 5 6"), "line 14: a loop that is listed has three nodes or more")
-        self.wrong(OPEN.replace("l 5 6 7 8\n", ""), "line 1: 'whole' is for no loops and 'open' for some, and 0 lines follow the quads")
+        self.wrong(OPEN.replace("l 5 6 7 8\n", ""), "line 1: 'whole' is for no loops and 'open' for some; lines after the quads: 0")
 
 
 class Drawing(unittest.TestCase):

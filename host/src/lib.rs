@@ -44,6 +44,6 @@ mod queries;
 mod refusal;
 
 pub use field::{direction, field, FieldRecord};
-pub use pave::{pave, End, Lists, Memory, Mesh, Places, Settings, OFF};
+pub use pave::{pave, pave_numbers, End, Lists, Memory, Mesh, Places, Settings, OFF};
 pub use queries::{contains, distance_to_boundary, nearest_segment, NearestSegment, Outline};
 pub use refusal::Refusal;

@@ -32,7 +32,7 @@ use Rattle.paving.specs.Advance.{Paved, paved, Passing, passing, Passed, mostQu
 use Rattle.paving.specs.Advance.{copyTurn, copied, withSnapshot, afterPass, pass, passesTurn, allUsed, advance}
 use Rattle.paving.specs.ReachLaws.{tried, Reached, AtPassing, AtPassed, AtEnd, turn-kept, pass-kept}
 use Rattle.paving.specs.Reach.{begin}
-use Rattle.placed.specs.Answered.{choice}
+use Rattle.books.specs.Answered.{choice}
 use Rattle.attempts.specs.Reads.{link-read}
 use Rattle.attempts.specs.SeenLaws.{try-seen}
 use Rattle.advance.specs.declared.Settled.{Settled}

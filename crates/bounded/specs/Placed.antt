@@ -33,7 +33,7 @@ use Rattle.books.specs.Book.{Book, Quad, quadAt}
 use Rattle.books.specs.Matches.{Matches}
 use Rattle.books.specs.BookLaws.{frame-quad}
 use Rattle.books.specs.Holds.{QuadHolds}
-use Rattle.placed.specs.Step.{step}
+use Rattle.books.specs.Step.{step}
 use Rattle.bounded.specs.Point.{Bounded}
 use Rattle.bounded.specs.Corners.{CornersBounded, nodeOf, cornersIn, quad-holds}
 use Rattle.bounded.specs.Nodes.{AllNodes, IfNew, Roomy, place-nodes}

@@ -25,7 +25,7 @@ use Rattle.paving.specs.AttemptLaws.{quad-chosen}
 use Rattle.paving.specs.Reach.{Placement}
 use Rattle.books.specs.Book.{Quad, quadAt}
 use Rattle.books.specs.BookLaws.{frame-quad}
-use Rattle.placed.specs.Step.{Stepped, step}
+use Rattle.books.specs.Step.{Stepped, step}
 use Rattle.capacity.specs.Alike.{EdgesAlike, Alike, add-alike}
 use Rattle.capacity.specs.Attempts.{ReadsAlike, reads-alike, CornerIn, in-c, in-d, point-alike, id-c, id-d}
 

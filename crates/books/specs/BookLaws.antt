@@ -10,6 +10,7 @@ use lib.Dec.{eqb}
 use lib.ListN.{length}
 use lib.Seq.{length-take-le}
 use borrow.Author.Tests.{eqb-true, eqb-false, eq-eqb, ne-eqb}
+use Rattle.laws.specs.Tests.{both}
 use Rattle.exact.specs.Corner.{Vector, cross}
 use Rattle.topology.specs.Sums.{one}
 use Rattle.topology.specs.Links.{delta, at}
@@ -92,12 +93,7 @@ has-none u v (e ∷ es) h = by (isEdge (edge u v) e) (rw (at-edge u v e) at h) (
     by false h later = later (omega arith)
 
 is-edge : (u v : ℕ) (e : Edge) → isEdge (edge u v) e ≡ true → (u ≡ e .from) × (v ≡ e .to)
-is-edge u v e = by (eqb u (e .from)) refl (eqb v (e .to)) refl
-  where
-    by : (s : Bool) → eqb u (e .from) ≡ s → (t : Bool) → eqb v (e .to) ≡ t → s && t ≡ true → (u ≡ e .from) × (v ≡ e .to)
-    by true p true q h = (eqb-true u (e .from) p, eqb-true v (e .to) q)
-    by true p false q h = absurd (let z : _≡_ {A = ℕ} 0 1 = cc in omega arith)
-    by false p t q h = absurd (let z : _≡_ {A = ℕ} 0 1 = cc in omega arith)
+is-edge u v e h = let ends = both (eqb u (e .from)) _ h in (eqb-true u (e .from) (ends .0), eqb-true v (e .to) (ends .1))
 
 -- an edge that is there comes off once
 pub without-sum : (w : ℕ → ℕ → ℕ) (u v : ℕ) (es : List Edge) → has (edge u v) es ≡ true

@@ -15,7 +15,7 @@ use Rattle.laws.specs.Integer.{negℤ-*ℤ, *ℤ-negℤ}
 use Rattle.laws.specs.Ring.{var, num, _*ᵉ_, _-ᵉ_}
 use Rattle.laws.specs.Certificate.{Nonneg, nonneg, nonneg-is, to-le, hyp, nat, _⊞_, _⊠_, prove}
 use Rattle.numbers.specs.Float.{_⊕_, _⊖_, _⊗_, _⊘_, tolerance}
-use Rattle.exact.specs.Units.{W, W-pos, Val, signed, units, Within, within-units}
+use Rattle.exact.specs.Units.{W, W-pos, Val, signed, units, unlike-self, Within, within-units}
 use Rattle.exact.specs.Order.{above-of-not-le}
 use Rattle.exact.specs.Operations.{mul-law, product-small, Sum, sub-law, sum-small, sum-within, add-law-pos, div-law}
 use Rattle.exact.specs.Root.{root-law}
@@ -89,10 +89,6 @@ prod p q =
       small = product-small 16032016 (r .size) (size p * size q) (r .near) bound;
       near = rel-and (r .size * W) (size p * size q) W (r .near);
     }
-
-unlike-self : (s : Bool) → unlike s s ≡ false
-unlike-self true = refl
-unlike-self false = refl
 
 square : {x : Float} {X : ℤ} (p : Step x X) → Prod false (size p * size p) (x ⊗ x)
 square {x} p = subst (λ (s : Bool). Prod s (size p * size p) (x ⊗ x)) (unlike-self (sign p)) (prod p p)

@@ -33,8 +33,8 @@ pub record Digits (n : ℕ) : Type 0 where
   pub small : m < 2 ^ 53
   pub top : n < 2 ^ 2098
 
-pow-le-back : (a l : ℕ) → 2 ^ a ≤ 2 ^ l → a ≤ l
-pow-le-back a l h = le-of-suc-le-suc (lt-of-not-le (λ (g : suc l ≤ a). lt-irrefl (2 ^ l) (lt-of-lt-of-le (pow-lt g) h)))
+pub exponent-le : (a l : ℕ) → 2 ^ a ≤ 2 ^ l → a ≤ l
+exponent-le a l h = le-of-suc-le-suc (lt-of-not-le (λ (g : suc l ≤ a). lt-irrefl (2 ^ l) (lt-of-lt-of-le (pow-lt g) h)))
 
 whole-up : (m a n : ℕ) → m * 2 ^ a * 2 ^ 1074 ≡ n * 1 → n ≡ m * 2 ^ (a + 1074)
 whole-up m a n h = sym (mul-one n) ∙ sym h ∙ mul-assoc m (2 ^ a) (2 ^ 1074) ∙ ap (λ (y : ℕ). m * y) (sym (pow-add 2 a 1074))
@@ -73,7 +73,7 @@ digits-of (fin s (suc m) e) n f v =
   where
     go : (e : ℤ) → suc m * up e * 2 ^ 1074 ≡ n * down e → down e ≤ 2 ^ 1074 → suc m < 2 ^ 53 → n < 2 ^ 2098 → Digits n
     go (pos a) h c b t = record { m = suc m; j = a + 1074; is = whole-up (suc m) a n h; small = b; top = t }
-    go (negsuc a) h c b t = record { m = suc m; j = 1074 - suc a; is = whole-down (suc m) a n (pow-le-back (suc a) 1074 c) h; small = b; top = t }
+    go (negsuc a) h c b t = record { m = suc m; j = 1074 - suc a; is = whole-down (suc m) a n (exponent-le (suc a) 1074 c) h; small = b; top = t }
 
 -- from 2 ^ (52 + k) units on there are only multiples of 2 ^ k
 multiple : (n k : ℕ) → Digits n → 2 ^ (52 + k) ≤ n → (B : ℕ) × (n ≡ B * 2 ^ k)

@@ -14,7 +14,7 @@ use Rattle.laws.specs.Tests.{both}
 use Rattle.exact.specs.Corner.{Vector, cross}
 use Rattle.topology.specs.Sums.{one}
 use Rattle.topology.specs.Links.{delta, at}
-use Rattle.topology.specs.Balance.{frontSumℤ, Antisymmetric, difference, difference-add, gain, flip, weight-is, front-is}
+use Rattle.topology.specs.Balance.{frontSumℤ, Antisymmetric, difference, difference-add, difference-zero, gain, flip, weight-is, front-is}
 use Rattle.front.specs.State.{State, nodePlaces}
 use Rattle.front.specs.Sound.{Sound, Frame}
 use Rattle.front.specs.FrameLaws.{extends-at}
@@ -121,10 +121,6 @@ pub matches-edges : (n : ℕ) (s : State) (ls : List (List ℕ)) (b : Book) → 
 matches-edges n s ls b S M = sym (edges-length (b .front)) ∙ (M .sums one ∙ sym (S .edges))
 
 -- ---- sums over ℤ
-
-difference-zero : difference 0 0 ≡ pos 0
-unfolding difference
-difference-zero = refl
 
 -- an antisymmetric weight over the book's front is that over the loops
 module _ (w : ℕ → ℕ → ℤ) (anti : Antisymmetric w) where

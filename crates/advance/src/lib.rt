@@ -14,7 +14,9 @@ ghost use Rattle.paving.specs.Advance.{copied, passing, passTurn, afterPass, pa
 ghost use Rattle.advance.specs.Answers.{edgeAttempt, Settles, settledCounts, quadSettled, passed, passedCounts, passAnswer};
 ghost use Rattle.advance.specs.Paveable.{Paveable};
 use crossfield::Grid;
+use domain::Settings;
 use front::Counts;
+use front::OFF;
 use front::Placed;
 use paving::Attempt;
 use paving::End;
@@ -37,16 +39,6 @@ pub struct Advanced {
     pub end: End,
     pub counts: Counts,
 }
-
-impl Advanced {
-    // So many quads are the end.
-    pub const MOST_QUADS: usize = 250000;
-
-    pub const MOST_PASSES: usize = 600;
-}
-
-// Marks a node off the front.
-const OFF: u32 = 4294967295;
 
 // Copies the links of the first n nodes.
 fn copy_links(next: &[u32], snapshot: &mut [u32], n: u32)
@@ -113,7 +105,7 @@ fn edge_attempt<'a>(
 fn after_quad(m: Counts) -> Settled
     ensures { λ r. ⌜ r ≡ quadSettled m ⌝ }
 {
-    if m.quads >= Advanced::MOST_QUADS {
+    if m.quads >= Settings::MOST_QUADS {
         Settled::Over(End::Cap, m)
     } else {
         Settled::Put(m)
@@ -304,10 +296,10 @@ fn pass<'a>(
 fn most_passes(passes: usize) -> usize
     ensures { λ r. ⌜ r ≡ min passes 600 ⌝ }
 {
-    if passes < Advanced::MOST_PASSES {
+    if passes < Settings::MOST_PASSES {
         passes
     } else {
-        Advanced::MOST_PASSES
+        Settings::MOST_PASSES
     }
 }
 

@@ -76,6 +76,10 @@ impl Settings {
     pub const MOST_SPANS: u64 = 4096;
     // How many keys each way `too_close` looks.
     pub const REACH: u64 = 2;
+    // So many quads end a run.
+    pub const MOST_QUADS: usize = 250000;
+
+    pub const MOST_PASSES: usize = 600;
 }
 
 // ---- the refusals

@@ -1,10 +1,11 @@
 // The state of a paving (src/alt_crossfield.rs: `Paving`): lists lent, counts by value. Sampling, and the placing of a quad.
 ghost use mathlib.Core.Path.{_≡_};
 ghost use Prim.Native.Nat.{_+_, _*_, _^_, _≤_, _<_, min, max};
-ghost use lib.ListN.{length, set};
+ghost use lib.ListN.{length, getD, set};
+ghost use lib.Ieee.{nan};
 ghost use Rattle.laws.specs.Loop.{anyUp};
 ghost use Rattle.topology.specs.Links.{off};
-ghost use Rattle.front.specs.State.{stateOf, edgeIs};
+ghost use Rattle.front.specs.State.{stateOf, nodeIn, edgeIs};
 ghost use Rattle.front.specs.Place.{added, cornerId};
 ghost use Rattle.front.specs.Ready.{Ready};
 ghost use Rattle.front.specs.Stores.{Places, countsAfter, afterQuad, isBeyond, storeX, storeY, isReused, knownAcross, unless, newEdges, storeEdge, storeEdges, storeQuad, storeSide, storeNext, storePrev, Ids, Countable};
@@ -40,8 +41,8 @@ pub enum Placed {
     Done(Counts),
 }
 
-// Marks a node off the front.
-const OFF: u32 = 4294967295;
+// The link of a node off the front.
+pub const OFF: u32 = 4294967295;
 
 impl Corner {
     // How many nodes the corner adds.
@@ -87,6 +88,25 @@ impl Counts {
             edges: self.edges + edges,
             front: self.front + 2 * (m as usize) - 2,
         }
+    }
+}
+
+// ---- reading
+
+// A coordinate of a node; past the list's end a NaN.
+fn coordinate(s: &[f64], id: u32) -> f64
+    ensures { λ r. ⌜ r ≡ getD (now (s .entry)) id nan ⌝ }
+{
+    let i = id as usize;
+    if i < s.len() { s[i] } else { 0.0 / 0.0 }
+}
+
+pub fn node_at(xs: &[f64], ys: &[f64], id: u32) -> Point
+    ensures { λ r. ⌜ r ≡ nodeIn (now (xs .entry)) (now (ys .entry)) id ⌝ }
+{
+    Point {
+        x: coordinate(xs, id),
+        y: coordinate(ys, id),
     }
 }
 

@@ -133,7 +133,8 @@ fn settle<'a>(
     requires { ⌜ Paveable (outline (now outer) (now holes) (now lens)) grid (now values)
         (stateOf (now xs) (now ys) (now next) (now prev) (now snapshot) (now quads) (now edges) k) × (a < k .nodes) ⌝ }
     ensures { λ r. ⌜ Settles (outline (now (outer .entry)) (now (holes .entry)) (now (lens .entry))) size (fieldRecord grid (now (values .entry)) [])
-        (stateOf (now (xs .entry)) (now (ys .entry)) (now (next .entry)) (now (prev .entry)) (now (snapshot .entry)) (now (quads .entry)) (now (edges .entry)) k) a r
+        (stateOf (now (xs .entry)) (now (ys .entry)) (now (next .entry)) (now (prev .entry)) (now (snapshot .entry)) (now (quads .entry))
+        (now (edges .entry)) k) a r
         (stateOf (now (xs .exit)) (now (ys .exit)) (now (next .exit)) (now (prev .exit)) (now (snapshot .entry)) (now (quads .exit)) (now (edges .exit))
         (settledCounts k r)) ⌝ }
 {
@@ -205,7 +206,8 @@ fn sweep<'a>(
         ≡ run (k .nodes)
         (passTurn (outline (now (outer .entry)) (now (holes .entry)) (now (lens .entry))) size (fieldRecord grid (now (values .entry)) []))
         afterPass (passing
-        (stateOf (now (xs .entry)) (now (ys .entry)) (now (next .entry)) (now (prev .entry)) (now (snapshot .entry)) (now (quads .entry)) (now (edges .entry)) k)
+        (stateOf (now (xs .entry)) (now (ys .entry)) (now (next .entry)) (now (prev .entry)) (now (snapshot .entry)) (now (quads .entry))
+        (now (edges .entry)) k)
         false) ⌝ }
 {
     let n = k.nodes;
@@ -270,7 +272,8 @@ fn pass<'a>(
         (stateOf (now (xs .exit)) (now (ys .exit)) (now (next .exit)) (now (prev .exit)) (now (snapshot .exit)) (now (quads .exit)) (now (edges .exit))
         (passedCounts r))
         ≡ pass (outline (now (outer .entry)) (now (holes .entry)) (now (lens .entry))) size (fieldRecord grid (now (values .entry)) [])
-        (stateOf (now (xs .entry)) (now (ys .entry)) (now (next .entry)) (now (prev .entry)) (now (snapshot .entry)) (now (quads .entry)) (now (edges .entry)) k) ⌝ }
+        (stateOf (now (xs .entry)) (now (ys .entry)) (now (next .entry)) (now (prev .entry)) (now (snapshot .entry)) (now (quads .entry))
+        (now (edges .entry)) k) ⌝ }
 {
     copy_links(next, snapshot, k.nodes);
     sweep(
@@ -328,7 +331,8 @@ pub fn advance<'a>(
         (stateOf (now (xs .exit)) (now (ys .exit)) (now (next .exit)) (now (prev .exit)) (now (snapshot .exit)) (now (quads .exit)) (now (edges .exit))
         (r .counts)) (r .end)
         ≡ advance (outline (now (outer .entry)) (now (holes .entry)) (now (lens .entry))) size (fieldRecord grid (now (values .entry)) []) passes
-        (stateOf (now (xs .entry)) (now (ys .entry)) (now (next .entry)) (now (prev .entry)) (now (snapshot .entry)) (now (quads .entry)) (now (edges .entry)) k) ⌝ }
+        (stateOf (now (xs .entry)) (now (ys .entry)) (now (next .entry)) (now (prev .entry)) (now (snapshot .entry)) (now (quads .entry))
+        (now (edges .entry)) k) ⌝ }
 {
     let most = most_passes(passes);
     let mut counts = k;

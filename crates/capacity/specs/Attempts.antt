@@ -25,7 +25,8 @@ use Rattle.front.specs.Place.{cornerPoint, cornerId, idC, idD, added}
 use Rattle.front.specs.Sound.{Sound}
 use Rattle.front.specs.Pushed.{IsNode}
 use Rattle.paving.specs.declared.Attempt.{Attempt}
-use Rattle.paving.specs.Checks.{closeNode, tooClose, nodeOk, cornerFree, cornersApart, blocks, nodeInside, crossesEdge, edgeCrosses, sideCrosses, edgesFree, cornersOf, quadOk, quadFits}
+use Rattle.paving.specs.Checks.{closeNode, tooClose, nodeOk, cornerFree, cornersApart, blocks, nodeInside, crossesEdge, edgeCrosses, sideCrosses}
+use Rattle.paving.specs.Checks.{edgesFree, cornersOf, quadOk, quadFits}
 use Rattle.paving.specs.Attempt.{reuse, isReused, cornerAt, ideal, cornerC, cornerD, quadIf, attemptQuad, tryToward, tryEdge}
 use Rattle.capacity.specs.Alike.{EdgesAlike, Alike, next-alike, prev-alike}
 

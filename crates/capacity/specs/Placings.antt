@@ -60,7 +60,9 @@ same-add u v s = record { list = refl; number = refl; snapshot = refl }
 
 same-remove : (u v : ℕ) (s : State) → SameEdges s (removeFront u v s)
 unfolding removeFront
-same-remove u v s = either (eqb (nextOf s u) v) s _ s (record { list = refl; number = refl; snapshot = refl }) (record { list = refl; number = refl; snapshot = refl })
+same-remove u v s =
+    either (eqb (nextOf s u) v) s _ s (record { list = refl; number = refl; snapshot = refl })
+    (record { list = refl; number = refl; snapshot = refl })
 
 same-off : (c : Corner) (u v : ℕ) (s : State) → SameEdges s (takeOff c u v s)
 same-off (Reused id) u v s = same-remove u v s

@@ -275,7 +275,9 @@ fn seed_node<'a>(
     requires { ⌜ misshapen (outline (now outer) (now holes) (now lens)) ≡ false ⌝ }
     requires { ⌜ Node (g .nx) (g .ny) j i id (length (now values)) ⌝ }
     requires { ⌜ Counts (g .nx) (g .ny) id (length (now marks)) ⌝ }
-    ensures { λ r. ⌜ fieldLists (now (values .exit)) (now (marks .exit)) ≡ seedNode (outline (now (outer .entry)) (now (holes .entry)) (now (lens .entry))) g j i (fieldLists (now (values .entry)) (now (marks .entry))) ⌝ }
+    ensures { λ r. ⌜ fieldLists (now (values .exit)) (now (marks .exit))
+        ≡ seedNode (outline (now (outer .entry)) (now (holes .entry)) (now (lens .entry))) g j i
+        (fieldLists (now (values .entry)) (now (marks .entry))) ⌝ }
 {
     let p = grid_point(g, i, j);
     let found = domain::nearest_segment(outer, holes, lens, p);
@@ -301,7 +303,9 @@ fn seed_row<'a>(
     requires { ⌜ misshapen (outline (now outer) (now holes) (now lens)) ≡ false ⌝ }
     requires { ⌜ Row (g .nx) (g .ny) j base (length (now values)) ⌝ }
     requires { ⌜ RowMarks (g .nx) (g .ny) base (length (now marks)) ⌝ }
-    ensures { λ r. ⌜ fieldLists (now (values .exit)) (now (marks .exit)) ≡ seedRow (outline (now (outer .entry)) (now (holes .entry)) (now (lens .entry))) g j (fieldLists (now (values .entry)) (now (marks .entry))) ⌝ }
+    ensures { λ r. ⌜ fieldLists (now (values .exit)) (now (marks .exit))
+        ≡ seedRow (outline (now (outer .entry)) (now (holes .entry)) (now (lens .entry))) g j
+        (fieldLists (now (values .entry)) (now (marks .entry))) ⌝ }
 {
     let nx = g.nx;
     let mut i = 0;
@@ -323,7 +327,9 @@ fn seed_all<'a>(
     requires { ⌜ misshapen (outline (now outer) (now holes) (now lens)) ≡ false ⌝ }
     requires { ⌜ Room (g .nx) (g .ny) (length (now values)) (length (now marks)) ⌝ }
     requires { ⌜ (g .nx ≤ mostFieldNodes) × (g .ny ≤ mostFieldNodes) ⌝ }
-    ensures { λ r. ⌜ fieldLists (now (values .exit)) (now (marks .exit)) ≡ seeded (outline (now (outer .entry)) (now (holes .entry)) (now (lens .entry))) g (fieldLists (now (values .entry)) (now (marks .entry))) ⌝ }
+    ensures { λ r. ⌜ fieldLists (now (values .exit)) (now (marks .exit))
+        ≡ seeded (outline (now (outer .entry)) (now (holes .entry)) (now (lens .entry))) g
+        (fieldLists (now (values .entry)) (now (marks .entry))) ⌝ }
 {
     let nx = g.nx;
     let ny = g.ny;
@@ -569,7 +575,9 @@ pub fn field<'a>(
     values: &mut [f64],
     marks: &mut [u8],
 ) -> FieldAnswer
-    ensures { λ r. ⌜ fieldResult r (now (values .exit)) (now (marks .exit)) ≡ fieldAnswer (outline (now (outer .entry)) (now (holes .entry)) (now (lens .entry))) size limit (fieldLists (now (values .entry)) (now (marks .entry))) ⌝ }
+    ensures { λ r. ⌜ fieldResult r (now (values .exit)) (now (marks .exit))
+        ≡ fieldAnswer (outline (now (outer .entry)) (now (holes .entry)) (now (lens .entry))) size limit
+        (fieldLists (now (values .entry)) (now (marks .entry))) ⌝ }
 {
     let places = lesser(values.len() / 2, marks.len());
     let refusal = field_refusal(outer, holes, lens, size, limit, places);

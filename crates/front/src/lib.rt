@@ -8,7 +8,8 @@ ghost use Rattle.topology.specs.Links.{off};
 ghost use Rattle.front.specs.State.{stateOf, nodeIn, edgeIs};
 ghost use Rattle.front.specs.Place.{added, cornerId};
 ghost use Rattle.front.specs.Ready.{Ready};
-ghost use Rattle.front.specs.Stores.{Places, countsAfter, afterQuad, isBeyond, storeX, storeY, isReused, knownAcross, unless, newEdges, storeEdge, storeEdges, storeQuad, storeSide, storeNext, storePrev, Ids, Countable};
+ghost use Rattle.front.specs.Stores.{Places, countsAfter, afterQuad, isBeyond, storeX, storeY, isReused, knownAcross, unless, newEdges};
+ghost use Rattle.front.specs.Stores.{storeEdge, storeEdges, storeQuad, storeSide, storeNext, storePrev, Ids, Countable};
 use domain::Point;
 
 // How much of the lent lists is in use. `front` counts the front's edges.
@@ -310,7 +311,8 @@ fn is_beyond(
 ) -> bool
     requires { ⌜ (k .quads + 1 < 2 ^ 64) × (k .edges + e < 2 ^ 64) ⌝ }
     ensures { λ r. ⌜ r ≡ isBeyond
-        (stateOf (now (xs .entry)) (now (ys .entry)) (now (next .entry)) (now (prev .entry)) (now (snapshot .entry)) (now (quads .entry)) (now (edges .entry)) k)
+        (stateOf (now (xs .entry)) (now (ys .entry)) (now (next .entry)) (now (prev .entry)) (now (snapshot .entry)) (now (quads .entry))
+        (now (edges .entry)) k)
         m e ⌝ }
 {
     let n = (k.nodes as usize) + (m as usize);
@@ -355,8 +357,10 @@ pub fn place(
 ) -> Placed
     requires { ⌜ Ready (stateOf (now xs) (now ys) (now next) (now prev) (now snapshot) (now quads) (now edges) k) a b c d ⌝ }
     ensures { λ r. ⌜ Places a b c d
-        (stateOf (now (xs .entry)) (now (ys .entry)) (now (next .entry)) (now (prev .entry)) (now (snapshot .entry)) (now (quads .entry)) (now (edges .entry)) k)
-        r (stateOf (now (xs .exit)) (now (ys .exit)) (now (next .exit)) (now (prev .exit)) (now (snapshot .entry)) (now (quads .exit)) (now (edges .exit)) (countsAfter k r)) ⌝ }
+        (stateOf (now (xs .entry)) (now (ys .entry)) (now (next .entry)) (now (prev .entry)) (now (snapshot .entry)) (now (quads .entry))
+        (now (edges .entry)) k)
+        r (stateOf (now (xs .exit)) (now (ys .exit)) (now (next .exit)) (now (prev .exit)) (now (snapshot .entry)) (now (quads .exit))
+        (now (edges .exit)) (countsAfter k r)) ⌝ }
 {
     let n = k.nodes;
     let q = k.quads;

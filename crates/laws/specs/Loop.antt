@@ -1,5 +1,6 @@
--- Counted loops. Every loop of ours is `forUp`, which a definition names by its turn; a loop that can be left early is a `forUp` whose state is a `Turn`, and a search is one whose state is
--- whether it has found anything. So one record, `Loop`, can be the invariant of every loop in the code. Assumes nothing.
+-- Counted loops. Every loop of ours is `forUp`, which a definition names by its turn; a loop that can be left early is a `forUp` whose state is
+-- a `Turn`, and a search is one whose state is whether it has found anything. So one record, `Loop`, can be the invariant of every loop in the
+-- code. Assumes nothing.
 use Prim.Native.Nat.{ℕ, zero, suc, _+_, _-_, _≤_, _<_, zero-le}
 use mathlib.Core.Path.{_≡_, refl, sym, ap, ap₂, _∙_, subst}
 use mathlib.Core.Bool.{Bool, true, false, _||_, true≢false}

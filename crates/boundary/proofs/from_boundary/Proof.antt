@@ -55,13 +55,15 @@ next-start-requires c κs =
 
 add-k : tie.Need-add-k Inv-loop μ-loop
 add-k c =
-    let past-test = c .before .before .before .before .before .before .before .before .before .before .before .before .before .before .before .before .before .before in
+    let midway = c .before .before .before .before .before .before .before .before .before in
+    let past-test = midway .before .before .before .before .before .before .before .before .before in
     let start = past-test .before .before .before .before .before .before .before .before .before .before in
     omega (arith, past-test .loop-test .taken, start .good .1 .1 .0)
 
 loop-less : tie.Need-loop-less Inv-loop μ-loop
 loop-less c =
-    let past-test = c .before .before .before .before .before .before .before .before .before .before .before .before .before .before .before .before .before .before in
+    let midway = c .before .before .before .before .before .before .before .before .before in
+    let past-test = midway .before .before .before .before .before .before .before .before .before in
     omega (arith, past-test .loop-test .taken)
 
 loop-again : tie.Need-loop-again Inv-loop μ-loop

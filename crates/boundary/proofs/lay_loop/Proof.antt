@@ -50,28 +50,34 @@ link-ring-requires c κs =
 
 same-length : tie.Need-same-length
 same-length c =
-    let after-split-longest = c .before .before .before .before .before .before .before .before .before .before .before .before .before .before .before .before .before .before in
-    let after-sample-loop = after-split-longest .before .before .before .before .before .before .before .before .before .before .before .before .before .before .before .before in
+    let after-link-ring = c .before .before .before .before .before .before in
+    let after-split-longest = after-link-ring .before .before .before .before .before .before .before .before .before .before .before .before in
+    let after-ring-of = after-split-longest .before .before .before .before .before in
+    let after-sample-loop = after-ring-of .before .before .before .before .before .before .before .before .before .before .before in
     after-split-longest .split-longest .kept .1 .0 ∙ after-sample-loop .sample-loop .kept .1 .1 .0
 
 same-length-2 : tie.Need-same-length-2
 same-length-2 c =
-    let after-split-longest = c .before .before .before .before .before .before .before .before .before .before .before .before .before .before .before .before .before .before in
-    let after-sample-loop = after-split-longest .before .before .before .before .before .before .before .before .before .before .before .before .before .before .before .before in
+    let after-link-ring = c .before .before .before .before .before .before in
+    let after-split-longest = after-link-ring .before .before .before .before .before .before .before .before .before .before .before .before in
+    let after-ring-of = after-split-longest .before .before .before .before .before in
+    let after-sample-loop = after-ring-of .before .before .before .before .before .before .before .before .before .before .before in
     after-split-longest .split-longest .kept .1 .1 .0 ∙ after-sample-loop .sample-loop .kept .1 .1 .1 .0
 
 same-length-3 : tie.Need-same-length-3
 same-length-3 c =
     let after-link-ring = c .before .before .before .before .before .before in
     let after-split-longest = after-link-ring .before .before .before .before .before .before .before .before .before .before .before .before in
-    let after-sample-loop = after-split-longest .before .before .before .before .before .before .before .before .before .before .before .before .before .before .before .before in
+    let after-ring-of = after-split-longest .before .before .before .before .before in
+    let after-sample-loop = after-ring-of .before .before .before .before .before .before .before .before .before .before .before in
     after-link-ring .link-ring .kept .1 .0 ∙ after-split-longest .split-longest .kept .1 .1 .1 .0 ∙ after-sample-loop .sample-loop .kept .1 .1 .1 .1 .0
 
 same-length-4 : tie.Need-same-length-4
 same-length-4 c =
     let after-link-ring = c .before .before .before .before .before .before in
     let after-split-longest = after-link-ring .before .before .before .before .before .before .before .before .before .before .before .before in
-    let after-sample-loop = after-split-longest .before .before .before .before .before .before .before .before .before .before .before .before .before .before .before .before in
+    let after-ring-of = after-split-longest .before .before .before .before .before in
+    let after-sample-loop = after-ring-of .before .before .before .before .before .before .before .before .before .before .before in
     after-link-ring .link-ring .kept .1 .1 .0 ∙ after-split-longest .split-longest .kept .1 .1 .1 .1 .0 ∙ after-sample-loop .sample-loop .kept .1 .1 .1 .1 .1 .0
 
 same-length-5 : tie.Need-same-length-5

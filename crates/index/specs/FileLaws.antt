@@ -4,15 +4,15 @@ use mathlib.Core.List.{List, [], _∷_, _++_}
 use mathlib.Core.Logic.{_⊎_, inl, inr, ⊎-elim}
 use mathlib.Core.Path.{_≡_, refl, sym, ap, ap₂, _∙_, subst}
 use Prim.Native.Nat.{ℕ, zero, suc, _+_, _-_, _*_, _/_, _%_, _<_, _≤_, min}
-use native.Mathlib.Nat.{mod-lt}
+use native.Mathlib.Nat.{mod-lt, mod-add-mod}
 use native.Mathlib.Omega.{arith}
 use borrow.Author.Tests.{eq-eqb, ne-eqb, eqb-true, eqb-false, lt-ltb, le-ltb, ltb-true, ltb-false, leb-true, le-leb}
 use lib.Dec.{eqb, ltb, leb}
 use lib.ListN.{length, getD, set, length-set}
 use lib.Seq.{getD-set-same, getD-set-other}
-use Rattle.laws.specs.Loop.{forUp, forUp-keeps}
+use Rattle.laws.specs.Loop.{Loop, loop-start, loop-next, loop-end, forUp, forUp-keeps}
 use Rattle.index.specs.declared.Rect.{Rect}
-use Rattle.index.specs.Pool.{none, cells, capacity, ownPlace, linkPlace, used, headAt, ownAt, linkAt, live, falling, chain, anyOf, cellOf, Within, span, cleared, placed, push, fileRow, file, Holds, Under, Filed, Indexed}
+use Rattle.index.specs.Pool.{none, stride, cells, capacity, ownPlace, linkPlace, used, headAt, ownAt, linkAt, live, falling, chain, anyOf, cellOf, Within, span, clearCell, cleared, placed, push, fileColumn, fileRow, fileLine, file, Holds, Under, Filed, Indexed}
 use Rattle.index.specs.ChainLaws.{falling-high, falling-step, falling-on, falling-keeps, falling-same, same-or-not, less-other, or-true}
 
 -- ---- the layout
@@ -37,6 +37,13 @@ cells-fit n h = omega arith
 pub cell-in : (n i j : ℕ) → 4 ≤ n → cellOf (cells n) i j < cells n
 unfolding cellOf
 cell-in n i j h = mod-lt _ (some-cell n h)
+
+-- the cell of the next column
+pub next-column : (m i j : ℕ) → cellOf m (i + 1) j ≡ (cellOf m i j + 1) % m
+unfolding cellOf
+next-column m i j =
+    let e : i + 1 + j * stride ≡ i + j * stride + 1 = omega arith in
+    ap (λ (x : ℕ). x % m) e ∙ sym (mod-add-mod (i + j * stride) m 1)
 
 -- ---- being in use
 
@@ -257,9 +264,9 @@ pub row-kept : {S : ℕ → ℕ → Type 0} (n count left right j own : ℕ) (po
 unfolding fileRow
 row-kept {S} n count left right j own pool some small K =
     subst (λ (m : ℕ). Kept n count (withRow S (cells n) left j own (span left right))
-    (forUp (span left right) (λ k p. push (cellOf (cells m) (left + k) j) own p) pool)) (sym (K .0))
+    (forUp (span left right) (fileColumn (cells m) left j own) pool)) (sym (K .0))
     (forUp-keeps (λ k p. Kept n count (withRow S (cells n) left j own k) p) (span left right)
-    (λ k p. push (cellOf (cells n) (left + k) j) own p) pool
+    (fileColumn (cells n) left j own) pool
     (K .0, λ on. holds-less (λ c x. ⊎-elim (λ s. s) (λ r. absurd (omega (arith, r .1)))) (K .1 on)) more)
   where
     more : (k : ℕ) (p : List ℕ) → k < span left right → Kept n count (withRow S (cells n) left j own k) p
@@ -282,9 +289,9 @@ withRows S m r own h d x =
     S d x ⊎ ((k i : ℕ) × (k < h) × (i < span (r .left) (r .right)) × (d ≡ cellOf m (r .left + i) (r .low + k)) × (x ≡ own))
 
 pub rect-kept : {S : ℕ → ℕ → Type 0} (n count : ℕ) (r : Rect) (own h : ℕ) (pool : List ℕ) → 4 ≤ n → own < count → Kept n count S pool
-    → Kept n count (withRows S (cells n) r own h) (forUp h (λ k p. fileRow (r .left) (r .right) (r .low + k) own p) pool)
+    → Kept n count (withRows S (cells n) r own h) (forUp h (fileLine r own) pool)
 rect-kept {S} n count r own h pool some small K =
-    forUp-keeps (λ k p. Kept n count (withRows S (cells n) r own k) p) h (λ k p. fileRow (r .left) (r .right) (r .low + k) own p) pool
+    forUp-keeps (λ k p. Kept n count (withRows S (cells n) r own k) p) h (fileLine r own) pool
     (K .0, λ on. holds-less (λ c x. ⊎-elim (λ s. s) (λ q. absurd (omega (arith, q .2)))) (K .1 on)) more
   where
     more : (k : ℕ) (p : List ℕ) → k < h → Kept n count (withRows S (cells n) r own k) p
@@ -303,20 +310,21 @@ rect-kept {S} n count r own h pool some small K =
 
 -- ---- the laws of an index
 
+pub row-length : (left right j own : ℕ) (pool : List ℕ) → length (fileRow left right j own pool) ≡ length pool
+unfolding fileRow
+row-length left right j own pool =
+    forUp-keeps (λ k q. length q ≡ length pool) (span left right) (fileColumn (cells (length pool)) left j own) pool refl
+    (λ k q h e. push-length (cellOf (cells (length pool)) (left + k) j) own q ∙ e)
+
 pub file-length : (r : Rect) (own : ℕ) (pool : List ℕ) → length (file r own pool) ≡ length pool
-unfolding file fileRow
+unfolding file
 file-length r own pool = by (live pool)
   where
-    row : (j : ℕ) (p : List ℕ) → length (fileRow (r .left) (r .right) j own p) ≡ length p
-    row j p =
-        forUp-keeps (λ k q. length q ≡ length p) (span (r .left) (r .right)) (λ k q. push (cellOf (cells (length p)) (r .left + k) j) own q) p refl
-        (λ k q h e. push-length (cellOf (cells (length p)) (r .left + k) j) own q ∙ e)
-
     by : (b : Bool)
-        → length (cond b (forUp (span (r .low) (r .high)) (λ k p. fileRow (r .left) (r .right) (r .low + k) own p) pool) pool) ≡ length pool
+        → length (cond b (forUp (span (r .low) (r .high)) (fileLine r own) pool) pool) ≡ length pool
     by true =
-        forUp-keeps (λ k q. length q ≡ length pool) (span (r .low) (r .high)) (λ k p. fileRow (r .left) (r .right) (r .low + k) own p) pool refl
-        (λ k q h e. row (r .low + k) q ∙ e)
+        forUp-keeps (λ k q. length q ≡ length pool) (span (r .low) (r .high)) (fileLine r own) pool refl
+        (λ k q h e. row-length (r .left) (r .right) (r .low + k) own q ∙ e)
     by false = refl
 
 -- the next item is filed
@@ -344,8 +352,8 @@ indexed-file pool rects id r e I on = subst (λ (k : ℕ). Holds k (file r id po
         (λ other. inl (record { i = U .i; j = U .j; counted = less-other (omega (arith, U .counted)) other; within = U .within; cell = U .cell }))
         (same-or-not x id)
     by : (b : Bool) → live pool ≡ b
-        → live (cond b (forUp (span (r .low) (r .high)) (λ k p. fileRow (r .left) (r .right) (r .low + k) id p) pool) pool) ≡ true
-        → Holds (length pool) (cond b (forUp (span (r .low) (r .high)) (λ k p. fileRow (r .left) (r .right) (r .low + k) id p) pool) pool) (id + 1)
+        → live (cond b (forUp (span (r .low) (r .high)) (fileLine r id) pool) pool) ≡ true
+        → Holds (length pool) (cond b (forUp (span (r .low) (r .high)) (fileLine r id) pool) pool) (id + 1)
         (Under (cells (length pool)) rects (id + 1))
     by true f on =
         holds-less part
@@ -405,9 +413,9 @@ indexed-none pool rects on = by (leb 4 (length pool)) refl on
     Empty : ℕ → List ℕ → Type 0
     Empty k p = (length p ≡ length pool) × (used p ≡ 0) × ((c : ℕ) → c < k → headAt p c ≡ none)
 
-    emptied : 4 ≤ length pool → Empty (cells (length pool)) (forUp (cells (length pool)) (λ c p. set p (1 + c) none) (set pool 0 0))
+    emptied : 4 ≤ length pool → Empty (cells (length pool)) (forUp (cells (length pool)) clearCell (set pool 0 0))
     emptied some =
-        forUp-keeps Empty (cells (length pool)) (λ c p. set p (1 + c) none) (set pool 0 0)
+        forUp-keeps Empty (cells (length pool)) clearCell (set pool 0 0)
         (length-set pool 0 0, getD-set-same pool 0 0 0 (omega arith), λ c h. absurd (omega arith)) more
       where
         more : (k : ℕ) (p : List ℕ) → k < cells (length pool) → Empty k p → Empty (suc k) (set p (1 + k) none)
@@ -417,11 +425,50 @@ indexed-none pool rects on = by (leb 4 (length pool)) refl on
             ∙ getD-set-same p (1 + k) none 0 (omega (arith, E .0, cells-fit (length pool) some)))
             (λ other. getD-set-other p (1 + k) (1 + c) none 0 (λ e. other (omega arith)) ∙ E .2 c (less-other less other)) (same-or-not c k))
     by : (b : Bool) → leb 4 (length pool) ≡ b
-        → live (cond b (forUp (cells (length pool)) (λ c p. set p (1 + c) none) (set pool 0 0)) pool) ≡ true
-        → Filed (cond b (forUp (cells (length pool)) (λ c p. set p (1 + c) none) (set pool 0 0)) pool) rects 0
+        → live (cond b (forUp (cells (length pool)) clearCell (set pool 0 0)) pool) ≡ true
+        → Filed (cond b (forUp (cells (length pool)) clearCell (set pool 0 0)) pool) rects 0
     by true f on =
         let some = leb-true 4 (length pool) f in
         let E = emptied some in
-        let p = forUp (cells (length pool)) (λ c p. set p (1 + c) none) (set pool 0 0) in
+        let p = forUp (cells (length pool)) clearCell (set pool 0 0) in
         empty-filed p rects (E .1) (subst (λ (n : ℕ). (c : ℕ) → c < cells n → headAt p c ≡ none) (sym (E .0)) (E .2))
     by false f on = absurd (let some = live-some pool on in true≢false (sym (le-leb 4 (length pool) some) ∙ f))
+
+-- ---- the loops of the code
+
+-- of a row: k columns are filed, and the next one's cell is `cell`
+pub record RowFiling (left j own : ℕ) (pool₀ : List ℕ) (w : ℕ) (pool : List ℕ) (cell k : ℕ) : Type 0 where
+  pub loop : Loop (fileColumn (cells (length pool₀)) left j own) pool₀ w k pool
+  pub size : length pool ≡ length pool₀
+  pub here : cell ≡ cellOf (cells (length pool₀)) (left + k) j
+
+module _ {left j own : ℕ} {pool₀ : List ℕ} {w : ℕ} where
+  pub row-start : {cell : ℕ} → cell ≡ cellOf (cells (length pool₀)) left j → RowFiling left j own pool₀ w pool₀ cell 0
+  row-start e =
+      let same : left ≡ left + 0 = omega arith in
+      record {
+        loop = loop-start (fileColumn (cells (length pool₀)) left j own) pool₀ w;
+        size = refl;
+        here = e ∙ ap (λ (i : ℕ). cellOf (cells (length pool₀)) i j) same;
+      }
+
+  module _ {pool : List ℕ} {cell k : ℕ} (f : RowFiling left j own pool₀ w pool cell k) where
+    pub row-inside : 4 ≤ length pool₀ → cell < cells (length pool)
+    row-inside some = rw (f .here, f .size) (cell-in (length pool₀) (left + k) j some)
+
+    pub row-next : {next : List ℕ} {after : ℕ} → k < w → next ≡ push cell own pool → after ≡ (cell + 1) % cells (length pool₀)
+        → RowFiling left j own pool₀ w next after (k + 1)
+    row-next {next} {after} less e step =
+        let m = cells (length pool₀) in
+        let same : left + k + 1 ≡ left + (k + 1) = omega arith in
+        record {
+          loop = subst (λ (p : List ℕ). Loop (fileColumn m left j own) pool₀ w (k + 1) p) (sym (e ∙ ap (λ (c : ℕ). push c own pool) (f .here))) (loop-next (fileColumn m left j own) pool₀ (f .loop) less);
+          size = ap length e ∙ push-length cell own pool ∙ f .size;
+          here = step ∙ ap (λ (c : ℕ). (c + 1) % m) (f .here) ∙ sym (next-column m (left + k) j) ∙ ap (λ (i : ℕ). cellOf m i j) same;
+        }
+
+    pub row-end : (right : ℕ) → w ≤ k → w ≡ span left right → pool ≡ fileRow left right j own pool₀
+    unfolding fileRow
+    row-end right past e =
+        let turn = fileColumn (cells (length pool₀)) left j own in
+        loop-end turn pool₀ (f .loop) past ∙ ap (λ (w : ℕ). forUp w turn pool₀) e

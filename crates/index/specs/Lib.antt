@@ -5,3 +5,4 @@ pub mod Walk
 pub mod ChainLaws
 pub mod FileLaws
 pub mod WalkLaws
+pub mod KeyLaws

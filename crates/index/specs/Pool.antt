@@ -27,7 +27,7 @@ abbrev pub ownPlace : ℕ → ℕ → ℕ
 ownPlace n t = 1 + cells n + 2 * t
 
 abbrev pub linkPlace : ℕ → ℕ → ℕ
-linkPlace n t = 2 + cells n + 2 * t
+linkPlace n t = 1 + cells n + 2 * t + 1
 
 -- ---- reading
 
@@ -90,10 +90,13 @@ pub record Within (r : Rect) (i j : ℕ) : Type 0 where
 abbrev pub span : ℕ → ℕ → ℕ
 span a b = suc b - a
 
+-- the head of cell c emptied
+abbrev pub clearCell : ℕ → List ℕ → List ℕ
+clearCell c pool = set pool (1 + c) none
+
 -- a pool with no item
 unfoldable pub cleared : List ℕ → List ℕ
-cleared pool =
-    cond (leb 4 (length pool)) (forUp (cells (length pool)) (λ c p. set p (1 + c) none) (set pool 0 0)) pool
+cleared pool = cond (leb 4 (length pool)) (forUp (cells (length pool)) clearCell (set pool 0 0)) pool
 
 -- the next place, u, has the owner, and is the head of cell c
 abbrev pub placed : ℕ → ℕ → ℕ → List ℕ → List ℕ
@@ -104,14 +107,21 @@ placed u c own pool =
 unfoldable pub push : ℕ → ℕ → List ℕ → List ℕ
 push c own pool = cond (ltb (used pool) (capacity (length pool))) (placed (used pool) c own pool) (set pool 0 none)
 
--- `own` in the chains of the columns `left` to `right` of row j
+-- `own` under the k-th column of row j, from `left` on, of m cells
+abbrev pub fileColumn : ℕ → ℕ → ℕ → ℕ → ℕ → List ℕ → List ℕ
+fileColumn m left j own k pool = push (cellOf m (left + k) j) own pool
+
+-- `own` under the columns `left` to `right` of row j
 unfoldable pub fileRow : ℕ → ℕ → ℕ → ℕ → List ℕ → List ℕ
-fileRow left right j own pool = forUp (span left right) (λ k p. push (cellOf (cells (length pool)) (left + k) j) own p) pool
+fileRow left right j own pool = forUp (span left right) (fileColumn (cells (length pool)) left j own) pool
+
+-- `own` under the k-th row of the rectangle
+abbrev pub fileLine : Rect → ℕ → ℕ → List ℕ → List ℕ
+fileLine r own k pool = fileRow (r .left) (r .right) (r .low + k) own pool
 
 -- `own` in the chain of every cell of the rectangle
 unfoldable pub file : Rect → ℕ → List ℕ → List ℕ
-file r own pool =
-    cond (live pool) (forUp (span (r .low) (r .high)) (λ k p. fileRow (r .left) (r .right) (r .low + k) own p) pool) pool
+file r own pool = cond (live pool) (forUp (span (r .low) (r .high)) (fileLine r own) pool) pool
 
 -- ---- what is filed
 

@@ -4,7 +4,6 @@ use mathlib.Core.List.{List, [], _∷_, _++_, append-assoc}
 use mathlib.Core.Logic.{_⊎_, inl, inr, ⊎-elim}
 use mathlib.Core.Path.{_≡_, refl, sym, ap, ap₂, _∙_, subst}
 use Prim.Native.Nat.{ℕ, zero, suc, _+_, _-_, _*_, _%_, _<_, _≤_}
-use native.Mathlib.Nat.{mod-add-mod}
 use native.Mathlib.Numerals.{add-one}
 use native.Mathlib.Omega.{arith}
 use borrow.Author.Tests.{eq-eqb, ne-eqb, eqb-false}
@@ -13,11 +12,11 @@ use lib.ListN.{length, getD}
 use Rattle.laws.specs.Loop.{anyUp, any-found, any-none}
 use Rattle.index.specs.declared.Rect.{Rect}
 use Rattle.index.specs.declared.Cursor.{Cursor}
-use Rattle.index.specs.Pool.{none, stride, cells, capacity, ownAt, linkAt, headAt, used, falling, chain, anyOf, cellOf, chainAt, Within, span, live, Under, Filed, Indexed}
+use Rattle.index.specs.Pool.{none, cells, capacity, ownAt, linkAt, headAt, used, falling, chain, anyOf, cellOf, chainAt, Within, span, live, Under, Filed, Indexed}
 use Rattle.index.specs.Rects.{Meets}
 use Rattle.index.specs.Walk.{across, columns, rows, visited, over, rowAhead, ahead, At, InRow, Stands, After}
 use Rattle.index.specs.ChainLaws.{any-has, any-left, falling-high, falling-step, falling-on, falling-last, across-from, across-more, across-end, falling-keeps, across-none, across-some}
-use Rattle.index.specs.FileLaws.{live-some, cell-in, place-small}
+use Rattle.index.specs.FileLaws.{live-some, cell-in, place-small, next-column}
 
 -- ---- a search by the visited owners is the scan
 
@@ -108,13 +107,6 @@ walk-less a = omega (arith, ap length (a .rest))
 
 -- ---- how the code finds its places
 
--- the cell of the next column
-pub next-column : (m i j : ℕ) → cellOf m (i + 1) j ≡ (cellOf m i j + 1) % m
-unfolding cellOf
-next-column m i j =
-    let e : i + 1 + j * stride ≡ i + j * stride + 1 = omega arith in
-    ap (λ (x : ℕ). x % m) e ∙ sym (mod-add-mod (i + j * stride) m 1)
-
 module _ (pool : List ℕ) (right i j cell : ℕ) (some : 4 ≤ length pool) (e : cell ≡ cellOf (cells (length pool)) i j) where
   abbrev n : ℕ
   n = length pool
@@ -138,6 +130,31 @@ module _ (pool : List ℕ) (right i j cell : ℕ) (some : 4 ≤ length pool) (e 
   row-miss l past =
       ap (λ (h : ℕ). falling (ownAt n pool) (linkAt n pool) (capacity n) (headAt pool h) ++ l) (sym e)
       ∙ ap (λ (q : List ℕ). q ++ l) (falling-high (ownAt n pool) (linkAt n pool) (capacity n) (headAt pool cell) past)
+
+-- the invariant of the search in a row: the columns from i₀ + 1 to i have no place under them
+pub record Seeking (pool : List ℕ) (right i₀ j i cell : ℕ) : Type 0 where
+  pub here : cell ≡ cellOf (cells (length pool)) i j
+  pub same : columns pool j (right - i₀) (i₀ + 1) ≡ columns pool j (right - i) (i + 1)
+
+module _ {pool : List ℕ} {right i₀ j i cell next : ℕ} (some : 4 ≤ length pool) (s : Seeking pool right i₀ j i cell) (less : i < right)
+    (step : next ≡ (cell + 1) % cells (length pool)) where
+  pub seeking-cell : next ≡ cellOf (cells (length pool)) (i + 1) j
+  seeking-cell = step ∙ ap (λ (c : ℕ). (c + 1) % cells (length pool)) (s .here) ∙ sym (next-column (cells (length pool)) i j)
+
+  pub seeking-hit : (t : ℕ) → t ≡ headAt pool next → t < capacity (length pool)
+      → InRow pool right j (columns pool j (right - i₀) (i₀ + 1)) (record { i = i + 1; j = j; cell = next; t = t })
+  seeking-hit t head small =
+      row-hit pool right (i + 1) j next some seeking-cell _ t head small
+      (s .same ∙ across-more (λ i. chainAt (length pool) pool i j) i right less)
+
+  pub seeking-next : capacity (length pool) ≤ headAt pool next → Seeking pool right i₀ j (i + 1) next
+  seeking-next past =
+      record {
+        here = seeking-cell;
+        same =
+            s .same ∙ across-more (λ i. chainAt (length pool) pool i j) i right less
+            ∙ row-miss pool right (i + 1) j next some seeking-cell (columns pool j (right - (i + 1)) (i + 1 + 1)) past;
+      }
 
 -- nothing is left of the row
 pub row-none : {pool : List ℕ} {right j : ℕ} {rest : List ℕ} {c : Cursor} → over c ≡ true → rest ≡ [] → InRow pool right j rest c

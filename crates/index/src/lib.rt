@@ -187,7 +187,7 @@ pub fn own_at(pool: &[u32], c: Cursor) -> u32
     requires { ⌜ At (now pool) c ⌝ }
     ensures { λ r. ⌜ r ≡ ownAt (length (now (pool .entry))) (now (pool .entry)) (c .t) ⌝ }
 {
-    let at = 1 + pool.len() / 4 + 2 * (c.t as usize);
+    let at = 1 + cells_of(pool.len()) + 2 * (c.t as usize);
     pool[at]
 }
 
@@ -270,8 +270,8 @@ pub fn after(pool: &[u32], r: Rect, c: Cursor) -> Cursor
     ensures { λ d. ⌜ After (now (pool .entry)) r c d ⌝ }
 {
     let t = c.t;
-    let at = 2 + pool.len() / 4 + 2 * (t as usize);
-    let link = pool[at];
+    let at = 1 + cells_of(pool.len()) + 2 * (t as usize);
+    let link = pool[at + 1];
     if link < t {
         return Cursor {
             i: c.i,

@@ -12,7 +12,8 @@ use lib.ListN.{length, getD, set, length-set}
 use lib.Seq.{getD-set-same, getD-set-other}
 use Rattle.laws.specs.Loop.{Loop, loop-start, loop-next, loop-end, forUp, forUp-keeps}
 use Rattle.index.specs.declared.Rect.{Rect}
-use Rattle.index.specs.Pool.{none, stride, cells, capacity, ownPlace, linkPlace, used, headAt, ownAt, linkAt, live, falling, chain, anyOf, cellOf, Within, span, clearCell, cleared, placed, push, fileColumn, fileRow, fileLine, file, Holds, Under, Filed, Indexed}
+use Rattle.index.specs.Pool.{none, stride, cells, capacity, ownPlace, linkPlace, used, headAt, ownAt, linkAt, live, falling, chain, anyOf, cellOf}
+use Rattle.index.specs.Pool.{Within, span, clearCell, cleared, placed, push, fileColumn, fileRow, fileLine, file, Holds, Under, Filed, Indexed}
 use Rattle.index.specs.ChainLaws.{falling-high, falling-step, falling-on, falling-keeps, falling-same, same-or-not, less-other, or-true}
 
 -- ---- the layout
@@ -215,6 +216,7 @@ module _ (pool : List ℕ) (c own count : ℕ) (inside : c < cells (length pool)
           ∙ ap (anyOf (eqb x)) (chain-here (H .heads c inside))
           ∙ ⊎-elim (λ old. or-true (eqb x own) (ap (λ (t : ℕ). anyOf (eqb x) (chain n pool (headAt pool t))) (sym e) ∙ H .has d x h old))
           (λ new. ap (λ (b : Bool). b || anyOf (eqb x) (chain n pool (headAt pool c))) (eq-eqb x own (new .1))) s
+
 -- ---- one item under one cell
 
 pub push-length : (c own : ℕ) (pool : List ℕ) → length (push c own pool) ≡ length pool
@@ -271,17 +273,17 @@ row-kept {S} n count left right j own pool some small K =
   where
     more : (k : ℕ) (p : List ℕ) → k < span left right → Kept n count (withRow S (cells n) left j own k) p
         → Kept n count (withRow S (cells n) left j own (suc k)) (push (cellOf (cells n) (left + k) j) own p)
-    more k p h Kp =
-        (push-length _ own p ∙ Kp .0,
-        λ on. holds-less (λ c x. ⊎-elim (λ s. inl (inl s)) (λ r. last c x r (same-or-not (r .0) k)))
-        (push-holds n (cellOf (cells n) (left + k) j) own count p (Kp .0) (cell-in n (left + k) j some) small (Kp .1) on))
+    more k p h Kp = (
+      push-length _ own p ∙ Kp .0,
+      λ on. holds-less (λ c x. ⊎-elim (λ s. inl (inl s)) (λ r. last c x r (same-or-not (r .0) k)))
+          (push-holds n (cellOf (cells n) (left + k) j) own count p (Kp .0) (cell-in n (left + k) j some) small (Kp .1) on),
+    )
       where
         last : (c x : ℕ) (r : (i : ℕ) × (i < suc k) × (c ≡ cellOf (cells n) (left + i) j) × (x ≡ own)) → (r .0 ≡ k) ⊎ (r .0 ≡ k → ⊥)
             → with (withRow S (cells n) left j own k) (cellOf (cells n) (left + k) j) own c x
         last c x r =
             ⊎-elim (λ e. inr (r .2 ∙ ap (λ (i : ℕ). cellOf (cells n) (left + i) j) e, r .3))
             (λ other. inl (inr (r .0, less-other (r .1) other, r .2, r .3)))
-
 
 -- S, and x under the cells of the first h rows of the rectangle
 abbrev pub withRows : (ℕ → ℕ → Type 0) → ℕ → Rect → ℕ → ℕ → ℕ → ℕ → Type 0
@@ -331,7 +333,8 @@ file-length r own pool = by (live pool)
 pub indexed-file : (pool : List ℕ) (rects : ℕ → Rect) (id : ℕ) (r : Rect) → rects id ≡ r → Indexed pool rects id
     → Indexed (file r id pool) rects (id + 1)
 unfolding Indexed Filed file
-indexed-file pool rects id r e I on = subst (λ (k : ℕ). Holds k (file r id pool) (id + 1) (Under (cells k) rects (id + 1))) (sym (file-length r id pool)) (by (live pool) refl on)
+indexed-file pool rects id r e I on =
+    subst (λ (k : ℕ). Holds k (file r id pool) (id + 1) (Under (cells k) rects (id + 1))) (sym (file-length r id pool)) (by (live pool) refl on)
   where
     S : ℕ → ℕ → Type 0
     S = Under (cells (length pool)) rects id
@@ -347,10 +350,17 @@ indexed-file pool rects id r e I on = subst (λ (k : ℕ). Holds k (file r id po
         let w : Within r (U .i) (U .j) = subst (λ (q : Rect). Within q (U .i) (U .j)) (ap rects same ∙ e) (U .within) in
         let first : U .i ≡ r .left + (U .i - r .left) = omega (arith, w .left) in
         let second : U .j ≡ r .low + (U .j - r .low) = omega (arith, w .low) in
-        inr (U .j - r .low, U .i - r .left, omega (arith, w .low, w .high), omega (arith, w .left, w .right),
-        U .cell ∙ ap₂ (cellOf (cells (length pool))) first second, same))
+        inr (
+          U .j - r .low,
+          U .i - r .left,
+          omega (arith, w .low, w .high),
+          omega (arith, w .left, w .right),
+          U .cell ∙ ap₂ (cellOf (cells (length pool))) first second,
+          same,
+        ))
         (λ other. inl (record { i = U .i; j = U .j; counted = less-other (omega (arith, U .counted)) other; within = U .within; cell = U .cell }))
         (same-or-not x id)
+
     by : (b : Bool) → live pool ≡ b
         → live (cond b (forUp (span (r .low) (r .high)) (fileLine r id) pool) pool) ≡ true
         → Holds (length pool) (cond b (forUp (span (r .low) (r .high)) (fileLine r id) pool) pool) (id + 1)
@@ -419,11 +429,14 @@ indexed-none pool rects on = by (leb 4 (length pool)) refl on
         (length-set pool 0 0, getD-set-same pool 0 0 0 (omega arith), λ c h. absurd (omega arith)) more
       where
         more : (k : ℕ) (p : List ℕ) → k < cells (length pool) → Empty k p → Empty (suc k) (set p (1 + k) none)
-        more k p h E =
-            (length-set p (1 + k) none ∙ E .0, getD-set-other p (1 + k) 0 none 0 (λ e. omega arith) ∙ E .1,
-            λ c less. ⊎-elim (λ same. ap (headAt (set p (1 + k) none)) same
-            ∙ getD-set-same p (1 + k) none 0 (omega (arith, E .0, cells-fit (length pool) some)))
-            (λ other. getD-set-other p (1 + k) (1 + c) none 0 (λ e. other (omega arith)) ∙ E .2 c (less-other less other)) (same-or-not c k))
+        more k p h E = (
+          length-set p (1 + k) none ∙ E .0,
+          getD-set-other p (1 + k) 0 none 0 (λ e. omega arith) ∙ E .1,
+          λ c less. ⊎-elim (λ same. ap (headAt (set p (1 + k) none)) same
+              ∙ getD-set-same p (1 + k) none 0 (omega (arith, E .0, cells-fit (length pool) some)))
+              (λ other. getD-set-other p (1 + k) (1 + c) none 0 (λ e. other (omega arith)) ∙ E .2 c (less-other less other)) (same-or-not c k),
+        )
+
     by : (b : Bool) → leb 4 (length pool) ≡ b
         → live (cond b (forUp (cells (length pool)) clearCell (set pool 0 0)) pool) ≡ true
         → Filed (cond b (forUp (cells (length pool)) clearCell (set pool 0 0)) pool) rects 0
@@ -462,7 +475,9 @@ module _ {left j own : ℕ} {pool₀ : List ℕ} {w : ℕ} where
         let m = cells (length pool₀) in
         let same : left + k + 1 ≡ left + (k + 1) = omega arith in
         record {
-          loop = subst (λ (p : List ℕ). Loop (fileColumn m left j own) pool₀ w (k + 1) p) (sym (e ∙ ap (λ (c : ℕ). push c own pool) (f .here))) (loop-next (fileColumn m left j own) pool₀ (f .loop) less);
+          loop =
+              subst (λ (p : List ℕ). Loop (fileColumn m left j own) pool₀ w (k + 1) p) (sym (e ∙ ap (λ (c : ℕ). push c own pool) (f .here)))
+              (loop-next (fileColumn m left j own) pool₀ (f .loop) less);
           size = ap length e ∙ push-length cell own pool ∙ f .size;
           here = step ∙ ap (λ (c : ℕ). (c + 1) % m) (f .here) ∙ sym (next-column m (left + k) j) ∙ ap (λ (i : ℕ). cellOf m i j) same;
         }

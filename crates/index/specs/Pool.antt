@@ -65,9 +65,9 @@ anyOf test (x ∷ l) = test x || anyOf test l
 
 -- ---- cells
 
--- rows of cells lie this far apart, so that keys of a small region have different cells
+-- how far apart rows of cells lie
 abbrev pub stride : ℕ
-stride = 2053
+stride = 2654435761
 
 -- the cell of the shifted key (i, j), of m cells
 unfoldable pub cellOf : ℕ → ℕ → ℕ → ℕ

@@ -12,10 +12,12 @@ use lib.ListN.{length, getD}
 use Rattle.laws.specs.Loop.{anyUp, any-found, any-none}
 use Rattle.index.specs.declared.Rect.{Rect}
 use Rattle.index.specs.declared.Cursor.{Cursor}
-use Rattle.index.specs.Pool.{none, cells, capacity, ownAt, linkAt, headAt, used, falling, chain, anyOf, cellOf, chainAt, Within, span, live, Under, Filed, Indexed}
+use Rattle.index.specs.Pool.{none, cells, capacity, ownAt, linkAt, headAt, used, falling, chain, anyOf, cellOf, chainAt, span, live}
+use Rattle.index.specs.Pool.{Filed, Indexed}
 use Rattle.index.specs.Rects.{Meets}
 use Rattle.index.specs.Walk.{across, columns, rows, visited, over, rowAhead, ahead, At, InRow, Stands, After}
-use Rattle.index.specs.ChainLaws.{any-has, any-left, falling-high, falling-step, falling-on, falling-last, across-from, across-more, across-end, falling-keeps, across-none, across-some}
+use Rattle.index.specs.ChainLaws.{any-has, any-left, falling-high, falling-step, falling-on, falling-last, falling-keeps}
+use Rattle.index.specs.ChainLaws.{across-from, across-more, across-end, across-none, across-some}
 use Rattle.index.specs.FileLaws.{live-some, cell-in, place-small, next-column}
 
 -- ---- a search by the visited owners is the scan
@@ -165,6 +167,13 @@ row-none {pool} {right} {j} {rest} {c} e f =
       row = λ on. absurd (true≢false (sym e ∙ on));
       all = rw e (sym f);
     }
+
+-- the rest, said otherwise
+pub row-same : {pool : List ℕ} {right j : ℕ} {rest rest' : List ℕ} {c : Cursor} → rest ≡ rest' → InRow pool right j rest c → InRow pool right j rest' c
+row-same e found = record { at = found .at; row = found .row; all = found .all ∙ e }
+
+pub stands-same : {pool : List ℕ} {r : Rect} {rest rest' : List ℕ} {c : Cursor} → rest ≡ rest' → Stands pool r rest c → Stands pool r rest' c
+stands-same e s = record { at = s .at; all = s .all ∙ e }
 
 -- a place in row j
 pub row-stands : {pool : List ℕ} (r : Rect) {j : ℕ} {rest : List ℕ} {c : Cursor} → InRow pool (r .right) j rest c → over c ≡ false

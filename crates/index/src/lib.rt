@@ -1,6 +1,6 @@
-// Items (nodes, edges) filed under cells of keys in one lent list, the pool, so that those whose key rectangle meets a query's are found without a scan of all.
-// A search by a walk is proved to give the scan's answer (`walk-start` in specs/WalkLaws.antt). The list's contents are scratch: what a caller learns of them is
-// only that every item is in the chain of every cell of its rectangle (`Indexed`), and nothing where the places have run out.
+// Items (nodes, edges) filed under cells of keys in one lent list, the pool, so that those whose key rectangle meets a query's are found without a scan.
+// A search by a walk is proved to give the scan's answer: `visited-answers` and the laws of `Walk` in specs/WalkLaws.antt. The list is scratch: all
+// that a caller needs of its contents is that each item is in the chain of every cell of its rectangle (`Indexed`), where the places have not run out.
 ghost use mathlib.Core.Path.{_≡_};
 ghost use mathlib.Core.Bool.{true};
 ghost use Prim.Native.Nat.{_+_, _-_, _*_, _%_, _≤_, _<_, min, max};
@@ -29,8 +29,8 @@ pub struct Cursor {
 // No place.
 const NONE: u32 = 4294967295;
 
-// How far apart rows of cells lie.
-const STRIDE: usize = 2053;
+// How far apart rows of cells lie: far from any round fraction of 2^32, so that rows of a region seldom fall on each other, whatever the number of cells.
+const STRIDE: usize = 2654435761;
 
 // ---- the layout
 

@@ -27,7 +27,9 @@ cell-of-requires c κs =
     (rw (c .before .cells-of .ensures) (some-cell _ (start .pre .0)), omega arith, start .pre .1)
 
 loop-holds : tie.Need-loop-holds Inv-loop μ-loop
-loop-holds c = row-start (c .cell-of .ensures ∙ ap (λ (m : ℕ). cellOf m _ _) (c .before .before .cells-of .ensures))
+loop-holds c =
+    let args = c .before .before .before .before .args in
+    row-start (c .cell-of .ensures ∙ ap (λ (m : ℕ). cellOf m (args .left) (args .j)) (c .before .before .cells-of .ensures))
 
 push-requires : tie.Need-push-requires Inv-loop μ-loop
 push-requires c κs =

@@ -28,8 +28,12 @@ inside c =
     let at = c .before .before in
     let start = at .before .before .before .before in
     let n = length (start .args .pool .now) in
-    omega (arith, seeking-cell (start .pre .0) (at .loop .inv) (c .before .loop-test .taken) (step c),
-    cell-in n (at .loop .i + 1) (start .args .j) (start .pre .0), cells-fit n (start .pre .0))
+    omega (
+      arith,
+      seeking-cell (start .pre .0) (at .loop .inv) (c .before .loop-test .taken) (step c),
+      cell-in n (at .loop .i + 1) (start .args .j) (start .pre .0),
+      cells-fit n (start .pre .0),
+    )
 
 cells-of-requires : tie.Need-cells-of-requires Inv-loop μ-loop
 cells-of-requires c κs = search needs
@@ -46,7 +50,12 @@ add-i c = search needs
 next-cell-requires : tie.Need-next-cell-requires Inv-loop μ-loop
 next-cell-requires c κs =
     let start = c .before .before .before .before .before in
-    omega (arith, c .before .loop .inv .here, cell-in (length (start .args .pool .now)) (c .before .loop .i) (start .args .j) (start .pre .0), c .before .before .before .cells-of .ensures)
+    omega (
+      arith,
+      c .before .loop .inv .here,
+      cell-in (length (start .args .pool .now)) (c .before .loop .i) (start .args .j) (start .pre .0),
+      c .before .before .before .cells-of .ensures,
+    )
 
 add-t : tie.Need-add-t Inv-loop μ-loop
 add-t c = omega (arith, inside c)

@@ -6,7 +6,7 @@ use mathlib.Core.Path.{_≡_, refl, sym, ap, ap₂, _∙_, subst}
 use Prim.Native.Nat.{ℕ, zero, suc, _+_, _-_, _*_, _/_, _%_, _<_, _≤_, min}
 use native.Mathlib.Nat.{mod-lt, mod-add-mod}
 use native.Mathlib.Omega.{arith}
-use borrow.Author.Tests.{eq-eqb, ne-eqb, eqb-true, eqb-false, lt-ltb, le-ltb, ltb-true, ltb-false, leb-true, le-leb}
+use borrow.Author.Tests.{eq-eqb, ne-eqb, eqb-true, eqb-false, lt-ltb, le-ltb, ltb-true, ltb-false, leb-true, le-leb, lt-leb}
 use lib.Dec.{eqb, ltb, leb}
 use lib.ListN.{length, getD, set, length-set}
 use lib.Seq.{getD-set-same, getD-set-other}
@@ -56,6 +56,10 @@ module _ (pool : List ℕ) where
       by : (b : Bool) → leb 4 (length pool) ≡ b → b && not (eqb (used pool) none) ≡ true → 4 ≤ length pool
       by true f g = leb-true 4 (length pool) f
       by false f g = absurd (true≢false (sym g))
+
+  pub live-short : length pool < 4 → live pool ≡ false
+  unfolding live
+  live-short h = rw (lt-leb 4 (length pool) h)
 
   pub live-not : used pool ≡ none → live pool ≡ false
   unfolding live
@@ -387,6 +391,11 @@ indexed-skip pool rects id empty I on =
     below x U =
         ⊎-elim (λ same. absurd (empty (U .i) (U .j) (subst (λ (y : ℕ). Within (rects y) (U .i) (U .j)) same (U .within))))
         (λ other. less-other (omega (arith, U .counted)) other)
+
+-- nothing is said of a pool that isn't in use
+pub indexed-closed : (pool : List ℕ) (rects : ℕ → Rect) (count : ℕ) → live pool ≡ false → Indexed pool rects count
+unfolding Indexed
+indexed-closed pool rects count off on = absurd (true≢false (sym on ∙ off))
 
 -- it depends on the rectangles below the count alone
 pub indexed-same : (pool : List ℕ) (rects rects' : ℕ → Rect) (count : ℕ) → ((id : ℕ) → id < count → rects id ≡ rects' id) → Indexed pool rects count

@@ -7,11 +7,15 @@ use borrow.Author.Tests.{leb-true, leb-false, ltb-true, ltb-false, le-ltb}
 use lib.Dec.{leb, ltb}
 use lib.IntN.{ℤ, pos, negsuc, natAbs, subℕ, _+ℤ_, _-ℤ_, pos-+ℤ-pos}
 use lib.Signed.{leZ}
+use lib.Ieee.{Float}
+use Rattle.domain.specs.declared.Point.{Point}
 use Rattle.geometry.specs.declared.Key.{Key}
+use Rattle.geometry.specs.declared.Corners.{Corners}
 use Rattle.geometry.specs.Keys.{gap, atMost, lesser, greater, spansOf, rangesMeet, rectanglesMeet, nearKeys, between}
+use Rattle.geometry.specs.Keys.{keyOf, edgeBucket, spansKept, isTooClose, tooCloseAt, lowest, highest, isInBox, inBoxAt, isCandidate, candidateAt}
 use Rattle.geometry.specs.KeyLaws.{at-most}
 use Rattle.index.specs.Pool.{Within}
-use Rattle.index.specs.Rects.{shifted, rectOf, rectAt, rectAround, rectEmpty, Meets}
+use Rattle.index.specs.Rects.{shifted, rectOf, rectAt, rectAround, rectEmpty, nodeRect, edgeRect, Meets}
 
 -- ---- what the code computes
 
@@ -146,3 +150,26 @@ rectangles-meet k l m n e =
 pub empty-none : (i j : ℕ) → Within rectEmpty i j → ⊥
 unfolding rectEmpty
 empty-none i j w = omega (arith, w .left, w .right)
+
+-- ---- what the paving's queries look for
+
+-- a node too close to p is under the keys round p's
+pub close-meets : (size : Float) (p q : Point) → isTooClose size p q ≡ true → Meets (nodeRect size q) (rectAround (keyOf size p))
+unfolding isTooClose tooCloseAt nodeRect
+close-meets size p q e = near-meets (keyOf size p) (keyOf size q) (both (nearKeys (keyOf size p) (keyOf size q)) _ e .0)
+
+-- a node in a quad's key rectangle
+pub box-meets : (size : Float) (p : Corners) (q : Point) → isInBox size p q ≡ true
+    → Meets (nodeRect size q) (rectOf (keyOf size (lowest p)) (keyOf size (highest p)))
+unfolding isInBox inBoxAt nodeRect
+box-meets size p q e = between-meets (keyOf size q) (keyOf size (lowest p)) (keyOf size (highest p)) e
+
+-- a candidate for the edge a to b
+pub candidate-meets : (size : Float) (a b c d : Point) → isCandidate size a b c d ≡ true
+    → Meets (edgeRect size c d) (rectOf (keyOf (edgeBucket size) a) (keyOf (edgeBucket size) b))
+unfolding isCandidate candidateAt edgeRect
+candidate-meets size a b c d e =
+    let key = keyOf (edgeBucket size) in
+    let later = both (spansKept (key a) (key b)) _ e .1 in
+    let halves = both (spansKept (key c) (key d)) (rectanglesMeet (key a) (key b) (key c) (key d)) later in
+    rw (halves .0) (rectangles-meet (key a) (key b) (key c) (key d) (halves .1))

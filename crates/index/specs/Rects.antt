@@ -1,5 +1,9 @@
 -- Keys as numbers, and their rectangles. Definitions only.
+use mathlib.Core.Bool.{cond}
 use Prim.Native.Nat.{ℕ, suc, _+_, _-_, min, max}
+use lib.Ieee.{Float}
+use Rattle.domain.specs.declared.Point.{Point}
+use Rattle.geometry.specs.Keys.{keyOf, edgeBucket, spansKept}
 use lib.IntN.{ℤ, pos, negsuc}
 use Rattle.geometry.specs.declared.Key.{Key}
 use Rattle.index.specs.declared.Rect.{Rect}
@@ -32,6 +36,17 @@ rectAround k =
 -- no key
 unfoldable pub rectEmpty : Rect
 rectEmpty = record { left = 1; right = 0; low = 1; high = 0 }
+
+-- under which keys a node is filed: its own
+unfoldable pub nodeRect : Float → Point → Rect
+nodeRect size p = rectAt (keyOf size p)
+
+-- and the edge c to d: those of its key rectangle, or none where its spans are above 4,096
+unfoldable pub edgeRect : Float → Point → Point → Rect
+edgeRect size c d =
+    let m = keyOf (edgeBucket size) c in
+    let n = keyOf (edgeBucket size) d in
+    cond (spansKept m n) (rectOf m n) rectEmpty
 
 -- two rectangles have a key in common
 pub record Meets (r s : Rect) : Type 0 where

@@ -2,12 +2,13 @@
 // A search by a walk is proved to give the scan's answer: `visited-answers` and the laws of `Walk` in specs/WalkLaws.antt. The list is scratch: all
 // that a caller needs of its contents is that each item is in the chain of every cell of its rectangle (`Indexed`), where the places have not run out.
 ghost use mathlib.Core.Path.{_≡_};
-ghost use mathlib.Core.Bool.{true};
+ghost use mathlib.Core.Bool.{true, false};
 ghost use Prim.Native.Nat.{_+_, _-_, _*_, _%_, _≤_, _<_, min, max};
 ghost use lib.ListN.{length};
 ghost use Rattle.index.specs.Pool.{cells, capacity, ownAt, live, cellOf, span, cleared, push, fileRow, file};
-ghost use Rattle.index.specs.Rects.{shifted, rectOf, rectAt, rectAround, rectEmpty};
+ghost use Rattle.index.specs.Rects.{shifted, rectOf, rectAt, rectAround, rectEmpty, nodeRect, edgeRect};
 ghost use Rattle.index.specs.Walk.{columns, rows, visited, over, At, InRow, Stands, After};
+use domain::Point;
 use geometry::Key;
 
 // A rectangle of shifted keys; with `right` below `left` or `high` below `low` it is empty.
@@ -106,6 +107,16 @@ pub fn clear(pool: &mut [u32])
         pool[1 + c] = NONE;
         c += 1;
     }
+}
+
+// Takes the pool out of use.
+pub fn close(pool: &mut [u32])
+    ensures { λ r. ⌜ live (now (pool .exit)) ≡ false ⌝ }
+{
+    if pool.len() < 4 {
+        return;
+    }
+    pool[0] = NONE;
 }
 
 // Puts `own` at the head of a cell's chain. Where the places have run out, the pool is in use no more.
@@ -359,7 +370,7 @@ pub fn rect_around(k: Key) -> Rect
 }
 
 // No key.
-pub fn rect_empty() -> Rect
+fn rect_empty() -> Rect
     ensures { λ r. ⌜ r ≡ rectEmpty ⌝ }
 {
     Rect {
@@ -367,5 +378,26 @@ pub fn rect_empty() -> Rect
         right: 0,
         low: 1,
         high: 0,
+    }
+}
+
+// Under which keys a node is filed.
+pub fn node_rect(size: f64, p: Point) -> Rect
+    ensures { λ r. ⌜ r ≡ nodeRect size p ⌝ }
+{
+    rect_at(geometry::key_of(size, p))
+}
+
+// Under which keys the edge c to d is filed: none where its spans are above 4,096, which makes it no candidate for any query.
+pub fn edge_rect(size: f64, c: Point, d: Point) -> Rect
+    ensures { λ r. ⌜ r ≡ edgeRect size c d ⌝ }
+{
+    let bucket = 2.0 * size;
+    let m = geometry::key_of(bucket, c);
+    let n = geometry::key_of(bucket, d);
+    if geometry::spans_kept(m, n) {
+        rect_of(m, n)
+    } else {
+        rect_empty()
     }
 }

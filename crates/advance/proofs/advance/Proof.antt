@@ -43,7 +43,9 @@ lent s =
 
 -- the state in the loop comes after the one that is lent
 abbrev start : tie.At-loop Inv-loop μ-loop → tie.Start Inv-loop μ-loop
-start c = c .before .before .before .before .before .before .before .before .before .before .before .before .before .before .before .before .before .before .before .before .before .before .before .before .before
+start c =
+    let at-most-passes = c .before .before .before .before .before .before .before .before .before .before .before .before in
+    at-most-passes .before .before .before .before .before .before .before .before .before .before .before .before .before
 
 later : (c : tie.At-loop Inv-loop μ-loop) → Later (around (start c)) (start c .args .grid) (start c .args .values .now) (lent (start c))
     (stateOf (c .loop .xs) (c .loop .ys) (c .loop .next) (c .loop .prev) (c .loop .snapshot) (c .loop .quads) (c .loop .edges) (c .loop .counts))

@@ -147,7 +147,8 @@ returns-2 c =
       settle-full (around start) (start .args .size) (field start) (lent start) (start .args .a) _
           (at-edge-attempt .edge-attempt .ensures) _ _ (at-attempt .attempt .given .1) (start .args .k)
           (at-place .place .ensures) (c .enum-told2 .given .1),
-      full-search (around start) _ _ (start .args .size) (lent start) (start .pre .0) (start .args .a) _ _ _ ready (start .pre .2) (at-place .place .ensures) (c .enum-told2 .given .1),
+      full-search (around start) _ _ (start .args .size) (lent start) (start .pre .0) (start .args .a) _ _ _ ready (start .pre .2)
+          (at-place .place .ensures) (c .enum-told2 .given .1),
     )
 
 same-length-16 : tie.Need-same-length-16

@@ -19,15 +19,15 @@ use Rattle.advance.proofs.sweep.Statement.{statement}
 use Rattle.advance.proofs.sweep.Tie as tie
 
 abbrev Inv-loop : tie.InvT-loop
-Inv-loop outer holes lens size grid values xs₀ ys₀ next₀ prev₀ snapshot quads₀ edges₀ nodePool₀ edgePool₀ n j₀ some₀ a₀ xs ys next prev quads edges nodePool edgePool j
-    some a =
+Inv-loop outer holes lens size grid values xs₀ ys₀ next₀ prev₀ snapshot quads₀ edges₀ nodePool₀ edgePool₀ n j₀ some₀ a₀ xs ys next prev quads edges nodePool
+    edgePool j some a =
     Run (passTurn (outline outer holes lens) size (fieldRecord grid values [])) afterPass
     (passing (stateOf xs₀ ys₀ next₀ prev₀ snapshot quads₀ edges₀ j₀) false) n a (passing (stateOf xs ys next prev snapshot quads edges j) some)
     × Pools size xs ys edges j nodePool₀ edgePool₀ nodePool edgePool
 
 abbrev μ-loop : tie.MeasureT-loop
-μ-loop outer holes lens size grid values xs₀ ys₀ next₀ prev₀ snapshot quads₀ edges₀ nodePool₀ edgePool₀ n j₀ some₀ a₀ xs ys next prev quads edges nodePool edgePool j
-    some a =
+μ-loop outer holes lens size grid values xs₀ ys₀ next₀ prev₀ snapshot quads₀ edges₀ nodePool₀ edgePool₀ n j₀ some₀ a₀ xs ys next prev quads edges nodePool
+    edgePool j some a =
     n - a
 
 -- the outline, the field and the state as they are lent
@@ -79,7 +79,8 @@ loop-again c =
     let in-loop = at-settle .before .before .before .before .before .before .before .before .before in
     let at-loop = in-loop .before in (
       run-go _ afterPass _ _ (at-loop .loop .inv .0) (in-loop .loop-test .taken)
-          (went-same (at-loop .loop .j) (at-loop .loop .some) (at-settle .settle .result) (at-settle .settle .ensures .0 (at-loop .loop .some)) (c .enum-told .given .1)),
+          (went-same (at-loop .loop .j) (at-loop .loop .some) (at-settle .settle .result) (at-settle .settle .ensures .0 (at-loop .loop .some))
+          (c .enum-told .given .1)),
       record {
         search = search-at (ap (λ (t : Settled). settledCounts (at-loop .loop .j) t) (c .enum-told .given .1)) (at-settle .settle .ensures .1);
         node-long = at-settle .settle .kept .1 .1 .1 .1 .1 .1 .1 .1 .1 .1 .1 .1 .1 .0 ∙ at-loop .loop .inv .1 .node-long;
@@ -101,7 +102,8 @@ loop-again-2 c =
     let in-loop = at-settle .before .before .before .before .before .before .before .before .before in
     let at-loop = in-loop .before in (
       run-go _ afterPass _ _ (at-loop .loop .inv .0) (in-loop .loop-test .taken)
-          (went-put (at-loop .loop .j) (at-loop .loop .some) (at-settle .settle .result) (at-settle .settle .ensures .0 (at-loop .loop .some)) (at-t .t .given .1)),
+          (went-put (at-loop .loop .j) (at-loop .loop .some) (at-settle .settle .result) (at-settle .settle .ensures .0 (at-loop .loop .some))
+          (at-t .t .given .1)),
       record {
         search = search-at (ap (λ (t : Settled). settledCounts (at-loop .loop .j) t) (at-t .t .given .1)) (at-settle .settle .ensures .1);
         node-long = at-settle .settle .kept .1 .1 .1 .1 .1 .1 .1 .1 .1 .1 .1 .1 .1 .0 ∙ at-loop .loop .inv .1 .node-long;

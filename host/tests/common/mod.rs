@@ -161,7 +161,19 @@ impl FieldPlaces {
 
 /// The lists lent to a run, in the entry's order. The arrays of thirteen lengths below have it too.
 pub const LISTS: [&str; 13] = [
-    "values", "marks", "xs", "ys", "next", "prev", "snapshot", "quads", "edges", "loops", "lengths", "node_pool", "edge_pool",
+    "values",
+    "marks",
+    "xs",
+    "ys",
+    "next",
+    "prev",
+    "snapshot",
+    "quads",
+    "edges",
+    "loops",
+    "lengths",
+    "node_pool",
+    "edge_pool",
 ];
 
 /// The lengths of lists with so many places.

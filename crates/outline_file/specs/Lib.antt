@@ -1,0 +1,5 @@
+pub mod ByteLaws
+pub mod Example
+pub mod File
+pub mod ReadLaws
+pub mod RefusalLaws

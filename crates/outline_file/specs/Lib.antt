@@ -1,4 +1,5 @@
 pub mod ByteLaws
+pub mod Enough
 pub mod Example
 pub mod File
 pub mod ReadLaws

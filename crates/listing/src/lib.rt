@@ -1,10 +1,11 @@
 // What the program prints, written into a lent buffer: document 01's listing. Each function writes from place `at` on, as far as the buffer
 // goes, and answers the place after.
 ghost use mathlib.Core.Path.{_≡_};
-ghost use mathlib.Core.List.{[], _∷_};
+ghost use mathlib.Core.List.{[], _∷_, _++_};
 ghost use Prim.Native.Nat.{_<_, min};
 ghost use lib.ListN.{take};
 ghost use lib.Ieee.{binary64, toBits};
+ghost use Rattle.listing.specs.Text.{ascii};
 ghost use Rattle.listing.specs.Buffer.{buffer, Wrote, written};
 ghost use Rattle.listing.specs.Listing.{decimal, hexDigit, hexOf, spaced, row, nodeLine, nodeLines, quadLines, loopLines};
 ghost use Rattle.listing.specs.Listing.{endWord, wholeWord, headLine, refusedListing, meshListing, listing};
@@ -48,17 +49,21 @@ fn put_decimal(out: &mut [u8], at: usize, v: usize) -> usize
     ensures { λ r. ⌜ Wrote (decimal v) (buffer (now (out .entry)) at) (buffer (now (out .exit)) r) ⌝ }
 {
     if v < 10 {
-        return put(out, at, 48 + v as u8);
+        return put(out, at, b'0' + v as u8);
     }
     let next = put_decimal(out, at, v / 10);
-    put(out, next, 48 + (v % 10) as u8)
+    put(out, next, b'0' + (v % 10) as u8)
 }
 
 fn hex_digit(v: u64) -> u8
     requires { ⌜ v < 16 ⌝ }
     ensures { λ r. ⌜ r ≡ hexDigit v ⌝ }
 {
-    if v < 10 { 48 + v as u8 } else { 87 + v as u8 }
+    if v < 10 {
+        b'0' + v as u8
+    } else {
+        b'a' + (v - 10) as u8
+    }
 }
 
 // The last `n` hexadecimal digits of `v`.
@@ -84,7 +89,7 @@ fn bits_of(x: f64) -> u64
 
 // A space and a number.
 fn put_number(out: &mut [u8], at: usize, v: usize) -> usize
-    ensures { λ r. ⌜ Wrote (32 ∷ decimal v) (buffer (now (out .entry)) at) (buffer (now (out .exit)) r) ⌝ }
+    ensures { λ r. ⌜ Wrote (ascii " " ++ decimal v) (buffer (now (out .entry)) at) (buffer (now (out .exit)) r) ⌝ }
 {
     let next = put(out, at, b' ');
     put_decimal(out, next, v)

@@ -42,7 +42,7 @@ returns c =
     let letter = x .before .before .before .before .before in
     let first = wrote-as (ap (hexOf 16) (sym (x .before .bits-of .ensures))) (x .put-hex .ensures) in
     let second = wrote-as (ap (hexOf 16) (sym (y .before .bits-of2 .ensures))) (y .put-hex2 .ensures) in
-    then (then (then (letter .put-all .ensures) first) (then (space .put .ensures) second)) (c .before .before .put2 .ensures)
+    then (then (then (then (letter .put-all .ensures) first) (space .put .ensures)) second) (c .before .before .put2 .ensures)
 
 pub put-node-spec : {M : Type 1} → statement M
 put-node-spec =

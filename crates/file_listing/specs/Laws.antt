@@ -69,9 +69,10 @@ module _ (o : Outline) (set : Settings) (r : Paved) (after : Lent) (p : Paves o 
 pub record Held (points : List Float) (lens : List ℕ) (head : Head) : Type 0 where
   pub outer : head .outer ≤ head .points
   pub few : head .points ≤ 248
-  pub long : 496 ≤ length points
   pub some : 1 ≤ head .loops
-  pub loops : head .loops ≤ length lens
+  pub loops : head .loops ≤ 8
+  pub point-places : length points ≡ 496
+  pub lens-places : length lens ≡ 8
 
 -- the outline that was read
 abbrev pub heldOutline : List Float → List ℕ → Head → Outline
@@ -122,9 +123,10 @@ module _ (q : Request) (a : Asked q) (points : List Float) (lens : List ℕ) whe
   held long longs = record {
     outer = omega (arith, a .even, a .outer);
     few = omega (arith, a .few);
-    long = omega (arith, a .few, overlaid (q .coordinates) points (omega (arith, a .few)));
     some = a .some;
-    loops = omega (arith, a .loops, overlaid (q .lengths) lens (omega (arith, a .loops)));
+    loops = a .loops;
+    point-places = overlaid (q .coordinates) points (omega (arith, a .few)) ∙ long;
+    lens-places = overlaid (q .lengths) lens (omega (arith, a .loops)) ∙ longs;
   }
 
   held-outline : heldOutline (overlay (q .coordinates) points) (overlay (q .lengths) lens) (headOf q) ≡ outlineOf q
@@ -173,12 +175,17 @@ module _ (file : List ℕ) (points : List Float) (lens : List ℕ) where
       go zero e = held q (asked file e) points lens long longs
       go (suc n) e = λ z. absurd (omega arith)
 
-  module _ {answer : FileAnswer} {points′ : List Float} {lens′ : List ℕ} (e : reading answer points′ lens′ ≡ readFile file points lens) where
+  -- what the code has in hand: the answer r of `read_file`, which is one of the two cases
+  module _ {r : FileAnswer} {points′ : List Float} {lens′ : List ℕ} (e : reading r points′ lens′ ≡ readFile file points lens) {answer : FileAnswer}
+      (case : r ≡ answer) where
+    same : reading answer points′ lens′ ≡ readFile file points lens
+    same = ap (λ (a : FileAnswer). reading a points′ lens′) (sym case) ∙ e
+
     pub read-listed : readListing answer points′ lens′ ≡ programListing file
-    read-listed = ap (λ (r : Reading). readListing (r .answer) (r .points) (r .lens)) e ∙ listing-read
+    read-listed = ap (λ (r : Reading). readListing (r .answer) (r .points) (r .lens)) same ∙ listing-read
 
     pub read-told : length points ≡ 496 → length lens ≡ 8 → Told answer points′ lens′
-    read-told long longs = subst (λ (r : Reading). Told (r .answer) (r .points) (r .lens)) (sym e) (told-read long longs)
+    read-told long longs = subst (λ (r : Reading). Told (r .answer) (r .points) (r .lens)) (sym same) (told-read long longs)
 
 -- ---- a refusal
 

@@ -1,6 +1,9 @@
 //! What the tests share: outlines that own their lists, lists lent with guards round them, and the raw answers.
 #![allow(dead_code)] // each test uses a part of it
 
+pub mod book;
+pub mod whole;
+
 use std::hint::black_box;
 
 use sitjorbe::{ffi, field, FieldRecord, Outline, Refusal};

@@ -49,6 +49,27 @@ pub struct DirectionAnswer {
     pub y: f64,
 }
 
+/// A run's end and whether it is whole, its field record's floats and counts, and how much of each list lent it has used: nodes,
+/// quads, distinct edges, and loops with the ids in all of them. All 0 on a refusal.
+#[repr(C)]
+#[derive(Clone, Copy, Debug)]
+pub struct PaveAnswer {
+    pub refusal: u32,
+    pub end: u32,
+    pub whole: bool,
+    pub xmin: f64,
+    pub ymin: f64,
+    pub h: f64,
+    pub nx: usize,
+    pub ny: usize,
+    pub nodes: u32,
+    pub quads: usize,
+    pub edges: usize,
+    pub front: usize,
+    pub loops: usize,
+    pub ids: usize,
+}
+
 #[link(name = "mesher", kind = "static")]
 extern "C" {
     pub fn sitjorbe_contains(
@@ -114,4 +135,38 @@ extern "C" {
         tx: f64,
         ty: f64,
     ) -> DirectionAnswer;
+
+    pub fn sitjorbe_pave(
+        outer: *const f64,
+        outer_len: usize,
+        holes: *const f64,
+        holes_len: usize,
+        lens: *const usize,
+        lens_len: usize,
+        size: f64,
+        sweeps: usize,
+        passes: usize,
+        values: *mut f64,
+        values_len: usize,
+        marks: *mut u8,
+        marks_len: usize,
+        xs: *mut f64,
+        xs_len: usize,
+        ys: *mut f64,
+        ys_len: usize,
+        next: *mut u32,
+        next_len: usize,
+        prev: *mut u32,
+        prev_len: usize,
+        snapshot: *mut u32,
+        snapshot_len: usize,
+        quads: *mut u32,
+        quads_len: usize,
+        edges: *mut u32,
+        edges_len: usize,
+        loops: *mut u32,
+        loops_len: usize,
+        lengths: *mut u32,
+        lengths_len: usize,
+    ) -> PaveAnswer;
 }

@@ -39,9 +39,11 @@
 
 pub mod ffi;
 mod field;
+mod pave;
 mod queries;
 mod refusal;
 
 pub use field::{direction, field, FieldRecord};
+pub use pave::{pave, End, Lists, Memory, Mesh, Places, Settings, OFF};
 pub use queries::{contains, distance_to_boundary, nearest_segment, NearestSegment, Outline};
 pub use refusal::Refusal;

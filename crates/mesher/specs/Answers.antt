@@ -1,8 +1,10 @@
 -- The answers as they cross to the host: document 01's number and the values, for each case of an answer. Definitions only.
 -- The number 0 says that nothing is refused; the values of a refusal are false or 0.0.
-use mathlib.Core.Bool.{false}
+use mathlib.Core.Bool.{Bool, false, _&&_}
 use mathlib.Core.List.{List}
+use mathlib.Core.Path.{_≡_}
 use Prim.Native.Nat.{ℕ}
+use lib.Dec.{eqb}
 use lib.Ieee.{Float}
 use Rattle.numbers.specs.Float.{zeroF}
 use Rattle.domain.specs.declared.Contains.{Contains}
@@ -18,11 +20,18 @@ use Rattle.crossfield.specs.declared.Direction.{Direction}
 use Rattle.crossfield.specs.declared.Direction.the-variants as direction-is
 use Rattle.crossfield.specs.Seeds.{FieldLists, fieldLists}
 use Rattle.crossfield.specs.Field.{FieldResult}
+use Rattle.domain.specs.declared.Settings.{Settings}
+use Rattle.domain.specs.Outline.{Outline}
+use Rattle.front.specs.State.{State, stateOf, counted}
+use Rattle.books.specs.Holds.{BooksHold}
+use Rattle.run.specs.declared.Paved.{Paved}
+use Rattle.run.specs.Run.{Lent, Ran, runAnswer}
 use Rattle.mesher.specs.declared.ContainsAnswer.{ContainsAnswer}
 use Rattle.mesher.specs.declared.NearestAnswer.{NearestAnswer}
 use Rattle.mesher.specs.declared.DistanceAnswer.{DistanceAnswer}
 use Rattle.mesher.specs.declared.FieldRecordAnswer.{FieldRecordAnswer}
 use Rattle.mesher.specs.declared.DirectionAnswer.{DirectionAnswer}
+use Rattle.mesher.specs.declared.PaveAnswer.{PaveAnswer}
 
 -- of `contains`: whether the point is inside
 unfoldable pub containsNumbers : Contains → ContainsAnswer
@@ -64,3 +73,55 @@ gridLent xmin ymin h nx ny = record { xmin = xmin; ymin = ymin; h = h; nx = nx; 
 unfoldable pub directionNumbers : Direction → DirectionAnswer
 directionNumbers (direction-is.Refused n) = record { refusal = n; x = zeroF; y = zeroF }
 directionNumbers (direction-is.Toward d) = record { refusal = 0; x = d .x; y = d .y }
+
+-- ---- the run
+
+-- whole: nothing is refused, and `front_loops` lists nothing
+unfoldable pub isWhole : ℕ → ℕ → Bool
+isWhole refusal loops = eqb refusal 0 && eqb loops 0
+
+-- of the run: its end, whether it is whole, the field record's floats and counts, and the counts of the paving and of the loops listed
+unfoldable pub paveNumbers : Paved → PaveAnswer
+paveNumbers p =
+    record {
+      refusal = p .refusal;
+      end = p .end;
+      whole = isWhole (p .refusal) (p .listed .count);
+      xmin = p .grid .xmin;
+      ymin = p .grid .ymin;
+      h = p .grid .h;
+      nx = p .grid .nx;
+      ny = p .grid .ny;
+      nodes = p .counts .nodes;
+      quads = p .counts .quads;
+      edges = p .counts .edges;
+      front = p .counts .front;
+      loops = p .listed .count;
+      ids = p .listed .ids;
+    }
+
+-- the numbers of the run, and every list lent as it leaves it
+pub record PaveExit : Type 0 where
+  pub numbers : PaveAnswer
+  pub lists : Lent
+
+abbrev pub paveExit : PaveAnswer → Lent → PaveExit
+paveExit numbers lists = record { numbers = numbers; lists = lists }
+
+abbrev pub ranNumbers : Ran → PaveExit
+ranNumbers r = paveExit (paveNumbers (r .answer)) (r .lists)
+
+-- the state that is answered: the lists as they are left, with the counts answered
+abbrev pub stateAnswered : PaveAnswer → Lent → State
+stateAnswered r after =
+    stateOf (after .xs) (after .ys) (after .next) (after .prev) (after .snapshot) (after .quads) (after .edges)
+    (counted (r .nodes) (r .quads) (r .edges) (r .front))
+
+-- WHAT A HOST GETS of an outline and settings, where `before` is lent, `r` answered and `after` left in the lists
+pub record HostPaves (o : Outline) (set : Settings) (before : Lent) (r : PaveAnswer) (after : Lent) : Type 0 where
+  -- every number and every list are the definition's: demand 2
+  pub equal : paveExit r after ≡ ranNumbers (runAnswer o set before)
+  -- a refusal leaves every list as it was: demand 1
+  pub refused : (r .refusal ≡ 0 → ⊥) → after ≡ before
+  -- the exact books of the outline, the size and the quads and coordinates answered hold: demand 3
+  pub books : r .refusal ≡ 0 → BooksHold o (set .size) (stateAnswered r after)

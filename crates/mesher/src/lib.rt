@@ -1,12 +1,14 @@
-// The public entries: what a host calls, on numbers and slices. None has a `requires`, and none writes what is lent but `sitjorbe_field`,
-// which writes its last two lists.
+// The public entries: what a host calls, on numbers and slices. None has a `requires`, and none writes what is lent but `sitjorbe_field`
+// and `sitjorbe_pave`, which write the lists lent as `&mut`.
 ghost use mathlib.Core.Path.{_≡_};
 ghost use Rattle.domain.specs.Outline.{outline, point};
 ghost use Rattle.domain.specs.Queries.{containsAnswer, nearestAnswer, distanceAnswer};
 ghost use Rattle.crossfield.specs.Seeds.{fieldLists};
 ghost use Rattle.crossfield.specs.Field.{fieldRecord, fieldAnswer};
 ghost use Rattle.crossfield.specs.Direction.{directionAnswer};
+ghost use Rattle.run.specs.Run.{settings, lent};
 ghost use Rattle.mesher.specs.Answers.{containsNumbers, nearestNumbers, distanceNumbers, gridLent, fieldExit, fieldNumbers, directionNumbers};
+ghost use Rattle.mesher.specs.Answers.{isWhole, paveNumbers, HostPaves};
 use crossfield::Direction;
 use crossfield::FieldAnswer;
 use crossfield::Grid;
@@ -14,6 +16,7 @@ use domain::Contains;
 use domain::Distance;
 use domain::Nearest;
 use domain::Point;
+use run::Paved;
 
 // `refusal` is document 01's number, 0 where nothing is refused. The values of a refused query are false or 0.0.
 #[repr(C)]
@@ -54,6 +57,27 @@ pub struct DirectionAnswer {
     pub refusal: u32,
     pub x: f64,
     pub y: f64,
+}
+
+// A run's end (0 still, 1 passes, 2 cap, 3 full) and whether it is whole, its field record's floats and counts, how many nodes, quads, distinct
+// edges and front edges it has, how many loops of the front are listed, and the ids in all of them. All else is in the lists lent. All is 0 on
+// a refusal.
+#[repr(C)]
+pub struct PaveAnswer {
+    pub refusal: u32,
+    pub end: u32,
+    pub whole: bool,
+    pub xmin: f64,
+    pub ymin: f64,
+    pub h: f64,
+    pub nx: usize,
+    pub ny: usize,
+    pub nodes: u32,
+    pub quads: usize,
+    pub edges: usize,
+    pub front: usize,
+    pub loops: usize,
+    pub ids: usize,
 }
 
 // Whether the point is inside the outer loop and outside every hole.
@@ -210,4 +234,86 @@ pub extern "C" fn sitjorbe_direction(
             y: direction.y,
         },
     }
+}
+
+// Whether nothing is refused and no loop is listed.
+fn is_whole(refusal: u32, loops: usize) -> bool
+    ensures { λ r. ⌜ r ≡ isWhole refusal loops ⌝ }
+{
+    if refusal != 0 {
+        return false;
+    }
+    loops == 0
+}
+
+fn pave_numbers(paved: Paved) -> PaveAnswer
+    ensures { λ r. ⌜ r ≡ paveNumbers paved ⌝ }
+{
+    let whole = is_whole(paved.refusal, paved.listed.count);
+    PaveAnswer {
+        refusal: paved.refusal,
+        end: paved.end,
+        whole,
+        xmin: paved.grid.xmin,
+        ymin: paved.grid.ymin,
+        h: paved.grid.h,
+        nx: paved.grid.nx,
+        ny: paved.grid.ny,
+        nodes: paved.counts.nodes,
+        quads: paved.counts.quads,
+        edges: paved.counts.edges,
+        front: paved.counts.front,
+        loops: paved.listed.count,
+        ids: paved.listed.ids,
+    }
+}
+
+// The run whole, from the field to the loops of the front, in the lists lent. Nothing is written on a refusal.
+#[no_mangle]
+pub extern "C" fn sitjorbe_pave<'a>(
+    outer: &'a [f64],
+    holes: &'a [f64],
+    lens: &[usize],
+    size: f64,
+    sweeps: usize,
+    passes: usize,
+    values: &mut [f64],
+    marks: &mut [u8],
+    xs: &mut [f64],
+    ys: &mut [f64],
+    next: &mut [u32],
+    prev: &mut [u32],
+    snapshot: &mut [u32],
+    quads: &mut [u32],
+    edges: &mut [u32],
+    loops: &mut [u32],
+    lengths: &mut [u32],
+) -> PaveAnswer
+    ensures { λ r. ⌜ HostPaves (outline (now (outer .entry)) (now (holes .entry)) (now (lens .entry))) (settings size sweeps passes)
+        (lent (now (values .entry)) (now (marks .entry)) (now (xs .entry)) (now (ys .entry)) (now (next .entry)) (now (prev .entry))
+        (now (snapshot .entry)) (now (quads .entry)) (now (edges .entry)) (now (loops .entry)) (now (lengths .entry)))
+        r
+        (lent (now (values .exit)) (now (marks .exit)) (now (xs .exit)) (now (ys .exit)) (now (next .exit)) (now (prev .exit)) (now (snapshot .exit))
+        (now (quads .exit)) (now (edges .exit)) (now (loops .exit)) (now (lengths .exit))) ⌝ }
+{
+    let paved = run::pave(
+        outer,
+        holes,
+        lens,
+        size,
+        sweeps,
+        passes,
+        values,
+        marks,
+        xs,
+        ys,
+        next,
+        prev,
+        snapshot,
+        quads,
+        edges,
+        loops,
+        lengths,
+    );
+    pave_numbers(paved)
 }

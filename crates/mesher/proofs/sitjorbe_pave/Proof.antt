@@ -1,0 +1,82 @@
+-- `sitjorbe_pave` meets its contract: what the run promises of its answer holds of the answer's numbers. Assumes nothing.
+use mathlib.Core.Path.{_≡_, ap, subst⁻¹}
+use Rattle.domain.specs.Outline.{Outline}
+use Rattle.domain.specs.declared.Settings.{Settings}
+use Rattle.run.specs.declared.Paved.{Paved}
+use Rattle.run.specs.Run.{Lent, Paves}
+use borrow.Author.Needs.{needs}
+use Rattle.mesher.specs.declared.PaveAnswer.{PaveAnswer}
+use Rattle.mesher.specs.Answers.{paveNumbers, ranNumbers, HostPaves}
+use Rattle.mesher.proofs.sitjorbe_pave.Statement.{statement}
+use Rattle.mesher.proofs.sitjorbe_pave.Tie as tie
+
+host-paves : {o : Outline} {set : Settings} {before after : Lent} {p : Paved} {r : PaveAnswer} → Paves o set before p after → r ≡ paveNumbers p
+    → HostPaves o set before r after
+unfolding paveNumbers
+host-paves {o} {set} {before} {after} P e =
+    subst⁻¹ (λ (v : PaveAnswer). HostPaves o set before v after) e
+    (record { equal = ap ranNumbers (P .equal); refused = P .refused; books = P .books })
+
+pave-requires : tie.Need-pave-requires
+pave-requires c κs = search needs
+
+pave-numbers-requires : tie.Need-pave-numbers-requires
+pave-numbers-requires c κs = search needs
+
+same-length : tie.Need-same-length
+same-length c = search needs
+
+same-length-2 : tie.Need-same-length-2
+same-length-2 c = search needs
+
+same-length-3 : tie.Need-same-length-3
+same-length-3 c = search needs
+
+same-length-4 : tie.Need-same-length-4
+same-length-4 c = search needs
+
+same-length-5 : tie.Need-same-length-5
+same-length-5 c = search needs
+
+same-length-6 : tie.Need-same-length-6
+same-length-6 c = search needs
+
+same-length-7 : tie.Need-same-length-7
+same-length-7 c = search needs
+
+same-length-8 : tie.Need-same-length-8
+same-length-8 c = search needs
+
+same-length-9 : tie.Need-same-length-9
+same-length-9 c = search needs
+
+same-length-10 : tie.Need-same-length-10
+same-length-10 c = search needs
+
+same-length-11 : tie.Need-same-length-11
+same-length-11 c = search needs
+
+returns : tie.Need-returns
+returns c =
+    let at-lengths = c .before .before in
+    let at-pave = at-lengths .before .before .before .before .before .before .before .before .before .before .before .before .before .before .before .before .before .before .before .before .before in
+    host-paves (at-pave .pave .ensures) (c .pave-numbers .ensures)
+
+pub sitjorbe-pave-spec : {M : Type 1} → statement M
+sitjorbe-pave-spec =
+    tie.close
+    (tie.spec
+    pave-requires
+    pave-numbers-requires
+    same-length
+    same-length-2
+    same-length-3
+    same-length-4
+    same-length-5
+    same-length-6
+    same-length-7
+    same-length-8
+    same-length-9
+    same-length-10
+    same-length-11
+    returns)

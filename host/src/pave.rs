@@ -1,0 +1,343 @@
+//! The whole run: the field, the sampled outline, the paving, and the loops of the front that is left.
+
+use std::fmt;
+
+use crate::ffi;
+use crate::{FieldRecord, Outline, Refusal};
+
+/// What an exam sets for a run.
+#[derive(Clone, Copy, Debug, PartialEq)]
+pub struct Settings {
+    /// The elements' size, 0.01 to 100.
+    pub size: f64,
+    /// The field's sweeps: at most 1,000.
+    pub sweeps: usize,
+    /// The passes allowed; more than 600 count as 600.
+    pub passes: usize,
+}
+
+/// The lists lent to a run. Any slices at all may be lent; of those that hold the same places the shortest counts.
+#[derive(Debug)]
+pub struct Lists<'a> {
+    /// Two floats a field node.
+    pub values: &'a mut [f64],
+    /// A mark a field node.
+    pub marks: &'a mut [u8],
+    /// A node's first coordinate.
+    pub xs: &'a mut [f64],
+    /// A node's second coordinate.
+    pub ys: &'a mut [f64],
+    /// The node that follows a node on the front; [`OFF`] for one off the front.
+    pub next: &'a mut [u32],
+    /// The node that comes before a node on the front; [`OFF`] for one off the front.
+    pub prev: &'a mut [u32],
+    /// A place a node, for the run's own use: it is left with 1 for a node on the front, 0 for one off it.
+    pub snapshot: &'a mut [u32],
+    /// Four ids a quad, in the order a, b, d, c, which runs round it.
+    pub quads: &'a mut [u32],
+    /// Two ids a distinct edge, the smaller first.
+    pub edges: &'a mut [u32],
+    /// The ids of the listed loops, one loop after the other; a place a node.
+    pub loops: &'a mut [u32],
+    /// The lengths of the listed loops; a place a node.
+    pub lengths: &'a mut [u32],
+}
+
+/// What `next` and `prev` hold for a node off the front.
+pub const OFF: u32 = u32::MAX;
+
+/// How a paving ended. The numbers are those that cross from the library.
+#[derive(Clone, Copy, Debug, PartialEq, Eq, Hash)]
+#[repr(u32)]
+pub enum End {
+    /// A pass placed nothing.
+    Still = 0,
+    /// The passes allowed are used, and the last placed something; or none are allowed.
+    Passes = 1,
+    /// Quad 250,000 was just placed.
+    Cap = 2,
+    /// The next quad would need a node, quad or distinct edge beyond those lent.
+    Full = 3,
+}
+
+impl End {
+    /// Every end, in the order of the numbers.
+    pub const ALL: [End; 4] = [End::Still, End::Passes, End::Cap, End::Full];
+
+    fn of_number(number: u32) -> End {
+        let found = End::ALL.into_iter().find(|end| *end as u32 == number);
+        found.unwrap_or_else(|| panic!("a bug: the library answered end {number}, which document 01 doesn't have"))
+    }
+}
+
+/// Document 01's word: `still`, `passes`, `cap` or `full`.
+impl fmt::Display for End {
+    fn fmt(&self, f: &mut fmt::Formatter<'_>) -> fmt::Result {
+        f.write_str(match self {
+            End::Still => "still",
+            End::Passes => "passes",
+            End::Cap => "cap",
+            End::Full => "full",
+        })
+    }
+}
+
+/// What a run made, in the lists that were lent.
+#[derive(Clone, Copy, Debug)]
+pub struct Mesh<'a> {
+    end: End,
+    whole: bool,
+    record: FieldRecord,
+    values: &'a [f64],
+    marks: &'a [u8],
+    xs: &'a [f64],
+    ys: &'a [f64],
+    next: &'a [u32],
+    prev: &'a [u32],
+    quads: &'a [u32],
+    edges: &'a [u32],
+    front: usize,
+    loops: &'a [u32],
+    lengths: &'a [u32],
+}
+
+impl<'a> Mesh<'a> {
+    /// How the paving ended.
+    pub fn end(&self) -> End {
+        self.end
+    }
+
+    /// Whether the mesh is whole: the front has no loop of three or more left. Otherwise it is open.
+    pub fn is_whole(&self) -> bool {
+        self.whole
+    }
+
+    /// The field's record.
+    pub fn record(&self) -> FieldRecord {
+        self.record
+    }
+
+    /// The field's values and marks, just as [`crate::direction`] asks for them.
+    pub fn field(&self) -> (&'a [f64], &'a [u8]) {
+        (self.values, self.marks)
+    }
+
+    /// The number of nodes.
+    pub fn node_count(&self) -> usize {
+        self.xs.len()
+    }
+
+    /// The number of quads.
+    pub fn quad_count(&self) -> usize {
+        self.quads.len() / 4
+    }
+
+    /// The number of distinct edges.
+    pub fn edge_count(&self) -> usize {
+        self.edges.len() / 2
+    }
+
+    /// The number of front edges.
+    pub fn front_count(&self) -> usize {
+        self.front
+    }
+
+    /// The number of listed loops.
+    pub fn loop_count(&self) -> usize {
+        self.lengths.len()
+    }
+
+    /// Each node's coordinates, by id.
+    pub fn nodes(&self) -> impl ExactSizeIterator<Item = [f64; 2]> + Clone + 'a {
+        self.xs.iter().zip(self.ys).map(|(&x, &y)| [x, y])
+    }
+
+    /// Each quad's ids a, b, d, c, in the order in which the quads were placed.
+    pub fn quads(&self) -> impl ExactSizeIterator<Item = [u32; 4]> + Clone + 'a {
+        self.quads.chunks_exact(4).map(|quad| [quad[0], quad[1], quad[2], quad[3]])
+    }
+
+    /// Each distinct edge, the smaller id first, in the order in which they came.
+    pub fn edges(&self) -> impl ExactSizeIterator<Item = [u32; 2]> + Clone + 'a {
+        self.edges.chunks_exact(2).map(|edge| [edge[0], edge[1]])
+    }
+
+    /// Each front edge, from a node to the next one, by the first's id.
+    pub fn front(&self) -> impl Iterator<Item = [u32; 2]> + Clone + 'a {
+        (0u32..).zip(self.next).filter(|(_, &next)| next != OFF).map(|(id, &next)| [id, next])
+    }
+
+    /// The links of the front: for each node the next one and the one before, or [`OFF`].
+    pub fn links(&self) -> (&'a [u32], &'a [u32]) {
+        (self.next, self.prev)
+    }
+
+    /// The loops of the front that have three nodes or more, each from its smallest id; none if the mesh is whole.
+    pub fn front_loops(&self) -> impl ExactSizeIterator<Item = &'a [u32]> + Clone + 'a {
+        let ids = self.loops;
+        let mut start = 0;
+        self.lengths.iter().map(move |&length| {
+            let from = start;
+            start += length as usize;
+            &ids[from..start]
+        })
+    }
+}
+
+/// Paves an outline with quads, in the lists lent.
+///
+/// Places past those that the mesh counts keep their contents.
+///
+/// # Errors
+///
+/// Those of [`crate::field`], then [`Refusal::FrontNeedsSpace`]. Nothing is written then.
+pub fn pave<'a>(outline: &Outline<'_>, settings: &Settings, lists: Lists<'a>) -> Result<Mesh<'a>, Refusal> {
+    let Outline { outer, holes, hole_lengths: lens } = outline;
+    let Settings { size, sweeps, passes } = *settings;
+    let Lists { values, marks, xs, ys, next, prev, snapshot, quads, edges, loops, lengths } = lists;
+    // SAFETY: each pointer comes with the length of its slice, and the slices live until the call returns; those that may be
+    // written are borrowed for that. The entry is proved to read and write nothing else.
+    let answer = unsafe {
+        ffi::sitjorbe_pave(
+            outer.as_ptr(),
+            outer.len(),
+            holes.as_ptr(),
+            holes.len(),
+            lens.as_ptr(),
+            lens.len(),
+            size,
+            sweeps,
+            passes,
+            values.as_mut_ptr(),
+            values.len(),
+            marks.as_mut_ptr(),
+            marks.len(),
+            xs.as_mut_ptr(),
+            xs.len(),
+            ys.as_mut_ptr(),
+            ys.len(),
+            next.as_mut_ptr(),
+            next.len(),
+            prev.as_mut_ptr(),
+            prev.len(),
+            snapshot.as_mut_ptr(),
+            snapshot.len(),
+            quads.as_mut_ptr(),
+            quads.len(),
+            edges.as_mut_ptr(),
+            edges.len(),
+            loops.as_mut_ptr(),
+            loops.len(),
+            lengths.as_mut_ptr(),
+            lengths.len(),
+        )
+    };
+    Refusal::check(answer.refusal)?;
+    let ffi::PaveAnswer { end, whole, xmin, ymin, h, nx, ny, .. } = answer;
+    let record = FieldRecord { xmin, ymin, h, nx, ny };
+    let (field_nodes, nodes) = (record.nodes(), answer.nodes as usize);
+    Ok(Mesh {
+        end: End::of_number(end),
+        whole,
+        record,
+        values: &values[..2 * field_nodes],
+        marks: &marks[..field_nodes],
+        xs: &xs[..nodes],
+        ys: &ys[..nodes],
+        next: &next[..nodes],
+        prev: &prev[..nodes],
+        quads: &quads[..4 * answer.quads],
+        edges: &edges[..2 * answer.edges],
+        front: answer.front,
+        loops: &loops[..answer.ids],
+        lengths: &lengths[..answer.loops],
+    })
+}
+
+/// How many places a host has for a run.
+#[derive(Clone, Copy, Debug, PartialEq, Eq)]
+pub struct Places {
+    /// The places for field nodes; 250,000 are always enough.
+    pub field_nodes: usize,
+    /// The places for nodes.
+    pub nodes: usize,
+    /// The places for quads.
+    pub quads: usize,
+    /// The places for distinct edges.
+    pub edges: usize,
+}
+
+/// The lists of a run, owned, for one run after the other.
+#[derive(Clone, Debug)]
+pub struct Memory {
+    values: Vec<f64>,
+    marks: Vec<u8>,
+    xs: Vec<f64>,
+    ys: Vec<f64>,
+    /// `next`, `prev`, `snapshot`, `loops` and `lengths`: a number a node in each.
+    by_node: [Vec<u32>; 5],
+    quads: Vec<u32>,
+    edges: Vec<u32>,
+}
+
+impl Memory {
+    /// Lists with so many places. Nothing is allocated later.
+    pub fn new(places: Places) -> Memory {
+        let Places { field_nodes, nodes, quads, edges } = places;
+        Memory {
+            values: vec![0.0; 2 * field_nodes],
+            marks: vec![0; field_nodes],
+            xs: vec![0.0; nodes],
+            ys: vec![0.0; nodes],
+            by_node: [(); 5].map(|()| vec![0; nodes]),
+            quads: vec![0; 4 * quads],
+            edges: vec![0; 2 * edges],
+        }
+    }
+
+    /// The lists, to lend them.
+    pub fn lists(&mut self) -> Lists<'_> {
+        let [next, prev, snapshot, loops, lengths] = &mut self.by_node;
+        Lists {
+            values: &mut self.values,
+            marks: &mut self.marks,
+            xs: &mut self.xs,
+            ys: &mut self.ys,
+            next,
+            prev,
+            snapshot,
+            quads: &mut self.quads,
+            edges: &mut self.edges,
+            loops,
+            lengths,
+        }
+    }
+
+    /// Paves an outline with quads. The mesh is read out of this memory, and lasts until the next run in it.
+    ///
+    /// # Errors
+    ///
+    /// Those of [`pave`].
+    pub fn pave(&mut self, outline: &Outline<'_>, settings: &Settings) -> Result<Mesh<'_>, Refusal> {
+        pave(outline, settings, self.lists())
+    }
+}
+
+#[cfg(test)]
+mod tests {
+    use super::End;
+
+    #[test]
+    fn ends_are_document_01s() {
+        let found: Vec<(u32, String)> = End::ALL.iter().map(|end| (*end as u32, end.to_string())).collect();
+        let words = ["still", "passes", "cap", "full"].map(String::from);
+        assert_eq!(found, (0..).zip(words).collect::<Vec<_>>());
+        assert_eq!(End::ALL.map(|end| End::of_number(end as u32)), End::ALL);
+    }
+
+    #[test]
+    #[should_panic(expected = "a bug: the library answered end 4")]
+    fn an_unknown_number_is_a_bug() {
+        End::of_number(4);
+    }
+}

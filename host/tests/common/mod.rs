@@ -2,6 +2,7 @@
 #![allow(dead_code)] // each test uses a part of it
 
 pub mod book;
+pub mod lists;
 pub mod whole;
 
 use std::hint::black_box;
@@ -53,6 +54,13 @@ impl Place for usize {
     const GUARD: usize = 0x5afe_5afe_5afe_5afe;
     fn bits(self) -> u64 {
         self as u64
+    }
+}
+
+impl Place for u32 {
+    const GUARD: u32 = 0x5afe_5afe;
+    fn bits(self) -> u64 {
+        u64::from(self)
     }
 }
 

@@ -1,7 +1,8 @@
 //! Outlines, points, settings and field records to ask about, random and hostile; the same for a seed on every machine.
 
-use sitjorbe::FieldRecord;
+use sitjorbe::{FieldRecord, Places};
 
+use crate::common::lists::Lengths;
 use crate::common::Drawing;
 
 /// SplitMix64.
@@ -342,5 +343,66 @@ pub fn target(rng: &mut Rng) -> [f64; 2] {
         1 => [0, 0].map(|_| if rng.once_in(2) { rng.pick(&REFUSED) } else { rng.pick(&EDGES) }),
         2 => [0, 0].map(|_| f64::from_bits(rng.next())),
         _ => [rng.unit(), rng.unit()],
+    }
+}
+
+// --- runs ---
+
+/// What a run has used where space was ample, and the points sampled.
+#[derive(Clone, Copy, Debug)]
+pub struct Needs {
+    pub places: Places,
+    pub sampled: usize,
+}
+
+/// The ways to choose the places for a run are numbered from 0.
+pub const SPACES: usize = 13;
+
+/// Exactly enough places, more, or too few of some.
+pub fn places(rng: &mut Rng, needs: &Needs, space: usize) -> Places {
+    let Needs { places: exact, sampled } = *needs;
+    let Places { field_nodes, nodes, quads, edges } = exact;
+    let mut between = |low: usize, high: usize| low + rng.below(high - low + 1);
+    match space {
+        0 => exact,
+        1 => Places {
+            field_nodes: field_nodes + between(0, 9),
+            nodes: nodes + between(0, 9),
+            quads: quads + between(0, 9),
+            edges: edges + between(0, 9),
+        },
+        2 => Places { nodes: nodes - 1, ..exact },
+        3 => Places { nodes: between(sampled, nodes), ..exact },
+        4 => Places { nodes: between(0, sampled), ..exact },
+        5 => Places { quads: quads.saturating_sub(1), ..exact },
+        6 => Places { quads: between(0, quads), ..exact },
+        7 => Places { quads: 0, ..exact },
+        8 => Places { edges: edges - 1, ..exact },
+        9 => Places { edges: between(sampled, edges), ..exact },
+        10 => Places { edges: between(0, sampled), ..exact },
+        11 => Places {
+            field_nodes,
+            nodes: between(sampled, nodes),
+            quads: between(0, quads),
+            edges: between(sampled, edges),
+        },
+        _ => Places { field_nodes: field_nodes - 1, ..exact },
+    }
+}
+
+/// Lists of which the shortest have these places; of those that hold the same places one is the shortest, and others may be longer.
+pub fn lengths(rng: &mut Rng, places: &Places) -> Lengths {
+    let Places { field_nodes, nodes, quads, edges } = *places;
+    let (shortest, fewer_values) = (rng.below(7), rng.once_in(2));
+    let mut by_node = [nodes; 7];
+    for (k, length) in by_node.iter_mut().enumerate() {
+        *length += if k == shortest { 0 } else { rng.below(4) };
+    }
+    Lengths {
+        values: 2 * field_nodes + rng.below(if fewer_values { 2 } else { 6 }),
+        marks: field_nodes + if fewer_values { rng.below(4) } else { 0 },
+        by_node,
+        quads: 4 * quads + rng.below(4),
+        edges: 2 * edges + rng.below(2),
     }
 }

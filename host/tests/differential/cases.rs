@@ -390,6 +390,11 @@ pub fn places(rng: &mut Rng, needs: &Needs, space: usize) -> Places {
     }
 }
 
+/// None, few, all that count, and more.
+pub fn passes(rng: &mut Rng) -> usize {
+    rng.pick(&[0, 0, 1, 2, 3, 5, 599, 600, 601, usize::MAX])
+}
+
 /// Lists of which the shortest have these places; of those that hold the same places one is the shortest, and others may be longer.
 pub fn lengths(rng: &mut Rng, places: &Places) -> Lengths {
     let Places { field_nodes, nodes, quads, edges } = *places;

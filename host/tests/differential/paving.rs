@@ -1,7 +1,7 @@
 //! Whole runs: nodes, quads, edges, front, loops, counts, end and field, every bit; and the exact books of each run.
 //!
 //! Each outline is paved with ample space, and again with space chosen from what that run used: exactly enough, one place short,
-//! any place short. SITJORBE_OUTLINES says how many outlines of each kind, SITJORBE_SEED which ones.
+//! any number short; and with other passes. SITJORBE_OUTLINES says how many outlines of each kind, SITJORBE_SEED which ones.
 
 use std::collections::BTreeMap;
 use std::env;
@@ -189,8 +189,8 @@ struct Tally {
 }
 
 impl Tally {
-    /// Puts a run to both, in lists of which the shortest have these places.
-    fn compare(&mut self, rng: &mut Rng, asked: &mut Asked, places: &Places) {
+    /// Puts a run to both, in lists of which the shortest have these places; `short` says what they are short of.
+    fn compare(&mut self, rng: &mut Rng, asked: &mut Asked, places: &Places, short: &str) {
         let lengths = cases::lengths(rng, places);
         let (lent, mut lists) = (Lent::new(&asked.drawing), GuardedLists::new(&lengths));
         let reference = asked.of_oracle(places);
@@ -221,6 +221,7 @@ impl Tally {
                 ("one refused".to_string(), Used::default(), found)
             }
         };
+        let answer = if answer == "full" { format!("full ({short})") } else { answer };
         *self.answers.entry(answer).or_default() += 1;
         if !found.is_empty() {
             self.faults.push(format!("{found}: {:?} {:?} {places:?}", asked.drawing, asked.settings));
@@ -230,15 +231,20 @@ impl Tally {
         }
     }
 
-    /// An outline with ample space, then with space of two kinds chosen from what it used.
+    /// An outline with ample space, with space of two kinds chosen from what it used, and with other passes.
     fn outline(&mut self, rng: &mut Rng, mut asked: Asked) {
         self.outlines += 1;
         let Some(needs) = asked.needs() else {
-            return self.compare(rng, &mut asked, &AMPLE);
+            return self.compare(rng, &mut asked, &AMPLE, "nothing");
         };
         for space in [1, self.outlines % cases::SPACES, rng.below(cases::SPACES)] {
             let places = cases::places(rng, &needs, space);
-            self.compare(rng, &mut asked, &places);
+            self.compare(rng, &mut asked, &places, short(&places, &needs));
+        }
+        if self.outlines % 3 == 0 {
+            asked.settings.passes = cases::passes(rng);
+            let places = cases::places(rng, &needs, 1);
+            self.compare(rng, &mut asked, &places, "other passes");
         }
     }
 
@@ -256,6 +262,18 @@ impl Tally {
         for answer in expected {
             assert!(answers.get(*answer).is_some_and(|&count| count >= outlines / 200), "{what}: {answer} is rare");
         }
+    }
+}
+
+/// What these places are short of.
+fn short(places: &Places, needs: &Needs) -> &'static str {
+    let Needs { places: exact, .. } = needs;
+    match [places.nodes < exact.nodes, places.quads < exact.quads, places.edges < exact.edges] {
+        [false, false, false] => "nothing",
+        [true, false, false] => "nodes",
+        [false, true, false] => "quads",
+        [false, false, true] => "edges",
+        _ => "several",
     }
 }
 
@@ -285,52 +303,145 @@ fn runs(kind: &str, expected: &[&str]) {
     tally.finish(&format!("runs, {kind}"), expected);
 }
 
+/// The answers that each kind of outline must give often.
+const USUAL: [&str; 7] = ["still", "passes", "full (nodes)", "full (quads)", "full (edges)", "9", "10"];
+
 #[test]
 fn runs_of_visual_fields() {
-    runs("visual", &["still", "passes", "full", "9", "10"]);
+    runs("visual", &USUAL);
 }
 
 #[test]
 fn runs_on_whole_coordinates() {
-    runs("lattice", &["still", "passes", "full", "9", "10"]);
+    runs("lattice", &USUAL);
 }
 
 #[test]
 fn runs_of_concave_outlines() {
-    runs("concave", &["still", "passes", "full", "9", "10"]);
+    runs("concave", &USUAL);
 }
 
 #[test]
 fn runs_of_outlines_that_cross_themselves() {
-    runs("crossing", &["still", "passes", "full", "9", "10"]);
+    runs("crossing", &USUAL);
 }
 
 #[test]
 fn runs_round_several_holes() {
-    runs("holes", &["still", "passes", "full", "9", "10"]);
+    runs("holes", &USUAL);
 }
 
 #[test]
 fn runs_of_degenerate_outlines() {
-    runs("degenerate", &["still", "passes", "full", "2", "3", "4", "9", "10"]);
+    runs("degenerate", &[&USUAL[..], &["2", "3", "4", "7"]].concat());
 }
 
 #[test]
 fn runs_of_all_sizes() {
-    runs("sizes", &["still", "passes", "full", "5", "6", "9", "10"]);
+    runs("sizes", &[&USUAL[..], &["5", "6"]].concat());
 }
 
 #[test]
 fn runs_of_all_settings() {
-    runs("settings", &["still", "passes", "full", "8", "9", "10"]);
+    runs("settings", &[&USUAL[..], &["8"]].concat());
 }
 
 #[test]
 fn runs_of_lists_that_do_not_fit() {
-    runs("lists", &["still", "passes", "full", "1", "2"]);
+    runs("lists", &["still", "passes", "1", "2"]);
 }
 
 #[test]
 fn runs_in_tight_places() {
-    runs("tight", &["still", "passes", "full", "9", "10"]);
+    runs("tight", &USUAL);
+}
+
+/// A run with all the space it needs.
+fn roomy(tally: &mut Tally, rng: &mut Rng, drawing: Drawing, settings: Settings) {
+    let places = Places { field_nodes: 250_000, nodes: 70_000, quads: 4_000, edges: 70_000 };
+    tally.outlines += 1;
+    tally.compare(rng, &mut Asked::new(drawing, settings), &places, "nothing");
+}
+
+#[test]
+fn runs_of_many_nodes() {
+    let (mut tally, mut rng) = (Tally::default(), Rng(8));
+    for (place, (size, passes)) in [(4.0, 600), (3.0, 12), (3.5, 600), (2.0, 3)].into_iter().enumerate() {
+        let Asked { drawing, .. } = generated("visual", 2, place as u64);
+        roomy(&mut tally, &mut rng, drawing, Settings { size, sweeps: 2, passes });
+    }
+    for (points, passes) in [(65_535, 0), (65_534, 0), (3_001, 1)] {
+        let drawing = cases::large(&mut rng, points);
+        roomy(&mut tally, &mut rng, drawing, Settings { size: 100.0, sweeps: 0, passes });
+    }
+    tally.finish("runs of many nodes", &["still", "passes"]);
+}
+
+// --- what is compared is found to differ ---
+
+/// A run of the library, and what the oracle answers.
+fn example() -> (Outcome, Outcome, Sampled, Answered) {
+    let mut asked = generated("lattice", 1, 5);
+    let run = asked.of_oracle(&AMPLE).expect("it is accepted");
+    let reference = Outcome::of_oracle(run, asked.field.as_ref().expect("the run has made it"));
+    let mut lists = GuardedLists::new(&cases::lengths(&mut Rng(9), &AMPLE));
+    let mesh = lists.pave(&asked.drawing.outline(), &asked.settings).expect("it is accepted");
+    (Outcome::of_library(&mesh), reference, asked.sampled().clone(), answered(&mesh))
+}
+
+/// One thing changed in each part of what is answered, in the order of the parts.
+const CHANGES: [(&str, fn(&mut Outcome)); 11] = [
+    ("end", |outcome| outcome.end = "full".to_string()),
+    ("whole", |outcome| outcome.whole = !outcome.whole),
+    ("grid", |outcome| outcome.grid[2] += 1),
+    ("values", |outcome| outcome.values[7] ^= 1),
+    ("marks", |outcome| outcome.marks[3] ^= 1),
+    ("nodes", |outcome| outcome.nodes[9][1] ^= 1),
+    ("quads", |outcome| outcome.quads[1].swap(0, 3)),
+    ("edges", |outcome| outcome.edges.truncate(8)),
+    ("front", |outcome| outcome.front[0].1 += 1),
+    ("loops", |outcome| outcome.loops.push(vec![1, 2, 3])),
+    ("counts", |outcome| outcome.counts[3] += 1),
+];
+
+#[test]
+fn differences_of_runs_are_found() {
+    let (library, reference, ..) = example();
+    assert!(library.differences(&reference).is_empty());
+    for (part, change) in CHANGES {
+        let (_, mut changed, ..) = example();
+        change(&mut changed);
+        assert_eq!(library.differences(&changed), [part]);
+    }
+}
+
+#[test]
+fn faults_in_the_books_of_runs_are_found() {
+    let (_, _, sampled, run) = example();
+    assert_eq!(book::check(&sampled, &run), Ok(()));
+    let spoilt = |spoil: &dyn Fn(&mut Answered)| {
+        let mut run = run.clone();
+        spoil(&mut run);
+        book::check(&sampled, &run).is_err()
+    };
+    let (nodes, quads) = (run.nodes.len(), run.quads.len());
+    assert!(quads >= 12, "{quads} quads are few");
+    for quad in 0..quads {
+        assert!(
+            spoilt(&|run| run.quads = [&run.quads[..quad], &run.quads[quad + 1..]].concat()),
+            "quad {quad} is dropped"
+        );
+        assert!(spoilt(&|run| run.quads.insert(quad, run.quads[quad])), "quad {quad} stands twice");
+        for (corner, id) in (0..4).flat_map(|corner| (0..nodes).map(move |id| (corner, id))) {
+            let same = run.quads[quad][corner] == id;
+            assert!(same || spoilt(&|run| run.quads[quad][corner] = id), "corner {corner} of quad {quad} is {id}");
+        }
+    }
+    for node in 0..nodes {
+        let other = if run.next[node].is_some() { None } else { Some(0) };
+        assert!(spoilt(&|run| run.next[node] = other), "the link of {node} is {other:?}");
+    }
+    for node in 0..sampled.nodes.len() {
+        assert!(spoilt(&|run| run.nodes[node][0] = run.nodes[node][0].next_up()), "node {node} is moved");
+    }
 }

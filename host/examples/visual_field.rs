@@ -1,4 +1,4 @@
-//! Asks the three queries of a visual field with its blind spot, and prints the answers in words.
+//! Paves a visual field with its blind spot and says what it got; then asks the three queries, and prints the answers in words.
 //!
 //! Without words after it, it asks about a few points; else about the points given, as in `visual_field 12 -3 0 40`.
 
@@ -6,6 +6,7 @@ use std::env;
 use std::process::ExitCode;
 
 use sitjorbe::{contains, distance_to_boundary, nearest_segment, NearestSegment, Outline};
+use sitjorbe::{End, Memory, Mesh, Places, Settings};
 
 /// A right eye's field in degrees, seen from the eye: x to the right, where the temple is, y upwards; the middle is where the
 /// eye looks.
@@ -17,6 +18,11 @@ const FIELD: Outline = Outline {
     holes: &[18.0, -1.5, 17.0, -4.5, 15.0, -5.5, 13.0, -4.5, 12.0, -1.5, 13.0, 1.5, 15.0, 2.5, 17.0, 1.5],
     hole_lengths: &[8],
 };
+
+const EXAM: Settings = Settings { size: 6.0, sweeps: 400, passes: 600 };
+
+/// A quad and three edges a node, so that only nodes can run out.
+const PLACES: Places = Places { field_nodes: 4_000, nodes: 1_000, quads: 1_000, edges: 3_000 };
 
 const POINTS: [(&str, [f64; 2]); 5] = [
     ("where the eye looks", [0.0, 0.0]),
@@ -33,12 +39,38 @@ fn main() -> ExitCode {
         return ExitCode::FAILURE;
     };
     println!("A visual field of 14 points, in degrees, with a blind spot of 8.");
+    match Memory::new(PLACES).pave(&FIELD, &EXAM) {
+        Ok(mesh) => say(&mesh),
+        Err(refusal) => println!("\n{refusal}"),
+    }
     if given.is_empty() {
         POINTS.into_iter().for_each(|(what, point)| ask(what, point));
     } else {
         given.chunks_exact(2).for_each(|point| ask("as given", [point[0], point[1]]));
     }
     ExitCode::SUCCESS
+}
+
+/// Says what a run made.
+fn say(mesh: &Mesh<'_>) {
+    println!("\nPaved with elements of {} degrees:", EXAM.size);
+    println!("  {} nodes, {} quads, {} edges", mesh.node_count(), mesh.quad_count(), mesh.edge_count());
+    println!("  ended {}: {}", mesh.end(), why(mesh.end()));
+    if mesh.is_whole() {
+        println!("  whole: nothing is left to pave");
+    }
+    for front in mesh.front_loops() {
+        println!("  open: the front keeps a loop of {} nodes", front.len());
+    }
+}
+
+fn why(end: End) -> &'static str {
+    match end {
+        End::Still => "a pass placed nothing more",
+        End::Passes => "the passes allowed are used",
+        End::Cap => "no more quads are made than 250,000",
+        End::Full => "the next quad needs more places than were lent",
+    }
 }
 
 /// Asks the three queries about a point.

@@ -6,6 +6,7 @@
 //!
 //! ```
 //! use sitjorbe::{contains, direction, distance_to_boundary, field, nearest_segment, Outline, Refusal};
+//! use sitjorbe::{End, Memory, Places, Settings};
 //!
 //! // A square with a square hole.
 //! let outline = Outline {
@@ -30,6 +31,13 @@
 //! let toward = direction(&record, &values[..2 * nodes], &marks[..nodes], [0.0, 4.0], [0.1, -1.0])?;
 //! assert_eq!(toward, [0.0, -1.0]);
 //!
+//! // The whole run, in memory that is kept for one run after the other: the outline paved with quads of size 1.
+//! let mut memory = Memory::new(Places { field_nodes: 1_600, nodes: 800, quads: 800, edges: 2_400 });
+//! let mesh = memory.pave(&outline, &Settings { size: 1.0, sweeps: 400, passes: 600 })?;
+//! assert_eq!((mesh.node_count(), mesh.quad_count(), mesh.end()), (80, 44, End::Still));
+//! assert_eq!(mesh.quads().next(), Some([0, 1, 40, 31]));
+//! assert!(!mesh.is_whole());
+//!
 //! // A refusal says what is wrong and what to do about it.
 //! let refusal = contains(&outline, [f64::NAN, 0.0]).unwrap_err();
 //! assert_eq!(refusal, Refusal::NotFinite);
@@ -44,6 +52,6 @@ mod queries;
 mod refusal;
 
 pub use field::{direction, field, FieldRecord};
-pub use pave::{pave, End, Lists, Memory, Mesh, Places, Settings, OFF};
+pub use pave::{pave, pave_numbers, End, Lists, Memory, Mesh, Places, Settings, OFF};
 pub use queries::{contains, distance_to_boundary, nearest_segment, NearestSegment, Outline};
 pub use refusal::Refusal;

@@ -191,13 +191,36 @@ impl<'a> Mesh<'a> {
 /// # Errors
 ///
 /// Those of [`crate::field`], then [`Refusal::FrontNeedsSpace`]. Nothing is written then.
-pub fn pave<'a>(outline: &Outline<'_>, settings: &Settings, lists: Lists<'a>) -> Result<Mesh<'a>, Refusal> {
+pub fn pave<'a>(outline: &Outline<'_>, settings: &Settings, mut lists: Lists<'a>) -> Result<Mesh<'a>, Refusal> {
+    let answer = pave_numbers(outline, settings, &mut lists);
+    Refusal::check(answer.refusal)?;
+    let ffi::PaveAnswer { end, whole, xmin, ymin, h, nx, ny, front, .. } = answer;
+    let record = FieldRecord { xmin, ymin, h, nx, ny };
+    let (field_nodes, nodes) = (record.nodes(), answer.nodes as usize);
+    Ok(Mesh {
+        end: End::of_number(end),
+        whole,
+        record,
+        values: &lists.values[..2 * field_nodes],
+        marks: &lists.marks[..field_nodes],
+        xs: &lists.xs[..nodes],
+        ys: &lists.ys[..nodes],
+        next: &lists.next[..nodes],
+        prev: &lists.prev[..nodes],
+        quads: &lists.quads[..4 * answer.quads],
+        edges: &lists.edges[..2 * answer.edges],
+        front,
+        loops: &lists.loops[..answer.ids],
+        lengths: &lists.lengths[..answer.loops],
+    })
+}
+
+/// As [`pave`], with the numbers as they cross.
+pub fn pave_numbers(outline: &Outline<'_>, settings: &Settings, lists: &mut Lists<'_>) -> ffi::PaveAnswer {
     let Outline { outer, holes, hole_lengths: lens } = outline;
-    let Settings { size, sweeps, passes } = *settings;
-    let Lists { values, marks, xs, ys, next, prev, snapshot, quads, edges, loops, lengths } = lists;
     // SAFETY: each pointer comes with the length of its slice, and the slices live until the call returns; those that may be
     // written are borrowed for that. The entry is proved to read and write nothing else.
-    let answer = unsafe {
+    unsafe {
         ffi::sitjorbe_pave(
             outer.as_ptr(),
             outer.len(),
@@ -205,53 +228,33 @@ pub fn pave<'a>(outline: &Outline<'_>, settings: &Settings, lists: Lists<'a>) ->
             holes.len(),
             lens.as_ptr(),
             lens.len(),
-            size,
-            sweeps,
-            passes,
-            values.as_mut_ptr(),
-            values.len(),
-            marks.as_mut_ptr(),
-            marks.len(),
-            xs.as_mut_ptr(),
-            xs.len(),
-            ys.as_mut_ptr(),
-            ys.len(),
-            next.as_mut_ptr(),
-            next.len(),
-            prev.as_mut_ptr(),
-            prev.len(),
-            snapshot.as_mut_ptr(),
-            snapshot.len(),
-            quads.as_mut_ptr(),
-            quads.len(),
-            edges.as_mut_ptr(),
-            edges.len(),
-            loops.as_mut_ptr(),
-            loops.len(),
-            lengths.as_mut_ptr(),
-            lengths.len(),
+            settings.size,
+            settings.sweeps,
+            settings.passes,
+            lists.values.as_mut_ptr(),
+            lists.values.len(),
+            lists.marks.as_mut_ptr(),
+            lists.marks.len(),
+            lists.xs.as_mut_ptr(),
+            lists.xs.len(),
+            lists.ys.as_mut_ptr(),
+            lists.ys.len(),
+            lists.next.as_mut_ptr(),
+            lists.next.len(),
+            lists.prev.as_mut_ptr(),
+            lists.prev.len(),
+            lists.snapshot.as_mut_ptr(),
+            lists.snapshot.len(),
+            lists.quads.as_mut_ptr(),
+            lists.quads.len(),
+            lists.edges.as_mut_ptr(),
+            lists.edges.len(),
+            lists.loops.as_mut_ptr(),
+            lists.loops.len(),
+            lists.lengths.as_mut_ptr(),
+            lists.lengths.len(),
         )
-    };
-    Refusal::check(answer.refusal)?;
-    let ffi::PaveAnswer { end, whole, xmin, ymin, h, nx, ny, .. } = answer;
-    let record = FieldRecord { xmin, ymin, h, nx, ny };
-    let (field_nodes, nodes) = (record.nodes(), answer.nodes as usize);
-    Ok(Mesh {
-        end: End::of_number(end),
-        whole,
-        record,
-        values: &values[..2 * field_nodes],
-        marks: &marks[..field_nodes],
-        xs: &xs[..nodes],
-        ys: &ys[..nodes],
-        next: &next[..nodes],
-        prev: &prev[..nodes],
-        quads: &quads[..4 * answer.quads],
-        edges: &edges[..2 * answer.edges],
-        front: answer.front,
-        loops: &loops[..answer.ids],
-        lengths: &lengths[..answer.loops],
-    })
+    }
 }
 
 /// How many places a host has for a run.

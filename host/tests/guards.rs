@@ -1,9 +1,9 @@
-//! Nothing that is lent for reading is written, and nothing beside it is read. A field is written within its lists alone.
+//! Nothing that is lent for reading is written, and nothing beside it is read. A field and a run are written within their lists alone.
 
 mod common;
 
-use common::{refused, Drawing, FieldPlaces, Lent, Raw};
-use sitjorbe::{direction, ffi};
+use common::{list_lengths, refused, said, used, Drawing, FieldPlaces, Lent, Raw, RunPlaces};
+use sitjorbe::{direction, ffi, pave, Lists, Memory, Outline, Places, Refusal, Settings};
 
 /// Drawings and points that are accepted and refused.
 fn queries() -> Vec<(Drawing, [f64; 2])> {
@@ -88,6 +88,82 @@ fn a_field_is_written_and_read_within_its_lists() {
             let of_pages = direction(&record, lent_values.list(), lent_marks.list(), point, [0.3, -1.0]);
             assert_eq!(of_pages, direction(&record, values, marks, point, [0.3, -1.0]), "{point:?}");
         }
+    }
+}
+
+#[test]
+fn the_guards_of_a_run_show_a_write() {
+    let lengths = list_lengths(Places { field_nodes: 4, nodes: 5, quads: 6, edges: 7 });
+    let nothing = RunPlaces::new(lengths);
+    assert_eq!(nothing.written_past([0; 11]), [""; 0]);
+    let mut places = RunPlaces::new(lengths);
+    let Lists { values, marks, lengths: last, .. } = places.lists();
+    (values[7], marks[0], last[4]) = (1.0, 1, 1);
+    assert_eq!(places.written_past([0; 11]), ["values", "marks", "lengths"]);
+    assert_eq!(places.written_past([8, 0, 0, 0, 0, 0, 0, 0, 0, 0, 4]), ["marks", "lengths"]);
+    assert_eq!(places.written_past([7, 1, 0, 0, 0, 0, 0, 0, 0, 0, 5]), ["values"]);
+}
+
+/// The outline in read-only memory, and each of the eleven lists of a run, just as long as the run needs, in memory of its own
+/// between pages that can't be touched: a run that ends still, runs that are full where a list is shorter, and refused ones.
+#[cfg(target_os = "linux")]
+#[test]
+fn a_run_is_written_and_read_within_its_lists() {
+    let (drawing, _) = queries().swap_remove(0);
+    let settings = Settings { size: 0.5, sweeps: 400, passes: 600 };
+    let mut memory = Memory::new(Places { field_nodes: 1_600, nodes: 800, quads: 800, edges: 2_400 });
+    let mesh = memory.pave(&drawing.outline(), &settings).unwrap();
+    let (field_nodes, nodes) = (mesh.record().nodes(), mesh.node_count());
+    let enough = Places { field_nodes, nodes, quads: mesh.quad_count(), edges: mesh.edge_count() };
+    assert!(mesh.quad_count() > 10 && !mesh.is_whole(), "{mesh:?}");
+
+    for (places, refusal) in [
+        (enough, None),
+        (Places { nodes: nodes - 3, ..enough }, None),
+        (Places { quads: enough.quads - 3, ..enough }, None),
+        (Places { edges: enough.edges - 3, ..enough }, None),
+        (Places { field_nodes: field_nodes - 1, ..enough }, Some(Refusal::FieldNeedsSpace)),
+        (Places { nodes: 3, ..enough }, Some(Refusal::FrontNeedsSpace)),
+        (Places { edges: 0, ..enough }, Some(Refusal::FrontNeedsSpace)),
+    ] {
+        let mut usual = RunPlaces::new(list_lengths(places));
+        let expected = usual.pave(&drawing.outline(), &settings).map(|mesh| (said(&mesh), used(&mesh)));
+        assert_eq!(expected.as_ref().err(), refusal.as_ref(), "{places:?}");
+        for side in [pages::Side::Start, pages::Side::End] {
+            let outline = [&drawing.outer, &drawing.holes].map(|list| pages::Pages::read_only(list, side));
+            let lengths = pages::Pages::read_only(&drawing.hole_lengths, side);
+            let outline = Outline { outer: outline[0].list(), holes: outline[1].list(), hole_lengths: lengths.list() };
+            let mut pages = RunPages::new(list_lengths(places), side);
+            let found = pave(&outline, &settings, pages.lists()).map(|mesh| (said(&mesh), used(&mesh)));
+            assert_eq!(found, expected, "{places:?}");
+        }
+    }
+}
+
+/// A run's lists, each in pages of its own.
+#[cfg(target_os = "linux")]
+struct RunPages {
+    floats: [pages::Pages<f64>; 3],
+    marks: pages::Pages<u8>,
+    numbers: [pages::Pages<u32>; 7],
+}
+
+#[cfg(target_os = "linux")]
+impl RunPages {
+    fn new(lengths: [usize; 11], side: pages::Side) -> RunPages {
+        let [values, marks, xs, ys, numbers @ ..] = lengths;
+        RunPages {
+            floats: [values, xs, ys].map(|length| pages::Pages::writable(&vec![-7.5; length], side)),
+            marks: pages::Pages::writable(&vec![7; marks], side),
+            numbers: numbers.map(|length| pages::Pages::writable(&vec![7; length], side)),
+        }
+    }
+
+    fn lists(&mut self) -> Lists<'_> {
+        let [values, xs, ys] = self.floats.each_mut().map(pages::Pages::list_mut);
+        let [next, prev, snapshot, quads, edges, loops, lengths] = self.numbers.each_mut().map(pages::Pages::list_mut);
+        let marks = self.marks.list_mut();
+        Lists { values, marks, xs, ys, next, prev, snapshot, quads, edges, loops, lengths }
     }
 }
 

@@ -1,22 +1,306 @@
-//! Whole runs: document 01's examples.
+//! Whole runs through the wrappers: document 01's examples, each end that small places can reach, every refusal, and guards.
 
 mod common;
 
-use common::Drawing;
-use sitjorbe::{End, Memory, Places, Settings};
+use std::fmt::Write;
+
+use common::{list_lengths, refused, said, used, Drawing, Lent, RunPlaces, LISTS};
+use sitjorbe::{contains, ffi, field, pave_numbers, End, Memory, Mesh, Places, Refusal, Settings};
 
 /// The places that document 01's program lends.
 const PROGRAM: Places = Places { field_nodes: 1_600, nodes: 800, quads: 800, edges: 2_400 };
 
+/// Document 01's settings for its worked square.
+const USUAL: Settings = Settings { size: 1.0, sweeps: 400, passes: 600 };
+
+/// Just what the worked square needs.
+const SQUARE: Places = Places { field_nodes: 49, nodes: 9, quads: 4, edges: 12 };
+
+/// A mesh as document 01 lists it.
+fn listing(mesh: &Mesh<'_>) -> String {
+    let counts = [mesh.node_count(), mesh.quad_count(), mesh.front_count()].map(|n| n.to_string()).join(" ");
+    let mut text = format!("mesh {counts} {} {}\n", mesh.end(), if mesh.is_whole() { "whole" } else { "open" });
+    let ids = |ids: &[u32]| ids.iter().map(|id| format!(" {id}")).collect::<String>();
+    mesh.nodes().for_each(|[x, y]| writeln!(text, "n {:016x} {:016x}", x.to_bits(), y.to_bits()).unwrap());
+    mesh.quads().for_each(|quad| writeln!(text, "q{}", ids(&quad)).unwrap());
+    mesh.front_loops().for_each(|front| writeln!(text, "l{}", ids(front)).unwrap());
+    text
+}
+
 #[test]
-fn the_worked_square() {
+fn the_worked_square_is_document_01s() {
     let mut memory = Memory::new(PROGRAM);
-    let settings = Settings { size: 1.0, sweeps: 400, passes: 600 };
-    let mesh = memory.pave(&Drawing::square(2.0).outline(), &settings).unwrap();
-    assert_eq!((mesh.node_count(), mesh.quad_count(), mesh.front_count()), (9, 4, 2));
-    assert_eq!((mesh.end(), mesh.is_whole()), (End::Still, true));
-    let nodes = [[0, 0], [1, 0], [2, 0], [2, 1], [2, 2], [1, 2], [0, 2], [0, 1], [1, 1]];
-    assert!(mesh.nodes().eq(nodes.map(|node| node.map(f64::from))));
-    assert!(mesh.quads().eq([[0, 1, 8, 7], [1, 2, 3, 8], [3, 4, 5, 8], [5, 6, 7, 8]]));
-    assert_eq!(mesh.front_loops().len(), 0);
+    let mesh = memory.pave(&Drawing::square(2.0).outline(), &USUAL).unwrap();
+    let expected = "\
+mesh 9 4 2 still whole
+n 0000000000000000 0000000000000000
+n 3ff0000000000000 0000000000000000
+n 4000000000000000 0000000000000000
+n 4000000000000000 3ff0000000000000
+n 4000000000000000 4000000000000000
+n 3ff0000000000000 4000000000000000
+n 0000000000000000 4000000000000000
+n 0000000000000000 3ff0000000000000
+n 3ff0000000000000 3ff0000000000000
+q 0 1 8 7
+q 1 2 3 8
+q 3 4 5 8
+q 5 6 7 8
+";
+    assert_eq!(listing(&mesh), expected);
+    // Twelve distinct edges: eight of the outline, and four to the node in the middle.
+    assert!(mesh.edges().skip(8).eq([[1, 8], [7, 8], [3, 8], [5, 8]]));
+    // Of the front a loop of two is left, which isn't listed.
+    assert!(mesh.front().eq([[7, 8], [8, 7]]));
+    assert_eq!((mesh.links().0[7], mesh.links().1[7], mesh.links().0[0]), (8, 8, sitjorbe::OFF));
+}
+
+#[test]
+fn a_triangle_gets_the_midpoint_of_its_last_longest_edge() {
+    let triangle = Drawing::of_loops(&[vec![[0.0, 0.0], [2.0, 0.0], [1.0, 2.0]]]);
+    let mut memory = Memory::new(PROGRAM);
+    let mesh = memory.pave(&triangle.outline(), &Settings { size: 3.0, ..USUAL }).unwrap();
+    assert!(mesh.nodes().eq([[0.0, 0.0], [2.0, 0.0], [1.0, 2.0], [0.5, 1.0]]));
+    assert_eq!((mesh.quad_count(), mesh.front_count(), mesh.end(), mesh.is_whole()), (0, 4, End::Still, false));
+    assert!(mesh.front_loops().eq([[0, 1, 2, 3]]));
+}
+
+#[test]
+fn a_square_of_side_four_gets_its_25_nodes() {
+    let mut memory = Memory::new(PROGRAM);
+    let mesh = memory.pave(&Drawing::square(4.0).outline(), &USUAL).unwrap();
+    assert_eq!((mesh.node_count(), mesh.quad_count(), mesh.front_count()), (25, 16, 2));
+    assert_eq!((mesh.end(), mesh.is_whole(), mesh.loop_count()), (End::Still, true, 0));
+    // Each point of whole coordinates once, and each unit square once, turning left.
+    let nodes: Vec<[f64; 2]> = mesh.nodes().collect();
+    let mut corners: Vec<[f64; 2]> = mesh.quads().map(|quad| lowest(&nodes, quad)).collect();
+    let grid = |n: u32| (0..n * n).map(move |k| [f64::from(k / n), f64::from(k % n)]);
+    corners.sort_by(|a, b| a.partial_cmp(b).unwrap());
+    assert!(corners.into_iter().eq(grid(4)));
+    let mut sorted = nodes.clone();
+    sorted.sort_by(|a, b| a.partial_cmp(b).unwrap());
+    assert!(sorted.into_iter().eq(grid(5)));
+}
+
+/// The lower left corner of a unit square that is run to the left, from whichever corner.
+fn lowest(nodes: &[[f64; 2]], quad: [u32; 4]) -> [f64; 2] {
+    let at = |k: usize| nodes[quad[k % 4] as usize];
+    let steps = [0, 1, 2, 3].map(|k| [at(k + 1)[0] - at(k)[0], at(k + 1)[1] - at(k)[1]]);
+    let right = steps.iter().position(|step| *step == [1.0, 0.0]).expect("a side to the right");
+    assert_eq!([1, 2, 3].map(|k| steps[(right + k) % 4]), [[0.0, 1.0], [-1.0, 0.0], [0.0, -1.0]]);
+    at(right)
+}
+
+/// A square of side 6 with a square of side 2 in the middle.
+fn ring() -> Drawing {
+    let square = |low: f64, high: f64| vec![[low, low], [high, low], [high, high], [low, high]];
+    Drawing::of_loops(&[square(0.0, 6.0), square(2.0, 4.0)])
+}
+
+#[test]
+fn what_stays_open_is_listed() {
+    let (ring, mut memory) = (ring(), Memory::new(PROGRAM));
+    // A row of quads along the outer loop; the hole's loop and the row's inner side stay, a size apart.
+    let mesh = memory.pave(&ring.outline(), &USUAL).unwrap();
+    assert_eq!((mesh.node_count(), mesh.quad_count(), mesh.front_count()), (24 + 8 + 16, 20, 8 + 16));
+    assert_eq!((mesh.end(), mesh.is_whole(), mesh.loop_count()), (End::Still, false, 2));
+    let loops: Vec<Vec<u32>> = mesh.front_loops().map(<[u32]>::to_vec).collect();
+    assert_eq!(loops[0], [24, 31, 30, 29, 28, 27, 26, 25], "a hole runs to the right");
+    assert_eq!(loops[1], (32..48).collect::<Vec<u32>>());
+    // Each front edge is in a loop, from a node to the next.
+    let mut edges: Vec<[u32; 2]> =
+        loops.iter().flat_map(|ids| (0..ids.len()).map(|k| [ids[k], ids[(k + 1) % ids.len()]])).collect();
+    edges.sort();
+    assert!(mesh.front().eq(edges));
+}
+
+#[test]
+fn a_runs_field_is_the_fields_own() {
+    let (ring, mut memory) = (ring(), Memory::new(PROGRAM));
+    let (mut values, mut marks) = (vec![0.0; 3_200], vec![0; 1_600]);
+    let record = field(&ring.outline(), 1.0, 400, &mut values, &mut marks).unwrap();
+    let mesh = memory.pave(&ring.outline(), &USUAL).unwrap();
+    assert_eq!(mesh.record(), record);
+    assert_eq!(mesh.field(), (&values[..2 * record.nodes()], &marks[..record.nodes()]));
+}
+
+#[test]
+fn a_run_ends_by_its_passes() {
+    let (square, mut memory) = (Drawing::square(2.0), Memory::new(PROGRAM));
+    let mut ends = |passes| {
+        let mesh = memory.pave(&square.outline(), &Settings { passes, ..USUAL }).unwrap();
+        (mesh.end(), mesh.node_count(), mesh.quad_count(), mesh.front_count(), mesh.loop_count())
+    };
+    assert_eq!(ends(0), (End::Passes, 8, 0, 8, 1), "none is allowed");
+    assert_eq!(ends(1), (End::Passes, 9, 4, 2, 0), "the only one placed something");
+    for passes in [2, 600, 601, usize::MAX] {
+        assert_eq!(ends(passes), (End::Still, 9, 4, 2, 0), "the second of {passes} placed nothing");
+    }
+}
+
+#[test]
+fn a_run_ends_where_the_lists_are_full() {
+    let square = Drawing::square(2.0);
+    let mut memory = Memory::new(PROGRAM);
+    let all: Vec<[u32; 4]> = memory.pave(&square.outline(), &USUAL).unwrap().quads().collect();
+    let ends = |lengths: [usize; 11], quads: usize, end: End, what: &str| {
+        let mut places = RunPlaces::new(lengths);
+        let mesh = places.pave(&square.outline(), &USUAL).unwrap();
+        assert_eq!((mesh.end(), mesh.quad_count()), (end, quads), "{what}");
+        assert!(mesh.quads().eq(all[..quads].iter().copied()), "{what}: the first quads of the run");
+        let used = used(&mesh);
+        assert_eq!(places.written_past(used), [""; 0], "{what}");
+    };
+    let shorter = |list: &str, by: usize| {
+        let mut lengths = list_lengths(SQUARE);
+        lengths[LISTS.iter().position(|name| *name == list).unwrap()] -= by;
+        lengths
+    };
+    ends(list_lengths(SQUARE), 4, End::Still, "just enough");
+    // The first quad needs node 8, each has a place, and the new edges are 1 8 and 7 8, then 3 8, then 5 8, then none.
+    for list in ["xs", "ys", "next", "prev", "snapshot", "loops", "lengths"] {
+        ends(shorter(list, 1), 0, End::Full, list);
+    }
+    for (by, quads) in [(1, 3), (4, 3), (5, 2), (8, 2), (9, 1), (13, 0), (16, 0)] {
+        ends(shorter("quads", by), quads, End::Full, "quads");
+    }
+    for (by, quads) in [(1, 2), (2, 2), (3, 1), (4, 1), (5, 0), (8, 0)] {
+        ends(shorter("edges", by), quads, End::Full, "edges");
+    }
+    ends(
+        list_lengths(Places { quads: 1, edges: 8, ..SQUARE }),
+        0,
+        End::Full,
+        "a place for a quad, and none for its edges",
+    );
+}
+
+#[test]
+fn no_run_writes_past_what_it_counts() {
+    let askew = Drawing::of_loops(&[vec![[-3.0, 0.5], [4.0, -1.0], [2.5, 5.0], [0.0, 6.5]]]);
+    let mut ends = Vec::new();
+    for drawing in [Drawing::square(2.0), ring(), askew] {
+        for (size, passes, nodes) in [(1.0, 600, 800), (0.7, 1, 800), (0.5, 600, 85), (1.3, 600, 800), (2.0, 0, 800)] {
+            let (settings, room) = (Settings { size, passes, ..USUAL }, Places { nodes, ..PROGRAM });
+            let (lent, mut places, mut memory) =
+                (Lent::new(&drawing), RunPlaces::new(list_lengths(room)), Memory::new(room));
+            let mesh = places.pave(&lent.outline(), &settings).unwrap();
+            let usual = memory.pave(&drawing.outline(), &settings).unwrap();
+            assert_eq!(said(&mesh), said(&usual), "the lists' old contents don't count");
+            ends.push(mesh.end());
+            let used = used(&mesh);
+            assert_eq!(places.written_past(used), [""; 0], "{drawing:?} {settings:?} {nodes}");
+            assert!(lent.kept());
+        }
+    }
+    assert!([End::Still, End::Passes, End::Full].iter().all(|end| ends.contains(end)), "{ends:?}");
+}
+
+#[test]
+fn memory_serves_one_run_after_the_other() {
+    let (square, ring) = (Drawing::square(2.0), ring());
+    let mut memory = Memory::new(PROGRAM);
+    let first = said(&memory.pave(&ring.outline(), &USUAL).unwrap());
+    memory.pave(&square.outline(), &USUAL).unwrap();
+    assert!(memory.pave(&square.outline(), &Settings { size: 0.0, ..USUAL }).is_err());
+    assert_eq!(said(&memory.pave(&ring.outline(), &USUAL).unwrap()), first);
+}
+
+/// What is asked of a run.
+#[derive(Clone)]
+struct Asked {
+    drawing: Drawing,
+    settings: Settings,
+    lengths: [usize; 11],
+}
+
+/// A run of the ring that is refused for nothing.
+fn accepted() -> Asked {
+    Asked { drawing: ring(), settings: USUAL, lengths: list_lengths(PROGRAM) }
+}
+
+impl Asked {
+    /// The answer as it crosses, with the outline's lists and those that are written between guards.
+    fn raw(&self) -> (ffi::PaveAnswer, Lent, RunPlaces) {
+        let (lent, mut places) = (Lent::new(&self.drawing), RunPlaces::new(self.lengths));
+        let answer = pave_numbers(&lent.outline(), &self.settings, &mut places.lists());
+        (answer, lent, places)
+    }
+
+    /// Sees to it that this is refused with the number, that all else is 0, and that nothing lent is written.
+    fn assert_refused(&self, number: u32, what: &str) {
+        let (answer, lent, places) = self.raw();
+        let ffi::PaveAnswer { refusal, end, whole, xmin, ymin, h, nx, ny, nodes, quads, edges, front, loops, ids } =
+            answer;
+        assert_eq!(refusal, number, "{what}");
+        assert_eq!((end, whole, [xmin, ymin, h].map(f64::to_bits), nodes), (0, false, [0; 3], 0), "{what}");
+        assert_eq!([nx, ny, quads, edges, front, loops, ids], [0; 7], "{what}");
+        assert!(lent.kept(), "{what}: the outline is written");
+        assert_eq!(places.written_past([0; 11]), [""; 0], "{what}");
+        let mut places = RunPlaces::new(self.lengths);
+        let refusal = places.pave(&self.drawing.outline(), &self.settings).err();
+        assert_eq!(refusal, Refusal::of_number(number), "{what}: through the wrapper");
+    }
+}
+
+/// A cause of each refusal, in the order of the numbers. Each may be given to a run that has any of those after it.
+const CAUSES: [fn(&mut Asked); 10] = [
+    |asked| asked.drawing.holes.push(1.0),
+    |asked| asked.drawing.outer.truncate(4),
+    |asked| asked.drawing.holes[2] = f64::NAN,
+    |asked| asked.drawing.holes[1] = -1_001.0,
+    |asked| asked.settings.size = 0.0,
+    |asked| asked.settings.size = 101.0,
+    |asked| asked.drawing.outer.chunks_mut(2).chain(asked.drawing.holes.chunks_mut(2)).for_each(|point| point[0] = 3.0),
+    |asked| asked.settings.sweeps = 1_001,
+    |asked| asked.lengths[1] = 1,
+    |asked| asked.lengths[8] = 0,
+];
+
+#[test]
+fn of_any_causes_the_least_number_is_answered() {
+    assert_eq!(accepted().raw().0.refusal, 0);
+    for causes in 1u32..1 << 10 {
+        let mut asked = accepted();
+        let given = |k: &usize| causes >> k & 1 == 1;
+        (0..10).rev().filter(given).for_each(|k| CAUSES[k](&mut asked));
+        asked.assert_refused(
+            1 + causes.trailing_zeros(),
+            &format!("causes {:?}", (0..10).filter(given).collect::<Vec<_>>()),
+        );
+    }
+}
+
+#[test]
+fn every_cause_is_refused_alone() {
+    let of_outline = refused().into_iter().filter(|(_, drawing, ..)| contains(&drawing.outline(), [0.0, 0.0]).is_err());
+    for (what, drawing, _, number) in of_outline {
+        Asked { drawing, ..accepted() }.assert_refused(number, what);
+    }
+    let sizes =
+        [(f64::NAN, 5), (f64::INFINITY, 5), (-0.0, 5), (-1.0, 5), (0.01f64.next_down(), 6), (100f64.next_up(), 6)];
+    for (size, number) in sizes {
+        Asked { settings: Settings { size, ..USUAL }, ..accepted() }.assert_refused(number, &format!("size {size}"));
+    }
+    let level = Drawing::of_loops(&[vec![[0.0, 1.0], [1.0, 1.0], [2.0, 1.0]]]);
+    Asked { drawing: level, ..accepted() }.assert_refused(7, "no height");
+    Asked { settings: Settings { sweeps: usize::MAX, ..USUAL }, ..accepted() }
+        .assert_refused(8, "as many sweeps as there can be");
+}
+
+/// With just the places that the field and the sampled outline need a run isn't refused; with one fewer in any list it is.
+#[test]
+fn the_shortest_list_counts() {
+    let square = || Drawing::square(2.0);
+    let needed = list_lengths(Places { field_nodes: 49, nodes: 8, quads: 0, edges: 8 });
+    let just = Asked { drawing: square(), settings: USUAL, lengths: needed };
+    assert_eq!((just.raw().0.refusal, just.raw().0.end), (0, End::Full as u32));
+    let numbers = [9, 9, 10, 10, 10, 10, 10, 0, 10, 10, 10];
+    for (k, number) in numbers.into_iter().enumerate().filter(|(_, number)| *number != 0) {
+        for length in [needed[k] - 1, 0] {
+            let mut lengths = list_lengths(PROGRAM);
+            lengths[k] = length;
+            Asked { drawing: square(), settings: USUAL, lengths }.assert_refused(number, LISTS[k]);
+        }
+    }
 }

@@ -7,7 +7,7 @@ pub mod whole;
 
 use std::hint::black_box;
 
-use sitjorbe::{ffi, field, FieldRecord, Outline, Refusal};
+use sitjorbe::{ffi, field, pave, FieldRecord, Lists, Mesh, Outline, Places, Refusal, Settings};
 
 /// An outline that owns its lists.
 #[derive(Clone, Debug, Default)]
@@ -159,6 +159,94 @@ impl FieldPlaces {
     /// Whether nothing was written but the first nodes' values and marks.
     pub fn kept_past(&self, nodes: usize) -> bool {
         self.values.kept_from(2 * nodes) && self.marks.kept_from(nodes)
+    }
+}
+
+/// The lists lent to a run, in the entry's order. The arrays of eleven lengths below have it too.
+pub const LISTS: [&str; 11] =
+    ["values", "marks", "xs", "ys", "next", "prev", "snapshot", "quads", "edges", "loops", "lengths"];
+
+/// The lengths of lists with so many places.
+pub fn list_lengths(places: Places) -> [usize; 11] {
+    let Places { field_nodes: f, nodes: n, quads: q, edges: e } = places;
+    [2 * f, f, n, n, n, n, n, 4 * q, 2 * e, n, n]
+}
+
+/// How many places of each list a mesh has used.
+pub fn used(mesh: &Mesh<'_>) -> [usize; 11] {
+    let (f, n) = (mesh.record().nodes(), mesh.node_count());
+    let ids = mesh.front_loops().map(<[u32]>::len).sum();
+    [2 * f, f, n, n, n, n, n, 4 * mesh.quad_count(), 2 * mesh.edge_count(), ids, mesh.loop_count()]
+}
+
+/// All that a mesh says, as bits.
+pub fn said(mesh: &Mesh<'_>) -> Vec<Vec<u64>> {
+    let FieldRecord { xmin, ymin, h, nx, ny } = mesh.record();
+    let ((values, marks), (next, prev)) = (mesh.field(), mesh.links());
+    let numbers = [mesh.end() as usize, usize::from(mesh.is_whole()), nx, ny, mesh.front_count(), mesh.loop_count()];
+    let mut all = vec![bits(&numbers), bits(&[xmin, ymin, h]), bits(values), bits(marks), bits(next), bits(prev)];
+    all.push(mesh.nodes().flatten().map(Place::bits).collect());
+    all.push(mesh.quads().flatten().map(Place::bits).collect());
+    all.push(mesh.edges().flatten().map(Place::bits).collect());
+    all.extend(mesh.front_loops().map(bits));
+    all
+}
+
+fn bits<T: Place>(list: &[T]) -> Vec<u64> {
+    list.iter().map(|place| place.bits()).collect()
+}
+
+/// A run's lists, each with its guards, filled with numbers that no run writes there.
+pub struct RunPlaces {
+    pub values: Guarded<f64>,
+    pub marks: Guarded<u8>,
+    pub xs: Guarded<f64>,
+    pub ys: Guarded<f64>,
+    /// From `next` to `lengths`.
+    pub numbers: [Guarded<u32>; 7],
+}
+
+impl RunPlaces {
+    pub fn new(lengths: [usize; 11]) -> RunPlaces {
+        let [values, marks, xs, ys, numbers @ ..] = lengths;
+        RunPlaces {
+            values: Guarded::new(&vec![-7.5; values]),
+            marks: Guarded::new(&vec![0xa5; marks]),
+            xs: Guarded::new(&vec![-7.5; xs]),
+            ys: Guarded::new(&vec![-7.5; ys]),
+            numbers: numbers.map(|length| Guarded::new(&vec![0xa5a5_a5a5; length])),
+        }
+    }
+
+    pub fn lists(&mut self) -> Lists<'_> {
+        let [next, prev, snapshot, quads, edges, loops, lengths] = self.numbers.each_mut().map(Guarded::list_mut);
+        Lists {
+            values: self.values.list_mut(),
+            marks: self.marks.list_mut(),
+            xs: self.xs.list_mut(),
+            ys: self.ys.list_mut(),
+            next,
+            prev,
+            snapshot,
+            quads,
+            edges,
+            loops,
+            lengths,
+        }
+    }
+
+    /// Asks the wrapper for a run in these places.
+    pub fn pave(&mut self, outline: &Outline<'_>, settings: &Settings) -> Result<Mesh<'_>, Refusal> {
+        pave(outline, settings, self.lists())
+    }
+
+    /// The lists of which something was written past so many places, or beside the list.
+    pub fn written_past(&self, used: [usize; 11]) -> Vec<&'static str> {
+        let [values, marks, xs, ys, numbers @ ..] = used;
+        let mut kept = vec![self.values.kept_from(values), self.marks.kept_from(marks)];
+        kept.extend([self.xs.kept_from(xs), self.ys.kept_from(ys)]);
+        kept.extend(self.numbers.iter().zip(numbers).map(|(list, used)| list.kept_from(used)));
+        LISTS.into_iter().zip(kept).filter(|(_, kept)| !kept).map(|(name, _)| name).collect()
     }
 }
 

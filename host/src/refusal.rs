@@ -97,16 +97,19 @@ impl Refusal {
             Refusal::SizeOutOfRange => "the element size is below 0.01 or above 100: set one between them, or change the unit",
             Refusal::Flat => "the outline has no width or no height: draw points that aren't all in one row or column",
             Refusal::TooManySweeps => "more than 1,000 sweeps are asked for: ask for 1,000 or fewer",
-            Refusal::FieldNeedsSpace => "the field has more nodes than were lent: lend longer lists, or set a larger size",
+            Refusal::FieldNeedsSpace => "the field has more nodes than were lent: set a larger size, or lend longer lists",
             Refusal::FrontNeedsSpace => {
-                "the sampled outline has more nodes than the lent node or edge places: lend longer lists, or set a larger size"
+                "the sampled outline has more nodes than the lent node or edge places: set a larger size, or lend longer lists"
             }
             Refusal::NoFieldRecord => {
                 "the field record isn't one: hand over the record, values and marks as the field entry answered them"
             }
-            Refusal::WrongCheck => "a block of the file has a wrong check: the file is damaged, so fetch it again",
+            Refusal::WrongCheck => {
+                "a block of the file has a wrong check: the file is damaged, so fetch it again, or write it anew from the outline"
+            }
             Refusal::WrongFile => {
-                "the file has a wrong length, a wrong count, or something where zeros belong: write it anew from the outline"
+                "the file has a wrong length, a wrong count, or something where zeros belong: write it anew from the outline, \
+                 with 1 to 8 loops, at most 248 points in all, and nothing after the last block"
             }
         }
     }

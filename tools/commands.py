@@ -1,0 +1,67 @@
+"""What the commands have in common: reading, writing, and what they say and answer where something is wrong."""
+
+import argparse
+import contextlib
+import pathlib
+import sys
+
+from outlines import Unusable
+from refusals import Refused
+
+REFUSED, CANT = 1, 2
+
+
+def parser(doc):
+    """The parser of a command whose help is its module's first line, then the options, then the rest."""
+    about, rest = doc.split("\n", 1)
+    return argparse.ArgumentParser(description=about, epilog=rest, formatter_class=argparse.RawDescriptionHelpFormatter)
+
+
+@contextlib.contextmanager
+def reading(path):
+    """Says of which file something is that can't be read."""
+    try:
+        yield
+    except Unusable as error:
+        name = "standard input" if path == "-" else path
+        raise Unusable("\n".join(f"{name}: {line}" for line in str(error).split("\n"))) from None
+
+
+def read_bytes(path):
+    return sys.stdin.buffer.read() if path == "-" else pathlib.Path(path).read_bytes()
+
+
+def read_text(path):
+    """The text of a file, with a line feed after each line whatever wrote it."""
+    try:
+        text = read_bytes(path).decode("utf-8-sig")
+    except UnicodeDecodeError:
+        raise Unusable("this isn't text") from None
+    return text.replace("\r\n", "\n").replace("\r", "\n")
+
+
+def write(data, path):
+    """Writes bytes to a file, or to standard output where none is named."""
+    if path:
+        pathlib.Path(path).write_bytes(data)
+    else:
+        sys.stdout.buffer.write(data)
+
+
+def say(command, message):
+    for line in str(message).split("\n"):
+        print(f"{command}: {line}", file=sys.stderr)
+
+
+def run(command, work):
+    """The exit status of a command: 0, 1 if something is refused, 2 if something can't be read or written."""
+    try:
+        return work() or 0
+    except Refused as refusal:
+        say(command, refusal)
+        return REFUSED
+    except Unusable as error:
+        say(command, error)
+    except OSError as error:
+        say(command, f"{error.filename}: {error.strerror}" if error.filename else error.strerror)
+    return CANT

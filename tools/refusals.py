@@ -1,0 +1,38 @@
+"""Document 01's refusals in words: what is wrong, and what to do. The host's words, host/src/refusal.rs, are the same."""
+
+WORDS = {
+    1: ("the outline's lists don't fit together",
+        "lend x and y for every point, hole lengths that add up to the hole points, and at most 65,535 points in all"),
+    2: ("a loop has fewer than three points", "draw at least three, or leave the loop out"),
+    3: ("a coordinate is infinite or not a number",
+        "look for a division by zero or a missing reading where the outline and the point come from"),
+    4: ("a coordinate is beyond 1,000 either way", "move the drawing nearer to the origin or use a larger unit"),
+    5: ("the element size isn't a number above 0", "set one from 0.01 to 100"),
+    6: ("the element size is below 0.01 or above 100", "set one between them, or change the unit"),
+    7: ("the outline has no width or no height", "draw points that aren't all in one row or column"),
+    8: ("more than 1,000 sweeps are asked for", "ask for 1,000 or fewer"),
+    9: ("the field has more nodes than were lent", "set a larger size, or lend longer lists"),
+    10: ("the sampled outline has more nodes than the lent node or edge places", "set a larger size, or lend longer lists"),
+    11: ("the field record isn't one", "hand over the record, values and marks as the field entry answered them"),
+    12: ("a block of the file has a wrong check",
+         "the file is damaged, so fetch it again, or write it anew from the outline"),
+    13: ("the file has a wrong length, a wrong count, or something where zeros belong",
+         "write it anew from the outline, with 1 to 8 loops, at most 248 points in all, and nothing after the last block"),
+}
+
+
+def in_words(number):
+    """The refusal as the host displays it, 'refused (2): a loop has fewer than three points: draw at least three, ..'."""
+    wrong, what_to_do = WORDS[number]
+    return f"refused ({number}): {wrong}: {what_to_do}"
+
+
+class Refused(Exception):
+    """A refusal, and where it comes from or what it counts: '' where there is nothing to say."""
+
+    def __init__(self, number, where=""):
+        super().__init__(in_words(number))
+        self.number, self.where = number, where
+
+    def __str__(self):
+        return in_words(self.number) + (f" ({self.where})" if self.where else "")

@@ -1,0 +1,49 @@
+"""What the tests have in common: where things are, and how the commands and the oracle are asked."""
+
+import pathlib
+import subprocess
+import sys
+
+TOOLS = pathlib.Path(__file__).resolve().parent.parent
+ROOT = TOOLS.parent
+ORACLE = ROOT / "oracle/target/oracle"
+sys.path.insert(0, str(TOOLS))
+
+
+def run(command, *words, data=b""):
+    """Status, standard output as bytes, standard error as text."""
+    result = subprocess.run([command, *map(str, words)], input=data, capture_output=True)
+    return result.returncode, result.stdout, result.stderr.decode()
+
+
+def oracle_there():
+    """Whether the oracle could be built. A build that fails is an error."""
+    status = subprocess.run([ROOT / "oracle/build"], stdout=subprocess.DEVNULL).returncode
+    if status not in (0, 3):
+        raise RuntimeError("the oracle can't be built")
+    return status == 0
+
+
+def ask(*words, data=""):
+    """What the oracle's command prints."""
+    return subprocess.run([ORACLE, *words], input=data, text=True, stdout=subprocess.PIPE, check=True).stdout
+
+
+SQUARE = "0,0\n2,0\n2,2\n0,2\n"
+
+SQUARE_LISTING = """\
+mesh 9 4 2 still whole
+n 0000000000000000 0000000000000000
+n 3ff0000000000000 0000000000000000
+n 4000000000000000 0000000000000000
+n 4000000000000000 3ff0000000000000
+n 4000000000000000 4000000000000000
+n 3ff0000000000000 4000000000000000
+n 0000000000000000 4000000000000000
+n 0000000000000000 3ff0000000000000
+n 3ff0000000000000 3ff0000000000000
+q 0 1 8 7
+q 1 2 3 8
+q 3 4 5 8
+q 5 6 7 8
+"""

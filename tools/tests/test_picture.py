@@ -1,0 +1,170 @@
+"""A listing to a picture: what is read, what is drawn, and what is said where nothing can be."""
+
+import pathlib
+import re
+import tempfile
+import unittest
+import xml.etree.ElementTree
+
+from common import SQUARE, SQUARE_LISTING, TOOLS, run
+import listings
+import outlines
+from outlines import Settings, Unusable
+from refusals import Refused, WORDS, in_words
+
+OPEN = SQUARE_LISTING.replace("mesh 9 4 2 still whole", "mesh 9 3 4 full open").replace("q 5 6 7 8\n", "l 5 6 7 8\n")
+
+
+class Reading(unittest.TestCase):
+    def test_the_square(self):
+        read = listings.read(SQUARE_LISTING)
+        self.assertEqual([(p.x, p.y) for p in read.nodes], [(0, 0), (1, 0), (2, 0), (2, 1), (2, 2), (1, 2), (0, 2), (0, 1), (1, 1)])
+        self.assertEqual(read.quads, [[0, 1, 8, 7], [1, 2, 3, 8], [3, 4, 5, 8], [5, 6, 7, 8]])
+        self.assertEqual((read.front, read.end, read.whole, read.loops), (2, "still", True, []))
+
+    def test_an_open_one(self):
+        read = listings.read(OPEN)
+        self.assertEqual((len(read.quads), read.front, read.end, read.whole, read.loops), (3, 4, "full", False, [[5, 6, 7, 8]]))
+
+    def test_every_refusal(self):
+        for number in WORDS:
+            with self.assertRaises(Refused) as caught:
+                listings.read(f"refused {number}\n")
+            self.assertEqual(str(caught.exception), in_words(number))
+
+    def wrong(self, text, message):
+        with self.assertRaises(Unusable) as caught:
+            listings.read(text)
+        self.assertIn(message, str(caught.exception))
+
+    def test_what_is_no_listing(self):
+        for text in ("", "\n", "refused 14\n", "refused\n", "refused x\n", "mesh 9 4 2 still\n", "mesh 9 4 2 done whole\n", "mesh 9 4 2 still closed\n"):
+            self.wrong(text, "line 1: a listing begins with 'mesh'")
+        self.wrong("mesh -9 4 2 still whole\n", "line 1: a whole number is wanted: -9")
+        self.wrong("mesh 0 0 0 still whole\n", "line 1: 0 nodes and 0 quads are promised, and 0 lines follow")
+        self.wrong("mesh 999999999 999999999 2 still whole\n", "line 1: 999,999,999 nodes and 999,999,999 quads are promised, and 0 lines follow")
+
+    def test_a_damaged_line_is_named(self):
+        lines = SQUARE_LISTING.split("\n")
+
+        def changed(line, text):
+            return "\n".join(lines[:line - 1] + [text] + lines[line:])
+
+        self.wrong(changed(2, "q 0 1 8 7"), "line 2: a line with 'n' is wanted here")
+        self.wrong(changed(3, "n 3ff0000000000000"), "line 3: a node has two coordinates")
+        self.wrong(changed(3, "n 3FF0000000000000 0000000000000000"), "line 3: 16 hexadecimal digits are wanted: 3FF0000000000000")
+        for bits, value in (("7ff0000000000000", "inf"), ("7ff8000000000000", "nan"), ("c08f500000000000", "-1002.0")):
+            self.wrong(changed(4, f"n {bits} 0000000000000000"), f"line 4: no node of a run is beyond 1,001 either way: {bits} is {value}")
+        self.wrong(changed(11, "q 0 1 9 7"), "line 11: there is no node 9")
+        self.wrong(changed(11, "q 0 1 8"), "line 11: a quad has four nodes")
+        self.wrong(changed(11, "q 0 1 8  7"), "line 11: a quad has four nodes")
+        self.wrong("\n".join(lines[:-2]), "line 1: 9 nodes and 4 quads are promised, and 12 lines follow")
+        self.wrong(SQUARE_LISTING + "l 1 2 3\n", "line 1: 'whole' is for no loops and 'open' for some; lines after the quads: 1")
+        self.wrong(OPEN.replace("l 5 6 7 8", "l 5 6"), "line 14: a loop that is listed has three nodes or more")
+        self.wrong(OPEN.replace("l 5 6 7 8\n", ""), "line 1: 'whole' is for no loops and 'open' for some; lines after the quads: 0")
+
+
+class Drawing(unittest.TestCase):
+    def setUp(self):
+        holder = tempfile.TemporaryDirectory()
+        self.addCleanup(holder.cleanup)
+        self.folder = pathlib.Path(holder.name)
+
+    def file(self, name, data):
+        path = self.folder / name
+        path.write_bytes(data if isinstance(data, bytes) else data.encode())
+        return path
+
+    def draw(self, listing, *words):
+        return run(TOOLS / "picture", self.file("field.listing", listing), *words)
+
+    def drawn(self, listing, *words):
+        """The picture's paths by class, and its texts."""
+        status, data, said = self.draw(listing, *words)
+        self.assertEqual((status, said), (0, ""))
+        root = xml.etree.ElementTree.fromstring(data)
+        name = "{http://www.w3.org/2000/svg}"
+        paths = {}
+        for element in root.iter(f"{name}path"):
+            paths.setdefault(element.get("class"), []).append(element.get("d"))
+        return paths, ["".join(element.itertext()) for element in root.iter(f"{name}text")]
+
+    def test_the_square_alone(self):
+        paths, texts = self.drawn(SQUARE_LISTING)
+        self.assertEqual(paths["quads"][0].count("Z"), 4)
+        self.assertEqual(paths["nodes"][0].count("M"), 9)
+        self.assertNotIn("open", paths)
+        self.assertNotIn("outline", paths)
+        for words in ("field", "Whole: nothing is left to pave.", "9 nodes, 4 quads, 2 front edges.",
+                      "Ended still: the last pass placed nothing.", "0°", "2°", "quad", "fixation"):
+            self.assertIn(words, texts)
+        self.assertNotIn("left open", texts)
+
+    def test_an_open_one(self):
+        paths, texts = self.drawn(OPEN)
+        self.assertEqual((paths["quads"][0].count("Z"), paths["open"][0].count("Z")), (3, 1))
+        for words in ("Open: 1 loop of the front remains, drawn red.", "9 nodes, 3 quads, 4 front edges.",
+                      "Ended full: stopped before a quad that no space was lent for.", "left open"):
+            self.assertIn(words, texts)
+
+    def test_where_points_fall(self):
+        paths, _ = self.drawn(SQUARE_LISTING)
+        quad = re.match("M(.*?)Z", paths["quads"][0]).group(1)
+        corners = [tuple(map(float, corner.split(","))) for corner in quad.split(" ")]
+        (ax, ay), (bx, by), (dx, dy), (cx, cy) = corners
+        self.assertTrue(ax == cx < bx == dx and ay == by > cy == dy, "x goes to the right and y upwards")
+        self.assertAlmostEqual(bx - ax, ay - cy, delta=0.02)
+
+    def test_the_outline_as_the_program_read_it(self):
+        hole = "\n0.5,0.5\n0.5,1.5\n1.5,1.5\n"
+        listing = SQUARE_LISTING.replace("mesh 9", "mesh 12").replace(
+            "q 0 1 8 7", "n 3fe0000000000000 3fe0000000000000\nn 3fe0000000000000 3ff8000000000000\nn 3ff8000000000000 3ff8000000000000\nq 0 1 8 7")
+        blocks = outlines.to_blocks(outlines.read_points(SQUARE + hole), Settings(1.0, 400, 1))
+        for outline in (self.file("it.outline", blocks), self.file("it.csv", SQUARE + hole)):
+            paths, texts = self.drawn(listing, "--outline", outline)
+            self.assertEqual((paths["outline"][0].count("Z"), paths["blind"][0].count("Z")), (2, 1))
+            self.assertIn("blind spot", texts)
+            self.assertEqual("Size 1°, 400 sweeps, 1 pass allowed." in texts, outline.suffix == ".outline")
+
+    def test_another_outline_is_not_drawn(self):
+        other = self.file("other.csv", SQUARE.replace("2,2", "2,2.5"))
+        self.assertEqual(self.draw(SQUARE_LISTING, "--outline", other),
+                         (2, b"", f"picture: {other}: the listing is of another outline: it has no node at line 3: 2.0,2.5\n"))
+
+    def test_a_damaged_outline_file(self):
+        blocks = outlines.to_blocks(outlines.read_points(SQUARE), Settings(1.0))
+        damaged = self.file("it.outline", blocks[:600] + b"\1" + blocks[601:])
+        self.assertEqual(self.draw(SQUARE_LISTING, "--outline", damaged), (1, b"", f"picture: {in_words(12)} (block 2)\n"))
+
+    def test_a_refusal_is_said_in_words(self):
+        for number in WORDS:
+            self.assertEqual(self.draw(f"refused {number}\n"), (1, b"", f"picture: {in_words(number)}\n"))
+
+    def test_what_cant_be_read(self):
+        path = self.folder / "field.listing"
+        self.assertEqual(self.draw(SQUARE_LISTING.replace("q 0 1 8 7", "q 0 1 8 99"))[::2],
+                         (2, f"picture: {path}: line 11: there is no node 99\n"))
+        self.assertEqual(self.draw(b"\xff")[::2], (2, f"picture: {path}: this isn't text\n"))
+        self.assertEqual(run(TOOLS / "picture", "/no/such")[::2], (2, "picture: /no/such: No such file or directory\n"))
+
+    def test_numbers_title_and_output(self):
+        target = self.folder / "made.svg"
+        self.assertEqual(self.draw(SQUARE_LISTING, "--numbers", "--title", "A < B & C", "-o", target), (0, b"", ""))
+        _, texts = self.drawn(SQUARE_LISTING, "--numbers", "--title", "A < B & C")
+        self.assertEqual(target.read_bytes(), self.draw(SQUARE_LISTING, "--numbers", "--title", "A < B & C")[1])
+        self.assertIn("A < B & C", texts)
+        self.assertTrue({str(k) for k in range(9)} <= set(texts))
+        self.assertFalse({str(k) for k in range(9)} & set(self.drawn(SQUARE_LISTING)[1]))
+
+    def test_standard_input(self):
+        status, data, _ = run(TOOLS / "picture", "-", data=SQUARE_LISTING.encode())
+        self.assertEqual((status, b">Paved field</title>" in data), (0, True))
+
+    def test_very_small_and_very_large(self):
+        for bits in ("0000000000000001", "408f400000000000"):
+            paths, _ = self.drawn(SQUARE_LISTING.replace("4000000000000000", bits))
+            self.assertNotRegex(paths["quads"][0], "inf|nan")
+
+
+if __name__ == "__main__":
+    unittest.main()

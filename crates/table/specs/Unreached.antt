@@ -178,6 +178,11 @@ pub walk-turns : frontLoops (front 3 (1 ∷ 2 ∷ 2 ∷ [])) ≡ []
 unfolding opened
 walk-turns = refl
 
+-- 0, and into the loop 1, 2, 3, which is found from 1 (the Rust lists nothing: docs/DIFFERENCES.md)
+pub walk-into-a-loop : frontLoops (front 4 (1 ∷ 2 ∷ 3 ∷ 1 ∷ [])) ≡ (1 ∷ 2 ∷ 3 ∷ []) ∷ []
+unfolding opened
+walk-into-a-loop = refl
+
 -- a loop of more nodes than the front has edges
 pub walk-too-long : frontLoops (stateOf [] [] (1 ∷ 2 ∷ 3 ∷ 0 ∷ []) [] [] [] [] (counted 4 0 0 3)) ≡ []
 unfolding opened

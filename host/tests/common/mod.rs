@@ -2,7 +2,6 @@
 #![allow(dead_code)] // each test uses a part of it
 
 pub mod book;
-pub mod lists;
 pub mod whole;
 
 use std::hint::black_box;
@@ -192,7 +191,8 @@ pub fn said(mesh: &Mesh<'_>) -> Vec<Vec<u64>> {
     all
 }
 
-fn bits<T: Place>(list: &[T]) -> Vec<u64> {
+/// The bits of each place.
+pub fn bits<T: Place>(list: &[T]) -> Vec<u64> {
     list.iter().map(|place| place.bits()).collect()
 }
 

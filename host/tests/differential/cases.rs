@@ -2,8 +2,7 @@
 
 use sitjorbe::{FieldRecord, Places};
 
-use crate::common::lists::Lengths;
-use crate::common::Drawing;
+use crate::common::{list_lengths, Drawing};
 
 /// SplitMix64.
 pub struct Rng(pub u64);
@@ -238,7 +237,7 @@ pub fn setting(rng: &mut Rng, drawing: &Drawing) -> Setting {
 }
 
 /// The greater side of the outline's box, as far as it is a number.
-fn extent(drawing: &Drawing) -> f64 {
+pub fn extent(drawing: &Drawing) -> f64 {
     let side = |axis: usize| {
         let along =
             || [&drawing.outer, &drawing.holes].into_iter().flat_map(move |list| list.iter().skip(axis).step_by(2));
@@ -396,18 +395,18 @@ pub fn passes(rng: &mut Rng) -> usize {
 }
 
 /// Lists of which the shortest have these places; of those that hold the same places one is the shortest, and others may be longer.
-pub fn lengths(rng: &mut Rng, places: &Places) -> Lengths {
-    let Places { field_nodes, nodes, quads, edges } = *places;
-    let (shortest, fewer_values) = (rng.below(7), rng.once_in(2));
-    let mut by_node = [nodes; 7];
-    for (k, length) in by_node.iter_mut().enumerate() {
-        *length += if k == shortest { 0 } else { rng.below(4) };
+pub fn lengths(rng: &mut Rng, places: &Places) -> [usize; 11] {
+    let mut lengths = list_lengths(*places);
+    let [values, marks, xs, ys, next, prev, snapshot, quads, edges, loops, others] = &mut lengths;
+    let by_node = [xs, ys, next, prev, snapshot, loops, others];
+    let shortest = rng.below(by_node.len());
+    for (_, length) in by_node.into_iter().enumerate().filter(|(k, _)| *k != shortest) {
+        *length += rng.below(4);
     }
-    Lengths {
-        values: 2 * field_nodes + rng.below(if fewer_values { 2 } else { 6 }),
-        marks: field_nodes + if fewer_values { rng.below(4) } else { 0 },
-        by_node,
-        quads: 4 * quads + rng.below(4),
-        edges: 2 * edges + rng.below(2),
-    }
+    let fewer_values = rng.once_in(2);
+    *values += rng.below(if fewer_values { 2 } else { 6 });
+    *marks += if fewer_values { rng.below(4) } else { 0 };
+    *quads += rng.below(4);
+    *edges += rng.below(2);
+    lengths
 }

@@ -9,12 +9,11 @@ use std::env;
 use oracle::generate::Case;
 use oracle::patched::{front, pave_again, Field};
 use oracle::terms::{self, Run};
-use sitjorbe::{Mesh, Places, Settings, OFF};
+use sitjorbe::{End, Mesh, Places, Refusal, Settings, OFF};
 
-use crate::cases::{self, Needs, Rng};
+use crate::cases::{self, Needs, Rng, Setting};
 use crate::common::book::{self, Answered, Sampled};
-use crate::common::lists::{GuardedLists, Used};
-use crate::common::{Drawing, Lent};
+use crate::common::{bits, used, Drawing, Lent, RunPlaces};
 
 /// Enough for most outlines that are generated.
 const AMPLE: Places = Places { field_nodes: 2_500, nodes: 1_500, quads: 1_500, edges: 4_500 };
@@ -34,10 +33,6 @@ struct Outcome {
     loops: Vec<Vec<usize>>,
     /// Nodes, quads, edges and front edges.
     counts: [usize; 4],
-}
-
-fn bits(floats: &[f64]) -> Vec<u64> {
-    floats.iter().map(|x| x.to_bits()).collect()
 }
 
 impl Outcome {
@@ -162,6 +157,18 @@ impl Asked {
         })
     }
 
+    /// What is wrong with a run of the library, where the oracle's is this.
+    fn faults(&mut self, mesh: &Mesh<'_>, run: Run) -> Vec<String> {
+        let expected = Outcome::of_oracle(run, self.field.as_ref().expect("the run has made it"));
+        let mut faults: Vec<String> =
+            Outcome::of_library(mesh).differences(&expected).into_iter().map(String::from).collect();
+        if !links_agree(mesh) {
+            faults.push("prev".to_string());
+        }
+        faults.extend(book::check(self.sampled(), &answered(mesh)).err());
+        faults
+    }
+
     /// What the run needs where space is ample, if it isn't refused.
     fn needs(&mut self) -> Option<Needs> {
         let run = self.of_oracle(&AMPLE).ok()?;
@@ -192,43 +199,31 @@ impl Tally {
     /// Puts a run to both, in lists of which the shortest have these places; `short` says what they are short of.
     fn compare(&mut self, rng: &mut Rng, asked: &mut Asked, places: &Places, short: &str) {
         let lengths = cases::lengths(rng, places);
-        let (lent, mut lists) = (Lent::new(&asked.drawing), GuardedLists::new(&lengths));
+        let (lent, mut lists) = (Lent::new(&asked.drawing), RunPlaces::new(lengths));
         let reference = asked.of_oracle(places);
-        let library = lists.pave(&lent.outline(), &asked.settings);
-        let (answer, used, found) = match (library, reference) {
+        let library = lists.pave(&lent.outline(), &asked.settings).map_err(Refusal::number);
+        let (answer, used, mut faults) = match (library, reference) {
             (Ok(mesh), Ok(run)) => {
                 self.whole += usize::from(mesh.is_whole());
                 self.nodes += mesh.node_count();
                 self.quads += mesh.quad_count();
-                let expected = Outcome::of_oracle(run, asked.field.as_ref().expect("the run has made it"));
-                let mut found = Outcome::of_library(&mesh).differences(&expected).join(", ");
-                if !links_agree(&mesh) {
-                    found += " prev";
-                }
-                if let Err(what) = book::check(asked.sampled(), &answered(&mesh)) {
-                    found += &format!(" books: {what}");
-                }
-                (mesh.end().to_string(), Used::of(&mesh), found)
-            }
-            (Err(refused), Err(expected)) => {
-                let number = refused.number();
-                let found =
-                    if number == expected { String::new() } else { format!("refused {number}, not {expected}") };
-                (number.to_string(), Used::default(), found)
+                let full = mesh.end() == End::Full;
+                let answer = if full { format!("full ({short})") } else { mesh.end().to_string() };
+                (answer, used(&mesh), asked.faults(&mesh, run))
             }
             (library, reference) => {
-                let found = format!("refused {:?} and {:?}", library.err(), reference.err());
-                ("one refused".to_string(), Used::default(), found)
+                let [library, reference] = [library.err(), reference.err()];
+                let fault = (library != reference).then(|| format!("refused {library:?}, not {reference:?}"));
+                (library.unwrap_or(0).to_string(), [0; 11], fault.into_iter().collect())
             }
         };
-        let answer = if answer == "full" { format!("full ({short})") } else { answer };
+        faults.extend(lists.written_past(used).iter().map(|name| format!("{name} written")));
+        if !lent.kept() {
+            faults.push("the outline written".to_string());
+        }
         *self.answers.entry(answer).or_default() += 1;
-        if !found.is_empty() {
-            self.faults.push(format!("{found}: {:?} {:?} {places:?}", asked.drawing, asked.settings));
-        }
-        if !(lent.kept() && lists.kept_past(&used)) {
-            self.faults.push(format!("written: {:?} {:?} {lengths:?}", asked.drawing, asked.settings));
-        }
+        let asked = || format!("{:?} {:?} {lengths:?}", asked.drawing, asked.settings);
+        self.faults.extend(faults.into_iter().map(|fault| format!("{fault}: {}", asked())));
     }
 
     /// An outline with ample space, with space of two kinds chosen from what it used, and with other passes.
@@ -356,6 +351,18 @@ fn runs_in_tight_places() {
     runs("tight", &USUAL);
 }
 
+#[test]
+fn runs_of_hostile_outlines() {
+    let (mut tally, mut rng) = (Tally::default(), Rng(10 + number("SITJORBE_SEED", 1)));
+    for _ in 0..number("SITJORBE_OUTLINES", 2_000) {
+        let drawing = cases::field_drawing(&mut rng);
+        let Setting { size, sweeps, .. } = cases::setting(&mut rng, &drawing);
+        let (sweeps, passes) = (if sweeps <= 1_000 { sweeps.min(3) } else { sweeps }, cases::passes(&mut rng));
+        tally.outline(&mut rng, Asked::new(drawing, Settings { size, sweeps, passes }));
+    }
+    tally.finish("runs, hostile outlines", &["still", "passes", "1", "2", "3", "4", "5", "6", "7", "8", "9", "10"]);
+}
+
 /// A run with all the space it needs.
 fn roomy(tally: &mut Tally, rng: &mut Rng, drawing: Drawing, settings: Settings) {
     let places = Places { field_nodes: 250_000, nodes: 70_000, quads: 4_000, edges: 70_000 };
@@ -366,8 +373,9 @@ fn roomy(tally: &mut Tally, rng: &mut Rng, drawing: Drawing, settings: Settings)
 #[test]
 fn runs_of_many_nodes() {
     let (mut tally, mut rng) = (Tally::default(), Rng(8));
-    for (place, (size, passes)) in [(4.0, 600), (3.0, 12), (3.5, 600), (2.0, 3)].into_iter().enumerate() {
+    for (place, (across, passes)) in [(45.0, 600), (60.0, 12), (50.0, 600), (80.0, 3)].into_iter().enumerate() {
         let Asked { drawing, .. } = generated("visual", 2, place as u64);
+        let size = cases::extent(&drawing) / across;
         roomy(&mut tally, &mut rng, drawing, Settings { size, sweeps: 2, passes });
     }
     for (points, passes) in [(65_535, 0), (65_534, 0), (3_001, 1)] {
@@ -384,7 +392,7 @@ fn example() -> (Outcome, Outcome, Sampled, Answered) {
     let mut asked = generated("lattice", 1, 5);
     let run = asked.of_oracle(&AMPLE).expect("it is accepted");
     let reference = Outcome::of_oracle(run, asked.field.as_ref().expect("the run has made it"));
-    let mut lists = GuardedLists::new(&cases::lengths(&mut Rng(9), &AMPLE));
+    let mut lists = RunPlaces::new(cases::lengths(&mut Rng(9), &AMPLE));
     let mesh = lists.pave(&asked.drawing.outline(), &asked.settings).expect("it is accepted");
     (Outcome::of_library(&mesh), reference, asked.sampled().clone(), answered(&mesh))
 }

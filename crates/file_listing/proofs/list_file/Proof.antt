@@ -6,7 +6,8 @@ use Rattle.file_listing.proofs.list_file.Statement.{statement}
 use Rattle.file_listing.proofs.list_file.Tie as tie
 
 -- what was read lies within the lists
-held : (c : tie.After-known-told2) → Held (c .before .before .before .read-file .last .1 .0) (c .before .before .before .read-file .last .1 .1 .0) (c .before .read2 .given .0 .0)
+held : (c : tie.After-known-told2)
+    → Held (c .before .before .before .read-file .last .1 .0) (c .before .before .before .read-file .last .1 .1 .0) (c .before .read2 .given .0 .0)
 held c = read-told _ _ _ (c .before .before .before .read-file .ensures) (c .before .read2 .given .1) refl refl
 
 read-file-requires : tie.Need-read-file-requires

@@ -24,13 +24,13 @@ use Rattle.front.specs.Place.{idC, idD}
 use Rattle.front.specs.Sound.{Sound, Frame}
 use Rattle.front.specs.FrameLaws.{frame-trans}
 use Rattle.paving.specs.Reach.{Placement}
 use Rattle.books.specs.Book.{edge, Book, book, has, without, comesOff, newNode, side, Quad, quadAt, bookQuad}
 use Rattle.books.specs.Matches.{edgesSum, Matches}
 use Rattle.books.specs.BookLaws.{frame-quad, has-edge, has-none, without-sum}
 use Rattle.front.specs.Moved.{kindOf}
 use Rattle.front.specs.Sides.{new-added, Sides, sides}
-use Rattle.placed.specs.Answered.{answered}
-use Rattle.placed.specs.Step.{Stepped}
+use Rattle.books.specs.Answered.{answered}
+use Rattle.books.specs.Step.{Stepped}
 
 -- ---- the statement
 

@@ -1,12 +1,13 @@
 -- What a placement says: its front edge is there, its corners are chosen as the reference chooses them, every check was passed, and there is room.
 use Prim.Native.Nat.{ℕ}
 use mathlib.Core.Path.{_≡_, refl, _∙_}
-use mathlib.Core.Bool.{Bool, true, false, not, _&&_, cond}
+use mathlib.Core.Bool.{Bool, true, false, not, cond}
 use mathlib.Core.Logic.{_≢_}
 use native.Mathlib.Omega.{arith}
 use lib.Dec.{eqb}
 use lib.Ieee.{Float}
 use borrow.Author.Tests.{eqb-true, eqb-false, not-true}
+use Rattle.laws.specs.Tests.{both}
 use Rattle.domain.specs.declared.Point.{Point}
 use Rattle.domain.specs.Outline.{Outline}
 use Rattle.topology.specs.Links.{off}
@@ -23,14 +24,6 @@ use Rattle.paving.specs.AttemptLaws.{quad-chosen}
 use Rattle.paving.specs.Reach.{Placement}
 
 -- ---- tests
-
-and-left : (x y : Bool) → x && y ≡ true → x ≡ true
-and-left true y e = refl
-and-left false y e = e
-
-and-right : (x y : Bool) → x && y ≡ true → y ≡ true
-and-right true y e = e
-and-right false y e = absurd (let z : _≡_ {A = ℕ} 0 1 = cc in omega arith)
 
 -- the test that two numbers differ
 differ : (x y : ℕ) → not (eqb x y) ≡ true → x ≢ y
@@ -53,8 +46,9 @@ chosen size s other v p c = by (isReused size s other v p) refl c
     by : (t : Bool) → isReused size s other v p ≡ t → (c : Corner) → cond t (Reused v) (Fresh (p .x) (p .y)) ≡ c → Chosen c other v
     by true e (Reused id) h =
         let q : v ≡ id = cc in
-        let on = differ v off (and-left _ _ e) in
-        let away = differ v other (and-left _ _ (and-right (not (eqb v off)) _ e)) in
+        let test = both (not (eqb v off)) _ e in
+        let on = differ v off (test .0) in
+        let away = differ v other (both _ _ (test .1) .0) in
         (q, (λ z. on (q ∙ z)), (λ z. away (q ∙ z)))
     by true e (Fresh x y) h = tt
     by false e (Reused id) h = absurd (let z : _≡_ {A = ℕ} 0 1 = cc in omega arith)
@@ -68,12 +62,13 @@ pub choice : (o : Outline) (size : Float) (s : State) (a b : ℕ) (da db : Point
 unfolding cornerC cornerD quadFits
 choice o size s a b da db c d there answer =
     let A = quad-chosen o size s a b da db c d answer in
+    let test = both (not (eqb b off)) _ there in
     record {
-      edge = eqb-true (nextOf s a) b (and-right (not (eqb b off)) _ there);
-      node = differ b off (and-left _ _ there);
+      edge = eqb-true (nextOf s a) b (test .1);
+      node = differ b off (test .0);
       chosen-c = chosen size s b (prevOf s a) _ c (A .at-c);
       chosen-d = chosen size s a (nextOf s b) _ d (A .at-d);
-      apart = differ (idC s c) (idD s c d) (and-left _ _ (A .checks));
+      apart = differ (idC s c) (idD s c d) (both _ _ (A .checks) .0);
     }
 
 pub answered : (o : Outline) (size : Float) (s : State) (a b : ℕ) (c d : Corner) → Placement o size s a b c d → Answered o size s a b c d

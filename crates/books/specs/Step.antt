@@ -10,7 +10,7 @@ use Rattle.front.specs.Sound.{Sound}
 use Rattle.front.specs.Step as front
 pub use Rattle.front.specs.Step.{Stepped}
 use Rattle.paving.specs.Reach.{Placement}
-use Rattle.placed.specs.Answered.{answered}
+use Rattle.books.specs.Answered.{answered}
 
 -- the placing of an answered quad on a sound state
 pub step : (n : ℕ) (s : State) (ls : List (List ℕ)) (o : Outline) (size : Float) (a b : ℕ) (c d : Corner) → Sound n s ls

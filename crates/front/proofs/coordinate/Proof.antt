@@ -1,11 +1,11 @@
--- `attempts::coordinate` meets its contract. Past the end the definition reads a NaN, and 0 / 0 is one.
+-- `front::coordinate` meets its contract. Past the end the definition reads a NaN, and 0 / 0 is one.
 use mathlib.Core.Path.{_∙_, sym}
 use borrow.Author.Needs.{needs}
 use lib.ListN.{List·getD-eq-default}
 use lib.Ieee.{nan}
-use Rattle.attempts.specs.Reads.{no-number}
-use Rattle.attempts.proofs.coordinate.Statement.{statement}
-use Rattle.attempts.proofs.coordinate.Tie as tie
+use Rattle.front.specs.Reads.{no-number}
+use Rattle.front.proofs.coordinate.Statement.{statement}
+use Rattle.front.proofs.coordinate.Tie as tie
 
 mul-result : tie.Need-mul-result
 mul-result c = search needs

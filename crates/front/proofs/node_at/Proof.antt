@@ -1,9 +1,9 @@
--- `attempts::node_at` meets its contract. Assumes nothing.
+-- `front::node_at` meets its contract. Assumes nothing.
 use mathlib.Core.Path.{refl}
 use borrow.Author.Needs.{needs}
 use Rattle.front.specs.State.{nodeIn}
-use Rattle.attempts.proofs.node_at.Statement.{statement}
-use Rattle.attempts.proofs.node_at.Tie as tie
+use Rattle.front.proofs.node_at.Statement.{statement}
+use Rattle.front.proofs.node_at.Tie as tie
 
 coordinate-requires : tie.Need-coordinate-requires
 coordinate-requires c κs = search needs

@@ -22,6 +22,9 @@ pub record Request : Type 0 where
   pub coordinates : List Float
   pub lengths : List ℕ
 
+abbrev pub request : Settings → List Float → List ℕ → Request
+request settings coordinates lengths = record { settings = settings; coordinates = coordinates; lengths = lengths }
+
 -- the outline as it is lent to a run
 unfoldable pub outlineOf : Request → Outline
 outlineOf r =

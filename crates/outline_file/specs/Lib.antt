@@ -6,3 +6,4 @@ pub mod Lent
 pub mod ReadLaws
 pub mod RefusalLaws
 pub mod RoundTrip
+pub mod WriteLaws

@@ -100,7 +100,7 @@ module _ {A : Type 0} (w : ℕ) (g : A → ℕ) where
 -- ---- a block
 
 -- a sum that reads only where two lists agree
-check-same : (p q : List ℕ) → length p ≡ 510 → checkOf (p ++ q) ≡ checkOf p
+pub check-same : (p q : List ℕ) → length p ≡ 510 → checkOf (p ++ q) ≡ checkOf p
 unfolding checkOf sumUp
 check-same p q e =
     ap (λ (n : ℕ). n % 65521)

@@ -196,10 +196,11 @@ pointBytes coordinates = flatten (map floatBytes coordinates)
 unfoldable pub pointBlock : List Float → ℕ → List ℕ
 pointBlock coordinates k = blockOf (pointBytes (take 62 (drop (62 * k) coordinates)))
 
+unfoldable pub blocksOf : List Float → List ℕ
+blocksOf coordinates = flatten (tabulate (pointBlocks (length coordinates / 2)) (pointBlock coordinates))
+
 unfoldable pub fileOf : Request → List ℕ
-fileOf r =
-    blockOf (headBytes (r .settings) (r .lengths))
-    ++ flatten (tabulate (pointBlocks (length (r .coordinates) / 2)) (pointBlock (r .coordinates)))
+fileOf r = blockOf (headBytes (r .settings) (r .lengths)) ++ blocksOf (r .coordinates)
 
 -- ---- what `write_file` answers, and leaves in the list lent to it
 

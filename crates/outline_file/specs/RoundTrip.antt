@@ -22,7 +22,7 @@ use Rattle.domain.specs.Accepted.{AllFit}
 use Rattle.outline_file.specs.File.{Request, numberAt, floatAt, blockAt, weighed, checkOf, blockRefusal, filled, zeroFrom, headLoops, headLength}
 use Rattle.outline_file.specs.File.{headPoints, headSound, headRefusal, pointBlocks, pointsRefusal, pointsTurn, blocksRefusal, coordinateAt}
 use Rattle.outline_file.specs.File.{filePoints, fileLength, endRefusal, fileRefusal, requestOf, numberBytes, floatBytes, blockOf, lengthBytes}
-use Rattle.outline_file.specs.File.{headBytes, pointBytes, pointBlock, fileOf, totalPoints, fileable}
+use Rattle.outline_file.specs.File.{headBytes, pointBytes, pointBlock, blocksOf, fileOf, totalPoints, fileable}
 use Rattle.outline_file.specs.RefusalLaws.{both}
 
 -- ---- numbers
@@ -294,7 +294,7 @@ module _ (r : Request) (fit : Fileable r) where
   count-is : count ≡ totalPoints lens
   count-is = omega (arith, fit .adds)
 
-  head-wide : length head ≡ 512
+  pub head-wide : length head ≡ 512
   head-wide = block-wide (headBytes (r .settings) lens) (omega (arith, head-length (r .settings) lens, fit .few))
 
   -- the blocks of points are pieces of 512 bytes
@@ -305,7 +305,7 @@ module _ (r : Request) (fit : Fileable r) where
   blocks-are = ap flatten (sym (tabulate-map (pointBlock (r .coordinates)) (pointBlocks count) (λ k. k)))
 
   pub file-length : length (fileOf r) ≡ fileLength count
-  unfolding fileOf
+  unfolding fileOf blocksOf
   file-length =
       omega (
         arith,
@@ -317,11 +317,11 @@ module _ (r : Request) (fit : Fileable r) where
       )
 
   file-head : blockAt (fileOf r) 0 ≡ head
-  unfolding fileOf blockAt
+  unfolding fileOf blocksOf blockAt
   file-head = take-at head blocks 512 head-wide
 
   file-block : (k : ℕ) → k < pointBlocks count → blockAt (fileOf r) (k + 1) ≡ pointBlock (r .coordinates) k
-  unfolding fileOf blockAt
+  unfolding fileOf blocksOf blockAt
   file-block k h =
       let at : 512 * (k + 1) ≡ length head + 512 * k = omega (arith, head-wide) in
       let within : k < length places = omega (arith, tabulate-length (pointBlocks count) (λ k. k)) in

@@ -1,19 +1,25 @@
 -- Laws of writing: `sets l i xs` of the library is the list l with xs put from place i on. Assumes nothing.
 use mathlib.Core.Path.{_≡_, refl, sym, ap, ap₂, _∙_, subst}
 use mathlib.Core.Bool.{Bool, true, false, not, true≢false}
-use mathlib.Core.List.{List, [], _∷_, _++_, append-assoc, map, flatten}
-use Prim.Native.Nat.{ℕ, zero, suc, _+_, _-_, _*_, _/_, _%_, _≤_, _<_}
+use mathlib.Core.List.{List, [], _∷_, _++_, append-assoc, append-nil, map, flatten}
+use Prim.Native.Nat.{ℕ, zero, suc, _+_, _-_, _*_, _/_, _%_, _≤_, _<_, min}
 use native.Mathlib.Numerals.{add-one}
 use native.Mathlib.Nat.{mul-zero, mul-suc}
 use native.Mathlib.Omega.{arith}
-use lib.Dec.{T}
+use borrow.Author.Tests.{not-true, not-false, lt-leb, le-leb, lt-ltb, le-ltb, eq-eqb, ne-eqb}
+use lib.Dec.{T, ltb}
 use lib.ListN.{length, getD, set, take, drop, replicate, length-append, length-take, length-drop, length-replicate, take-append-drop, drop-of-length-le}
-use lib.Seq.{sets, length-sets, sets-eq, drop-cons, drop-append-add, drop-drop, drop-length, length-take-le, take-at}
+use lib.Seq.{sets, length-sets, sets-eq, drop-cons, drop-append-add, drop-drop, drop-length, length-take-le, take-at, take-all}
 use lib.Ieee.{Float, nan, inf, fin, binary64, isNan, ne, toBits}
 use lib.Ieee.Compare.{nan-differs, differs-from-itself}
+use Rattle.laws.specs.Loop.{Loop, loop-start, loop-next, loop-end, sumUp, sumTurn}
+use Rattle.laws.specs.Sums.{sum-term}
+use Rattle.laws.specs.Tabulate.{tabulate, tabulate-suc}
 use Rattle.domain.specs.declared.Settings.{Settings}
 use Rattle.outline_file.specs.File.{checkOf, numberBytes, floatBytes, blockOf, lengthBytes, headBytes, pointBytes, overlay}
-use Rattle.outline_file.specs.RoundTrip.{bytes-length, pieces-length, head-length, block-wide, check-same}
+use Rattle.outline_file.specs.File.{Request, request, fileLength, pointBlocks, pointBlock, blocksOf, fileOf, totalPoints, fileable, writing, writeFile}
+use Rattle.outline_file.specs.RoundTrip.{bytes-length, pieces-length, head-length, block-wide, check-same, point-block-wide, Fileable, fileable-is}
+use Rattle.outline_file.specs.RoundTrip.{head-wide, file-length}
 
 -- ---- floats
 
@@ -51,9 +57,22 @@ module _ {A : Type 0} where
       ∙ ap (λ (r : List A). ys ++ drop (length ys) r) (sets-first l xs (omega arith))
       ∙ ap (λ (n : ℕ). ys ++ drop n (xs ++ drop (length xs) l)) more
       ∙ ap (λ (r : List A). ys ++ r)
-        (drop-append-add xs (drop (length xs) l) (length ys - length xs) ∙ drop-drop (length ys - length xs) (length xs) l
-          ∙ ap (λ (n : ℕ). drop n l) (sym more))
+      (drop-append-add xs (drop (length xs) l) (length ys - length xs) ∙ drop-drop (length ys - length xs) (length xs) l
+      ∙ ap (λ (n : ℕ). drop n l) (sym more))
       ∙ sym (sets-first l ys k)
+
+  -- put on a part of the list, from place i to the end
+  pub sets-part : (l : List A) (i : ℕ) (xs : List A) {part : List A} → i + length xs ≤ length l
+      → part ≡ sets (take (length l - i) (drop i l)) 0 xs → take i l ++ (part ++ drop (length l - i) (drop i l)) ≡ sets l i xs
+  unfolding overlay
+  sets-part l i xs h e =
+      let rest : length (drop i l) ≡ length l - i = length-drop i l in
+      ap₂ (λ (p q : List A). take i l ++ (p ++ q))
+      (e ∙ ap (λ (r : List A). sets r 0 xs) (take-all (length l - i) (drop i l) (omega arith)) ∙ sets-first (drop i l) xs (omega arith))
+      (drop-of-length-le (drop i l) {i = length l - i} (omega arith))
+      ∙ ap (λ (r : List A). take i l ++ r) (append-nil (xs ++ drop (length xs) (drop i l)) ∙ ap (λ (r : List A). xs ++ r) (drop-drop (length xs) i l))
+      ∙ sym (append-assoc (take i l) xs (drop (i + length xs) l))
+      ∙ sym (sets-eq xs l i h)
 
 -- ---- a loop that puts bytes one by one: what is left of them, put from place i on, makes up the whole
 
@@ -205,3 +224,191 @@ head-put s lens b e e₁ e₂ e₃ e₄ e₅ = rw (e₅, e₄, e₃, e₂, e₁,
 pub points-used : (l : List Float) → 8 * length l ≡ length (pointBytes l)
 unfolding pointBytes
 points-used l = sym (pieces-length 8 floatBytes float-wide l)
+
+-- ---- the blocks of points, one after the other
+
+take-least : (n : ℕ) (l : List Float) → take (min n (length l)) l ≡ take n l
+take-least zero l = let e : min 0 (length l) ≡ 0 = omega arith in ap (λ (k : ℕ). take k l) e
+take-least (suc n) [] = let e : min (suc n) 0 ≡ 0 = omega arith in ap (λ (k : ℕ). take {A = Float} k []) e
+take-least (suc n) (x ∷ l) =
+    let e : min (suc n) (suc (length l)) ≡ suc (min n (length l)) = omega arith in
+    ap (λ (k : ℕ). take k (x ∷ l)) e ∙ ap (λ (r : List Float). x ∷ r) (take-least n l)
+
+flatten-last : (xs : List (List ℕ)) (y : List ℕ) → flatten (xs ++ y ∷ []) ≡ flatten xs ++ y
+unfolding flatten
+flatten-last [] y = append-nil y
+flatten-last (x ∷ xs) y = ap (λ (r : List ℕ). x ++ r) (flatten-last xs y) ∙ sym (append-assoc x (flatten xs) y)
+
+module _ (points : List Float) where
+  -- the first k of them
+  abbrev pub firstBlocks : ℕ → List ℕ
+  firstBlocks k = flatten (tabulate k (pointBlock points))
+
+  blocks-next : (k : ℕ) → firstBlocks (suc k) ≡ firstBlocks k ++ pointBlock points k
+  blocks-next k = ap flatten (tabulate-suc k (pointBlock points)) ∙ flatten-last (tabulate k (pointBlock points)) (pointBlock points k)
+
+  blocks-length : (k : ℕ) → length (firstBlocks k) ≡ 512 * k
+  unfolding tabulate flatten
+  blocks-length zero = refl
+  blocks-length (suc k) =
+      omega (arith, ap length (blocks-next k), length-append (firstBlocks k) (pointBlock points k), blocks-length k, point-block-wide points k)
+
+  -- the loop: k of at most n blocks have been put
+  pub record Blocks (file : List ℕ) (n k : ℕ) (s : List ℕ) : Type 0 where
+    pub within : k ≤ n
+    pub same : s ≡ sets file 512 (firstBlocks k)
+
+  pub blocks-start : (file : List ℕ) (n : ℕ) → Blocks file n 0 file
+  unfolding tabulate flatten
+  blocks-start file n = record { within = omega arith; same = refl }
+
+  module _ {file : List ℕ} {n k : ℕ} {s : List ℕ} (l : Blocks file n k s) where
+    pub blocks-long : length s ≡ length file
+    blocks-long = ap length (l .same) ∙ length-sets file 512 (firstBlocks k)
+
+    module _ (within : 62 * k ≤ length points) (long : 512 * (n + 1) ≤ length file) (h : k < n) {to : ℕ} (e : to ≡ min (62 * k + 62) (length points)) where
+      pub part-requires : (length (take (to - 62 * k) (drop (62 * k) points)) ≤ 62)
+          × (512 ≤ length (take (length s - 512 * (k + 1)) (drop (512 * (k + 1)) s)))
+      part-requires =
+          let a = length-take (to - 62 * k) (drop (62 * k) points) in
+          let b = length-take (length s - 512 * (k + 1)) (drop (512 * (k + 1)) s) in
+          let c = length-drop (512 * (k + 1)) s in
+          (omega arith, omega (arith, blocks-long))
+
+      pub blocks-put : {part : List ℕ}
+          → part ≡ sets (take (length s - 512 * (k + 1)) (drop (512 * (k + 1)) s)) 0 (blockOf (pointBytes (take (to - 62 * k) (drop (62 * k) points))))
+          → Blocks file n (k + 1) (take (512 * (k + 1)) s ++ (part ++ drop (length s - 512 * (k + 1)) (drop (512 * (k + 1)) s)))
+      unfolding pointBlock
+      blocks-put f = record {
+        within = omega arith;
+        same =
+            sets-part s (512 * (k + 1)) (pointBlock points k) (omega (arith, blocks-long, point-block-wide points k)) (f ∙ ap (λ (r : List Float). sets (take (length s - 512 * (k + 1)) (drop (512 * (k + 1)) s)) 0 (blockOf (pointBytes r))) here)
+            ∙ ap₂ (λ (r : List ℕ) (j : ℕ). sets r j (pointBlock points k)) (l .same) place
+            ∙ sym (sets-append file 512 (firstBlocks k) (pointBlock points k))
+            ∙ rw add-one (ap (sets file 512) (sym (blocks-next k)));
+      }
+        where
+          here : take (to - 62 * k) (drop (62 * k) points) ≡ take 62 (drop (62 * k) points)
+          here = let at : to - 62 * k ≡ min 62 (length (drop (62 * k) points)) = omega (arith, length-drop (62 * k) points) in
+              ap (λ (j : ℕ). take j (drop (62 * k) points)) at ∙ take-least 62 (drop (62 * k) points)
+
+          place : 512 * (k + 1) ≡ 512 + length (firstBlocks k)
+          place = omega (arith, blocks-length k)
+
+    pub blocks-end : n ≡ pointBlocks (length points / 2) → n ≤ k → s ≡ sets file 512 (blocksOf points)
+    unfolding blocksOf
+    blocks-end e h = let all : k ≡ pointBlocks (length points / 2) = omega (arith, l .within) in l .same ∙ ap (λ (j : ℕ). sets file 512 (firstBlocks j)) all
+
+-- ---- what a file can hold
+
+-- the loop that adds up the lengths
+pub record Few (lens : List ℕ) (k sum : ℕ) : Type 0 where
+  pub same : Loop (sumTurn (λ j. getD lens j 0)) 0 (length lens) k sum
+  pub small : sum ≤ 248
+
+pub few-start : (lens : List ℕ) → Few lens 0 0
+few-start lens = record { same = loop-start (sumTurn (λ j. getD lens j 0)) 0 (length lens); small = omega arith }
+
+module _ {lens : List ℕ} {k sum : ℕ} (l : Few lens k sum) where
+  pub few-next : k < length lens → getD lens k 0 ≤ 248 - sum → Few lens (k + 1) (sum + getD lens k 0)
+  few-next h le = record { same = loop-next (sumTurn (λ j. getD lens j 0)) 0 (l .same) h; small = omega (arith, l .small) }
+
+  pub few-out : k < length lens → 248 - sum < getD lens k 0 → 249 ≡ min (totalPoints lens) 249
+  unfolding totalPoints sumUp
+  few-out h lt = omega (arith, l .same .same, sum-term (λ (j : ℕ). getD lens j 0) k (length lens) h)
+
+  pub few-end : length lens ≤ k → sum ≡ min (totalPoints lens) 249
+  unfolding totalPoints sumUp
+  few-end h = omega (arith, l .small, loop-end (sumTurn (λ j. getD lens j 0)) 0 (l .same) h)
+
+module _ (s : Settings) (points : List Float) (lens : List ℕ) where
+  pub no-loops : length lens < 1 → false ≡ fileable (request s points lens)
+  unfolding fileable
+  no-loops h = rw (lt-leb 1 (length lens) h)
+
+  module _ (some : 1 ≤ length lens) where
+    pub many-loops : 8 < length lens → false ≡ fileable (request s points lens)
+    unfolding fileable
+    many-loops h = rw (le-leb 1 (length lens) some, lt-leb (length lens) 8 h)
+
+    module _ (few : length lens ≤ 8) {n : ℕ} (e : n ≡ min (totalPoints lens) 249) where
+      pub many-points : 248 < n → false ≡ fileable (request s points lens)
+      unfolding fileable
+      many-points h = rw (le-leb 1 (length lens) some, le-leb (length lens) 8 few, lt-leb (totalPoints lens) 248 (omega arith))
+
+      module _ (h : n ≤ 248) where
+        total : totalPoints lens ≡ n
+        total = omega arith
+
+        pub not-adding : (length points ≡ 2 * n → ⊥) → false ≡ fileable (request s points lens)
+        unfolding fileable
+        not-adding d = rw (le-leb 1 (length lens) some, le-leb (length lens) 8 few, total, le-leb n 248 h, ne-eqb (length points) (2 * n) d)
+
+        module _ (adds : length points ≡ 2 * n) where
+          pub many-sweeps : 65535 < s .sweeps → false ≡ fileable (request s points lens)
+          unfolding fileable
+          many-sweeps d =
+              rw (
+                le-leb 1 (length lens) some,
+                le-leb (length lens) 8 few,
+                total,
+                le-leb n 248 h,
+                eq-eqb (length points) (2 * n) adds,
+                le-ltb (s .sweeps) 65536 (omega arith),
+              )
+
+          pub by-passes : s .sweeps ≤ 65535 → ltb (s .passes) 65536 ≡ fileable (request s points lens)
+          unfolding fileable
+          by-passes d =
+              rw (
+                le-leb 1 (length lens) some,
+                le-leb (length lens) 8 few,
+                total,
+                le-leb n 248 h,
+                eq-eqb (length points) (2 * n) adds,
+                lt-ltb (s .sweeps) 65536 (omega arith),
+              )
+
+-- ---- what `write_file` answers
+
+module _ (r : Request) (file : List ℕ) {f : Bool} (e : f ≡ fileable r) where
+  pub write-refused : not f ≡ true → writing 0 file ≡ writeFile r file
+  unfolding writeFile
+  write-refused h = rw (← e, not-true f h)
+
+  module _ (h : not f ≡ false) where
+    pub within : Fileable r
+    within = fileable-is r (sym e ∙ not-false f h)
+
+    pub few-coordinates : length (r .coordinates) / 2 ≤ 248
+    few-coordinates = omega (arith, within .points, within .adds)
+
+    module _ {n : ℕ} (g : n ≡ fileLength (length (r .coordinates) / 2)) where
+      bytes : length (fileOf r) ≡ n
+      bytes = file-length r within ∙ sym g
+
+      pub write-short : length file < n → writing 0 file ≡ writeFile r file
+      unfolding writeFile
+      write-short lt = rw (← e, not-false f h, bytes, lt-leb n (length file) lt)
+
+      pub blocks-room : {b₁ : List ℕ} → n ≤ length file → b₁ ≡ sets file 0 (blockOf (headBytes (r .settings) (r .lengths)))
+          → (length (r .coordinates) ≤ 496) × (fileLength (length (r .coordinates) / 2) ≤ length b₁)
+      blocks-room le p =
+          let long = ap length p ∙ length-sets file 0 (blockOf (headBytes (r .settings) (r .lengths))) in
+          (omega (arith, within .points, within .adds), omega arith)
+
+      pub write-whole : {b₁ b₂ : List ℕ} → n ≤ length file → b₁ ≡ sets file 0 (blockOf (headBytes (r .settings) (r .lengths)))
+          → b₂ ≡ sets b₁ 512 (blocksOf (r .coordinates)) → writing n b₂ ≡ writeFile r file
+      unfolding writeFile fileOf
+      write-whole {b₁} {b₂} le p q = rw (← e, not-false f h, bytes, le-leb n (length file) le) (ap (writing n) whole)
+        where
+          head : List ℕ
+          head = blockOf (headBytes (r .settings) (r .lengths))
+
+          whole : b₂ ≡ overlay (fileOf r) file
+          whole =
+              let first : 512 ≡ 0 + length head = omega (arith, head-wide r within) in
+              q
+              ∙ ap₂ (λ (l : List ℕ) (i : ℕ). sets l i (blocksOf (r .coordinates))) p first
+              ∙ sym (sets-append file 0 head (blocksOf (r .coordinates)))
+              ∙ sets-first file (fileOf r) (omega (arith, bytes))

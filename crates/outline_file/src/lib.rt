@@ -9,7 +9,8 @@ ghost use Rattle.laws.specs.Tabulate.{tabulate};
 ghost use Rattle.numbers.specs.Float.{bits};
 ghost use Rattle.outline_file.specs.File.{floatAt, blockAt, checkOf, blockRefusal, zeroFrom, headLength, headPoints, headSound, headRefusal};
 ghost use Rattle.outline_file.specs.File.{pointsRefusal, blocksRefusal, coordinateAt, fileLength, fileRefusal, headOf, requestOf, overlay, reading};
-ghost use Rattle.outline_file.specs.File.{readFile, request, numberBytes, blockOf, lengthBytes, headBytes, pointBytes, pointBlock, fileable, writing, writeFile};
+ghost use Rattle.outline_file.specs.File.{readFile, request, numberBytes, blockOf, lengthBytes, headBytes, pointBytes, pointBlock, blocksOf};
+ghost use Rattle.outline_file.specs.File.{totalPoints, fileable, writing, writeFile};
 ghost use Rattle.outline_file.specs.ByteLaws.{NumberOf};
 ghost use Rattle.outline_file.specs.RefusalLaws.{Headed};
 ghost use Rattle.outline_file.specs.ReadLaws.{headAt};
@@ -392,4 +393,78 @@ fn write_points(points: &[f64], b: &mut [u8])
 {
     put_points(points, b);
     seal(b, 8 * points.len());
+}
+
+// Puts the blocks of points after the head's.
+fn write_blocks(points: &[f64], file: &mut [u8])
+    requires { ⌜ (length (now points) ≤ 496) × (fileLength (length (now points) / 2) ≤ length (now file)) ⌝ }
+    ensures { λ r. ⌜ now (file .exit) ≡ sets (now (file .entry)) 512 (blocksOf (now (points .entry))) ⌝ }
+{
+    let all = points.len();
+    let n = all / 2;
+    let mut k = 0;
+    while 31 * k < n {
+        let from = 62 * k;
+        let to = least(from + 62, all);
+        let at = 512 * (k + 1);
+        write_points(&points[from..to], &mut file[at..]);
+        k += 1;
+    }
+}
+
+// The points of all loops, or 249 where there are more than 248.
+fn few_points(lens: &[usize]) -> usize
+    ensures { λ r. ⌜ r ≡ min (totalPoints (now (lens .entry))) 249 ⌝ }
+{
+    let mut sum = 0;
+    let mut k = 0;
+    while k < lens.len() {
+        let n = lens[k];
+        if 248 - sum < n {
+            return 249;
+        }
+        sum += n;
+        k += 1;
+    }
+    sum
+}
+
+// Whether a file can hold a request.
+fn can_file(settings: Settings, points: &[f64], lens: &[usize]) -> bool
+    ensures { λ r. ⌜ r ≡ fileable (request «settings» (now (points .entry)) (now (lens .entry))) ⌝ }
+{
+    if lens.len() < 1 {
+        return false;
+    }
+    if 8 < lens.len() {
+        return false;
+    }
+    let n = few_points(lens);
+    if 248 < n {
+        return false;
+    }
+    if points.len() != 2 * n {
+        return false;
+    }
+    if 65535 < settings.sweeps {
+        return false;
+    }
+    settings.passes < 65536
+}
+
+// Writes the file of a request, and answers its length. Where a file can't hold the request or the list lent is too short for it, the answer
+// is 0 and nothing is written. Places after the file keep their contents.
+pub fn write_file(settings: Settings, points: &[f64], lens: &[usize], file: &mut [u8]) -> usize
+    ensures { λ r. ⌜ writing r (now (file .exit)) ≡ writeFile (request «settings» (now (points .entry)) (now (lens .entry))) (now (file .entry)) ⌝ }
+{
+    if !can_file(settings, points, lens) {
+        return 0;
+    }
+    let n = file_length(points.len() / 2);
+    if file.len() < n {
+        return 0;
+    }
+    write_head(settings, lens, file);
+    write_blocks(points, file);
+    n
 }

@@ -31,7 +31,9 @@ add-put-number : tie.Need-add-put-number Inv-loop μ-loop
 add-put-number c = omega (arith, c .before .before .before .before .before .before .pre)
 
 put-number-requires : tie.Need-put-number-requires Inv-loop μ-loop
-put-number-requires c κs = omega (arith, c .before .before .before .before .before .before .pre, pieces-long 2 (numberBytes 2) (bytes-length 2) _ _ _ (c .before .before .before .loop .inv))
+put-number-requires c κs =
+    omega
+    (arith, c .before .before .before .before .before .before .pre, pieces-long 2 (numberBytes 2) (bytes-length 2) _ _ _ (c .before .before .before .loop .inv))
 
 add-k : tie.Need-add-k Inv-loop μ-loop
 add-k c = omega (arith, c .before .before .before .before .before .before .before .before .before .pre)
@@ -40,7 +42,9 @@ loop-less : tie.Need-loop-less Inv-loop μ-loop
 loop-less c = omega arith
 
 loop-again : tie.Need-loop-again Inv-loop μ-loop
-loop-again c = pieces-next 2 (numberBytes 2) (bytes-length 2) _ _ _ (c .before .before .before .before .before .before .loop .inv) 0 (c .before .before .before .before .before .loop-test .taken) refl (c .before .before .put-number .ensures)
+loop-again c =
+    pieces-next 2 (numberBytes 2) (bytes-length 2) _ _ _ (c .before .before .before .before .before .before .loop .inv) 0
+    (c .before .before .before .before .before .loop-test .taken) refl (c .before .before .put-number .ensures)
 
 same-length : tie.Need-same-length Inv-loop μ-loop
 same-length c = pieces-long 2 (numberBytes 2) (bytes-length 2) _ _ _ (c .before .loop .inv)

@@ -17,7 +17,11 @@ same-length : tie.Need-same-length
 same-length c = search needs
 
 returns : tie.Need-returns
-returns c = block-sealed _ _ (c .before .before .before .before .before .before .before .before .before .before .before .pre .0) (c .before .before .before .before .before .before .before .before .before .before .before .pre .1) (c .before .before .before .before .before .before .before .before .clear .ensures) (c .before .before .before .before .check-of .ensures) (c .before .before .put-number .ensures)
+returns c =
+    block-sealed _ _ (c .before .before .before .before .before .before .before .before .before .before .before .pre .0)
+    (c .before .before .before .before .before .before .before .before .before .before .before .pre .1)
+    (c .before .before .before .before .before .before .before .before .clear .ensures) (c .before .before .before .before .check-of .ensures)
+    (c .before .before .put-number .ensures)
 
 pub seal-spec : {M : Type 1} → statement M
 seal-spec =

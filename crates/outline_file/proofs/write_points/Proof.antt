@@ -21,7 +21,10 @@ same-length c = search needs
 
 returns : tie.Need-returns
 returns c = let points = c .before .before .before .before .before .before .before .before .before .before .args .points .now in
-    sealed (c .before .before .before .before .before .before .before .before .before .before .args .b .now) (pointBytes points) (omega (arith, c .before .before .before .before .before .before .before .before .before .before .pre)) (c .before .before .before .before .before .before .before .before .before .before .pre .1) (points-used points) (c .before .before .before .before .before .before .put-points .ensures) (c .before .before .seal .ensures)
+    sealed (c .before .before .before .before .before .before .before .before .before .before .args .b .now) (pointBytes points)
+    (omega (arith, c .before .before .before .before .before .before .before .before .before .before .pre))
+    (c .before .before .before .before .before .before .before .before .before .before .pre .1) (points-used points)
+    (c .before .before .before .before .before .before .put-points .ensures) (c .before .before .seal .ensures)
 
 pub write-points-spec : {M : Type 1} → statement M
 write-points-spec =

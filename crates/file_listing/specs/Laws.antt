@@ -1,8 +1,8 @@
--- Laws of what the program prints: `whole` (a buffer of 117,681 bytes holds any listing), `read-listed` (the listing is that of what was read) and
--- `start-decides` (of endless input the first 4,609 bytes decide). Assumes nothing.
+-- Laws of what the program prints: `lists-whole` (what a buffer holds that has places for the listing), `read-listed` (the listing is that of what was
+-- read) and `start-decides` (of endless input the first 4,609 bytes decide). Assumes nothing.
 use mathlib.Core.Path.{_≡_, refl, sym, ap, ap₂, _∙_, subst}
-use mathlib.Core.List.{List, [], _∷_, _++_}
-use Prim.Native.Nat.{ℕ, zero, suc, _+_, _-_, _*_, _/_, _≤_, _<_}
+use mathlib.Core.List.{List, []}
+use Prim.Native.Nat.{ℕ, zero, suc, _-_, _*_, _/_, _≤_}
 use native.Mathlib.Omega.{arith}
 use lib.ListN.{length, getD, take, drop, length-append, length-drop}
 use lib.Seq.{length-take-le, take-append-le, drop-append-le, take-at}
@@ -13,7 +13,7 @@ use Rattle.domain.specs.declared.Settings.{Settings}
 use Rattle.domain.specs.Outline.{Outline, outline}
 use Rattle.domain.specs.Queries.{answerBy}
 use Rattle.run.specs.declared.Paved.{Paved}
-use Rattle.run.specs.Run.{Lent, ran, Paves}
+use Rattle.run.specs.Run.{Lent, Paves}
 use Rattle.outline_file.specs.declared.Head.{Head}
 use Rattle.outline_file.specs.declared.FileAnswer.{FileAnswer}
 use Rattle.outline_file.specs.declared.FileAnswer.the-variants.{Refused, Read}

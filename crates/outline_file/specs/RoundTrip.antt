@@ -350,15 +350,17 @@ module _ (r : Request) (fit : Fileable r) where
   head-accepted : headRefusal head ≡ 0
   unfolding headRefusal headSound
   head-accepted =
-      let zeros = block-zeros (headBytes (r .settings) lens) (omega (arith, head-length (r .settings) lens, fit .few)) in
-      let from : length (headBytes (r .settings) lens) ≡ 14 + 2 * headLoops head = head-length (r .settings) lens ∙ ap (λ (n : ℕ). 14 + 2 * n) (sym loops-are) in
+      let contents = headBytes (r .settings) lens in
+      let wide = head-length (r .settings) lens in
+      let few : length contents ≤ 510 = omega (arith, fit .few) in
+      let from : length contents ≡ 14 + 2 * headLoops head = wide ∙ ap (λ (n : ℕ). 14 + 2 * n) (sym loops-are) in
       rw (
-        block-accepted (headBytes (r .settings) lens) (omega (arith, head-length (r .settings) lens, fit .few)),
+        block-accepted contents few,
         le-leb 1 (headLoops head) (omega (arith, loops-are, fit .some)),
         le-leb (headLoops head) 8 (omega (arith, loops-are, fit .few)),
         le-leb (headPoints head (headLoops head)) 248 (omega (arith, points-are, fit .points)),
         ← from,
-        zeros,
+        block-zeros contents few,
       )
 
   -- ---- it isn't refused

@@ -401,9 +401,9 @@ fn write_blocks(points: &[f64], file: &mut [u8])
     ensures { λ r. ⌜ now (file .exit) ≡ sets (now (file .entry)) 512 (blocksOf (now (points .entry))) ⌝ }
 {
     let all = points.len();
-    let n = all / 2;
+    let count = all / 2;
     let mut k = 0;
-    while 31 * k < n {
+    while 31 * k < count {
         let from = 62 * k;
         let to = least(from + 62, all);
         let at = 512 * (k + 1);

@@ -1,12 +1,12 @@
 -- What a caller of `read_file` hands on to a run: the parts of the two lists are the request's outline. `lent-outline` is the statement.
-use mathlib.Core.Path.{_≡_, refl, sym, ap, ap₂, _∙_}
-use mathlib.Core.List.{List, _++_}
-use Prim.Native.Nat.{ℕ, _+_, _-_, _*_, _/_, _≤_, _<_}
+use mathlib.Core.Path.{_≡_, refl, sym, _∙_}
+use mathlib.Core.List.{List}
+use Prim.Native.Nat.{ℕ, _-_, _*_, _/_, _≤_}
 use native.Mathlib.Omega.{arith}
 use lib.ListN.{length, getD, take, drop, length-drop}
 use lib.Seq.{take-append-le, drop-append-le, take-at}
 use lib.Ieee.{Float}
-use Rattle.laws.specs.Sums.{sum-zero, sum-term}
+use Rattle.laws.specs.Sums.{sum-term}
 use Rattle.laws.specs.Tabulate.{tabulate-length, tabulate-at}
 use Rattle.domain.specs.Outline.{Outline, outline}
 use Rattle.outline_file.specs.File.{blockAt, headLoops, headLength, headPoints, coordinateAt, filePoints, fileRefusal, Request, outlineOf, requestOf}

@@ -1,19 +1,19 @@
 -- The file of a request reads back as the request, the floats as doubles. `round-trip`, the last statement, says so of every request that a file can
 -- hold. The logic has one NaN, whose bits a file has as 0x7ff8_0000_0000_0000, so a NaN reads back as a NaN.
 use mathlib.Core.Path.{_≡_, refl, sym, ap, ap₂, _∙_, subst}
-use mathlib.Core.Bool.{Bool, true, false, not, _&&_, _||_, cond, true≢false}
+use mathlib.Core.Bool.{Bool, true, false, not}
 use mathlib.Core.List.{List, [], _∷_, _++_, append-assoc, append-nil, map, flatten}
 use Prim.Native.Nat.{ℕ, zero, suc, _+_, _-_, _*_, _/_, _%_, _^_, _≤_, _<_, min}
 use native.Mathlib.Nat.{add-comm, mul-zero, mul-suc}
 use native.Mathlib.Omega.{arith}
 use borrow.Author.Tests.{le-ltb, le-leb, eq-eqb, leb-true, eqb-true, ltb-true}
-use lib.Dec.{T, leb, ltb, eqb}
+use lib.Dec.{T}
 use lib.Pow.{pow-add}
 use lib.ListN.{length, getD, take, drop, replicate, length-append, length-take, length-drop, length-replicate, getD-replicate, List·getD-append}
-use lib.Seq.{take-at, take-length, drop-append-add, getD-append-add, getD-take, getD-drop, length-take-le}
-use lib.Ieee.{Float, nan, binary64, fits, toBits, ofBits}
+use lib.Seq.{take-at, take-length, drop-append-add, getD-append-add, getD-take, getD-drop}
+use lib.Ieee.{Float, nan, binary64, fits, toBits}
 use lib.Ieee.Bits.{ofBits-toBits, toBits-lt}
-use Rattle.laws.specs.Loop.{forUp, forUp-same, forUp-keeps, anyUp, anyTurn, sumUp, sumTurn}
+use Rattle.laws.specs.Loop.{forUp-same, forUp-keeps, anyUp, anyTurn, sumUp, sumTurn}
 use Rattle.laws.specs.Sums.{sum-term}
 use Rattle.laws.specs.Tabulate.{tabulate, tabulate-same, tabulate-take, tabulate-length, tabulate-map, tabulate-at}
 use Rattle.numbers.specs.Float.{bits}

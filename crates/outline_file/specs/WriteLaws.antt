@@ -9,7 +9,7 @@ use native.Mathlib.Omega.{arith}
 use borrow.Author.Tests.{not-true, not-false, lt-leb, le-leb, lt-ltb, le-ltb, eq-eqb, ne-eqb}
 use lib.Dec.{T, ltb}
 use lib.ListN.{length, getD, set, take, drop, replicate, length-append, length-take, length-drop, length-replicate, take-append-drop, drop-of-length-le}
-use lib.Seq.{sets, length-sets, sets-eq, drop-cons, drop-append-add, drop-drop, drop-length, length-take-le, take-at, take-all}
+use lib.Seq.{sets, length-sets, sets-eq, drop-cons, drop-append-add, drop-drop, length-take-le, take-at, take-all}
 use lib.Ieee.{Float, nan, inf, fin, binary64, isNan, ne, toBits}
 use lib.Ieee.Compare.{nan-differs, differs-from-itself}
 use Rattle.laws.specs.Loop.{Loop, loop-start, loop-next, loop-end, sumUp, sumTurn}
@@ -18,7 +18,7 @@ use Rattle.laws.specs.Tabulate.{tabulate, tabulate-suc}
 use Rattle.domain.specs.declared.Settings.{Settings}
 use Rattle.outline_file.specs.File.{checkOf, numberBytes, floatBytes, blockOf, lengthBytes, headBytes, pointBytes, overlay}
 use Rattle.outline_file.specs.File.{Request, request, fileLength, pointBlocks, pointBlock, blocksOf, fileOf, totalPoints, fileable, writing, writeFile}
-use Rattle.outline_file.specs.RoundTrip.{bytes-length, pieces-length, head-length, block-wide, check-same, point-block-wide, Fileable, fileable-is}
+use Rattle.outline_file.specs.RoundTrip.{bytes-length, pieces-length, block-wide, check-same, point-block-wide, Fileable, fileable-is}
 use Rattle.outline_file.specs.RoundTrip.{head-wide, file-length}
 
 -- ---- floats

@@ -3,7 +3,7 @@ use mathlib.Core.Path.{_≡_, refl, sym, ap, ap₂, _∙_}
 use mathlib.Core.Logic.{_≢_}
 use mathlib.Core.Bool.{Bool, true, false, not, _&&_, cond}
 use mathlib.Core.List.{List}
-use Prim.Native.Nat.{ℕ, _+_, _-_, _*_, _≤_, _<_}
+use Prim.Native.Nat.{ℕ, suc, _+_, _-_, _*_, _<_}
 use native.Mathlib.Numerals.{add-one}
 use native.Mathlib.Omega.{arith}
 use borrow.Author.Tests.{ltb-true}
@@ -12,7 +12,6 @@ use lib.ListN.{getD, set}
 use lib.Seq.{getD-set-other, set-comm}
 use lib.Ieee.{Float, nan, le}
 use Rattle.laws.specs.Loop.{forUp, forUp-keeps}
-use Rattle.numbers.specs.Float.{zeroF}
 use Rattle.domain.specs.declared.Point.{Point}
 use Rattle.domain.specs.Outline.{point, pointAt}
 use Rattle.crossfield.specs.declared.Grid.{Grid}
@@ -87,7 +86,7 @@ average-unread : (g : Grid) (j i p : ℕ) → Apart g j i p → Unread p (λ l. 
 unfolding average neighbourSum
 average-unread g j i p h l v =
     rw (
-      plus-other (ltb 0 i) l p (nodeAt g i j - 1) v (point zeroF zeroF) (λ t. h .left (ltb-true 0 i t)),
+      plus-other (ltb 0 i) l p (nodeAt g i j - 1) v _ (λ t. h .left (ltb-true 0 i t)),
       plus-other (ltb (i + 1) (g .nx)) l p (nodeAt g i j + 1) v _ (λ t. h .right (ltb-true (i + 1) (g .nx) t)),
       plus-other (ltb 0 j) l p (nodeAt g i j - g .nx) v _ (λ t. h .under (ltb-true 0 j t)),
       plus-other (ltb (j + 1) (g .ny)) l p (nodeAt g i j + g .nx) v _ (λ t. h .over (ltb-true (j + 1) (g .ny) t)),
@@ -129,23 +128,10 @@ module _ (g : Grid) (marks : List ℕ) (j a b : ℕ) (behind : a + 1 < b) (colum
       pick false true = refl
       pick false false = refl
 
--- ---- two loops of n turns, `lower` and then `upper`, taken as one in which `upper` is a turn behind
-
--- The invariant: i turns of the upper loop have been taken, and i + 1 of the lower; one loop after the other leaves the same.
-pub record Behind (lower upper : ℕ → Swept → Swept) (s : Swept) (n i : ℕ) (now : Swept) : Type 0 where
-  pub within : i < n
-  pub same : now ≡ forUp i upper (forUp (i + 1) lower s)
+-- ---- two loops, `lower` and then `upper`, taken as one in which `upper` is a turn behind
 
 module _ (lower upper : ℕ → Swept → Swept) (n : ℕ)
     (commute : (a b : ℕ) → a + 1 < b → b < n → (s : Swept) → lower b (upper a s) ≡ upper a (lower b s)) (s : Swept) where
-  one-more : (turn : ℕ → Swept → Swept) (k : ℕ) (a : Swept) → forUp (k + 1) turn a ≡ turn k (forUp k turn a)
-  unfolding forUp
-  one-more turn k a = rw add-one
-
-  behind-start : 0 < n → Behind lower upper s n 0 (lower 0 s)
-  unfolding forUp
-  behind-start h = record { within = h; same = refl }
-
   -- a lower turn commutes with all upper turns that are more than one behind
   past : (i : ℕ) → i + 1 < n → (t : Swept) → lower (i + 1) (forUp i upper t) ≡ forUp i upper (lower (i + 1) t)
   unfolding forUp
@@ -153,40 +139,31 @@ module _ (lower upper : ℕ → Swept → Swept) (n : ℕ)
       forUp-keeps (λ (k : ℕ) (u : Swept). lower (i + 1) u ≡ forUp k upper (lower (i + 1) t)) i upper t refl
       (λ k u l e. commute k (i + 1) (omega arith) h u ∙ ap (upper k) e)
 
-  behind-next : {i : ℕ} {now : Swept} → Behind lower upper s n i now → i + 1 < n
-      → Behind lower upper s n (i + 1) (upper i (lower (i + 1) now))
-  behind-next {i} r h = record {
-    within = h;
-    same =
-        rw (one-more upper i, one-more lower (i + 1))
-        (ap (upper i) (ap (lower (i + 1)) (r .same) ∙ past i h (forUp (i + 1) lower s)));
-  }
-
-  behind-end : {i : ℕ} {now : Swept} → Behind lower upper s n i now → n ≤ i + 1 → upper i now ≡ forUp n upper (forUp n lower s)
-  behind-end {i} r h =
-      let e : n ≡ i + 1 = omega (arith, r .within) in
-      rw (e, one-more upper i) (ap (upper i) (r .same))
+  behind : (m : ℕ) → m < n → forUp m (λ i t. upper i (lower (i + 1) t)) (lower 0 s) ≡ forUp m upper (forUp (suc m) lower s)
+  unfolding forUp
+  behind m h =
+      forUp-keeps (λ (i : ℕ) (t : Swept). t ≡ forUp i upper (forUp (suc i) lower s)) m (λ i t. upper i (lower (i + 1) t)) (lower 0 s) refl
+      (λ i t l e. ap (upper i) (ap (lower (i + 1)) e ∙ past i (omega arith) (forUp (suc i) lower s) ∙ rw add-one))
 
 -- ---- two rows
 
--- the invariant of the code: i nodes of row j + 1 have been visited, and i + 1 of row j
-abbrev pub TwoRows : Grid → List ℕ → ℕ → Swept → ℕ → Swept → Type 0
-TwoRows g marks j s i now = Behind (sweepNode g marks j) (sweepNode g marks (j + 1)) s (g .nx) i now
+-- a turn of the code: the next node of row j, and of row j + 1 the one that is a column behind
+abbrev pub rowsTurn : Grid → List ℕ → ℕ → ℕ → Swept → Swept
+rowsTurn g marks j i s = sweepNode g marks (j + 1) i (sweepNode g marks j (i + 1) s)
 
-module _ (g : Grid) (marks : List ℕ) (j : ℕ) (s : Swept) where
-  pub two-start : 0 < g .nx → TwoRows g marks j s 0 (sweepNode g marks j 0 s)
-  two-start h = behind-start (sweepNode g marks j) (sweepNode g marks (j + 1)) (g .nx) (nodes-commute g marks j) s h
-
-  pub two-next : {i : ℕ} {now : Swept} → TwoRows g marks j s i now → i + 1 < g .nx
-      → TwoRows g marks j s (i + 1) (sweepNode g marks (j + 1) i (sweepNode g marks j (i + 1) now))
-  two-next r h = behind-next (sweepNode g marks j) (sweepNode g marks (j + 1)) (g .nx) (nodes-commute g marks j) s r h
-
-  pub two-end : {i : ℕ} {now : Swept} → TwoRows g marks j s i now → g .nx ≤ i + 1
-      → sweepNode g marks (j + 1) i now ≡ sweepRow g marks (j + 1) (sweepRow g marks j s)
-  unfolding sweepRow
-  two-end r h = behind-end (sweepNode g marks j) (sweepNode g marks (j + 1)) (g .nx) (nodes-commute g marks j) s r h
+-- the first node of row j, then the turns, then the last node of row j + 1: row j and then row j + 1
+pub two-rows : (g : Grid) (marks : List ℕ) (j : ℕ) (s : Swept) → 0 < g .nx
+    → sweepNode g marks (j + 1) (g .nx - 1) (forUp (g .nx - 1) (rowsTurn g marks j) (sweepNode g marks j 0 s))
+    ≡ sweepRow g marks (j + 1) (sweepRow g marks j s)
+unfolding sweepRow forUp
+two-rows g marks j s h =
+    let lower = sweepNode g marks j in
+    let upper = sweepNode g marks (j + 1) in
+    let whole : suc (g .nx - 1) ≡ g .nx = omega arith in
+    ap (upper (g .nx - 1)) (behind lower upper (g .nx) (nodes-commute g marks j) s (g .nx - 1) (omega arith))
+    ∙ ap (λ (n : ℕ). forUp n upper (forUp n lower s)) whole
 
 -- rows with no node
-pub two-none : (g : Grid) (marks : List ℕ) (j : ℕ) (s : Swept) → g .nx ≡ 0 → s ≡ sweepRow g marks (j + 1) (sweepRow g marks j s)
+pub no-columns : (g : Grid) (marks : List ℕ) (j : ℕ) (s : Swept) → g .nx ≡ 0 → s ≡ sweepRow g marks (j + 1) (sweepRow g marks j s)
 unfolding sweepRow forUp
-two-none g marks j s e = ap (λ (n : ℕ). forUp n (sweepNode g marks (j + 1)) (forUp n (sweepNode g marks j) s)) (sym e)
+no-columns g marks j s e = ap (λ (n : ℕ). forUp n (sweepNode g marks (j + 1)) (forUp n (sweepNode g marks j) s)) (sym e)

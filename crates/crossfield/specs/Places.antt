@@ -82,15 +82,8 @@ module _ {w n j i id floats : ℕ} (h : Node w n j i id floats) where
 pub node-of : {w n j base floats now : ℕ} (i : ℕ) → Row w n j base floats → i < w → now ≡ floats → Node w n j i (base + i) now
 node-of i h t e = record { at = ap (λ (z : ℕ). z + i) (h .at); column = t; row = h .row; room = omega (arith, h .room, e) }
 
-pub node-first : {w n j base floats : ℕ} → Row w n j base floats → 0 < w → Node w n j 0 base floats
-node-first h t = record { at = omega (arith, h .at); column = t; row = h .row; room = h .room }
-
 pub row-of : {w n base floats now : ℕ} (j : ℕ) → base ≡ j * w → j < n → 2 * (n * w) ≤ floats → now ≡ floats → Row w n j base now
 row-of j a t r e = record { at = a; row = t; room = omega (arith, r, e) }
-
--- the row above
-pub row-above : {w n j base floats : ℕ} → Row w n j base floats → j + 1 < n → Row w n (j + 1) (base + w) floats
-row-above h t = record { at = omega (arith, h .at); row = t; room = h .room }
 
 -- ---- counts: one above the most has too many nodes by itself, where the other is above 0
 pub more-columns : (w n most : ℕ) → most < w → 2 ≤ n → most < w * n

@@ -2,10 +2,10 @@
 use mathlib.Core.Path.{_≡_, refl, _∙_}
 use Prim.Native.Nat.{_+_, _-_}
 use native.Mathlib.Omega.{arith}
+use borrow.Author.Needs.{needs}
 use lib.ListN.{length}
 use Rattle.laws.specs.Loop.{Loop, loop-start, loop-next, loop-end}
 use Rattle.crossfield.specs.Sweeps.{swept}
-use Rattle.crossfield.specs.Places.{node-of, node-first, row-above}
 use Rattle.crossfield.specs.TwoRows.{rowsTurn, two-rows, no-columns}
 use Rattle.crossfield.proofs.sweep_two_rows.Statement.{statement}
 use Rattle.crossfield.proofs.sweep_two_rows.Tie as tie
@@ -27,7 +27,7 @@ add-up : tie.Need-add-up Inv-loop μ-loop
 add-up c = omega arith
 
 sweep-node-requires : tie.Need-sweep-node-requires Inv-loop μ-loop
-sweep-node-requires c κs = let p = c .before .before .before .before .pre in (node-first (p .0) (omega arith), omega arith)
+sweep-node-requires c κs = search needs
 
 loop-holds : tie.Need-loop-holds Inv-loop μ-loop
 loop-holds c = (refl, loop-start _ _ _)
@@ -42,10 +42,7 @@ add-sweep-node-3 : tie.Need-add-sweep-node-3 Inv-loop μ-loop
 add-sweep-node-3 c = omega arith
 
 sweep-node-requires-2 : tie.Need-sweep-node-requires-2 Inv-loop μ-loop
-sweep-node-requires-2 c κs =
-    let p = c .before .before .before .before .before .before .before .before .before .before .pre in
-    let l = c .before .before .loop in
-    (node-of (l .i + 1) (p .0) (omega arith) (l .inv .0 ∙ c .before .before .before .before .before .sweep-node .kept .1 .1 .0), omega arith)
+sweep-node-requires-2 c κs = search needs
 
 add-sweep-node-4 : tie.Need-add-sweep-node-4 Inv-loop μ-loop
 add-sweep-node-4 c = omega arith
@@ -54,11 +51,7 @@ add-sweep-node-5 : tie.Need-add-sweep-node-5 Inv-loop μ-loop
 add-sweep-node-5 c = omega arith
 
 sweep-node-requires-3 : tie.Need-sweep-node-requires-3 Inv-loop μ-loop
-sweep-node-requires-3 c κs =
-    let p = c .before .before .before .before .before .before .before .before .before .before .before .before .before .before .pre in
-    let l = c .before .before .before .before .before .before .loop in
-    let before = l .inv .0 ∙ c .before .before .before .before .before .before .before .before .before .sweep-node .kept .1 .1 .0 in
-    (node-of (l .i) (row-above (p .0) (p .1 .0)) (omega arith) (c .before .before .before .sweep-node2 .kept .1 .1 .0 ∙ before), omega arith)
+sweep-node-requires-3 c κs = search needs
 
 add-i : tie.Need-add-i Inv-loop μ-loop
 add-i c = omega arith
@@ -81,10 +74,7 @@ add-sweep-node-7 : tie.Need-add-sweep-node-7 Inv-loop μ-loop
 add-sweep-node-7 c = omega arith
 
 sweep-node-requires-4 : tie.Need-sweep-node-requires-4 Inv-loop μ-loop
-sweep-node-requires-4 c κs =
-    let p = c .before .before .before .before .before .before .before .before .before .before .pre in
-    let l = c .before .before .loop in
-    (node-of _ (row-above (p .0) (p .1 .0)) (omega arith) (l .inv .0 ∙ c .before .before .before .before .before .sweep-node .kept .1 .1 .0), omega arith)
+sweep-node-requires-4 c κs = search needs
 
 same-length : tie.Need-same-length Inv-loop μ-loop
 same-length c =

@@ -515,15 +515,16 @@ fn sweep_two_rows(
         return quiet;
     }
     let last = nx - 1;
+    let above = j + 1;
     let up = base + nx;
     let mut still = sweep_node(g, marks, values, quiet, j, 0, base);
     let mut i = 0;
     while i < last {
         still = sweep_node(g, marks, values, still, j, i + 1, base + (i + 1));
-        still = sweep_node(g, marks, values, still, j + 1, i, up + i);
+        still = sweep_node(g, marks, values, still, above, i, up + i);
         i += 1;
     }
-    sweep_node(g, marks, values, still, j + 1, last, up + last)
+    sweep_node(g, marks, values, still, above, last, up + last)
 }
 
 // One sweep, two rows at a time; the answer is whether it was quiet.

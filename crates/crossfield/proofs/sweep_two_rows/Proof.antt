@@ -11,17 +11,20 @@ use Rattle.crossfield.proofs.sweep_two_rows.Statement.{statement}
 use Rattle.crossfield.proofs.sweep_two_rows.Tie as tie
 
 abbrev Inv-loop : tie.InvT-loop
-Inv-loop g marks values₀ quiet j base nx last up still₀ i₀ values still i =
+Inv-loop g marks values₀ quiet j base nx last above up still₀ i₀ values still i =
     (length values ≡ length values₀) × Loop (rowsTurn g marks j) (swept values₀ still₀) last i (swept values still)
 
 abbrev μ-loop : tie.MeasureT-loop
-μ-loop g marks values₀ quiet j base nx last up still₀ i₀ values still i = last - i
+μ-loop g marks values₀ quiet j base nx last above up still₀ i₀ values still i = last - i
 
 returns : tie.Need-returns Inv-loop μ-loop
 returns c = no-columns _ _ _ _ (c .if1 .taken)
 
 sub-last : tie.Need-sub-last Inv-loop μ-loop
 sub-last c = omega arith
+
+add-above : tie.Need-add-above Inv-loop μ-loop
+add-above c = omega arith
 
 add-up : tie.Need-add-up Inv-loop μ-loop
 add-up c = omega arith
@@ -47,9 +50,6 @@ sweep-node-requires-2 c κs = search needs
 add-sweep-node-4 : tie.Need-add-sweep-node-4 Inv-loop μ-loop
 add-sweep-node-4 c = omega arith
 
-add-sweep-node-5 : tie.Need-add-sweep-node-5 Inv-loop μ-loop
-add-sweep-node-5 c = omega arith
-
 sweep-node-requires-3 : tie.Need-sweep-node-requires-3 Inv-loop μ-loop
 sweep-node-requires-3 c κs = search needs
 
@@ -67,11 +67,8 @@ loop-again c =
       rw (c .before .before .sweep-node3 .ensures, c .before .before .before .before .before .before .sweep-node2 .ensures) again,
     )
 
-add-sweep-node-6 : tie.Need-add-sweep-node-6 Inv-loop μ-loop
-add-sweep-node-6 c = omega arith
-
-add-sweep-node-7 : tie.Need-add-sweep-node-7 Inv-loop μ-loop
-add-sweep-node-7 c = omega arith
+add-sweep-node-5 : tie.Need-add-sweep-node-5 Inv-loop μ-loop
+add-sweep-node-5 c = omega arith
 
 sweep-node-requires-4 : tie.Need-sweep-node-requires-4 Inv-loop μ-loop
 sweep-node-requires-4 c κs = search needs
@@ -95,6 +92,7 @@ sweep-two-rows-spec =
     μ-loop
     returns
     sub-last
+    add-above
     add-up
     sweep-node-requires
     loop-holds
@@ -103,13 +101,11 @@ sweep-two-rows-spec =
     add-sweep-node-3
     sweep-node-requires-2
     add-sweep-node-4
-    add-sweep-node-5
     sweep-node-requires-3
     add-i
     loop-less
     loop-again
-    add-sweep-node-6
-    add-sweep-node-7
+    add-sweep-node-5
     sweep-node-requires-4
     same-length
     returns-2)

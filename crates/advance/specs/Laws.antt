@@ -10,7 +10,7 @@ use lib.ListN.{length, getD, set}
 use lib.Ieee.{Float}
 use borrow.Author.Tests.{eq-eqb, ne-eqb}
 use Rattle.laws.specs.Loop.{Loop, loop-next, Turn, go, out, onwards, forUp-keeps, Run, run-end, Kept, run}
-use Rattle.topology.specs.Links.{off, link-in}
+use Rattle.topology.specs.Links.{off, link-in, link-read}
 use Rattle.domain.specs.Outline.{Outline}
 use Rattle.crossfield.specs.declared.Grid.{Grid}
 use Rattle.crossfield.specs.Field.{FieldRecord}
@@ -32,8 +32,7 @@ use Rattle.paving.specs.Advance.{Paved, paved, Passing, passing, Passed, mostQu
 use Rattle.paving.specs.Advance.{copyTurn, copied, withSnapshot, afterPass, pass, passesTurn, allUsed, advance}
 use Rattle.paving.specs.ReachLaws.{tried, Reached, AtPassing, AtPassed, AtEnd, turn-kept, pass-kept}
 use Rattle.paving.specs.Reach.{begin}
-use Rattle.placed.specs.Answered.{choice}
-use Rattle.attempts.specs.Reads.{link-read}
+use Rattle.books.specs.Answered.{choice}
 use Rattle.attempts.specs.SeenLaws.{try-seen}
 use Rattle.advance.specs.declared.Settled.{Settled}
 use Rattle.advance.specs.declared.Settled.the-variants.{Same, Put}

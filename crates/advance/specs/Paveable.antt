@@ -19,8 +19,8 @@ use Rattle.front.specs.Step.{step}
 use Rattle.front.specs.KnownLaws.{known-placed}
 use Rattle.paving.specs.Advance.{withSnapshot}
 use Rattle.paving.specs.Reach.{Reaches, begin, snapshot, placed}
-use Rattle.placed.specs.Answered.{answered}
-use Rattle.placed.specs.Snapshot.{snapshot-frame, snapshot-sound}
+use Rattle.books.specs.Answered.{answered}
+use Rattle.books.specs.Snapshot.{snapshot-frame, snapshot-sound}
 use Rattle.attempts.specs.Seen.{TryLent}
 
 -- ---- definitions

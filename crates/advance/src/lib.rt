@@ -14,7 +14,9 @@ ghost use Rattle.paving.specs.Advance.{copied, passing, passTurn, afterPass, pa
 ghost use Rattle.advance.specs.Answers.{edgeAttempt, Settles, settledCounts, quadSettled, passed, passedCounts, passAnswer};
 ghost use Rattle.advance.specs.Paveable.{Paveable};
 use crossfield::Grid;
+use domain::Settings;
 use front::Counts;
+use front::OFF;
 use front::Placed;
 use paving::Attempt;
 use paving::End;
@@ -37,16 +39,6 @@ pub struct Advanced {
     pub end: End,
     pub counts: Counts,
 }
-
-impl Advanced {
-    // So many quads are the end.
-    pub const MOST_QUADS: usize = 250000;
-
-    pub const MOST_PASSES: usize = 600;
-}
-
-// Marks a node off the front.
-const OFF: u32 = 4294967295;
 
 // Copies the links of the first n nodes.
 fn copy_links(next: &[u32], snapshot: &mut [u32], n: u32)
@@ -113,7 +105,7 @@ fn edge_attempt<'a>(
 fn after_quad(m: Counts) -> Settled
     ensures { λ r. ⌜ r ≡ quadSettled m ⌝ }
 {
-    if m.quads >= Advanced::MOST_QUADS {
+    if m.quads >= Settings::MOST_QUADS {
         Settled::Over(End::Cap, m)
     } else {
         Settled::Put(m)
@@ -141,7 +133,8 @@ fn settle<'a>(
     requires { ⌜ Paveable (outline (now outer) (now holes) (now lens)) grid (now values)
         (stateOf (now xs) (now ys) (now next) (now prev) (now snapshot) (now quads) (now edges) k) × (a < k .nodes) ⌝ }
     ensures { λ r. ⌜ Settles (outline (now (outer .entry)) (now (holes .entry)) (now (lens .entry))) size (fieldRecord grid (now (values .entry)) [])
-        (stateOf (now (xs .entry)) (now (ys .entry)) (now (next .entry)) (now (prev .entry)) (now (snapshot .entry)) (now (quads .entry)) (now (edges .entry)) k) a r
+        (stateOf (now (xs .entry)) (now (ys .entry)) (now (next .entry)) (now (prev .entry)) (now (snapshot .entry)) (now (quads .entry))
+        (now (edges .entry)) k) a r
         (stateOf (now (xs .exit)) (now (ys .exit)) (now (next .exit)) (now (prev .exit)) (now (snapshot .entry)) (now (quads .exit)) (now (edges .exit))
         (settledCounts k r)) ⌝ }
 {
@@ -213,7 +206,8 @@ fn sweep<'a>(
         ≡ run (k .nodes)
         (passTurn (outline (now (outer .entry)) (now (holes .entry)) (now (lens .entry))) size (fieldRecord grid (now (values .entry)) []))
         afterPass (passing
-        (stateOf (now (xs .entry)) (now (ys .entry)) (now (next .entry)) (now (prev .entry)) (now (snapshot .entry)) (now (quads .entry)) (now (edges .entry)) k)
+        (stateOf (now (xs .entry)) (now (ys .entry)) (now (next .entry)) (now (prev .entry)) (now (snapshot .entry)) (now (quads .entry))
+        (now (edges .entry)) k)
         false) ⌝ }
 {
     let n = k.nodes;
@@ -278,7 +272,8 @@ fn pass<'a>(
         (stateOf (now (xs .exit)) (now (ys .exit)) (now (next .exit)) (now (prev .exit)) (now (snapshot .exit)) (now (quads .exit)) (now (edges .exit))
         (passedCounts r))
         ≡ pass (outline (now (outer .entry)) (now (holes .entry)) (now (lens .entry))) size (fieldRecord grid (now (values .entry)) [])
-        (stateOf (now (xs .entry)) (now (ys .entry)) (now (next .entry)) (now (prev .entry)) (now (snapshot .entry)) (now (quads .entry)) (now (edges .entry)) k) ⌝ }
+        (stateOf (now (xs .entry)) (now (ys .entry)) (now (next .entry)) (now (prev .entry)) (now (snapshot .entry)) (now (quads .entry))
+        (now (edges .entry)) k) ⌝ }
 {
     copy_links(next, snapshot, k.nodes);
     sweep(
@@ -304,10 +299,10 @@ fn pass<'a>(
 fn most_passes(passes: usize) -> usize
     ensures { λ r. ⌜ r ≡ min passes 600 ⌝ }
 {
-    if passes < Advanced::MOST_PASSES {
+    if passes < Settings::MOST_PASSES {
         passes
     } else {
-        Advanced::MOST_PASSES
+        Settings::MOST_PASSES
     }
 }
 
@@ -336,7 +331,8 @@ pub fn advance<'a>(
         (stateOf (now (xs .exit)) (now (ys .exit)) (now (next .exit)) (now (prev .exit)) (now (snapshot .exit)) (now (quads .exit)) (now (edges .exit))
         (r .counts)) (r .end)
         ≡ advance (outline (now (outer .entry)) (now (holes .entry)) (now (lens .entry))) size (fieldRecord grid (now (values .entry)) []) passes
-        (stateOf (now (xs .entry)) (now (ys .entry)) (now (next .entry)) (now (prev .entry)) (now (snapshot .entry)) (now (quads .entry)) (now (edges .entry)) k) ⌝ }
+        (stateOf (now (xs .entry)) (now (ys .entry)) (now (next .entry)) (now (prev .entry)) (now (snapshot .entry)) (now (quads .entry))
+        (now (edges .entry)) k) ⌝ }
 {
     let most = most_passes(passes);
     let mut counts = k;

@@ -1,4 +1,3 @@
 pub mod Chain
-pub mod Reads
 pub mod Seen
 pub mod SeenLaws

@@ -5,12 +5,10 @@ ghost use mathlib.Core.Path.{_≡_};
 ghost use mathlib.Core.Bool.{false};
 ghost use mathlib.Core.List.{[]};
 ghost use Prim.Native.Nat.{_+_, _*_, _≤_};
-ghost use lib.ListN.{length, getD};
-ghost use lib.Ieee.{nan};
+ghost use lib.ListN.{length};
 ghost use Rattle.topology.specs.Links.{linkOf};
 ghost use Rattle.domain.specs.Outline.{outline, misshapen};
 ghost use Rattle.crossfield.specs.Field.{fieldRecord};
-ghost use Rattle.front.specs.State.{nodeIn};
 ghost use Rattle.front.specs.Place.{added, cornerId, cornerPoint};
 ghost use Rattle.paving.specs.Checks.{tooClose, nodeOk, cornerFree, cornersApart, isCorner, nodeInside, shareEnd};
 ghost use Rattle.paving.specs.Checks.{edgeCrosses, sideCrosses, edgesFree, cornersOf, quadOk, quadFits};
@@ -21,31 +19,12 @@ use domain::Point;
 use domain::Settings;
 use front::Corner;
 use front::Counts;
+use front::OFF;
 use geometry::Corners;
 use geometry::Key;
 use paving::Attempt;
 
-// The link of a node off the front.
-const OFF: u32 = 4294967295;
-
 // ---- reading
-
-// A coordinate of a node; past the list's end a NaN.
-fn coordinate(s: &[f64], id: u32) -> f64
-    ensures { λ r. ⌜ r ≡ getD (now (s .entry)) id nan ⌝ }
-{
-    let i = id as usize;
-    if i < s.len() { s[i] } else { 0.0 / 0.0 }
-}
-
-pub fn node_at(xs: &[f64], ys: &[f64], id: u32) -> Point
-    ensures { λ r. ⌜ r ≡ nodeIn (now (xs .entry)) (now (ys .entry)) id ⌝ }
-{
-    Point {
-        x: coordinate(xs, id),
-        y: coordinate(ys, id),
-    }
-}
 
 // The link of node u, where the first `nodes` places are in use: none for a node that isn't there.
 pub fn link_at(links: &[u32], nodes: u32, u: u32) -> u32
@@ -57,39 +36,19 @@ pub fn link_at(links: &[u32], nodes: u32, u: u32) -> u32
 
 // ---- the far corners
 
-// How many nodes a corner adds.
-pub fn added(c: Corner) -> u32
-    ensures { λ r. ⌜ r ≡ added c ⌝ }
-{
-    let Corner::Fresh(_, _) = c else {
-        return 0;
-    };
-    1
-}
-
-// A corner's node, where a new one gets the number `fresh`.
-pub fn corner_id(fresh: u32, c: Corner) -> u32
-    ensures { λ r. ⌜ r ≡ cornerId fresh c ⌝ }
-{
-    let Corner::Reused(id) = c else {
-        return fresh;
-    };
-    id
-}
-
 // The node that d has or will get, where `nodes` are there and c's node comes first.
 pub fn second_id(nodes: u32, c: Corner, d: Corner) -> u32
     requires { ⌜ nodes ≤ 4294967294 ⌝ }
     ensures { λ r. ⌜ r ≡ cornerId (nodes + added c) d ⌝ }
 {
-    corner_id(nodes + added(c), d)
+    d.id(nodes + c.added())
 }
 
 pub fn corner_point(xs: &[f64], ys: &[f64], c: Corner) -> Point
     ensures { λ r. ⌜ r ≡ cornerPoint (seenPoints (now (xs .entry)) (now (ys .entry))) c ⌝ }
 {
     match c {
-        Corner::Reused(id) => node_at(xs, ys, id),
+        Corner::Reused(id) => front::node_at(xs, ys, id),
         Corner::Fresh(x, y) => Point { x, y },
     }
 }
@@ -106,7 +65,7 @@ pub fn too_close(size: f64, xs: &[f64], ys: &[f64], counts: Counts, p: Point) ->
     let key = geometry::key_of(size, p);
     let mut id: u32 = 0;
     while id < nodes {
-        if geometry::too_close_at(key, p, radius2, size, node_at(xs, ys, id)) {
+        if geometry::too_close_at(key, p, radius2, size, front::node_at(xs, ys, id)) {
             return true;
         }
         id += 1;
@@ -239,7 +198,18 @@ pub fn node_in_quad(
     let high = geometry::key_of(size, geometry::highest(p));
     let mut id: u32 = 0;
     while id < nodes {
-        if blocks_at(low, high, size, p, a, b, d, c, id, node_at(xs, ys, id)) {
+        if blocks_at(
+            low,
+            high,
+            size,
+            p,
+            a,
+            b,
+            d,
+            c,
+            id,
+            front::node_at(xs, ys, id),
+        ) {
             return true;
         }
         id += 1;
@@ -284,8 +254,8 @@ fn crosses_at(
     if share_end(c, d, u, v) {
         return false;
     }
-    let p = node_at(xs, ys, c);
-    let q = node_at(xs, ys, d);
+    let p = front::node_at(xs, ys, c);
+    let q = front::node_at(xs, ys, d);
     if geometry::candidate_at(k, l, size, p, q) {
         geometry::segments_cross(a, b, p, q)
     } else {
@@ -352,7 +322,17 @@ pub fn side_crosses(
         return false;
     };
     let p = Point { x, y };
-    edge_crosses(size, xs, ys, edges, counts, p, node_at(xs, ys, to), id, to)
+    edge_crosses(
+        size,
+        xs,
+        ys,
+        edges,
+        counts,
+        p,
+        front::node_at(xs, ys, to),
+        id,
+        to,
+    )
 }
 
 // Whether none of the new edges crosses another: c to a if c is new, c to d, d to b if d is new.
@@ -370,7 +350,7 @@ pub fn edges_free(
     requires { ⌜ EdgesLent (now edges) counts ⌝ }
     ensures { λ r. ⌜ r ≡ edgesFree size (seenEdges (now (xs .entry)) (now (ys .entry)) (now (edges .entry)) counts) a b c d ⌝ }
 {
-    let id_c = corner_id(counts.nodes, c);
+    let id_c = c.id(counts.nodes);
     let id_d = second_id(counts.nodes, c, d);
     if side_crosses(size, xs, ys, edges, counts, c, id_c, a) {
         return false;
@@ -390,8 +370,8 @@ pub fn corners_of(xs: &[f64], ys: &[f64], a: u32, b: u32, c: Corner, d: Corner) 
     ensures { λ r. ⌜ r ≡ cornersOf (seenPoints (now (xs .entry)) (now (ys .entry))) a b c d ⌝ }
 {
     Corners {
-        a: node_at(xs, ys, a),
-        b: node_at(xs, ys, b),
+        a: front::node_at(xs, ys, a),
+        b: front::node_at(xs, ys, b),
         d: corner_point(xs, ys, d),
         c: corner_point(xs, ys, c),
     }
@@ -422,7 +402,7 @@ pub fn quad_ok<'a>(
     if !domain::contains_point(outer, holes, lens, geometry::centroid(p)) {
         return false;
     }
-    let id_c = corner_id(counts.nodes, c);
+    let id_c = c.id(counts.nodes);
     let id_d = second_id(counts.nodes, c, d);
     if node_in_quad(size, xs, ys, counts, p, a, b, id_d, id_c) {
         return false;
@@ -450,7 +430,7 @@ pub fn quad_fits<'a>(
     ensures { λ r. ⌜ r ≡ quadFits (outline (now (outer .entry)) (now (holes .entry)) (now (lens .entry))) size
         (seen (now (xs .entry)) (now (ys .entry)) (now (next .entry)) [] (now (edges .entry)) counts) a b c d ⌝ }
 {
-    let id_c = corner_id(counts.nodes, c);
+    let id_c = c.id(counts.nodes);
     let id_d = second_id(counts.nodes, c, d);
     if id_c == id_d {
         return false;
@@ -482,7 +462,7 @@ fn is_reused(size: f64, xs: &[f64], ys: &[f64], other: u32, v: u32, p: Point) ->
     if v == other {
         return false;
     }
-    geometry::distance(node_at(xs, ys, v), p) <= Settings::REUSE * size
+    geometry::distance(front::node_at(xs, ys, v), p) <= Settings::REUSE * size
 }
 
 pub fn corner_at(size: f64, xs: &[f64], ys: &[f64], other: u32, v: u32, p: Point) -> Corner
@@ -528,8 +508,8 @@ pub fn attempt_quad<'a>(
     ensures { λ r. ⌜ r ≡ attemptQuad (outline (now (outer .entry)) (now (holes .entry)) (now (lens .entry))) size
         (seen (now (xs .entry)) (now (ys .entry)) (now (next .entry)) (now (prev .entry)) (now (edges .entry)) counts) a b da db ⌝ }
 {
-    let p = ideal(size, node_at(xs, ys, a), da);
-    let q = ideal(size, node_at(xs, ys, b), db);
+    let p = ideal(size, front::node_at(xs, ys, a), da);
+    let q = ideal(size, front::node_at(xs, ys, b), db);
     let c = corner_at(size, xs, ys, b, link_at(prev, counts.nodes, a), p);
     let d = corner_at(size, xs, ys, a, link_at(next, counts.nodes, b), q);
     if quad_fits(
@@ -586,8 +566,8 @@ fn try_toward<'a>(
         (fieldRecord grid (now (values .entry)) [])
         (seen (now (xs .entry)) (now (ys .entry)) (now (next .entry)) (now (prev .entry)) (now (edges .entry)) counts) a b normal ⌝ }
 {
-    let da = crossfield::nearest_direction(grid, values, node_at(xs, ys, a), normal);
-    let db = crossfield::nearest_direction(grid, values, node_at(xs, ys, b), normal);
+    let da = crossfield::nearest_direction(grid, values, front::node_at(xs, ys, a), normal);
+    let db = crossfield::nearest_direction(grid, values, front::node_at(xs, ys, b), normal);
     let first = attempt_quad(
         outer,
         holes,
@@ -647,8 +627,8 @@ pub fn try_edge<'a>(
         (fieldRecord grid (now (values .entry)) [])
         (seen (now (xs .entry)) (now (ys .entry)) (now (next .entry)) (now (prev .entry)) (now (edges .entry)) counts) a b ⌝ }
 {
-    let p = node_at(xs, ys, a);
-    let q = node_at(xs, ys, b);
+    let p = front::node_at(xs, ys, a);
+    let q = front::node_at(xs, ys, b);
     let bx = q.x - p.x;
     let by = q.y - p.y;
     let length = geometry::norm(bx, by);

@@ -1,4 +1,5 @@
--- Document 01's book. It is fed the outline and size, and the quads and node coordinates that a run answers; it never looks at the run's front. Definitions only.
+-- Document 01's book. It is fed the outline and size, and the quads and node coordinates that a run answers; it never looks at the run's front.
+-- Definitions only.
 use mathlib.Core.Bool.{Bool, true, false, _&&_, _||_, cond}
 use mathlib.Core.Option.{Option, none, some}
 use mathlib.Core.List.{List, [], _∷_, _++_}

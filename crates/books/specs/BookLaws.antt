@@ -10,10 +10,11 @@ use lib.Dec.{eqb}
 use lib.ListN.{length}
 use lib.Seq.{length-take-le}
 use borrow.Author.Tests.{eqb-true, eqb-false, eq-eqb, ne-eqb}
+use Rattle.laws.specs.Tests.{both}
 use Rattle.exact.specs.Corner.{Vector, cross}
 use Rattle.topology.specs.Sums.{one}
 use Rattle.topology.specs.Links.{delta, at}
-use Rattle.topology.specs.Balance.{frontSumℤ, Antisymmetric, difference, difference-add, gain, flip, weight-is, front-is}
+use Rattle.topology.specs.Balance.{frontSumℤ, Antisymmetric, difference, difference-add, difference-zero, gain, flip, weight-is, front-is}
 use Rattle.front.specs.State.{State, nodePlaces}
 use Rattle.front.specs.Sound.{Sound, Frame}
 use Rattle.front.specs.FrameLaws.{extends-at}
@@ -92,12 +93,7 @@ has-none u v (e ∷ es) h = by (isEdge (edge u v) e) (rw (at-edge u v e) at h) (
     by false h later = later (omega arith)
 
 is-edge : (u v : ℕ) (e : Edge) → isEdge (edge u v) e ≡ true → (u ≡ e .from) × (v ≡ e .to)
-is-edge u v e = by (eqb u (e .from)) refl (eqb v (e .to)) refl
-  where
-    by : (s : Bool) → eqb u (e .from) ≡ s → (t : Bool) → eqb v (e .to) ≡ t → s && t ≡ true → (u ≡ e .from) × (v ≡ e .to)
-    by true p true q h = (eqb-true u (e .from) p, eqb-true v (e .to) q)
-    by true p false q h = absurd (let z : _≡_ {A = ℕ} 0 1 = cc in omega arith)
-    by false p t q h = absurd (let z : _≡_ {A = ℕ} 0 1 = cc in omega arith)
+is-edge u v e h = let ends = both (eqb u (e .from)) _ h in (eqb-true u (e .from) (ends .0), eqb-true v (e .to) (ends .1))
 
 -- an edge that is there comes off once
 pub without-sum : (w : ℕ → ℕ → ℕ) (u v : ℕ) (es : List Edge) → has (edge u v) es ≡ true
@@ -125,10 +121,6 @@ pub matches-edges : (n : ℕ) (s : State) (ls : List (List ℕ)) (b : Book) → 
 matches-edges n s ls b S M = sym (edges-length (b .front)) ∙ (M .sums one ∙ sym (S .edges))
 
 -- ---- sums over ℤ
-
-difference-zero : difference 0 0 ≡ pos 0
-unfolding difference
-difference-zero = refl
 
 -- an antisymmetric weight over the book's front is that over the loops
 module _ (w : ℕ → ℕ → ℤ) (anti : Antisymmetric w) where

@@ -82,7 +82,7 @@ module _ (o : Outline) (size : Float) (s : State) (ls : List (List ℕ)) (S : St
       area-same (startBook o size) B (startBook o size .front) edge-area
       ∙ (matches-area s ls (startBook o size) (S .matches) B
       ∙ (Y .balance (areaOf B) (area-anti B)
-      ∙ rw (quads-area B final k, matches-area t (Y .loops) B (Y .matches) B) refl))
+      ∙ ap₂ (λ (y z : ℤ). y +ℤ z) (quads-area B final k) (sym (matches-area t (Y .loops) B (Y .matches) B))))
 
 -- ---- corners
 

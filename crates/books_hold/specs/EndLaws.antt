@@ -28,7 +28,7 @@ use Rattle.paving.specs.Advance.{paved, Passing, passing, Passed, mostQuads, af
 use Rattle.paving.specs.Advance.{copyTurn, copied, withSnapshot, mostPasses, passesTurn, allUsed, advance}
 use Rattle.paving.specs.Reach.{Placement, Reaches, begin, snapshot, placed}
 use Rattle.paving.specs.ReachLaws.{Reached, tried}
-use Rattle.placed.specs.Step.{step}
+use Rattle.books.specs.Step.{step}
 use Rattle.books_hold.specs.Stages.{Start, standing}
 use Rattle.books_hold.specs.Ends.{StillAt, FullAt, PassesLead, LastPass, UsedUp, Ended}
 use Rattle.books_hold.specs.Ends as ends

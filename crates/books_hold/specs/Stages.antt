@@ -29,9 +29,9 @@ use Rattle.books.specs.BookLaws.{frame-quad}
 use Rattle.books.specs.Matches.{Matches}
 use Rattle.books.specs.Holds.{QuadHolds}
 use Rattle.bounded.specs.Corners.{cornersIn}
-use Rattle.placed.specs.Step.{Stepped, step}
-use Rattle.placed.specs.Booked.{booked}
-use Rattle.placed.specs.Snapshot.{snapshot-frame, snapshot-sound, snapshot-matches}
+use Rattle.books.specs.Step.{Stepped, step}
+use Rattle.books.specs.Booked.{booked}
+use Rattle.books.specs.Snapshot.{snapshot-frame, snapshot-sound, snapshot-matches}
 
 -- ---- definitions
 

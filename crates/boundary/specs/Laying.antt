@@ -8,19 +8,13 @@ use lib.ListN.{length}
 use Rattle.laws.specs.Loop.{forUp}
 use Rattle.topology.specs.Links.{off}
 use Rattle.domain.specs.Outline.{Outline, outlineRefusal, after, points}
-use Rattle.front.specs.declared.Counts.{Counts}
 use Rattle.front.specs.declared.Ring.{Ring}
-use Rattle.front.specs.State.{State, counted}
+use Rattle.front.specs.State.{State, stateOf, counted}
 use Rattle.front.specs.Sampling.{loopParts, sampleLoop, ringCount, ringAt, ringIn, splitLongest, sampledCount}
 use Rattle.sampled.specs.Joins.{withLink}
 use Rattle.boundary.specs.Counting.{evenUp}
 
 -- ---- the lists that a function writes, as part of a state
-
--- the lists lent, and the counts
-abbrev pub lists : List Float → List Float → List ℕ → List ℕ → List ℕ → List ℕ → List ℕ → Counts → State
-lists xs ys next prev snapshot quads edges counts =
-    record { xs = xs; ys = ys; next = next; prev = prev; snapshot = snapshot; quads = quads; edges = edges; counts = counts }
 
 -- the state with these n nodes
 abbrev pub withNodes : State → List Float → List Float → List ℕ → List ℕ → ℕ → State
@@ -53,7 +47,7 @@ withEdges st next prev edges n =
 -- a state between two loops: n nodes, as many edges, each of them on the front, and no quad
 abbrev pub between : List ℕ → List ℕ → List Float → List Float → List ℕ → List ℕ → List ℕ → ℕ → State
 between snapshot quads xs ys next prev edges n =
-    lists xs ys next prev snapshot quads edges (counted n 0 n n)
+    stateOf xs ys next prev snapshot quads edges (counted n 0 n n)
 
 -- ---- what the code asks
 
@@ -65,11 +59,9 @@ pub record NodeRoom (n : ℕ) (xs ys : List Float) (next prev : List ℕ) : Type
   pub in-prev : n ≤ length prev
   pub few : n < off
 
--- n nodes from base on are there
-pub record NodesFrom (base n : ℕ) (xs ys : List Float) : Type 0 where
+-- n ids from base on
+pub record NodesFrom (base n : ℕ) : Type 0 where
   pub some : 0 < n
-  pub in-xs : base + n ≤ length xs
-  pub in-ys : base + n ≤ length ys
   pub few : base + n < off
 
 -- the ring's longest edge is one of its edges, and its ids are nodes

@@ -15,13 +15,13 @@ use Rattle.domain.specs.declared.Point.{Point}
 use Rattle.domain.specs.Outline.{points, pointAt, pointAfter, after}
 use Rattle.geometry.specs.Plane.{distance}
 use Rattle.front.specs.declared.Ring.{Ring}
-use Rattle.front.specs.State.{State, counted, pushNode}
+use Rattle.front.specs.State.{State, stateOf, counted, pushNode}
 use Rattle.front.specs.Sampling.{partsOf, parts, loopParts, sampleLoop}
 use Rattle.front.specs.Sampling.{edgeLength, longestTurn, longestEdge, ringOf, ringCount, sampledAt, ringAt, midpoint, splitLongest, ringIn}
 use Rattle.sampled.specs.Cuts.{cuts-least}
 use Rattle.sampled.specs.Rings.{longest-in}
 use Rattle.boundary.specs.Counting.{evenUp}
-use Rattle.boundary.specs.Laying.{lists, between, NodeRoom, NodesFrom, RingFits, LoopRoom, linkRing, layLoop}
+use Rattle.boundary.specs.Laying.{between, NodeRoom, NodesFrom, RingFits, LoopRoom, linkRing, layLoop}
 
 -- ---- room
 
@@ -175,22 +175,15 @@ module _ {s : List Float} {size : Float} {base nodes : ℕ} {xs ys : List Float}
   pub nodes-some : 0 < nodes - base
   nodes-some = omega (arith, R .some, cuts-least size s)
 
-  module _ (xs′ ys′ : List Float) (a : length xs′ ≡ length xs) (b : length ys′ ≡ length ys) where
-    pub nodes-from : NodesFrom base (nodes - base) xs′ ys′
-    nodes-from =
-        record {
-          some = nodes-some;
-          in-xs = omega (arith, R .nodes .in-xs);
-          in-ys = omega (arith, R .nodes .in-ys);
-          few = omega (arith, R .nodes .few);
-        }
+  pub nodes-from : NodesFrom base (nodes - base)
+  nodes-from = record { some = nodes-some; few = omega (arith, R .nodes .few) }
 
-    pub ring-nodes : {r : Ring} → RingOf r base (nodes - base) → NodesFrom (r .base) (r .count) xs′ ys′ × (r .longest < r .count) × (nodes ≡ r .base + r .count)
-    ring-nodes {r} O = (
-      rw (O .base-is, O .count-is) nodes-from,
-      O .longest,
-      omega (arith, O .base-is, O .count-is),
-    )
+  pub ring-nodes : {r : Ring} → RingOf r base (nodes - base) → NodesFrom (r .base) (r .count) × (r .longest < r .count) × (nodes ≡ r .base + r .count)
+  ring-nodes {r} O = (
+    rw (O .base-is, O .count-is) nodes-from,
+    O .longest,
+    omega (arith, O .base-is, O .count-is),
+  )
 
   module _ {r : Ring} (O : RingOf r base (nodes - base)) where
     pub ring-end : r .base + ringCount r ≡ base + evenUp (loopParts size s)
@@ -209,5 +202,5 @@ laid k s size st t t′ t″ r a b c d =
 
 -- as many edges as nodes
 pub as-many : (snapshot quads : List ℕ) (xs ys : List Float) (next prev edges : List ℕ) {n m : ℕ} → n ≡ m
-    → between snapshot quads xs ys next prev edges n ≡ lists xs ys next prev snapshot quads edges (counted n 0 m m)
-as-many snapshot quads xs ys next prev edges {n} e = ap (λ (k : ℕ). lists xs ys next prev snapshot quads edges (counted n 0 k k)) e
+    → between snapshot quads xs ys next prev edges n ≡ stateOf xs ys next prev snapshot quads edges (counted n 0 m m)
+as-many snapshot quads xs ys next prev edges {n} e = ap (λ (k : ℕ). stateOf xs ys next prev snapshot quads edges (counted n 0 k k)) e

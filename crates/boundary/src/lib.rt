@@ -5,18 +5,18 @@ ghost use mathlib.Core.List.{List};
 ghost use Prim.Native.Nat.{ℕ, _+_, _*_, _<_, _≤_, min, max};
 ghost use lib.Ieee.{Float};
 ghost use lib.ListN.{length};
-ghost use Rattle.numbers.specs.Float.{toFloat};
 ghost use Rattle.domain.specs.Outline.{outline, misshapen, loopStart, after};
 ghost use Rattle.front.specs.declared.Counts.{Counts};
-ghost use Rattle.front.specs.State.{State, nodePlaces, edgePlaces, nodeIn, pushNode};
+ghost use Rattle.front.specs.State.{State, stateOf, nodePlaces, edgePlaces, pushNode};
 ghost use Rattle.front.specs.Sampling.{partsOf, loopParts, sampledCount, frontRefusal, cut, sampleSegment, sampleLoop, fromBoundary};
 ghost use Rattle.front.specs.Sampling.{signedArea, orderedAt, edgeLength, longestEdge, ringOf, ringCount, sampledAt, ringAt, midpoint, splitLongest};
 ghost use Rattle.sampled.specs.Joins.{withLink};
 ghost use Rattle.boundary.specs.Counting.{most, evenUp};
-ghost use Rattle.boundary.specs.Laying.{lists, withNodes, withEdges, between, NodeRoom, NodesFrom, RingFits, LoopRoom, CanSample, linkRing, layLoop};
+ghost use Rattle.boundary.specs.Laying.{withNodes, withEdges, between, NodeRoom, NodesFrom, RingFits, LoopRoom, CanSample, linkRing, layLoop};
 use domain::Point;
 use domain::Settings;
 use front::Counts;
+use front::OFF;
 use front::Ring;
 
 // ---- how many
@@ -105,24 +105,12 @@ pub fn front_refusal<'a>(
 
 // ---- the nodes of a loop
 
-// The link of a node off the front.
-const OFF: u32 = 4294967295;
-
-// `n as f64`
-fn to_f64(n: usize) -> f64
-    requires { ⌜ n < 4294967296 ⌝ }
-    ensures { λ r. ⌜ r ≡ toFloat n ⌝ }
-{
-    let m = n as u32;
-    m as f64
-}
-
 // Point k of n on the segment a to b.
 fn cut(a: Point, b: Point, n: usize, k: usize) -> Point
     requires { ⌜ (n < 4294967296) × (k < 4294967296) ⌝ }
     ensures { λ r. ⌜ r ≡ cut a b n k ⌝ }
 {
-    let t = to_f64(k) / to_f64(n);
+    let t = numbers::to_f64(k) / numbers::to_f64(n);
     Point {
         x: a.x + t * (b.x - a.x),
         y: a.y + t * (b.y - a.y),
@@ -194,16 +182,6 @@ fn sample_loop(
 
 // ---- the ring of a loop's nodes
 
-fn node_at(xs: &[f64], ys: &[f64], id: usize) -> Point
-    requires { ⌜ (id < length (now xs)) × (id < length (now ys)) ⌝ }
-    ensures { λ r. ⌜ r ≡ nodeIn (now (xs .entry)) (now (ys .entry)) id ⌝ }
-{
-    Point {
-        x: xs[id],
-        y: ys[id],
-    }
-}
-
 // The index after i among n, in a ring.
 fn after(n: usize, i: usize) -> usize
     requires { ⌜ i < n ⌝ }
@@ -214,14 +192,14 @@ fn after(n: usize, i: usize) -> usize
 
 // `signed_area` of n nodes from base on.
 fn signed_area(xs: &[f64], ys: &[f64], base: usize, n: usize) -> f64
-    requires { ⌜ NodesFrom base n (now xs) (now ys) ⌝ }
+    requires { ⌜ NodesFrom base n ⌝ }
     ensures { λ r. ⌜ r ≡ signedArea (now (xs .entry)) (now (ys .entry)) base n ⌝ }
 {
     let mut sum = 0.0;
     let mut i = 0;
     while i < n {
-        let a = node_at(xs, ys, base + i);
-        let b = node_at(xs, ys, base + after(n, i));
+        let a = front::node_at(xs, ys, (base + i) as u32);
+        let b = front::node_at(xs, ys, (base + after(n, i)) as u32);
         sum = sum + (a.x * b.y - b.x * a.y);
         i += 1;
     }
@@ -238,17 +216,17 @@ fn ordered_at(base: usize, n: usize, turned: bool, k: usize) -> usize
 
 // The length of the edge from id k to the next one.
 fn edge_length(xs: &[f64], ys: &[f64], base: usize, n: usize, turned: bool, k: usize) -> f64
-    requires { ⌜ NodesFrom base n (now xs) (now ys) × (k < n) ⌝ }
+    requires { ⌜ NodesFrom base n × (k < n) ⌝ }
     ensures { λ r. ⌜ r ≡ edgeLength (now (xs .entry)) (now (ys .entry)) base n turned k ⌝ }
 {
-    let a = node_at(xs, ys, ordered_at(base, n, turned, k));
-    let b = node_at(xs, ys, ordered_at(base, n, turned, after(n, k)));
+    let a = front::node_at(xs, ys, ordered_at(base, n, turned, k) as u32);
+    let b = front::node_at(xs, ys, ordered_at(base, n, turned, after(n, k)) as u32);
     geometry::distance(a, b)
 }
 
 // The longest edge, the last of equals.
 fn longest_edge(xs: &[f64], ys: &[f64], base: usize, n: usize, turned: bool) -> usize
-    requires { ⌜ NodesFrom base n (now xs) (now ys) ⌝ }
+    requires { ⌜ NodesFrom base n ⌝ }
     ensures { λ r. ⌜ (r ≡ longestEdge (now (xs .entry)) (now (ys .entry)) base n turned) × (r < n) ⌝ }
 {
     let mut best = 0;
@@ -268,7 +246,7 @@ fn longest_edge(xs: &[f64], ys: &[f64], base: usize, n: usize, turned: bool) -> 
 
 // The ring of loop k, of which n nodes were sampled from base on.
 fn ring_of(k: usize, xs: &[f64], ys: &[f64], base: usize, n: usize) -> Ring
-    requires { ⌜ NodesFrom base n (now xs) (now ys) ⌝ }
+    requires { ⌜ NodesFrom base n ⌝ }
     ensures { λ r. ⌜ r ≡ ringOf k (now (xs .entry)) (now (ys .entry)) base n ⌝ }
 {
     let positive = signed_area(xs, ys, base, n) > 0.0;
@@ -319,12 +297,12 @@ fn ring_at(r: Ring, k: usize) -> u32
 
 // The midpoint of the longest edge.
 fn midpoint(xs: &[f64], ys: &[f64], r: Ring) -> Point
-    requires { ⌜ NodesFrom (r .base) (r .count) (now xs) (now ys) × (r .longest < r .count) ⌝ }
+    requires { ⌜ NodesFrom (r .base) (r .count) × (r .longest < r .count) ⌝ }
     ensures { λ p. ⌜ p ≡ midpoint (now (xs .entry)) (now (ys .entry)) r ⌝ }
 {
     let k = r.longest as usize;
-    let a = node_at(xs, ys, sampled_at(r, k) as usize);
-    let b = node_at(xs, ys, sampled_at(r, after(r.count as usize, k)) as usize);
+    let a = front::node_at(xs, ys, sampled_at(r, k));
+    let b = front::node_at(xs, ys, sampled_at(r, after(r.count as usize, k)));
     Point {
         x: (a.x + b.x) / 2.0,
         y: (a.y + b.y) / 2.0,
@@ -340,7 +318,7 @@ fn split_longest(
     prev: &mut [u32],
     nodes: usize,
 ) -> usize
-    requires { ⌜ NodesFrom (r .base) (r .count) (now xs) (now ys) × (r .longest < r .count) × (nodes ≡ r .base + r .count) ⌝ }
+    requires { ⌜ NodesFrom (r .base) (r .count) × (r .longest < r .count) × (nodes ≡ r .base + r .count) ⌝ }
     requires { ⌜ NodeRoom (r .base + ringCount r) (now xs) (now ys) (now next) (now prev) ⌝ }
     ensures { λ n. ⌜ (n ≡ r .base + ringCount r)
         × ((st : State) → withNodes st (now (xs .exit)) (now (ys .exit)) (now (next .exit)) (now (prev .exit)) n
@@ -438,10 +416,10 @@ pub fn from_boundary<'a>(
     requires { ⌜ CanSample (outline (now outer) (now holes) (now lens)) size (now xs) (now ys) (now next) (now prev) (now edges) ⌝ }
     ensures { λ r. ⌜ ((snapshot quads : List ℕ) (counts : Counts)
         → frontRefusal (outline (now (outer .entry)) (now (holes .entry)) (now (lens .entry))) size
-        (lists (now (xs .entry)) (now (ys .entry)) (now (next .entry)) (now (prev .entry)) snapshot quads (now (edges .entry)) counts) ≡ 0
-        → lists (now (xs .exit)) (now (ys .exit)) (now (next .exit)) (now (prev .exit)) snapshot quads (now (edges .exit)) r
+        (stateOf (now (xs .entry)) (now (ys .entry)) (now (next .entry)) (now (prev .entry)) snapshot quads (now (edges .entry)) counts) ≡ 0
+        → stateOf (now (xs .exit)) (now (ys .exit)) (now (next .exit)) (now (prev .exit)) snapshot quads (now (edges .exit)) r
         ≡ fromBoundary (outline (now (outer .entry)) (now (holes .entry)) (now (lens .entry))) size
-        (lists (now (xs .entry)) (now (ys .entry)) (now (next .entry)) (now (prev .entry)) snapshot quads (now (edges .entry)) counts)) ⌝ }
+        (stateOf (now (xs .entry)) (now (ys .entry)) (now (next .entry)) (now (prev .entry)) snapshot quads (now (edges .entry)) counts)) ⌝ }
 {
     let mut nodes = 0;
     let mut start = 0;

@@ -1,7 +1,7 @@
 -- A placing keeps every node bounded, since a new corner is inside the outline: `place-bounded`, and along a run `reaches-bounded`. And the quad
 -- placed holds in a book that has its corners: `placement-holds`, and `matched-holds` for a book that matches a later state. Assumes nothing.
 use mathlib.Core.Path.{_≡_, refl, sym, ap, ap₂, _∙_, subst}
-use mathlib.Core.Bool.{Bool, true, false, not, _&&_, _||_, cond}
+use mathlib.Core.Bool.{Bool, true, false, not, cond}
 use mathlib.Core.List.{List}
 use Prim.Native.Nat.{ℕ, _+_, _<_}
 use native.Mathlib.Omega.{arith}
@@ -11,6 +11,7 @@ use lib.ListN.{getD}
 use lib.Seq.{getD-take}
 use lib.Ieee.{Float, nan, binary64}
 use lib.Ieee.Fits.{add-fits}
+use Rattle.laws.specs.Tests.{both, neither}
 use Rattle.numbers.specs.Float.{_⊗_, isFinite}
 use Rattle.exact.specs.Units.{widen}
 use Rattle.domain.specs.declared.Point.{Point}
@@ -33,18 +34,10 @@ use Rattle.books.specs.Book.{Book, Quad, quadAt}
 use Rattle.books.specs.Matches.{Matches}
 use Rattle.books.specs.BookLaws.{frame-quad}
 use Rattle.books.specs.Holds.{QuadHolds}
-use Rattle.placed.specs.Step.{step}
+use Rattle.books.specs.Step.{step}
 use Rattle.bounded.specs.Point.{Bounded}
 use Rattle.bounded.specs.Corners.{CornersBounded, nodeOf, cornersIn, quad-holds}
 use Rattle.bounded.specs.Nodes.{AllNodes, IfNew, Roomy, place-nodes}
-
-and-left : (x y : Bool) → x && y ≡ true → x ≡ true
-and-left true y e = refl
-and-left false y e = e
-
-and-right : (x y : Bool) → x && y ≡ true → y ≡ true
-and-right true y e = e
-and-right false y e = absurd (let z : _≡_ {A = ℕ} 0 1 = cc in omega arith)
 
 -- ---- the checks that a placing has passed
 
@@ -56,12 +49,12 @@ record Checked (o : Outline) (size : Float) (s : State) (a b : ℕ) (c d : Corne
 checked : (o : Outline) (size : Float) (s : State) (a b : ℕ) (c d : Corner) → quadFits o size s a b c d ≡ true → Checked o size s a b c d
 unfolding quadFits quadOk
 checked o size s a b c d e =
-    let t₁ = and-right (not (eqb (idC s c) (idD s c d))) _ e in
-    let t₂ = and-right (cornerFree o size s c) _ t₁ in
-    let t₃ = and-right (cornerFree o size s d) _ t₂ in
-    let t₄ = and-right (cornersApart size c d) _ t₃ in
-    let t₅ = and-right (not (eqb (nextOf s (idC s c)) (idD s c d))) _ t₄ in
-    record { free-c = and-left _ _ t₁; free-d = and-left _ _ t₂; convex = and-left _ _ t₅ }
+    let t₁ = both (not (eqb (idC s c) (idD s c d))) _ e .1 in
+    let t₂ = both (cornerFree o size s c) _ t₁ in
+    let t₃ = both (cornerFree o size s d) _ (t₂ .1) in
+    let t₄ = both (cornersApart size c d) _ (t₃ .1) .1 in
+    let t₅ = both (not (eqb (nextOf s (idC s c)) (idD s c d))) _ t₄ .1 in
+    record { free-c = t₂ .0; free-d = t₃ .0; convex = both _ _ t₅ .0 }
 
 -- ---- a book that matches a state has its nodes
 
@@ -86,9 +79,9 @@ module _ (o : Outline) (fits : OutlineFits o) (taken : outlineRefusal o ≡ 0) w
   node-bounded : (size : Float) (s : State) (p : Point) → PointFits p → nodeOk o size s p ≡ true → Bounded p
   unfolding nodeOk
   node-bounded size s p f e =
-      let t₁ = and-right (isFinite (p .x)) _ e in
-      let t₂ = and-right (isFinite (p .y)) _ t₁ in
-      let w = inside o p fits taken f (and-left _ _ e) (and-left _ _ t₁) (and-left _ _ t₂) in
+      let t₁ = both (isFinite (p .x)) _ e in
+      let t₂ = both (isFinite (p .y)) _ (t₁ .1) in
+      let w = inside o p fits taken f (t₁ .0) (t₂ .0) (both _ _ (t₂ .1) .0) in
       record { fits = f; within = record { x = w .x; y = widen 1001 tt (w .y) } }
 
   corner-bounded : (size : Float) (s : State) (c : Corner) → IfNew PointFits c → cornerFree o size s c ≡ true → IfNew Bounded c
@@ -116,12 +109,8 @@ module _ (o : Outline) (fits : OutlineFits o) (taken : outlineRefusal o ≡ 0) w
     room : AllNodes Bounded s → Roomy Bounded (added c + added d) s
     unfolding isFull nodePlaces
     room h =
-        let l = ltb-false (nodePlaces s) (s .counts .nodes + added c + added d) (or-left _ _ (P .fits)) in
+        let l = ltb-false (nodePlaces s) (s .counts .nodes + added c + added d) (neither _ _ (P .fits) .0) in
         record { nodes = h; xs = omega (arith, l); ys = omega (arith, l) }
-      where
-        or-left : (x y : Bool) → x || y ≡ false → x ≡ false
-        or-left true y e = e
-        or-left false y e = refl
 
     -- after a placing every node is bounded, if every one was before
     pub place-bounded : AllNodes Bounded s → AllNodes Bounded (place a b c d s)

@@ -23,8 +23,10 @@ use Rattle.front.specs.declared.Corner.the-variants.{Reused, Fresh}
 use Rattle.front.specs.State.{State, node, nextOf, prevOf}
 use Rattle.front.specs.Place.{cornerPoint, cornerId, idC, idD, added}
 use Rattle.front.specs.Sound.{Sound}
+use Rattle.front.specs.Pushed.{IsNode}
 use Rattle.paving.specs.declared.Attempt.{Attempt}
-use Rattle.paving.specs.Checks.{closeNode, tooClose, nodeOk, cornerFree, cornersApart, blocks, nodeInside, crossesEdge, edgeCrosses, sideCrosses, edgesFree, cornersOf, quadOk, quadFits}
+use Rattle.paving.specs.Checks.{closeNode, tooClose, nodeOk, cornerFree, cornersApart, blocks, nodeInside, crossesEdge, edgeCrosses, sideCrosses}
+use Rattle.paving.specs.Checks.{edgesFree, cornersOf, quadOk, quadFits}
 use Rattle.paving.specs.Attempt.{reuse, isReused, cornerAt, ideal, cornerC, cornerD, quadIf, attemptQuad, tryToward, tryEdge}
 use Rattle.capacity.specs.Alike.{EdgesAlike, Alike, next-alike, prev-alike}
 
@@ -51,11 +53,6 @@ reads-alike n s t ls ms S T A =
       edges = A .edges;
     }
 
--- a reused corner is a node
-abbrev pub CornerIn : ℕ → Corner → Type 0
-CornerIn n (Reused id) = id < n
-CornerIn n (Fresh x y) = Unit {0}
-
 module _ (s t : State) (R : ReadsAlike s t) where
   abbrev N : ℕ
   N = s .counts .nodes
@@ -76,11 +73,11 @@ module _ (s t : State) (R : ReadsAlike s t) where
   unfolding cornerAt
   corner-alike size other v p inside = rw (reused-alike size other v p inside)
 
-  corner-in : (size : Float) (other v : ℕ) (p : Point) → (v ≢ off → v < N) → CornerIn N (cornerAt size s other v p)
+  corner-in : (size : Float) (other v : ℕ) (p : Point) → (v ≢ off → v < N) → IsNode N (cornerAt size s other v p)
   unfolding cornerAt isReused
   corner-in size other v p inside = by (eqb v off) refl (not (eqb v other) && le (distance (node s v) p) (reuse ⊗ size))
     where
-      by : (b : Bool) → eqb v off ≡ b → (c : Bool) → CornerIn N (cond (not b && c) (Reused v) (Fresh (p .x) (p .y)))
+      by : (b : Bool) → eqb v off ≡ b → (c : Bool) → IsNode N (cond (not b && c) (Reused v) (Fresh (p .x) (p .y)))
       by true e c = tt
       by false e true = inside (eqb-false v off e)
       by false e false = tt
@@ -99,7 +96,7 @@ module _ (s t : State) (R : ReadsAlike s t) where
 
   -- ---- the checks
 
-  pub point-alike : (c : Corner) → CornerIn N c → cornerPoint t c ≡ cornerPoint s c
+  pub point-alike : (c : Corner) → IsNode N c → cornerPoint t c ≡ cornerPoint s c
   point-alike (Reused id) h = R .points id h
   point-alike (Fresh x y) h = refl
 
@@ -142,7 +139,7 @@ module _ (s t : State) (R : ReadsAlike s t) where
   side-alike size (Fresh x y) id to h =
       ap (λ (p : Point). edgeCrosses size t (point x y) p id to) (R .points to h) ∙ crosses-alike size (point x y) (node s to) id to
 
-  module _ (o : Outline) (size : Float) (a b : ℕ) (ha : a < N) (hb : b < N) (c d : Corner) (hc : CornerIn N c) (hd : CornerIn N d) where
+  module _ (o : Outline) (size : Float) (a b : ℕ) (ha : a < N) (hb : b < N) (c d : Corner) (hc : IsNode N c) (hd : IsNode N d) where
     edges-free : edgesFree size t a b c d ≡ edgesFree size s a b c d
     unfolding edgesFree
     edges-free =
@@ -172,11 +169,11 @@ module _ (s t : State) (R : ReadsAlike s t) where
   -- ---- an attempt
 
   module _ (o : Outline) (size : Float) (a b : ℕ) (ha : a < N) (hb : b < N) where
-    pub in-c : (da : Point) → CornerIn N (cornerC size s a b da)
+    pub in-c : (da : Point) → IsNode N (cornerC size s a b da)
     unfolding cornerC
     in-c da = corner-in size b (prevOf s a) (ideal size (node s a) da) (R .prev-node a)
 
-    pub in-d : (db : Point) → CornerIn N (cornerD size s a b db)
+    pub in-d : (db : Point) → IsNode N (cornerD size s a b db)
     unfolding cornerD
     in-d db = corner-in size a (nextOf s b) (ideal size (node s b) db) (R .next-node b)
 

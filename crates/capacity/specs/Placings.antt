@@ -21,13 +21,14 @@ use Rattle.front.specs.Place.{cornerPoint, cornerId, idC, idD, pushCorner, take
 use Rattle.front.specs.Place as front
 use Rattle.front.specs.Sound.{Sound, Frame}
 use Rattle.front.specs.FrameLaws.{frame-node, frame-edge-places}
+use Rattle.front.specs.Pushed.{IsNode, withCorners}
 use Rattle.paving.specs.AttemptLaws.{quad-chosen}
 use Rattle.paving.specs.Reach.{Placement}
 use Rattle.books.specs.Book.{Quad, quadAt}
 use Rattle.books.specs.BookLaws.{frame-quad}
-use Rattle.placed.specs.Step.{Stepped, step}
+use Rattle.books.specs.Step.{Stepped, step}
 use Rattle.capacity.specs.Alike.{EdgesAlike, Alike, add-alike}
-use Rattle.capacity.specs.Attempts.{ReadsAlike, reads-alike, CornerIn, in-c, in-d, point-alike, id-c, id-d}
+use Rattle.capacity.specs.Attempts.{ReadsAlike, reads-alike, in-c, in-d, point-alike, id-c, id-d}
 
 -- ---- the mesh edges of a placing are those of `addEdges`
 
@@ -59,7 +60,9 @@ same-add u v s = record { list = refl; number = refl; snapshot = refl }
 
 same-remove : (u v : ℕ) (s : State) → SameEdges s (removeFront u v s)
 unfolding removeFront
-same-remove u v s = either (eqb (nextOf s u) v) s _ s (record { list = refl; number = refl; snapshot = refl }) (record { list = refl; number = refl; snapshot = refl })
+same-remove u v s =
+    either (eqb (nextOf s u) v) s _ s (record { list = refl; number = refl; snapshot = refl })
+    (record { list = refl; number = refl; snapshot = refl })
 
 same-off : (c : Corner) (u v : ℕ) (s : State) → SameEdges s (takeOff c u v s)
 same-off (Reused id) u v s = same-remove u v s
@@ -75,10 +78,7 @@ same-move c d a b D C s =
     same-trans (same-remove a b s) (same-trans (same-off c C a _) (same-trans (same-off d b D _)
     (same-trans (same-on c a C _) (same-trans (same-add C D _) (same-on d D b _)))))
 
-abbrev corners : Corner → Corner → State → State
-corners c d s = pushCorner d (pushCorner c s)
-
-same-place : (a b : ℕ) (c d : Corner) (s : State) → SameEdges (addEdges a b (idD s c d) (idC s c) (corners c d s)) (place a b c d s)
+same-place : (a b : ℕ) (c d : Corner) (s : State) → SameEdges (addEdges a b (idD s c d) (idC s c) (withCorners c d s)) (place a b c d s)
 unfolding place
 same-place a b c d s = same-trans (same-quad a b (idD s c d) (idC s c) _) (same-move c d a b (idD s c d) (idC s c) _)
 
@@ -139,7 +139,7 @@ unfolding addEdges
 place-snapshot a b c d s =
     let D = idD s c d in
     let C = idC s c in
-    let u = corners c d s in
+    let u = withCorners c d s in
     let u1 = addEdge a b u in
     let u2 = addEdge b D u1 in
     let u3 = addEdge D C u2 in
@@ -175,13 +175,13 @@ module _ (n : ℕ) (s t : State) (ls ms : List (List ℕ)) (S : Sound n s ls) (T
   corner-c : cornerPoint t c ≡ cornerPoint s c
   corner-c =
       point-alike s t R c
-      (subst (CornerIn (s .counts .nodes)) (quad-chosen o size s a b (P .da) (P .db) c d (P .answered) .at-c)
+      (subst (IsNode (s .counts .nodes)) (quad-chosen o size s a b (P .da) (P .db) c d (P .answered) .at-c)
       (in-c s t R o size a b (X .node-a) (X .node-b) (P .da)))
 
   corner-d : cornerPoint t d ≡ cornerPoint s d
   corner-d =
       point-alike s t R d
-      (subst (CornerIn (s .counts .nodes)) (quad-chosen o size s a b (P .da) (P .db) c d (P .answered) .at-d)
+      (subst (IsNode (s .counts .nodes)) (quad-chosen o size s a b (P .da) (P .db) c d (P .answered) .at-d)
       (in-d s t R o size a b (X .node-a) (X .node-b) (P .db)))
 
   count : place a b c d t .counts .nodes ≡ place a b c d s .counts .nodes
@@ -219,7 +219,7 @@ module _ (n : ℕ) (s t : State) (ls ms : List (List ℕ)) (S : Sound n s ls) (T
       omega (arith, later, X .sums w, A .sums w)
 
   room : (u : State) (us : List (List ℕ)) → Sound n (place a b c d u) us → Frame u (place a b c d u)
-      → 2 * addEdges a b (idD u c d) (idC u c) (corners c d u) .counts .edges ≤ length (corners c d u .edges)
+      → 2 * addEdges a b (idD u c d) (idC u c) (withCorners c d u) .counts .edges ≤ length (withCorners c d u .edges)
   unfolding edgePlaces
   room u us W F =
       let list = same-trans (same-corner c u) (same-corner d (pushCorner c u)) .list in
@@ -232,13 +232,13 @@ module _ (n : ℕ) (s t : State) (ls ms : List (List ℕ)) (S : Sound n s ls) (T
       let D = idD s c d in
       let more = X .frame .nodes in
       let base =
-      alike-same N s t (corners c d s) (corners c d t) (alike-more _ N s t more (A .edges))
+      alike-same N s t (withCorners c d s) (withCorners c d t) (alike-more _ N s t more (A .edges))
       (same-trans (same-corner c s) (same-corner d (pushCorner c s))) (same-trans (same-corner c t) (same-corner d (pushCorner c t))) in
       let four =
-      four-alike N (corners c d s) (corners c d t) a b D C (omega (arith, X .node-a)) (omega (arith, X .node-b)) (X .node-d) (X .node-c)
+      four-alike N (withCorners c d s) (withCorners c d t) a b D C (omega (arith, X .node-a)) (omega (arith, X .node-b)) (X .node-d) (X .node-c)
       (room s (X .loops) (X .sound) (X .frame))
       (rw (id-c s t R c, id-d s t R c d) at (room t (Z .loops) (Z .sound) (Z .frame))) base in
-      alike-same N (addEdges a b D C (corners c d s)) (addEdges a b D C (corners c d t)) (place a b c d s) (place a b c d t) four
+      alike-same N (addEdges a b D C (withCorners c d s)) (addEdges a b D C (withCorners c d t)) (place a b c d s) (place a b c d t) four
       (same-place a b c d s) (rw (id-c s t R c, id-d s t R c d) at (same-place a b c d t))
 
   pub place-alike : Alike (place a b c d s) (place a b c d t) (X .loops) (Z .loops)

@@ -13,7 +13,8 @@ use Rattle.domain.specs.Outline.{Outline, point, loopAt, after}
 use Rattle.topology.specs.Sums.{frontSum}
 use Rattle.front.specs.declared.Ring.{Ring}
 use Rattle.front.specs.State.{State, node, nodePlaces, quadPlaces, edgePlaces, pushNode, addFront, addEdge, cleared}
-use Rattle.front.specs.Sampling.{loopCount, sampledCount, frontRefusal, sampleLoop, ringOf, ringCount, ringAt, splitLongest, joinTurn, joinRing, ringIn, closeLoop, boundaryTurn, fromBoundary, ringIds, loopIds, boundaryLoops}
+use Rattle.front.specs.Sampling.{loopCount, sampledCount, frontRefusal, sampleLoop, ringOf, ringCount, ringAt, splitLongest, joinTurn, joinRing}
+use Rattle.front.specs.Sampling.{ringIn, closeLoop, boundaryTurn, fromBoundary, ringIds, loopIds, boundaryLoops}
 use Rattle.front.specs.FrameLaws.{frame-node-places, frame-quad-places, frame-edge-places}
 use Rattle.sampled.specs.Nodes.{nodesOf, nodes-at}
 use Rattle.sampled.specs.Cuts.{loopCuts, cuts-length, cuts-least}

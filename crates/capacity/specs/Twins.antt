@@ -23,8 +23,8 @@ use Rattle.paving.specs.Attempt.{tryEdge}
 use Rattle.paving.specs.Advance.{isThere, withSnapshot}
 use Rattle.paving.specs.Reach.{Placement}
 use Rattle.books.specs.Book.{quadAt}
-use Rattle.placed.specs.Step.{step}
-use Rattle.placed.specs.Snapshot.{snapshot-frame, snapshot-sound}
+use Rattle.books.specs.Step.{step}
+use Rattle.books.specs.Snapshot.{snapshot-frame, snapshot-sound}
 use Rattle.books_hold.specs.EndLaws.{copied-at}
 use Rattle.capacity.specs.Alike.{EdgesAlike, Alike, next-alike, edges-has}
 use Rattle.capacity.specs.Attempts.{reads-alike, id-c, id-d, try-alike}

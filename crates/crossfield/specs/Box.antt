@@ -9,11 +9,12 @@ use native.Mathlib.Omega.{arith}
 use lib.ListN.{length}
 use lib.Ieee.{Float, nan, inf, fin, isNan, lt, le, eq}
 use Rattle.laws.specs.Loop.{forUp-keeps}
+use Rattle.laws.specs.Tests.{neither}
 use Rattle.numbers.specs.Float.{_⊖_, infinityF, negInfinityF, minF, maxF}
 use Rattle.exact.specs.Units.{W, Within}
 use Rattle.exact.specs.Operations.{sub-law, sum-within}
 use Rattle.domain.specs.declared.Point.{Point}
-use Rattle.domain.specs.Accepted.{neither, cond-zero, OutlineFits, Accepted, LoopWithin, loop-within}
+use Rattle.domain.specs.Accepted.{cond-zero, OutlineFits, Accepted, LoopWithin, loop-within}
 use Rattle.domain.specs.Outline.{loopAt, Outline, holeAt, points, pointAt}
 use Rattle.crossfield.specs.declared.Bounds.{Bounds}
 use Rattle.crossfield.specs.Grid.{noBounds, widened, boundsTurn, loopBounds, holeBounds, bounds, boundsRefusal}

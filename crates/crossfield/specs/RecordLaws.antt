@@ -1,12 +1,13 @@
 -- What refusal 11 leaves: counts and lengths that the functions over a record's values ask. Assumes nothing.
-use mathlib.Core.Path.{_≡_, refl, sym}
-use mathlib.Core.Bool.{Bool, true, false, not, _&&_, cond, true≢false}
+use mathlib.Core.Path.{_≡_, refl}
+use mathlib.Core.Bool.{Bool, true, false, not, _&&_, cond}
 use Prim.Native.Nat.{ℕ}
 use native.Mathlib.Nat.{le-of-eq}
 use native.Mathlib.Omega.{arith}
 use borrow.Author.Tests.{leb-true, eqb-true}
 use lib.Dec.{T, leb, eqb}
 use lib.ListN.{length}
+use Rattle.laws.specs.Tests.{both}
 use Rattle.domain.specs.declared.Point.{Point}
 use Rattle.domain.specs.Accepted.{first-zero}
 use Rattle.domain.specs.Outline.{anyFloat, pointRefusal}
@@ -18,11 +19,6 @@ use Rattle.crossfield.specs.Places.{Lent}
 pub true-of : (b : Bool) → T b → b ≡ true
 true-of true t = refl
 true-of false t = absurd t
-
--- of two that hold together, each does
-pub both : (a b : Bool) → a && b ≡ true → (a ≡ true) × (b ≡ true)
-both true b e = (refl, e)
-both false b e = absurd (true≢false (sym e))
 
 sound-of : (a b : Bool) → _≡_ {A = ℕ} (cond (a && b) 0 11) 0 → a ≡ true
 sound-of true b e = refl

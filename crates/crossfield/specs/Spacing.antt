@@ -12,12 +12,13 @@ use lib.Dec.{T, leb, lit≤, leb→le}
 use lib.Ieee.{Float, nan, inf, fin, binary64, up, down, fits, lt, le, ofBits}
 use lib.Ieee.Fits.{down-pos}
 use Rattle.laws.specs.Loop.{Turn, go, out, onwards, answer, forUp, forUp-keeps, run}
+use Rattle.laws.specs.Tests.{neither}
 use Rattle.numbers.specs.Float.{_⊖_, _⊗_, _⊘_, halfF, zeroF, isFinite}
 use Rattle.numbers.specs.Whole.{ceilDiv, ceilCount}
 use Rattle.exact.specs.Units.{W, W-pos, W-big, Val, val-of, signOf, sizeOf, Within}
 use Rattle.exact.specs.Order.{not-lt-val, above-of-not-le}
 use Rattle.exact.specs.Operations.{mul-law, div-law}
-use Rattle.domain.specs.Accepted.{neither, cond-zero}
+use Rattle.domain.specs.Accepted.{cond-zero}
 use Rattle.crossfield.specs.declared.Bounds.{Bounds}
 use Rattle.crossfield.specs.Unit.{zero-val}
 use Rattle.crossfield.specs.Box.{Box}

@@ -12,7 +12,7 @@ use lib.IntN.{ℤ, _+ℤ_, _-ℤ_}
 use lib.Ieee.{Float, binary64, unlike, lt, le, ofBits}
 use lib.Ieee.Fits.{add-fits}
 use Rattle.numbers.specs.Float.{_⊕_, _⊖_, _⊗_, _⊘_, zeroF, oneF, twoF, tolerance}
-use Rattle.exact.specs.Units.{W, W-pos, W-big, Val, units, Within}
+use Rattle.exact.specs.Units.{W, W-pos, W-big, Val, units, Within, unlike-self}
 use Rattle.exact.specs.Order.{lt-val, above-pos, above-of-not-le}
 use Rattle.exact.specs.Operations.{product-small, mul-law, Sum, add-law, sub-law, add-law-pos, div-law}
 use Rattle.exact.specs.Root.{root-law}
@@ -119,10 +119,6 @@ record Length (l : Float) (a b : ℕ) : Type 0 where
 
 same-rel : (a : ℕ) → Rel a a
 same-rel a = (omega arith, omega arith)
-
-unlike-self : (s : Bool) → unlike s s ≡ false
-unlike-self true = refl
-unlike-self false = refl
 
 tolerance-units : ℕ
 tolerance-units = 4951760157141521 * 2 ^ 982

@@ -3,7 +3,7 @@ ghost use mathlib.Core.Path.{_≡_};
 ghost use mathlib.Core.Bool.{true, false};
 ghost use Prim.Native.Nat.{_+_, _-_, _*_, min, _≤_, _<_};
 ghost use lib.ListN.{length};
-ghost use Rattle.numbers.specs.Float.{_⊘_, toFloat};
+ghost use Rattle.numbers.specs.Float.{_⊘_};
 ghost use Rattle.numbers.specs.Whole.{floorQuotient, ceilCount};
 ghost use Rattle.domain.specs.Outline.{outline, misshapen, pointAt, anyFloat};
 ghost use Rattle.crossfield.specs.Grid.{noBounds, widened, loopBounds, bounds, gridCount, tooManyNodes, spacing, gridOf, sizeRefusal};
@@ -212,23 +212,14 @@ fn places_refusal(g: Grid, places: usize) -> u32
 
 // ---- seeds and marks
 
-// `n as f64`
-fn to_f64(n: usize) -> f64
-    requires { ⌜ n < 4294967296 ⌝ }
-    ensures { λ r. ⌜ r ≡ toFloat n ⌝ }
-{
-    let m = n as u32;
-    m as f64
-}
-
 // Where node (i, j) stands.
 fn grid_point(g: Grid, i: usize, j: usize) -> Point
     requires { ⌜ (i < 4294967296) × (j < 4294967296) ⌝ }
     ensures { λ r. ⌜ r ≡ gridPoint g i j ⌝ }
 {
     Point {
-        x: g.xmin + to_f64(i) * g.h,
-        y: g.ymin + to_f64(j) * g.h,
+        x: g.xmin + numbers::to_f64(i) * g.h,
+        y: g.ymin + numbers::to_f64(j) * g.h,
     }
 }
 
@@ -284,7 +275,9 @@ fn seed_node<'a>(
     requires { ⌜ misshapen (outline (now outer) (now holes) (now lens)) ≡ false ⌝ }
     requires { ⌜ Node (g .nx) (g .ny) j i id (length (now values)) ⌝ }
     requires { ⌜ Counts (g .nx) (g .ny) id (length (now marks)) ⌝ }
-    ensures { λ r. ⌜ fieldLists (now (values .exit)) (now (marks .exit)) ≡ seedNode (outline (now (outer .entry)) (now (holes .entry)) (now (lens .entry))) g j i (fieldLists (now (values .entry)) (now (marks .entry))) ⌝ }
+    ensures { λ r. ⌜ fieldLists (now (values .exit)) (now (marks .exit))
+        ≡ seedNode (outline (now (outer .entry)) (now (holes .entry)) (now (lens .entry))) g j i
+        (fieldLists (now (values .entry)) (now (marks .entry))) ⌝ }
 {
     let p = grid_point(g, i, j);
     let found = domain::nearest_segment(outer, holes, lens, p);
@@ -310,7 +303,9 @@ fn seed_row<'a>(
     requires { ⌜ misshapen (outline (now outer) (now holes) (now lens)) ≡ false ⌝ }
     requires { ⌜ Row (g .nx) (g .ny) j base (length (now values)) ⌝ }
     requires { ⌜ RowMarks (g .nx) (g .ny) base (length (now marks)) ⌝ }
-    ensures { λ r. ⌜ fieldLists (now (values .exit)) (now (marks .exit)) ≡ seedRow (outline (now (outer .entry)) (now (holes .entry)) (now (lens .entry))) g j (fieldLists (now (values .entry)) (now (marks .entry))) ⌝ }
+    ensures { λ r. ⌜ fieldLists (now (values .exit)) (now (marks .exit))
+        ≡ seedRow (outline (now (outer .entry)) (now (holes .entry)) (now (lens .entry))) g j
+        (fieldLists (now (values .entry)) (now (marks .entry))) ⌝ }
 {
     let nx = g.nx;
     let mut i = 0;
@@ -332,7 +327,9 @@ fn seed_all<'a>(
     requires { ⌜ misshapen (outline (now outer) (now holes) (now lens)) ≡ false ⌝ }
     requires { ⌜ Room (g .nx) (g .ny) (length (now values)) (length (now marks)) ⌝ }
     requires { ⌜ (g .nx ≤ mostFieldNodes) × (g .ny ≤ mostFieldNodes) ⌝ }
-    ensures { λ r. ⌜ fieldLists (now (values .exit)) (now (marks .exit)) ≡ seeded (outline (now (outer .entry)) (now (holes .entry)) (now (lens .entry))) g (fieldLists (now (values .entry)) (now (marks .entry))) ⌝ }
+    ensures { λ r. ⌜ fieldLists (now (values .exit)) (now (marks .exit))
+        ≡ seeded (outline (now (outer .entry)) (now (holes .entry)) (now (lens .entry))) g
+        (fieldLists (now (values .entry)) (now (marks .entry))) ⌝ }
 {
     let nx = g.nx;
     let ny = g.ny;
@@ -578,7 +575,9 @@ pub fn field<'a>(
     values: &mut [f64],
     marks: &mut [u8],
 ) -> FieldAnswer
-    ensures { λ r. ⌜ fieldResult r (now (values .exit)) (now (marks .exit)) ≡ fieldAnswer (outline (now (outer .entry)) (now (holes .entry)) (now (lens .entry))) size limit (fieldLists (now (values .entry)) (now (marks .entry))) ⌝ }
+    ensures { λ r. ⌜ fieldResult r (now (values .exit)) (now (marks .exit))
+        ≡ fieldAnswer (outline (now (outer .entry)) (now (holes .entry)) (now (lens .entry))) size limit
+        (fieldLists (now (values .entry)) (now (marks .entry))) ⌝ }
 {
     let places = lesser(values.len() / 2, marks.len());
     let refusal = field_refusal(outer, holes, lens, size, limit, places);
@@ -710,8 +709,8 @@ fn raw_at(g: Grid, values: &[f64], p: Point) -> Point
     let dy = p.y - g.ymin;
     let i = cell_of(dx, g.h, nx);
     let j = cell_of(dy, g.h, g.ny);
-    let tx = numbers::clamp_f64(dx / g.h - to_f64(i), 0.0, 1.0);
-    let ty = numbers::clamp_f64(dy / g.h - to_f64(j), 0.0, 1.0);
+    let tx = numbers::clamp_f64(dx / g.h - numbers::to_f64(i), 0.0, 1.0);
+    let ty = numbers::clamp_f64(dy / g.h - numbers::to_f64(j), 0.0, 1.0);
     let id = j * nx + i;
     let p00 = domain::point_at(values, id);
     let p10 = domain::point_at(values, id + 1);

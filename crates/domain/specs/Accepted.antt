@@ -1,6 +1,6 @@
 -- What the refusals 1 to 4 leave of an outline: `Accepted`. And `loop-within`: where the outline's floats are doubles, every point of every loop
 -- is within 1,000. Assumes nothing.
-use mathlib.Core.Bool.{Bool, true, false, _||_, cond, true≢false}
+use mathlib.Core.Bool.{Bool, true, false, cond}
 use mathlib.Core.List.{List}
 use mathlib.Core.Logic.{inl, inr}
 use mathlib.Core.Path.{_≡_, refl, sym, ap, _∙_, subst}
@@ -13,6 +13,7 @@ use lib.ListN.{length, getD, take, drop, length-take, length-drop}
 use lib.Seq.{getD-drop, getD-take}
 use lib.Ieee.{Float, nan, binary64, fits, lt, ofBits}
 use Rattle.laws.specs.Loop.{forUp-keeps, any-none}
+use Rattle.laws.specs.Tests.{neither}
 use Rattle.numbers.specs.Float.{isFinite, absF}
 use Rattle.exact.specs.Units.{W, Val, Within}
 use Rattle.exact.specs.Order.{within-abs}
@@ -47,10 +48,6 @@ pub record Accepted (o : Outline) : Type 0 where
   pub three : (k : ℕ) → k ≤ length (o .lens) → 3 ≤ points (loopAt o k)
   pub finite : (k i : ℕ) → k ≤ length (o .lens) → i < length (loopAt o k) → isFinite (getD (loopAt o k) i nan) ≡ true
   pub near : (k i : ℕ) → k ≤ length (o .lens) → i < length (loopAt o k) → beyond (getD (loopAt o k) i nan) ≡ false
-
-pub neither : (a b : Bool) → a || b ≡ false → (a ≡ false) × (b ≡ false)
-neither true b e = absurd (true≢false e)
-neither false b e = (refl, e)
 
 pub cond-zero : (b : Bool) (m n : ℕ) → cond b (suc m) n ≡ 0 → (b ≡ false) × (n ≡ 0)
 cond-zero true m n e = absurd (omega arith)

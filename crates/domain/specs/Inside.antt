@@ -9,6 +9,7 @@ use borrow.Author.Tests.{leb-true, leb-false}
 use lib.Dec.{T, leb}
 use lib.ListN.{length}
 use lib.Ieee.{Float, unlike, lt}
+use Rattle.laws.specs.Tests.{both, and-true, and-false}
 use Rattle.numbers.specs.Float.{_⊕_, _⊖_, _⊗_, _⊘_, isFinite}
 use Rattle.exact.specs.Units.{W, Val, signOf, sizeOf, val-of, Within, within}
 use Rattle.exact.specs.Order.{beyond-lt}
@@ -65,19 +66,11 @@ module _ (p : Point) (s : List Float) (w : LoopWithin s) where
       odd-same (points s) _ (λ i. straddles p (pointAt s i) (pointAfter s i) && left)
       (λ i l. side-meets p (pointAt s i) (pointAfter s i) left m v h Y (w i l) (after-within s w i l)) ∙ even left
     where
-      both : (b : Bool) → (b && true) ≡ b
-      both true = refl
-      both false = refl
-
-      none : (b : Bool) → (b && false) ≡ false
-      none true = refl
-      none false = refl
-
       even : (left : Bool) → oddUp (points s) (λ i. straddles p (pointAt s i) (pointAfter s i) && left) ≡ false
       even true =
-          odd-same (points s) _ _ (λ i l. both (straddles p (pointAt s i) (pointAfter s i)))
+          odd-same (points s) _ _ (λ i l. and-true (straddles p (pointAt s i) (pointAfter s i)))
           ∙ odd-ring (points s) (λ i. lt (p .y) (pointAt s i .y))
-      even false = odd-none (points s) _ (λ i l. none (straddles p (pointAt s i) (pointAfter s i)))
+      even false = odd-none (points s) _ (λ i l. and-false (straddles p (pointAt s i) (pointAfter s i)))
 
   in-polygon : PointFits p → isFinite (p .x) ≡ true → isFinite (p .y) ≡ true → pointInPolygon p s ≡ true → PointWithin 1001 1000 p
   in-polygon f nx ny e = height (leb (sizeOf (p .y)) (1000 * W)) refl
@@ -103,8 +96,4 @@ pub inside : (o : Outline) (p : Point) → OutlineFits o → outlineRefusal o �
     → contains o p ≡ true → PointWithin 1001 1000 p
 unfolding contains loopAt
 inside o p fits taken f nx ny e =
-    in-polygon p (o .outer) (loop-within o fits (accepted o taken) 0 zero-le) f nx ny (first (pointInPolygon p (o .outer)) _ e)
-  where
-    first : (a b : Bool) → a && b ≡ true → a ≡ true
-    first true b e = refl
-    first false b e = e
+    in-polygon p (o .outer) (loop-within o fits (accepted o taken) 0 zero-le) f nx ny (both (pointInPolygon p (o .outer)) _ e .0)

@@ -1,5 +1,5 @@
 -- Laws of the outline: where a hole's points stand in the holes' list, and what an outline that refusal 1 lets through has. Assumes nothing.
-use mathlib.Core.Bool.{Bool, true, false, _||_, true≢false}
+use mathlib.Core.Bool.{Bool, true, false}
 use mathlib.Core.List.{List}
 use mathlib.Core.Path.{_≡_, refl, sym, ap, _∙_}
 use Prim.Native.Nat.{ℕ, zero, suc, _+_, _-_, _*_, _/_, _%_, _≤_, _<_}
@@ -11,6 +11,7 @@ use lib.Dec.{eqb}
 use lib.ListN.{length, take, drop}
 use lib.Ieee.{Float}
 use Rattle.laws.specs.Loop.{forUp, sumUp}
+use Rattle.laws.specs.Tests.{neither}
 use Rattle.domain.specs.Outline.{Outline, holeLength, holeStart, holeAt, loopAt, points, misshapen, LoopPlace}
 
 -- ---- the points before a hole
@@ -50,11 +51,6 @@ pub record Shaped (o : Outline) : Type 0 where
   pub holes-even : 2 * points (o .holes) ≡ length (o .holes)
   pub sum : holeStart (o .lens) (length (o .lens)) ≡ points (o .holes)
   pub few : points (o .outer) + points (o .holes) ≤ 65535
-
--- of two that are false together, each is
-abbrev neither : (a b : Bool) → a || b ≡ false → (a ≡ false) × (b ≡ false)
-neither true b e = absurd (true≢false e)
-neither false b e = (refl, e)
 
 abbrev even : (n : ℕ) → eqb (n % 2) 1 ≡ false → 2 * (n / 2) ≡ n
 even n e = let h = eqb-false (n % 2) 1 e in two n h

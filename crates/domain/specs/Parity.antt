@@ -8,6 +8,7 @@ use borrow.Author.Tests.{lt-ltb, le-ltb}
 use lib.Dec.{ltb}
 use lib.Ieee.{unlike}
 use Rattle.laws.specs.Loop.{forUp, forUp-keeps, forUp-same}
+use Rattle.exact.specs.Units.{unlike-self}
 use Rattle.domain.specs.Outline.{after}
 
 abbrev pub oddTurn : (ℕ → Bool) → ℕ → Bool → Bool
@@ -23,10 +24,6 @@ odd-same n test other same = forUp-same n (oddTurn test) (oddTurn other) false (
 -- 0 is even
 pub odd-none : (n : ℕ) (test : ℕ → Bool) → ((i : ℕ) → i < n → test i ≡ false) → oddUp n test ≡ false
 odd-none n test none = forUp-keeps (λ i odd. odd ≡ false) n (oddTurn test) false refl (λ i odd h e. ap₂ unlike e (none i h))
-
-unlike-self : (a : Bool) → unlike a a ≡ false
-unlike-self true = refl
-unlike-self false = refl
 
 unlike-between : (a b c : Bool) → unlike (unlike a b) (unlike b c) ≡ unlike a c
 unlike-between true true true = refl

@@ -15,7 +15,8 @@ use Rattle.domain.specs.declared.Point.{Point}
 use Rattle.domain.specs.declared.Near.{Near}
 use Rattle.domain.specs.declared.Search.{Search}
 use Rattle.domain.specs.Outline.{Outline, holeAt, points, pointAt, pointAfter}
-use Rattle.domain.specs.Queries.{squaredDistance, footOf, pointSegmentDistance, near, nowhere, nearer, segmentTurn, nearestInLoop, holeTurn, nearestSegment}
+use Rattle.domain.specs.Queries.{squaredDistance, footOf, pointSegmentDistance, near, nowhere, nearer, segmentTurn, nearestInLoop, holeTurn}
+use Rattle.domain.specs.Queries.{nearestSegment}
 use Rattle.domain.specs.Search.{search, searchStart, searched, searchTurn, searchLoop, searchHole, searchAll}
 
 -- the search has found n, whose distance is the root of the square kept

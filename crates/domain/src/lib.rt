@@ -5,8 +5,10 @@ ghost use Prim.Native.Nat.{_+_, _*_, _<_};
 ghost use lib.Dec.{eqb};
 ghost use lib.ListN.{length};
 ghost use Rattle.laws.specs.Loop.{anyUp};
-ghost use Rattle.domain.specs.Outline.{outline, holeStart, loopAt, pointAt, pointAfter, anyFloat, notFinite, beyond, misshapen, LoopPlace, loopRefusal, loopsRefusal, outlineRefusal, pointRefusal, queryRefusal};
-ghost use Rattle.domain.specs.Queries.{rayCrosses, pointInPolygon, inHole, contains, squaredDistance, footOf, nearestSegment, containsAnswer, nearestAnswer, distanceAnswer};
+ghost use Rattle.domain.specs.Outline.{outline, holeStart, loopAt, pointAt, pointAfter, anyFloat, notFinite, beyond, misshapen, LoopPlace};
+ghost use Rattle.domain.specs.Outline.{loopRefusal, loopsRefusal, outlineRefusal, pointRefusal, queryRefusal};
+ghost use Rattle.domain.specs.Queries.{rayCrosses, pointInPolygon, inHole, contains, squaredDistance, footOf, nearestSegment, containsAnswer};
+ghost use Rattle.domain.specs.Queries.{nearestAnswer, distanceAnswer};
 ghost use Rattle.domain.specs.Search.{searchStart, searched, searchLoop, searchAll};
 
 // `[f64; 2]`
@@ -76,6 +78,10 @@ impl Settings {
     pub const MOST_SPANS: u64 = 4096;
     // How many keys each way `too_close` looks.
     pub const REACH: u64 = 2;
+    // So many quads end a run.
+    pub const MOST_QUADS: usize = 250000;
+
+    pub const MOST_PASSES: usize = 600;
 }
 
 // ---- the refusals

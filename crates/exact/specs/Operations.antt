@@ -4,7 +4,9 @@
 use mathlib.Core.Path.{_≡_, refl, sym, ap, ap₂, _∙_, subst, subst₂}
 use mathlib.Core.Bool.{Bool, true, false, not, _&&_, cond, Bool·beq}
 use Prim.Native.Nat.{ℕ, zero, suc, _+_, _-_, _*_, _^_, _≤_, _<_}
-use native.Mathlib.Nat.{le-refl, le-trans, le-of-eq, zero-lt-suc, zero-mul, one-mul, mul-comm, mul-left-comm, mul-assoc, mul-right-comm, mul-mul-mul-comm, add-mul, mul-sub, mul-pos, mul-le-mul, mul-le-mul-right, le-mul-of-pos-right, mul-lt-mul-of-pos-right, le-of-mul-le-mul-right, lt-of-lt-of-le, lt-of-le-of-lt, eq-of-mul-eq-mul-right}
+use native.Mathlib.Nat.{le-refl, le-trans, le-of-eq, zero-lt-suc, zero-mul, one-mul, mul-comm, mul-left-comm, mul-assoc, mul-right-comm}
+use native.Mathlib.Nat.{mul-mul-mul-comm, add-mul, mul-sub, mul-pos, mul-le-mul, mul-le-mul-right, le-mul-of-pos-right, mul-lt-mul-of-pos-right}
+use native.Mathlib.Nat.{le-of-mul-le-mul-right, lt-of-lt-of-le, lt-of-le-of-lt, eq-of-mul-eq-mul-right}
 use native.Mathlib.Omega.{arith}
 use lib.IntN.{ℤ, pos, negℤ, _+ℤ_, _-ℤ_, negℤ-+ℤ, negℤ-negℤ, +ℤ-comm}
 use lib.Dec.{T, leb, ltb, eqb, ltb→lt, leb→le, nltb→le, eqb→eq}
@@ -305,7 +307,8 @@ div-law x y s t a b p q B h =
     let l : a * W ≤ 2 ^ 400 * (b * W) = le-trans (mul-le-mul-right W h) (le-of-eq (mul-assoc (2 ^ 400) b W)) in
     let K = 2 * 2 ^ 400 + 1 in
     let k : g * b ≤ K * W * b =
-    le-trans (bound (2 ^ 400) (g * b) (a * W) b (b * W) c l (le-mul-of-pos-right b W-pos)) (le-of-eq (ap (λ (z : ℕ). K * z) (mul-comm b W) ∙ sym (mul-assoc K W b))) in
+    le-trans (bound (2 ^ 400) (g * b) (a * W) b (b * W) c l (le-mul-of-pos-right b W-pos))
+    (le-of-eq (ap (λ (z : ℕ). K * z) (mul-comm b W) ∙ sym (mul-assoc K W b))) in
     let top = no-overflow K g tt (le-of-mul-le-mul-right k B) in
     record {
       size = g;

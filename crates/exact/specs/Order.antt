@@ -5,7 +5,8 @@ use mathlib.Core.Logic.{_⊎_, inl, inr, _↔_}
 use mathlib.Core.List.{[], _∷_}
 use mathlib.Core.Bool.{Bool, true, false, not, _&&_, _||_, Bool·beq}
 use Prim.Native.Nat.{ℕ, zero, suc, _+_, _*_, _≤_, _<_}
-use native.Mathlib.Nat.{le-of-lt, lt-of-le-of-lt, not-le-of-lt, zero-mul, mul-comm, mul-assoc, mul-right-comm, add-mul, mul-pos, mul-lt-mul-of-pos-right, lt-of-mul-lt-mul-right, eq-of-mul-eq-mul-right}
+use native.Mathlib.Nat.{le-of-lt, lt-of-le-of-lt, not-le-of-lt, zero-mul, mul-comm, mul-assoc, mul-right-comm, add-mul, mul-pos}
+use native.Mathlib.Nat.{mul-lt-mul-of-pos-right, lt-of-mul-lt-mul-right, eq-of-mul-eq-mul-right}
 use native.Mathlib.Omega.{arith}
 use lib.Dec.{T, ltb, eqb, ltb→lt, lt→ltb, leb→le, eqb→eq, not-T, T-not}
 use lib.IntN.{ℤ, pos, negℤ, natAbs, _-ℤ_, negℤ-negℤ, pos-ne-negsuc}

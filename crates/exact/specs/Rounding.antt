@@ -4,7 +4,8 @@
 use mathlib.Core.Path.{_≡_, refl, sym, ap, _∙_, subst}
 use mathlib.Core.Logic.{_⊎_, inl, inr}
 use Prim.Native.Nat.{ℕ, zero, suc, _+_, _-_, _*_, _/_, _%_, _^_, _≤_, _<_, compare, Ordering, Ordering·lt, Ordering·eq, Ordering·gt}
-use native.Mathlib.Nat.{le-trans, le-of-eq, lt-irrefl, zero-mul, one-mul, mul-one, mul-comm, mul-assoc, add-mul, suc-mul, mul-pos, mul-le-mul-right, le-of-mul-le-mul-right, div-add-mod', mod-lt, mul-div-cancel, mul-mod-left, le-div-iff-mul-le}
+use native.Mathlib.Nat.{le-trans, le-of-eq, lt-irrefl, zero-mul, one-mul, mul-one, mul-comm, mul-assoc, add-mul, suc-mul, mul-pos, mul-le-mul-right}
+use native.Mathlib.Nat.{le-of-mul-le-mul-right, div-add-mod', mod-lt, mul-div-cancel, mul-mod-left, le-div-iff-mul-le}
 use native.Mathlib.Omega.{arith}
 use lib.Pow.{pow-add, pow-pos}
 use lib.Ieee.{size, nearest}

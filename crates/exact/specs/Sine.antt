@@ -5,7 +5,8 @@ use mathlib.Core.Path.{_≡_, refl, sym, ap, ap₂, _∙_, subst}
 use mathlib.Core.List.{[], _∷_}
 use mathlib.Core.Bool.{Bool, true, false, not, _&&_}
 use Prim.Native.Nat.{ℕ, _+_, _*_, _^_, _≤_, _<_}
-use native.Mathlib.Nat.{le-trans, le-of-eq, le-of-lt, mul-assoc, mul-mul-mul-comm, mul-le-mul, mul-le-mul-right, mul-le-mul-left, le-of-mul-le-mul-right, not-le-of-lt}
+use native.Mathlib.Nat.{le-trans, le-of-eq, le-of-lt, mul-assoc, mul-mul-mul-comm, mul-le-mul, mul-le-mul-right, mul-le-mul-left}
+use native.Mathlib.Nat.{le-of-mul-le-mul-right, not-le-of-lt}
 use native.Mathlib.Omega.{arith}
 use lib.Dec.{T, lit≤, ltb, ltb→lt, lt→ltb, not-T}
 use lib.IntN.{ℤ, pos, negℤ, _+ℤ_, _*ℤ_, _-ℤ_, negℤ-negℤ}
@@ -15,11 +16,12 @@ use Rattle.laws.specs.Integer.{negℤ-*ℤ, *ℤ-negℤ}
 use Rattle.laws.specs.Ring.{var, num, _*ᵉ_, _-ᵉ_}
 use Rattle.laws.specs.Certificate.{Nonneg, nonneg, nonneg-is, to-le, hyp, nat, _⊞_, _⊠_, prove}
 use Rattle.numbers.specs.Float.{_⊕_, _⊖_, _⊗_, _⊘_, tolerance}
-use Rattle.exact.specs.Units.{W, W-pos, Val, signed, units, Within, within-units}
+use Rattle.exact.specs.Units.{W, W-pos, Val, signed, units, unlike-self, Within, within-units}
 use Rattle.exact.specs.Order.{above-of-not-le}
 use Rattle.exact.specs.Operations.{mul-law, product-small, Sum, sub-law, sum-small, sum-within, add-law-pos, div-law}
 use Rattle.exact.specs.Root.{root-law}
-use Rattle.exact.specs.SineBounds.{Rel, RelAnd, rel, rel-and, le-of-sq, Long, unit-below, length-law, side-law, quotient-law, product-law, products-below, signed-near, cross-law, sine-law}
+use Rattle.exact.specs.SineBounds.{Rel, RelAnd, rel, rel-and, le-of-sq, Long, unit-below, length-law, side-law, quotient-law, product-law}
+use Rattle.exact.specs.SineBounds.{products-below, signed-near, cross-law, sine-law}
 use Rattle.exact.specs.Corner.{sin20, norm, cornerOk, Vector, step, cross, squaredLength, sineAboveThird, isShort}
 
 -- ---- the constants of the test
@@ -90,10 +92,6 @@ prod p q =
       near = rel-and (r .size * W) (size p * size q) W (r .near);
     }
 
-unlike-self : (s : Bool) → unlike s s ≡ false
-unlike-self true = refl
-unlike-self false = refl
-
 square : {x : Float} {X : ℤ} (p : Step x X) → Prod false (size p * size p) (x ⊗ x)
 square {x} p = subst (λ (s : Bool). Prod s (size p * size p) (x ⊗ x)) (unlike-self (sign p)) (prod p p)
 
@@ -122,8 +120,12 @@ length {x} {y} p q t =
       val = r .val;
       long = l;
       small = root-small (s .size) (r .L) sum (r .upper);
-      near = length-law (p .exact) (q .exact) (size p) (size q) (a .size) (b .size) (s .size) (r .L) (p .near) (q .near) (a .near) (b .near) (s .near) (r .lower) l;
-      far = side-law (p .exact) (q .exact) (size p) (size q) (a .size) (b .size) (s .size) (r .L) (p .near) (q .near) (a .near) (b .near) (s .near) (r .upper) l;
+      near =
+          length-law (p .exact) (q .exact) (size p) (size q) (a .size) (b .size) (s .size) (r .L) (p .near) (q .near) (a .near) (b .near) (s .near)
+          (r .lower) l;
+      far =
+          side-law (p .exact) (q .exact) (size p) (size q) (a .size) (b .size) (s .size) (r .L) (p .near) (q .near) (a .near) (b .near) (s .near)
+          (r .upper) l;
     }
   where
     moderate : (n : ℕ) → n ≤ 32064033 * W → n ≤ 2 ^ 200 * W

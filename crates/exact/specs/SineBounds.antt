@@ -5,7 +5,8 @@ use mathlib.Core.Path.{_≡_, sym, ap, _∙_, subst}
 use mathlib.Core.List.{List, [], _∷_}
 use mathlib.Core.Bool.{Bool, true, false}
 use Prim.Native.Nat.{ℕ, suc, _+_, _*_, _^_, _≤_, _<_}
-use native.Mathlib.Nat.{le-trans, le-of-eq, le-of-suc-le-suc, lt-of-le-of-lt, add-comm, suc-mul, mul-suc, mul-comm, mul-assoc, mul-mul-mul-comm, mul-le-mul, mul-le-mul-right, add-mul, mul-pos}
+use native.Mathlib.Nat.{le-trans, le-of-eq, le-of-suc-le-suc, lt-of-le-of-lt, add-comm, suc-mul, mul-suc, mul-comm, mul-assoc, mul-mul-mul-comm}
+use native.Mathlib.Nat.{mul-le-mul, mul-le-mul-right, add-mul, mul-pos}
 use native.Mathlib.Omega.{arith}
 use lib.Dec.{T}
 use lib.IntN.{ℤ, pos, _+ℤ_, _*ℤ_, _-ℤ_}

@@ -4,15 +4,16 @@
 use mathlib.Core.Path.{_≡_, refl, sym, ap, ap₂, _∙_, subst}
 use mathlib.Core.Bool.{Bool, true, false, not, _&&_}
 use Prim.Native.Nat.{ℕ, zero, suc, _-_, _+_, _*_, _/_, _%_, _^_, _≤_, _<_}
-use native.Mathlib.Nat.{le-trans, le-of-suc-le-suc, lt-of-not-le, not-le-of-lt, mul-one, zero-mul, zero-div, mul-assoc, mul-div-cancel, mul-le-mul-right}
+use native.Mathlib.Nat.{le-trans, mul-one, zero-mul, zero-div, mul-assoc, mul-div-cancel, mul-le-mul-right}
 use native.Mathlib.Omega.{arith}
 use lib.IntN.{ℤ, pos, negsuc, negℤ}
 use lib.Dec.{T, lit≤, leb, ltb, eqb, leb→le}
-use lib.Pow.{pow-add, pow-pos, pow-lt}
-use lib.Ieee.{Float, nan, inf, fin, binary64, up, down, fits, neg}
+use lib.Pow.{pow-add, pow-pos}
+use lib.Ieee.{Float, nan, inf, fin, binary64, up, down, unlike, fits, neg}
 use lib.Ieee.Exact.{HasValue}
 use lib.Ieee.Fits.{down-pos, and-l, and-r}
 use Rattle.numbers.specs.Float.{isFinite, absF}
+use Rattle.numbers.specs.Nearest.{exponent-le}
 
 -- ---- the definitions
 
@@ -44,6 +45,12 @@ units x = signed (signOf x) (sizeOf x)
 abbrev pub Val : Float → Bool → ℕ → Type 0
 Val x s a = HasValue x s a W
 
+-- ---- signs
+
+pub unlike-self : (s : Bool) → unlike s s ≡ false
+unlike-self true = refl
+unlike-self false = refl
+
 -- ---- the number of units in 1
 
 pub W-pos : 0 < W
@@ -57,9 +64,6 @@ W-big = lit≤ tt
 -- ---- what `fits` tells: a finite double is a whole number of units
 
 -- 2 ^ k divides 2 ^ l where it is no larger
-exponent-le : (k l : ℕ) → 2 ^ k ≤ 2 ^ l → k ≤ l
-exponent-le k l h = le-of-suc-le-suc (lt-of-not-le (λ (g : suc l ≤ k). not-le-of-lt (pow-lt g) h))
-
 split : (k l : ℕ) → k ≤ l → 2 ^ l ≡ 2 ^ (l - k) * 2 ^ k
 split k l h = ap (λ (z : ℕ). 2 ^ z) (back k l h) ∙ pow-add 2 (l - k) k
   where

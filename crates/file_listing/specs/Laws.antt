@@ -5,7 +5,7 @@ use mathlib.Core.List.{List, [], _∷_, _++_}
 use Prim.Native.Nat.{ℕ, zero, suc, _+_, _-_, _*_, _/_, _≤_, _<_}
 use native.Mathlib.Omega.{arith}
 use lib.ListN.{length, getD, take, drop, length-append, length-drop}
-use lib.Seq.{take-append-le, drop-append-le, take-at}
+use lib.Seq.{length-take-le, take-append-le, drop-append-le, take-at}
 use lib.Ieee.{Float}
 use Rattle.laws.specs.Tabulate.{tabulate-length, tabulate-at}
 use Rattle.laws.specs.Sums.{sum-term}
@@ -23,7 +23,7 @@ use Rattle.outline_file.specs.ReadLaws.{accepted}
 use Rattle.outline_file.specs.Enough.{enough}
 use Rattle.listing.specs.declared.Heading.{Heading}
 use Rattle.listing.specs.Listing.{refusedListing, listing}
-use Rattle.listing.specs.Buffer.{buffer, written}
+use Rattle.listing.specs.Buffer.{Buffer, buffer, written}
 use Rattle.listing.specs.Fits.{listing-fits, written-front}
 use Rattle.file_listing.specs.Program.{programLent, headingOf, ranListing, outlineListing, programListing, Lists}
 
@@ -33,9 +33,16 @@ use Rattle.file_listing.specs.Program.{programLent, headingOf, ranListin
 pub lists-as : {l m before after : List ℕ} {n : ℕ} → l ≡ m → Lists l before after n → Lists m before after n
 lists-as {before = before} {after = after} {n = n} e = subst (λ (k : List ℕ). Lists k before after n) e
 
-module _ {l before after : List ℕ} {n : ℕ} where
-  pub lists-whole : buffer after n ≡ written l before → length l ≤ 117681 → Lists l before after n
-  lists-whole e h = record { same = e; whole = λ room. written-front l before after n (omega arith) e }
+within : (l before after : List ℕ) (n : ℕ) → buffer after n ≡ written l before → n ≤ length after
+unfolding written
+within l before after n e =
+    let cut = take (length before) l in
+    rw (ap (λ (b : Buffer). b .used) e, ap (λ (b : Buffer). b .bytes) e, length-append cut (drop (length cut) before)) (omega arith)
+
+pub lists-whole : {l before after : List ℕ} {n : ℕ} → buffer after n ≡ written l before → length l ≤ 117681 → Lists l before after n
+lists-whole {l} {before} {after} {n} e h =
+    let w = within l before after n e in
+    record { same = e; whole = λ room. written-front l before after n (omega arith) e; counts = (w, sym (length-take-le n after w)) }
 
 -- ---- the run
 

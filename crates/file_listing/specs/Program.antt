@@ -60,3 +60,5 @@ pub record Lists (l before after : List ℕ) (n : ℕ) : Type 0 where
   pub same : buffer after n ≡ written l before
   -- a buffer so long has places for any listing
   pub whole : 117681 ≤ length before → take n after ≡ l
+  -- so the first n bytes can be lent
+  pub counts : (n ≤ length after) × (n ≡ length (take n after))

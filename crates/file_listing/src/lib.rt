@@ -31,7 +31,8 @@ fn list_outline<'a>(
     settings: Settings,
     out: &mut [u8],
 ) -> usize
-    ensures { λ r. ⌜ Lists (outlineListing (outline (now (outer .entry)) (now (holes .entry)) (now (lens .entry))) settings) (now (out .entry)) (now (out .exit)) r ⌝ }
+    ensures { λ r. ⌜ Lists (outlineListing (outline (now (outer .entry)) (now (holes .entry)) (now (lens .entry))) settings)
+        (now (out .entry)) (now (out .exit)) r ⌝ }
 {
     let mut values = [0.0; 3200];
     let mut marks = [0u8; 1600];
@@ -78,7 +79,8 @@ fn list_outline<'a>(
 // The listing of what was read from a file.
 fn list_request(points: &[f64], lens: &[usize], head: Head, out: &mut [u8]) -> usize
     requires { ⌜ Held (now points) (now lens) head ⌝ }
-    ensures { λ r. ⌜ Lists (outlineListing (heldOutline (now (points .entry)) (now (lens .entry)) head) (head .settings)) (now (out .entry)) (now (out .exit)) r ⌝ }
+    ensures { λ r. ⌜ Lists (outlineListing (heldOutline (now (points .entry)) (now (lens .entry)) head) (head .settings))
+        (now (out .entry)) (now (out .exit)) r ⌝ }
 {
     let loops = head.loops;
     let outer = 2 * head.outer;

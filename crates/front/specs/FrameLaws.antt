@@ -1,4 +1,5 @@
--- Laws of `Extends` and `Frame`: they hold of what is not changed and of each elementary change, follow each other, and keep what was there and how much was lent.
+-- Laws of `Extends` and `Frame`: they hold of what is not changed and of each elementary change, follow each other, and keep what was there and how
+-- much was lent.
 use Prim.Native.Nat.{ℕ, _+_, _-_, _*_, _<_, _≤_}
 use mathlib.Core.List.{List}
 use mathlib.Core.Path.{_≡_, refl, sym, _∙_, ap}

@@ -15,3 +15,4 @@ pub mod Step
 pub mod Stores
 pub mod StoreLaws
 pub mod KnownLaws
+pub mod Reads

@@ -17,7 +17,7 @@ use Rattle.front.specs.Sound.{Frame}
 use Rattle.front.specs.FrameLaws.{frame-same, frame-trans, frame-node-places, frame-node, frame-push}
 
 -- t is s with k nodes more, which are off the front
-pub record Pushed (ls : List (List ℕ)) (k : ℕ) (s t : State) : Type 0 where
+pub record NodesAdded (ls : List (List ℕ)) (k : ℕ) (s t : State) : Type 0 where
   pub frame : Frame s t
   pub nodes : t .counts .nodes ≡ s .counts .nodes + k
   pub quads : t .counts .quads ≡ s .counts .quads
@@ -31,7 +31,7 @@ pub record Pushed (ls : List (List ℕ)) (k : ℕ) (s t : State) : Type 0 where
 -- ---- one corner
 
 pushed : (ls : List (List ℕ)) (c : Corner) (s : State) → FrontOf (s .counts .nodes) (s .next) (s .prev) ls
-    → s .counts .nodes + added c ≤ nodePlaces s → Pushed ls (added c) s (pushCorner c s)
+    → s .counts .nodes + added c ≤ nodePlaces s → NodesAdded ls (added c) s (pushCorner c s)
 unfolding pushNode nodePlaces hasEdge
 pushed ls (Reused id) s F room =
     record {
@@ -59,7 +59,7 @@ pushed ls (Fresh x y) s F room =
       front = grown n (s .next) (s .prev) ls F (omega arith) (omega arith) (omega arith);
     }
 
-pushed-trans : (ls : List (List ℕ)) (j k : ℕ) (s t r : State) → Pushed ls j s t → Pushed ls k t r → Pushed ls (j + k) s r
+pushed-trans : (ls : List (List ℕ)) (j k : ℕ) (s t r : State) → NodesAdded ls j s t → NodesAdded ls k t r → NodesAdded ls (j + k) s r
 pushed-trans ls j k s t r P Q =
     record {
       frame = frame-trans s t r (P .frame) (Q .frame);
@@ -106,7 +106,7 @@ abbrev pub withCorners : Corner → Corner → State → State
 withCorners c d s = pushCorner d (pushCorner c s)
 
 pub record Cornered (ls : List (List ℕ)) (c d : Corner) (s t : State) : Type 0 where
-  pub pushed : Pushed ls (added c + added d) s t
+  pub pushed : NodesAdded ls (added c + added d) s t
   pub id-c : idC s c < t .counts .nodes
   pub id-d : idD s c d < t .counts .nodes
   pub at-c : node t (idC s c) ≡ cornerPoint s c

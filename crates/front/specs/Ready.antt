@@ -2,12 +2,13 @@
 -- means that the quad fits the places lent.
 use Prim.Native.Nat.{ℕ, _+_, _<_, _≤_}
 use mathlib.Core.List.{List}
-use mathlib.Core.Path.{_≡_, refl}
-use mathlib.Core.Bool.{Bool, true, false, _||_}
+use mathlib.Core.Path.{_≡_}
+use mathlib.Core.Bool.{true, false}
 use mathlib.Core.Logic.{_≢_}
 use native.Mathlib.Omega.{arith}
 use lib.Dec.{ltb}
 use borrow.Author.Tests.{ltb-false}
+use Rattle.laws.specs.Tests.{neither}
 use Rattle.topology.specs.Links.{off}
 use Rattle.front.specs.declared.Corner.{Corner}
 use Rattle.front.specs.declared.Corner.the-variants.{Reused, Fresh}
@@ -55,20 +56,13 @@ pub record Fits (s : State) (a b : ℕ) (c d : Corner) : Type 0 where
 
 -- ---- laws
 
-or-left : (x y : Bool) → x || y ≡ false → x ≡ false
-or-left true y e = e
-or-left false y e = refl
-
-or-right : (x y : Bool) → x || y ≡ false → y ≡ false
-or-right true y e = absurd (let z : _≡_ {A = ℕ} 0 1 = cc in omega arith)
-or-right false y e = e
-
 pub fits : (s : State) (a b : ℕ) (c d : Corner) → isFull s a b c d ≡ false → Fits s a b c d
 unfolding isFull
 fits s a b c d e =
-    let rest = or-right (ltb (nodePlaces s) (s .counts .nodes + added c + added d)) _ e in
+    let nodes = neither (ltb (nodePlaces s) (s .counts .nodes + added c + added d)) _ e in
+    let quads = neither (ltb (quadPlaces s) (s .counts .quads + 1)) _ (nodes .1) in
     record {
-      nodes-fit = ltb-false _ _ (or-left _ _ e);
-      quads-fit = ltb-false _ _ (or-left _ _ rest);
-      edges-fit = ltb-false _ _ (or-right (ltb (quadPlaces s) (s .counts .quads + 1)) _ rest);
+      nodes-fit = ltb-false _ _ (nodes .0);
+      quads-fit = ltb-false _ _ (quads .0);
+      edges-fit = ltb-false _ _ (quads .1);
     }

@@ -1,4 +1,5 @@
--- The state of a paving as it is lent, and its elementary changes: `push_node`, `add_front`, `remove_front`, `add_mesh_edge` of src/alt_crossfield.rs. Definitions only.
+-- The state of a paving as it is lent, and its elementary changes: `push_node`, `add_front`, `remove_front`, `add_mesh_edge` of
+-- src/alt_crossfield.rs. Definitions only.
 use mathlib.Core.Bool.{Bool, true, false, _&&_, cond}
 use mathlib.Core.List.{List}
 use Prim.Native.Nat.{ℕ, _+_, _-_, _*_, _/_, min, max}
@@ -11,7 +12,8 @@ use Rattle.domain.specs.declared.Point.{Point}
 use Rattle.domain.specs.Outline.{point}
 use Rattle.front.specs.declared.Counts.{Counts}
 
--- The lent lists, each of a fixed length, and the counts. Node i is (xs[i], ys[i]); next and prev hold `off` for a node off the front; snapshot holds next as it was when the pass began.
+-- The lent lists, each of a fixed length, and the counts. Node i is (xs[i], ys[i]); next and prev hold `off` for a node off the front; snapshot holds
+-- next as it was when the pass began.
 -- Quad k is quads[4k], .., quads[4k + 3]: a, b, d, c. Edge k is edges[2k], edges[2k + 1], the smaller id first. Places past the counts keep their contents.
 pub record State : Type 0 where
   pub xs : List Float

@@ -2,7 +2,7 @@
 use Prim.Native.Nat.{ℕ, zero, suc, _+_, _-_, _*_, _<_, _≤_, min, max}
 use mathlib.Core.List.{List, [], _∷_}
 use mathlib.Core.Path.{_≡_, refl, sym, _∙_, ap}
-use mathlib.Core.Bool.{Bool, true, false, _&&_}
+use mathlib.Core.Bool.{Bool, true, false}
 use mathlib.Core.Logic.{_≢_}
 use native.Mathlib.Nat.{add-assoc, add-zero}
 use native.Mathlib.Omega.{arith}
@@ -11,6 +11,7 @@ use lib.ListN.{length, set, length-set}
 use lib.Ieee.{Float}
 use borrow.Author.Tests.{eqb-true, lt-ltb, le-ltb}
 use Rattle.laws.specs.Loop.{any-found}
+use Rattle.laws.specs.Tests.{both}
 use Rattle.topology.specs.Links.{off}
 use Rattle.topology.specs.Front.{next-of-prev, prev-in}
 use Rattle.topology.specs.Sums.{one}
@@ -164,16 +165,12 @@ no-edge : (s : State) → Known s → (u v : ℕ) → s .counts .nodes ≤ v →
 unfolding hasEdge
 no-edge s K u v h = by (hasEdge s u v) refl
   where
-    and-right : (x y : Bool) → x && y ≡ true → y ≡ true
-    and-right true y e = e
-    and-right false y e = absurd (let z : _≡_ {A = ℕ} 0 1 = cc in omega arith)
-
     by : (t : Bool) → hasEdge s u v ≡ t → t ≡ false
     by false e = refl
     by true e =
         let f = any-found (edgeIs (s .edges) (min u v) (max u v)) (s .counts .edges) e in
         let k = f .0 in
-        let q = eqb-true (edgeTo s k) (max u v) (and-right (eqb (edgeFrom s k) (min u v)) (eqb (edgeTo s k) (max u v)) (f .2)) in
+        let q = eqb-true (edgeTo s k) (max u v) (both (eqb (edgeFrom s k) (min u v)) (eqb (edgeTo s k) (max u v)) (f .2) .1) in
         absurd (omega (arith, q, K .joined k (f .1) .1))
 
 -- which sides of a quad are known

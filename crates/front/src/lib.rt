@@ -1,13 +1,15 @@
 // The state of a paving (src/alt_crossfield.rs: `Paving`): lists lent, counts by value. Sampling, and the placing of a quad.
 ghost use mathlib.Core.Path.{_≡_};
 ghost use Prim.Native.Nat.{_+_, _*_, _^_, _≤_, _<_, min, max};
-ghost use lib.ListN.{length, set};
+ghost use lib.ListN.{length, getD, set};
+ghost use lib.Ieee.{nan};
 ghost use Rattle.laws.specs.Loop.{anyUp};
 ghost use Rattle.topology.specs.Links.{off};
-ghost use Rattle.front.specs.State.{stateOf, edgeIs};
+ghost use Rattle.front.specs.State.{stateOf, nodeIn, edgeIs};
 ghost use Rattle.front.specs.Place.{added, cornerId};
 ghost use Rattle.front.specs.Ready.{Ready};
-ghost use Rattle.front.specs.Stores.{Places, countsAfter, afterQuad, isBeyond, storeX, storeY, isReused, knownAcross, unless, newEdges, storeEdge, storeEdges, storeQuad, storeSide, storeNext, storePrev, Ids, Countable};
+ghost use Rattle.front.specs.Stores.{Places, countsAfter, afterQuad, isBeyond, storeX, storeY, isReused, knownAcross, unless, newEdges};
+ghost use Rattle.front.specs.Stores.{storeEdge, storeEdges, storeQuad, storeSide, storeNext, storePrev, Ids, Countable};
 use domain::Point;
 
 // How much of the lent lists is in use. `front` counts the front's edges.
@@ -40,8 +42,8 @@ pub enum Placed {
     Done(Counts),
 }
 
-// Marks a node off the front.
-const OFF: u32 = 4294967295;
+// The link of a node off the front.
+pub const OFF: u32 = 4294967295;
 
 impl Corner {
     // How many nodes the corner adds.
@@ -87,6 +89,25 @@ impl Counts {
             edges: self.edges + edges,
             front: self.front + 2 * (m as usize) - 2,
         }
+    }
+}
+
+// ---- reading
+
+// A coordinate of a node; past the list's end a NaN.
+fn coordinate(s: &[f64], id: u32) -> f64
+    ensures { λ r. ⌜ r ≡ getD (now (s .entry)) id nan ⌝ }
+{
+    let i = id as usize;
+    if i < s.len() { s[i] } else { 0.0 / 0.0 }
+}
+
+pub fn node_at(xs: &[f64], ys: &[f64], id: u32) -> Point
+    ensures { λ r. ⌜ r ≡ nodeIn (now (xs .entry)) (now (ys .entry)) id ⌝ }
+{
+    Point {
+        x: coordinate(xs, id),
+        y: coordinate(ys, id),
     }
 }
 
@@ -290,7 +311,8 @@ fn is_beyond(
 ) -> bool
     requires { ⌜ (k .quads + 1 < 2 ^ 64) × (k .edges + e < 2 ^ 64) ⌝ }
     ensures { λ r. ⌜ r ≡ isBeyond
-        (stateOf (now (xs .entry)) (now (ys .entry)) (now (next .entry)) (now (prev .entry)) (now (snapshot .entry)) (now (quads .entry)) (now (edges .entry)) k)
+        (stateOf (now (xs .entry)) (now (ys .entry)) (now (next .entry)) (now (prev .entry)) (now (snapshot .entry)) (now (quads .entry))
+        (now (edges .entry)) k)
         m e ⌝ }
 {
     let n = (k.nodes as usize) + (m as usize);
@@ -335,8 +357,10 @@ pub fn place(
 ) -> Placed
     requires { ⌜ Ready (stateOf (now xs) (now ys) (now next) (now prev) (now snapshot) (now quads) (now edges) k) a b c d ⌝ }
     ensures { λ r. ⌜ Places a b c d
-        (stateOf (now (xs .entry)) (now (ys .entry)) (now (next .entry)) (now (prev .entry)) (now (snapshot .entry)) (now (quads .entry)) (now (edges .entry)) k)
-        r (stateOf (now (xs .exit)) (now (ys .exit)) (now (next .exit)) (now (prev .exit)) (now (snapshot .entry)) (now (quads .exit)) (now (edges .exit)) (countsAfter k r)) ⌝ }
+        (stateOf (now (xs .entry)) (now (ys .entry)) (now (next .entry)) (now (prev .entry)) (now (snapshot .entry)) (now (quads .entry))
+        (now (edges .entry)) k)
+        r (stateOf (now (xs .exit)) (now (ys .exit)) (now (next .exit)) (now (prev .exit)) (now (snapshot .entry)) (now (quads .exit))
+        (now (edges .exit)) (countsAfter k r)) ⌝ }
 {
     let n = k.nodes;
     let q = k.quads;

@@ -1,6 +1,6 @@
 -- What the test of a callee's answer x tells of the definition b that the answer equals.
-use mathlib.Core.Bool.{Bool, true, false, not, _&&_}
-use mathlib.Core.Path.{_≡_, refl, sym, _∙_}
+use mathlib.Core.Bool.{Bool, true, false, not}
+use mathlib.Core.Path.{_≡_, sym, _∙_}
 use borrow.Author.Tests.{not-true, not-false}
 
 -- `if !f(..)`, taken and left
@@ -9,11 +9,3 @@ refused e t = sym e ∙ not-true _ t
 
 pub passed : {x b : Bool} → x ≡ b → not x ≡ false → b ≡ true
 passed e t = sym e ∙ not-false _ t
-
-pub and-false : (b : Bool) → b && false ≡ false
-and-false true = refl
-and-false false = refl
-
-pub and-true : (b : Bool) → b && true ≡ b
-and-true true = refl
-and-true false = refl

@@ -1,8 +1,11 @@
 // The geometry tests of src/alt_crossfield.rs, and the keys that replace its two indexes. Each function equals its definition on every input.
 ghost use mathlib.Core.Path.{_≡_};
 ghost use mathlib.Core.Bool.{_&&_};
-ghost use Rattle.geometry.specs.Plane.{norm, distance, tangent, areaTerm, cross2, doubledArea, leftOf, pointInConvex, onSegment, opposite, touches, segmentsCross, centroid, cornerOk, convexCcw};
-ghost use Rattle.geometry.specs.Keys.{keyOf, gap, atMost, lesser, greater, spansOf, spansKept, rangesMeet, rectanglesMeet, candidateAt, isCandidate, nearKeys, tooCloseAt, isTooClose, leastOf, greatestOf, lowest, highest, between, inBoxAt, isInBox};
+ghost use Rattle.geometry.specs.Plane.{norm, distance, tangent, areaTerm, cross2, doubledArea, leftOf, pointInConvex, onSegment, opposite};
+ghost use Rattle.geometry.specs.Plane.{touches, segmentsCross, centroid, cornerOk, convexCcw};
+ghost use Rattle.geometry.specs.Keys.{keyOf, gap, atMost, lesser, greater, spansOf, spansKept, rangesMeet, rectanglesMeet, candidateAt};
+ghost use Rattle.geometry.specs.Keys.{isCandidate, nearKeys, tooCloseAt, isTooClose, leastOf, greatestOf, lowest, highest, between, inBoxAt};
+ghost use Rattle.geometry.specs.Keys.{isInBox};
 ghost use Rattle.geometry.specs.KeyLaws.{offset};
 use domain::Point;
 use domain::Settings;

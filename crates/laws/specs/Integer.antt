@@ -1,7 +1,8 @@
 -- Laws of ℤ that the library's lib.IntN leaves out: associativity and distributivity of the product, and what follows. Assumes nothing.
 use mathlib.Core.Path.{_≡_, sym, ap, ap₂, _∙_, subst}
 use Prim.Native.Nat.{zero, suc}
-use lib.IntN.{ℤ, pos, sucℤ, predℤ, negℤ, one, _+ℤ_, _*ℤ_, _-ℤ_, +ℤ-idl, +ℤ-idr, +ℤ-one, -ℤ-one, +ℤ-assoc, +ℤ-comm, +ℤ-invr, +ℤ-invl, sucℤ-+ℤ, predℤ-+ℤ, ℤ-ind, -ℤ-+ℤ-cancel, *ℤ-one, zero-*ℤ, sucℤ-*ℤ, predℤ-*ℤ, *ℤ-comm}
+use lib.IntN.{ℤ, pos, sucℤ, predℤ, negℤ, one, _+ℤ_, _*ℤ_, _-ℤ_, +ℤ-idl, +ℤ-idr, +ℤ-one, -ℤ-one, +ℤ-assoc, +ℤ-comm, +ℤ-invr, +ℤ-invl, sucℤ-+ℤ}
+use lib.IntN.{predℤ-+ℤ, ℤ-ind, -ℤ-+ℤ-cancel, *ℤ-one, zero-*ℤ, sucℤ-*ℤ, predℤ-*ℤ, *ℤ-comm}
 
 -- ---- sums rearranged
 

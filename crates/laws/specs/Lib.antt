@@ -5,3 +5,4 @@ pub mod Loop
 pub mod Ring
 pub mod Sums
 pub mod Tabulate
+pub mod Tests

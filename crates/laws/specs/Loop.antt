@@ -1,5 +1,6 @@
--- Counted loops. Every loop of ours is `forUp`, which a definition names by its turn; a loop that can be left early is a `forUp` whose state is a `Turn`, and a search is one whose state is
--- whether it has found anything. So one record, `Loop`, can be the invariant of every loop in the code. Assumes nothing.
+-- Counted loops. Every loop of ours is `forUp`, which a definition names by its turn; a loop that can be left early is a `forUp` whose state is
+-- a `Turn`, and a search is one whose state is whether it has found anything. So one record, `Loop`, can be the invariant of every loop in the
+-- code. Assumes nothing.
 use Prim.Native.Nat.{ℕ, zero, suc, _+_, _-_, _≤_, _<_, zero-le}
 use mathlib.Core.Path.{_≡_, refl, sym, ap, ap₂, _∙_, subst}
 use mathlib.Core.Bool.{Bool, true, false, _||_, true≢false}
@@ -7,6 +8,7 @@ use mathlib.Core.Logic.{_⊎_, ⊎-elim}
 use native.Mathlib.Numerals.{add-one}
 use native.Mathlib.Nat.{le-antisymm, eq-or-lt-of-le, le-of-suc-le-suc}
 use native.Mathlib.Omega.{arith}
+use Rattle.laws.specs.Tests.{neither}
 
 -- ---- the loop
 
@@ -179,10 +181,6 @@ module _ (test : ℕ → Bool) where
       let halves = neither (anyUp n test) (test n) e in
       ⊎-elim (λ last. ap test last ∙ halves .1) (any-none n (halves .0) i) (last-or-less i n h)
     where
-      neither : (b c : Bool) → b || c ≡ false → (b ≡ false) × (c ≡ false)
-      neither true c e = absurd (true≢false e)
-      neither false c e = (refl, e)
-
       last-or-less : (i n : ℕ) → i < suc n → (i ≡ n) ⊎ (i < n)
       last-or-less i n h = eq-or-lt-of-le (le-of-suc-le-suc h)
 

@@ -3,6 +3,7 @@ use mathlib.Core.Path.{_≡_, refl, ap}
 use mathlib.Core.Bool.{cond}
 use mathlib.Core.List.{List, [], _∷_, _++_}
 use Prim.Native.Nat.{ℕ, zero, suc, _+_, _-_, _/_, _%_, _^_, _≤_, _<_}
+use Prim.Native.Char.{code}
 use native.Mathlib.Nat.{pow-suc}
 use native.Mathlib.Omega.{arith}
 use lib.Dec.{ltb}
@@ -18,15 +19,15 @@ enough : (n v : ℕ) → v < 10 ^ suc n → decimalOf (suc n) v ≡ decimalOf (s
 unfolding decimalOf
 enough zero v h = rw (lt-ltb v 10 (omega arith))
 enough (suc n) v h =
-    ap (λ (l : List ℕ). cond (ltb v 10) ((48 + v) ∷ []) (l ++ (48 + v % 10) ∷ [])) (enough n (v / 10) (omega (arith, pow-suc 10 (suc n))))
+    ap (λ (l : List ℕ). cond (ltb v 10) ((code "0" + v) ∷ []) (l ++ (code "0" + v % 10) ∷ [])) (enough n (v / 10) (omega (arith, pow-suc 10 (suc n))))
 
-pub decimal-digit : (v : ℕ) → v < 10 → decimal v ≡ (48 + v) ∷ []
+pub decimal-digit : (v : ℕ) → v < 10 → decimal v ≡ (code "0" + v) ∷ []
 unfolding decimal decimalOf
 decimal-digit v h = rw (lt-ltb v 10 h)
 
-pub decimal-longer : (v : ℕ) → 10 ≤ v → v < 2 ^ 64 → decimal v ≡ decimal (v / 10) ++ (48 + v % 10) ∷ []
+pub decimal-longer : (v : ℕ) → 10 ≤ v → v < 2 ^ 64 → decimal v ≡ decimal (v / 10) ++ (code "0" + v % 10) ∷ []
 unfolding decimal decimalOf
-decimal-longer v h k = rw (le-ltb v 10 h) (ap (λ (l : List ℕ). l ++ (48 + v % 10) ∷ []) (enough 18 (v / 10) (omega arith)))
+decimal-longer v h k = rw (le-ltb v 10 h) (ap (λ (l : List ℕ). l ++ (code "0" + v % 10) ∷ []) (enough 18 (v / 10) (omega arith)))
 
 pub hex-none : (n v : ℕ) → n ≡ 0 → hexOf n v ≡ []
 unfolding hexOf

@@ -3,19 +3,15 @@ use mathlib.Core.Path.{_≡_, refl}
 use mathlib.Core.List.{List, [], _∷_, _++_}
 use Prim.Native.Nat.{ℕ}
 use lib.Ieee.{Float, binary64, ofBits, toBits}
-use Rattle.listing.specs.declared.Heading.{Heading}
 use Rattle.listing.specs.Text.{ascii}
 use Rattle.listing.specs.Listing.{decimalOf, decimal, hexDigit, hexOf, hexBits, spaced, row, rows, nodeLine, nodeLines, quadLines, loopLines}
-use Rattle.listing.specs.Listing.{endWord, wholeWord, headLine, refusedListing, meshListing, listing}
+use Rattle.listing.specs.Listing.{heading, endWord, wholeWord, headLine, refusedListing, meshListing, listing}
 
 -- all that computes
 unfoldable opened : Unit {0}
 unfolding listing meshListing refusedListing headLine endWord wholeWord loopLines quadLines nodeLines nodeLine rows row spaced hexBits hexOf hexDigit
     decimal decimalOf toBits ofBits
 opened = tt
-
-abbrev heading : ℕ → ℕ → ℕ → ℕ → ℕ → Heading
-heading nodes quads front end loops = record { nodes = nodes; quads = quads; front = front; end = end; loops = loops }
 
 -- 0.0, 1.0, 2.0 and 4.0
 abbrev o : Float
@@ -52,7 +48,8 @@ unfolding opened
 square = refl
 
 -- One node, no quad, and two loops, of four ids and three.
-loops : listing 0 (heading 1 0 1234567 3 2) (i ∷ o ∷ []) (t ∷ o ∷ []) (1 ∷ 2 ∷ 3 ∷ 4 ∷ []) (0 ∷ 10 ∷ 101 ∷ 799 ∷ 2 ∷ 3 ∷ 4 ∷ 5 ∷ []) (4 ∷ 3 ∷ 1 ∷ [])
+loops : listing 0 (heading 1 0 1234567 3 2) (i ∷ o ∷ []) (t ∷ o ∷ []) (1 ∷ 2 ∷ 3 ∷ 4 ∷ [])
+    (0 ∷ 10 ∷ 101 ∷ 799 ∷ 2 ∷ 3 ∷ 4 ∷ 5 ∷ []) (4 ∷ 3 ∷ 1 ∷ [])
     ≡ ascii "mesh 1 0 1234567 full open\n"
     ++ ascii "n 3ff0000000000000 4000000000000000\n"
     ++ ascii "l 0 10 101 799\n"

@@ -3,6 +3,7 @@ use mathlib.Core.Path.{_≡_, refl, sym, ap, _∙_}
 use mathlib.Core.Bool.{Bool, true, false, cond}
 use mathlib.Core.List.{List, [], _∷_, _++_}
 use Prim.Native.Nat.{ℕ, zero, suc, _+_, _*_, _/_, _%_, _≤_, _<_, min}
+use Prim.Native.Char.{code}
 use native.Mathlib.Omega.{arith}
 use lib.Dec.{ltb}
 use lib.Ieee.{Float, binary64, toBits}
@@ -22,7 +23,7 @@ decimal-digits zero v = omega arith
 decimal-digits (suc n) v = pick (decimal-digits n (v / 10)) (ltb v 10)
   where
     pick : length (decimalOf n (v / 10)) ≤ n → (b : Bool)
-        → length (cond b ((48 + v) ∷ []) (decimalOf n (v / 10) ++ (48 + v % 10) ∷ [])) ≤ suc n
+        → length (cond b ((code "0" + v) ∷ []) (decimalOf n (v / 10) ++ (code "0" + v % 10) ∷ [])) ≤ suc n
     pick h true = omega arith
     pick h false = rw length-append (omega arith)
 
@@ -63,7 +64,7 @@ quads-length : (n : ℕ) (quads : List ℕ) → length (quadLines n quads) ≤ 2
 unfolding quadLines
 quads-length n quads =
     let count : ℕ = min n (length quads / 4) in
-    omega (arith, rows-length 113 (replicate count 4) quads, length-replicate {A = ℕ} count 4)
+    omega (arith, rows-length (code "q") (replicate count 4) quads, length-replicate {A = ℕ} count 4)
 
 -- ---- the first line
 
@@ -102,7 +103,7 @@ module _ (h : Heading) (xs ys : List Float) (quads loops lengths : List ℕ) whe
         nodes-length (take (h .nodes) xs) (take (h .nodes) ys),
         length-take (h .nodes) xs,
         quads-length (h .quads) quads,
-        rows-length 108 (take (h .loops) lengths) loops,
+        rows-length (code "l") (take (h .loops) lengths) loops,
         length-take (h .loops) lengths,
       ))
 

@@ -10,6 +10,10 @@ use lib.Ieee.{Float, binary64, toBits}
 use Rattle.listing.specs.declared.Heading.{Heading}
 use Rattle.listing.specs.Text.{ascii}
 
+-- what the first line says: of the run's answer its counts, its end's number, and how many loops are listed
+abbrev pub heading : ℕ → ℕ → ℕ → ℕ → ℕ → Heading
+heading nodes quads front end loops = record { nodes = nodes; quads = quads; front = front; end = end; loops = loops }
+
 -- ---- numbers
 
 -- the decimal digits of a number below 10 ^ n, with no zero in front

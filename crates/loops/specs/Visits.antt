@@ -17,7 +17,7 @@ use Rattle.topology.specs.Walk.{walkBy, count, once, walk-off}
 use Rattle.topology.specs.Listing.{listing, walks, addLoop, total-one}
 use Rattle.loops.specs.declared.Listed.{Listed}
 use Rattle.loops.specs.Listed.{Lists, lists, counted, overlay, written}
-use Rattle.loops.specs.Walked.{linksIn, walkIn, markAll, mark-length, walk-on, walk-last, walk-more, walk-length, link-read, link-node}
+use Rattle.loops.specs.Walked.{linksIn, walkIn, markAll, mark-length, walk-on, walk-last, walk-more, walk-length, entry-read, link-node}
 use Rattle.loops.specs.Walked.{Walkable, Walked}
 use Rattle.loops.specs.Pigeonhole.{ids-most}
 use Rattle.loops.specs.Found.{found-ids, found-number, found-more, found-reached, walk-nodes, on-loop, found-long, starts, counts-some}
@@ -76,7 +76,7 @@ module _ {next : List ℕ} {marks loops lengths : List ℕ} {listed : Listed} {u
 
   -- off the front
   pub visit-off : getD next u 0 ≡ off → lists marks loops lengths listed ≡ visited (walkIn next u) (lists marks loops lengths listed)
-  visit-off e = none (walk-off (linksIn next) (length next) u u (sym (link-read next u (v .node)) ∙ e))
+  visit-off e = none (walk-off (linksIn next) (length next) u u (sym (entry-read next u (v .node)) ∙ e))
 
   -- on a loop found before
   pub visit-marked : getD marks u 0 ≡ 1 → lists marks loops lengths listed ≡ visited (walkIn next u) (lists marks loops lengths listed)
@@ -85,12 +85,12 @@ module _ {next : List ℕ} {marks loops lengths : List ℕ} {listed : Listed} {u
   -- the smallest id of its loop
   module _ (on : getD next u 0 ≢ off) (unmarked : getD marks u 0 ≢ 1) where
     visit-some : 0 < length (walkIn next u)
-    visit-some = v .fresh unmarked (λ e. on (link-read next u (v .node) ∙ e))
+    visit-some = v .fresh unmarked (λ e. on (entry-read next u (v .node) ∙ e))
 
     second : (w : ℕ) × ((walkIn next u ≡ u ∷ walkBy (linksIn next) w u (getD next u 0)) × (0 < length (walkBy (linksIn next) w u (getD next u 0))))
     second =
         let s = walk-more (linksIn next) (length next) u u visit-some (v .apart) in
-        let e = sym (link-read next u (v .node)) in (
+        let e = sym (entry-read next u (v .node)) in (
           s .most,
           (
             s .rest ∙ ap (λ (x : ℕ). u ∷ walkBy (linksIn next) (s .most) u x) e,
@@ -108,7 +108,7 @@ module _ {next : List ℕ} {marks loops lengths : List ℕ} {listed : Listed} {u
     visit-two e =
         let s = second in
         let w = getD next u 0 in
-        let last = walk-last (linksIn next) (s .0) u w (s .1 .1) (sym (link-read next w visit-in) ∙ e) in
+        let last = walk-last (linksIn next) (s .0) u w (s .1 .1) (sym (entry-read next w visit-in) ∙ e) in
         let two : walkIn next u ≡ u ∷ w ∷ [] = s .1 .0 ∙ ap (λ (l : List ℕ). u ∷ l) last in
         rw two
 
@@ -117,7 +117,7 @@ module _ {next : List ℕ} {marks loops lengths : List ℕ} {listed : Listed} {u
     visit-long other =
         let s = second in
         let w = getD next u 0 in
-        let t = walk-more (linksIn next) (s .0) u w (s .1 .1) (λ e. other (link-read next w visit-in ∙ e)) in
+        let t = walk-more (linksIn next) (s .0) u w (s .1 .1) (λ e. other (entry-read next w visit-in ∙ e)) in
         omega (arith, ap length (s .1 .0), ap length (t .rest), t .some)
 
     pub visit-walk : getD next (getD next u 0) 0 ≢ u → Walkable next marks loops u (listed .ids)

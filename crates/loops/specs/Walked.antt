@@ -9,7 +9,7 @@ use lib.Dec.{eqb, ltb}
 use lib.ListN.{length, getD, set, length-append, length-set}
 use lib.Seq.{sets, length-sets}
 use borrow.Author.Tests.{ltb-true, ltb-false, eq-eqb, ne-eqb}
-use Rattle.topology.specs.Links.{off, linkOf, link-in, link-out}
+use Rattle.topology.specs.Links.{off, linkOf, link-read, link-out}
 use Rattle.topology.specs.Walk.{walkBy, prepend, walk-off}
 
 -- ---- definitions
@@ -88,14 +88,9 @@ walk-length f (suc k) z u = by (ltb u z || eqb (f u) off) (eqb (f u) z) (walkBy 
 
 -- ---- reading a link
 
-pub getD-any : (l : List ℕ) (i d e : ℕ) → i < length l → getD l i d ≡ getD l i e
-getD-any [] i d e h = absurd (omega arith)
-getD-any (x ∷ l) zero d e h = refl
-getD-any (x ∷ l) (suc i) d e h = getD-any l i d e (omega arith)
-
 -- the entry of a node is its link
-pub link-read : (next : List ℕ) (u : ℕ) → u < length next → getD next u 0 ≡ linksIn next u
-link-read next u h = getD-any next u 0 off h ∙ sym (link-in (length next) next u h)
+pub entry-read : (next : List ℕ) (u : ℕ) → u < length next → getD next u 0 ≡ linksIn next u
+entry-read next u h = link-read (length next) next u h (omega arith)
 
 -- only a node has a link
 pub link-node : (n : ℕ) (next : List ℕ) (u : ℕ) → linkOf n next u ≢ off → u < n
@@ -156,7 +151,7 @@ module _ {next marks₀ loops₀ : List ℕ} {start at : ℕ} where
     -- u is marked and written, and is the last
     pub walking-end : getD next u 0 ≡ start → Walked next marks₀ loops₀ start at (set marks u 1) (set loops i u) (i + 1)
     walking-end e =
-        let last = walk-last (linksIn next) (w .most) start u (w .some) (sym (link-read next u walking-in) ∙ e) in
+        let last = walk-last (linksIn next) (w .most) start u (w .some) (sym (entry-read next u walking-in) ∙ e) in
         let whole : walkIn next start ≡ w .done ++ u ∷ [] = w .whole ∙ ap (λ (l : List ℕ). w .done ++ l) last in
         record {
           marked = ap (λ (s : List ℕ). set s u 1) (w .marked) ∙ (mark-more (w .done) u marks₀ ∙ ap (λ (l : List ℕ). markAll l marks₀) (sym whole));
@@ -170,7 +165,7 @@ module _ {next marks₀ loops₀ : List ℕ} {start at : ℕ} where
     pub walking-next : getD next u 0 ≢ start → Walking next marks₀ loops₀ start at (set marks u 1) (set loops i u) (getD next u 0) (i + 1)
     walking-next other =
         let f = linksIn next in
-        let read = link-read next u walking-in in
+        let read = entry-read next u walking-in in
         let s = walk-more f (w .most) start u (w .some) (λ e. other (read ∙ e)) in
         let rest : w .done ++ walkBy f (w .most) start u ≡ (w .done ++ u ∷ []) ++ walkBy f (s .most) start (f u) =
         ap (λ (l : List ℕ). w .done ++ l) (s .rest) ∙ sym (append-assoc (w .done) (u ∷ []) (walkBy f (s .most) start (f u))) in

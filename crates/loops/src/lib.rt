@@ -7,15 +7,13 @@ ghost use Rattle.loops.specs.Walked.{walkIn, Walkable, Walked};
 ghost use Rattle.loops.specs.Visits.{visited, visitAll, Visitable, Startable};
 ghost use Rattle.loops.specs.ListedLaws.{cleared};
 use front::Counts;
+use front::OFF;
 
 // How many loops are listed, and how many ids in all of them. A paving is whole where `count` is 0.
 pub struct Listed {
     pub count: usize,
     pub ids: usize,
 }
-
-// The link of a node off the front.
-const OFF: u32 = 4294967295;
 
 // Takes the marks off the first `n` nodes.
 fn clear_marks(marks: &mut [u32], n: usize)

@@ -3,7 +3,8 @@ use mathlib.Core.Path.{_≡_, refl, sym, ap, _∙_}
 use mathlib.Core.Logic.{_⊎_, inl, inr, ⊎-elim}
 use mathlib.Core.Bool.{true, false}
 use Prim.Native.Nat.{ℕ, suc, _+_, _-_, _*_, _/_, _%_, _^_, _≤_, _<_}
-use native.Mathlib.Nat.{le-trans, le-of-eq, le-of-suc-le-suc, lt-of-lt-of-le, lt-of-not-le, not-le-of-lt, mod-eq-of-lt, mul-assoc, mul-le-mul-right, mul-lt-mul-of-pos-right}
+use native.Mathlib.Nat.{le-trans, le-of-eq, le-of-suc-le-suc, lt-of-lt-of-le, lt-of-not-le, not-le-of-lt, mod-eq-of-lt, mul-assoc, mul-le-mul-right}
+use native.Mathlib.Nat.{mul-lt-mul-of-pos-right}
 use native.Mathlib.Omega.{arith}
 use lib.Dec.{T}
 use lib.Pow.{pow-pos, pow-mono, pow-add}
@@ -13,7 +14,8 @@ use lib.Ieee.Bits.{ofBits-toBits}
 use Rattle.numbers.specs.Root.{root, rootUnits, NearRoot, RootBits}
 use Rattle.numbers.specs.RootUnits.{root-value, root-minus, Split, rounds}
 use Rattle.numbers.specs.Whole.{sizeOf}
-use Rattle.numbers.proofs.Patterns.{is-nan, not-nan, size-low, size-high, size-pos, Pattern, plus, minus-sign, value, infinite, finite-or-not, units-bits}
+use Rattle.numbers.proofs.Patterns.{is-nan, not-nan, size-low, size-high, size-pos, Pattern, plus, minus-sign, value, infinite, finite-or-not}
+use Rattle.numbers.proofs.Patterns.{units-bits}
 
 -- ---- the root's digits and its place, put together
 
@@ -87,7 +89,8 @@ leading b p h =
 
     go : (z j : ℕ) → z + suc j ≡ 64 → j < 52 → 2 ^ j ≤ b → b < 2 ^ suc j → (11 ≤ z) × Moved b (z - 11)
     go z j e J lo hi =
-        let t : 2 ^ suc j * 2 ^ (z - 11) ≡ 2 ^ 53 = sym (pow-add 2 (suc j) (z - 11)) ∙ ap (λ (y : ℕ). 2 ^ y) (places z (suc j) 53 (omega arith) (omega arith)) in
+        let t : 2 ^ suc j * 2 ^ (z - 11) ≡ 2 ^ 53 =
+        sym (pow-add 2 (suc j) (z - 11)) ∙ ap (λ (y : ℕ). 2 ^ y) (places z (suc j) 53 (omega arith) (omega arith)) in
         let l : 2 ^ 52 ≡ 2 ^ j * 2 ^ (z - 11) = sym (ap (λ (y : ℕ). 2 ^ y) (places z j 52 (omega arith) (omega arith))) ∙ pow-add 2 j (z - 11) in
         let u : b * 2 ^ (z - 11) < 2 ^ 53 = lt-of-lt-of-le (mul-lt-mul-of-pos-right hi (pow-pos (z - 11))) (le-of-eq t) in (
           omega arith,
@@ -138,7 +141,8 @@ of-rest x f n h k z = below-zero x (toBits binary64 x - 2 ^ 63) (minus-sign x f 
     above : 2 ^ 63 ≤ toBits binary64 x
     above =
         le-of-suc-le-suc
-        (lt-of-not-le (λ (g : suc (toBits binary64 x) ≤ 2 ^ 63). k (ap (toBits binary64) (infinite x false (toBits binary64 x) (plus x f g) h (not-nan x n)) ∙ inf-bits)))
+        (lt-of-not-le
+        (λ (g : suc (toBits binary64 x) ≤ 2 ^ 63). k (ap (toBits binary64) (infinite x false (toBits binary64 x) (plus x f g) h (not-nan x n)) ∙ inf-bits)))
 
 pub quotient : (x : Float) → root x ≡ nan → div binary64 (ofBits binary64 0) (ofBits binary64 0) ≡ root x
 quotient x h = rw h (unfold div ofBits in refl)

@@ -2,7 +2,8 @@
 use mathlib.Core.Path.{_≡_, refl, sym, ap, _∙_}
 use mathlib.Core.Logic.{_⊎_, inl, inr}
 use Prim.Native.Nat.{ℕ, suc, _+_, _-_, _*_, _/_, _%_, _^_, _≤_, _<_}
-use native.Mathlib.Nat.{le-refl, le-trans, le-of-eq, le-of-lt, le-antisymm, le-of-suc-le-suc, lt-of-lt-of-le, lt-of-not-le, not-le-of-lt, mul-one, one-mul, mul-assoc, mul-right-comm, mul-le-mul-right, le-of-mul-le-mul-right, div-eq-of-lt, div-lt-iff-lt-mul, div-one}
+use native.Mathlib.Nat.{le-refl, le-trans, le-of-eq, le-of-lt, le-antisymm, le-of-suc-le-suc, lt-of-lt-of-le, lt-of-not-le, not-le-of-lt, mul-one}
+use native.Mathlib.Nat.{one-mul, mul-assoc, mul-right-comm, mul-le-mul-right, le-of-mul-le-mul-right, div-eq-of-lt, div-lt-iff-lt-mul, div-one}
 use native.Mathlib.Omega.{arith}
 use lib.Dec.{lit<}
 use lib.Pow.{pow-pos, pow-mono, pow-add, shl-lt, shl-exact}

@@ -2,7 +2,8 @@
 use mathlib.Core.Path.{_≡_, refl, sym, ap, _∙_, subst}
 use mathlib.Core.Bool.{Bool, true, false, not, cond}
 use Prim.Native.Nat.{ℕ, zero, suc, _+_, _-_, _*_, _/_, _^_, _≤_, _<_, compare, Ordering, Ordering·lt, Ordering·eq, Ordering·gt}
-use native.Mathlib.Nat.{le-trans, le-of-eq, le-antisymm, le-of-suc-le-suc, lt-of-lt-of-le, lt-of-not-le, not-le-of-lt, mul-le-mul, mul-assoc, lt-of-mul-lt-mul-right, eq-of-mul-eq-mul-right, pow-succ'}
+use native.Mathlib.Nat.{le-trans, le-of-eq, le-antisymm, le-of-suc-le-suc, lt-of-lt-of-le, lt-of-not-le, not-le-of-lt, mul-le-mul, mul-assoc}
+use native.Mathlib.Nat.{lt-of-mul-lt-mul-right, eq-of-mul-eq-mul-right, pow-succ'}
 use native.Mathlib.Omega.{arith}
 use lib.Dec.{T, leb, leb→le, nleb→lt, isLe, isEq, eqb, eqb→eq, eqb-refl}
 use lib.Arith.{lt-of-le-ne}

@@ -5,7 +5,9 @@ use mathlib.Core.Path.{_≡_, refl, sym, ap, _∙_, subst}
 use mathlib.Core.Logic.{_⊎_, inl, inr}
 use mathlib.Core.Bool.{Bool, true, false, not, _&&_}
 use Prim.Native.Nat.{ℕ, zero, suc, _+_, _-_, _*_, _/_, _%_, _^_, _≤_, _<_}
-use native.Mathlib.Nat.{le-trans, le-of-eq, le-of-lt, le-of-suc-le-suc, lt-of-lt-of-le, lt-of-le-of-lt, lt-of-not-le, lt-irrefl, not-le-of-lt, eq-or-lt-of-le, zero-lt-suc, mul-one, zero-mul, mul-assoc, mul-right-comm, mul-mul-mul-comm, mul-pos, mul-le-mul, mul-le-mul-right, mul-lt-mul-of-pos-right, lt-of-mul-lt-mul-right, eq-of-mul-eq-mul-right}
+use native.Mathlib.Nat.{le-trans, le-of-eq, le-of-lt, le-of-suc-le-suc, lt-of-lt-of-le, lt-of-le-of-lt, lt-of-not-le, lt-irrefl, not-le-of-lt}
+use native.Mathlib.Nat.{eq-or-lt-of-le, zero-lt-suc, mul-one, zero-mul, mul-assoc, mul-right-comm, mul-mul-mul-comm, mul-pos, mul-le-mul}
+use native.Mathlib.Nat.{mul-le-mul-right, mul-lt-mul-of-pos-right, lt-of-mul-lt-mul-right, eq-of-mul-eq-mul-right}
 use native.Mathlib.Omega.{arith}
 use lib.IntN.{ℤ, pos, negsuc}
 use lib.Dec.{T, lit≤, leb, ltb, eqb, leb→le, nleb→lt, ltb→lt, lt→ltb}
@@ -33,8 +35,8 @@ pub record Digits (n : ℕ) : Type 0 where
   pub small : m < 2 ^ 53
   pub top : n < 2 ^ 2098
 
-pow-le-back : (a l : ℕ) → 2 ^ a ≤ 2 ^ l → a ≤ l
-pow-le-back a l h = le-of-suc-le-suc (lt-of-not-le (λ (g : suc l ≤ a). lt-irrefl (2 ^ l) (lt-of-lt-of-le (pow-lt g) h)))
+pub exponent-le : (a l : ℕ) → 2 ^ a ≤ 2 ^ l → a ≤ l
+exponent-le a l h = le-of-suc-le-suc (lt-of-not-le (λ (g : suc l ≤ a). lt-irrefl (2 ^ l) (lt-of-lt-of-le (pow-lt g) h)))
 
 whole-up : (m a n : ℕ) → m * 2 ^ a * 2 ^ 1074 ≡ n * 1 → n ≡ m * 2 ^ (a + 1074)
 whole-up m a n h = sym (mul-one n) ∙ sym h ∙ mul-assoc m (2 ^ a) (2 ^ 1074) ∙ ap (λ (y : ℕ). m * y) (sym (pow-add 2 a 1074))
@@ -73,7 +75,7 @@ digits-of (fin s (suc m) e) n f v =
   where
     go : (e : ℤ) → suc m * up e * 2 ^ 1074 ≡ n * down e → down e ≤ 2 ^ 1074 → suc m < 2 ^ 53 → n < 2 ^ 2098 → Digits n
     go (pos a) h c b t = record { m = suc m; j = a + 1074; is = whole-up (suc m) a n h; small = b; top = t }
-    go (negsuc a) h c b t = record { m = suc m; j = 1074 - suc a; is = whole-down (suc m) a n (pow-le-back (suc a) 1074 c) h; small = b; top = t }
+    go (negsuc a) h c b t = record { m = suc m; j = 1074 - suc a; is = whole-down (suc m) a n (exponent-le (suc a) 1074 c) h; small = b; top = t }
 
 -- from 2 ^ (52 + k) units on there are only multiples of 2 ^ k
 multiple : (n k : ℕ) → Digits n → 2 ^ (52 + k) ≤ n → (B : ℕ) × (n ≡ B * 2 ^ k)

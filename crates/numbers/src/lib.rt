@@ -1,8 +1,8 @@
-// Number routines that Rattle lacks, each equal to a definition of specs/ on every input.
+// Number routines that Rattle lacks, each equal to a definition of specs/ on every input (`to_f64`: on every count below 2^32).
 ghost use mathlib.Core.Path.{_≡_};
 ghost use Prim.Native.Nat.{_+_, _*_, _/_, _%_, _^_, _≤_, _<_};
 ghost use Rattle.numbers.specs.Root.{NearRoot, RootBits, rootUnits, root};
-ghost use Rattle.numbers.specs.Float.{isFinite, absF, minF, maxF, clampF};
+ghost use Rattle.numbers.specs.Float.{toFloat, isFinite, absF, minF, maxF, clampF};
 ghost use Rattle.numbers.specs.Whole.{ceilDiv, sizeOf, floorInt, floorQuotient, ceilCount};
 
 // The whole number nearest to the root of s * 2^52, digit by digit.
@@ -216,6 +216,15 @@ pub extern "C" fn ceil_count(x: f64) -> u64
         return 0xffff_ffff_ffff_ffff;
     }
     0
+}
+
+// `n as f64`
+pub fn to_f64(n: usize) -> f64
+    requires { ⌜ n < 4294967296 ⌝ }
+    ensures { λ r. ⌜ r ≡ toFloat n ⌝ }
+{
+    let m = n as u32;
+    m as f64
 }
 
 // `x.min(y)`; of equal zeros, which Rust leaves open, x.

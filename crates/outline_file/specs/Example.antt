@@ -9,7 +9,7 @@ use Rattle.laws.specs.Tabulate.{tabulate}
 use Rattle.numbers.specs.Float.{zeroF, oneF, twoF}
 use Rattle.outline_file.specs.File.{Request, numberAt, blockAt, checkOf, blockRefusal, zeroFrom, headPoints, headSound, headRefusal, pointsRefusal}
 use Rattle.outline_file.specs.File.{blocksRefusal, coordinateAt, endRefusal, fileRefusal, requestOf, numberBytes, blockOf, lengthBytes, headBytes}
-use Rattle.outline_file.specs.File.{pointBytes, pointBlock, fileOf}
+use Rattle.outline_file.specs.File.{pointBytes, pointBlock, blocksOf, fileOf}
 
 -- (0,0) (2,0) (2,2) (0,2), size 1, 400 sweeps, 600 passes
 abbrev pub square : Request
@@ -21,13 +21,13 @@ square =
     }
 
 pub square-head : take 18 (fileOf square) ≡ 0 ∷ 0 ∷ 0 ∷ 0 ∷ 0 ∷ 0 ∷ 240 ∷ 63 ∷ 144 ∷ 1 ∷ 88 ∷ 2 ∷ 1 ∷ 0 ∷ 4 ∷ 0 ∷ 0 ∷ 0 ∷ []
-unfolding fileOf blockOf headBytes lengthBytes numberBytes checkOf sumUp forUp flatten tabulate ofBits toBits pointBlock pointBytes
+unfolding fileOf blocksOf blockOf headBytes lengthBytes numberBytes checkOf sumUp forUp flatten tabulate ofBits toBits pointBlock pointBytes
 square-head = refl
 
 pub square-request : requestOf (fileOf square) ≡ square
-unfolding requestOf coordinateAt blockAt numberAt headPoints fileOf blockOf headBytes lengthBytes numberBytes checkOf sumUp forUp flatten tabulate ofBits toBits pointBlock pointBytes
+unfolding requestOf coordinateAt blockAt numberAt headPoints fileOf blocksOf blockOf headBytes lengthBytes numberBytes checkOf sumUp forUp flatten tabulate ofBits toBits pointBlock pointBytes
 square-request = refl
 
 pub square-sound : fileRefusal (fileOf square) ≡ 0
-unfolding fileRefusal headRefusal headSound blockRefusal zeroFrom pointsRefusal blocksRefusal endRefusal blockAt numberAt headPoints fileOf blockOf headBytes lengthBytes numberBytes checkOf sumUp forUp anyUp flatten tabulate ofBits toBits pointBlock pointBytes
+unfolding fileRefusal headRefusal headSound blockRefusal zeroFrom pointsRefusal blocksRefusal endRefusal blockAt numberAt headPoints fileOf blocksOf blockOf headBytes lengthBytes numberBytes checkOf sumUp forUp anyUp flatten tabulate ofBits toBits pointBlock pointBytes
 square-sound = refl

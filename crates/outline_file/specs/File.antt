@@ -22,6 +22,9 @@ pub record Request : Type 0 where
   pub coordinates : List Float
   pub lengths : List ℕ
 
+abbrev pub request : Settings → List Float → List ℕ → Request
+request settings coordinates lengths = record { settings = settings; coordinates = coordinates; lengths = lengths }
+
 -- the outline as it is lent to a run
 unfoldable pub outlineOf : Request → Outline
 outlineOf r =
@@ -193,10 +196,11 @@ pointBytes coordinates = flatten (map floatBytes coordinates)
 unfoldable pub pointBlock : List Float → ℕ → List ℕ
 pointBlock coordinates k = blockOf (pointBytes (take 62 (drop (62 * k) coordinates)))
 
+unfoldable pub blocksOf : List Float → List ℕ
+blocksOf coordinates = flatten (tabulate (pointBlocks (length coordinates / 2)) (pointBlock coordinates))
+
 unfoldable pub fileOf : Request → List ℕ
-fileOf r =
-    blockOf (headBytes (r .settings) (r .lengths))
-    ++ flatten (tabulate (pointBlocks (length (r .coordinates) / 2)) (pointBlock (r .coordinates)))
+fileOf r = blockOf (headBytes (r .settings) (r .lengths)) ++ blocksOf (r .coordinates)
 
 -- ---- what `write_file` answers, and leaves in the list lent to it
 

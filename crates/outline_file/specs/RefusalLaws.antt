@@ -97,7 +97,7 @@ pub record HeadSound (h : List ℕ) : Type 0 where
   pub points : headPoints h (headLoops h) ≤ 248
   pub zeros : zeroFrom h (14 + 2 * headLoops h) ≡ true
 
-both : (s t : Bool) → s && t ≡ true → (s ≡ true) × (t ≡ true)
+pub both : (s t : Bool) → s && t ≡ true → (s ≡ true) × (t ≡ true)
 both true t e = (refl, e)
 both false t e = absurd (true≢false (sym e))
 

@@ -19,7 +19,8 @@ use Rattle.paving.specs.declared.Attempt.{Attempt}
 use Rattle.paving.specs.declared.Attempt.the-variants.{Nothing, Quad}
 use Rattle.paving.specs.declared.End.the-variants.{Still, Passes, Cap, Full}
 use Rattle.paving.specs.Attempt.{attemptQuad, orElse, normalOf, tryToward, tryEdge}
-use Rattle.paving.specs.Advance.{Paved, paved, Passing, passing, Passed, mostQuads, afterQuad, settle, isThere, passTurn, withSnapshot, afterPass, pass, mostPasses, passesTurn, allUsed, advance}
+use Rattle.paving.specs.Advance.{Paved, paved, Passing, passing, Passed, mostQuads, afterQuad, settle, isThere, passTurn, withSnapshot}
+use Rattle.paving.specs.Advance.{afterPass, pass, mostPasses, passesTurn, allUsed, advance}
 use Rattle.paving.specs.Reach.{Placement, Reaches, begin, snapshot, placed}
 
 -- ---- what a try answers is an attempt's quad

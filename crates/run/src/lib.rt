@@ -126,7 +126,8 @@ fn make_field<'a>(
 ) -> Grid
     requires { ⌜ fieldRefusal (outline (now outer) (now holes) (now lens)) size sweeps (fieldLists (now values) (now marks)) ≡ 0 ⌝ }
     ensures { λ r. ⌜ fieldRecord r (now (values .exit)) (now (marks .exit))
-        ≡ fieldOf (outline (now (outer .entry)) (now (holes .entry)) (now (lens .entry))) size sweeps (fieldLists (now (values .entry)) (now (marks .entry))) ⌝ }
+        ≡ fieldOf (outline (now (outer .entry)) (now (holes .entry)) (now (lens .entry))) size sweeps
+        (fieldLists (now (values .entry)) (now (marks .entry))) ⌝ }
 {
     let made = crossfield::field(outer, holes, lens, size, sweeps, values, marks);
     match made {
@@ -166,7 +167,8 @@ fn sample_and_advance<'a>(
         (r .counts)) (r .end)
         ≡ advance (outline (now (outer .entry)) (now (holes .entry)) (now (lens .entry))) size (fieldRecord grid (now (values .entry)) []) passes
         (fromBoundary (outline (now (outer .entry)) (now (holes .entry)) (now (lens .entry))) size
-        (stateOf (now (xs .entry)) (now (ys .entry)) (now (next .entry)) (now (prev .entry)) (now (snapshot .entry)) (now (quads .entry)) (now (edges .entry)) unused)) ⌝ }
+        (stateOf (now (xs .entry)) (now (ys .entry)) (now (next .entry)) (now (prev .entry)) (now (snapshot .entry)) (now (quads .entry))
+        (now (edges .entry)) unused)) ⌝ }
 {
     let k = boundary::from_boundary(outer, holes, lens, size, xs, ys, next, prev, edges);
     advance::advance(

@@ -13,7 +13,8 @@ use Rattle.domain.specs.Outline.{Outline, loopAt, points}
 use Rattle.topology.specs.Changes.{stored}
 use Rattle.front.specs.declared.Ring.{Ring}
 use Rattle.front.specs.State.{State, pushNode}
-use Rattle.front.specs.Sampling.{loopNodes, sampleLoop, ringOf, ringCount, ringAt, ringIds, midpoint, splitLongest, joinRing, ringIn, closeLoop, boundaryTurn, loopIds}
+use Rattle.front.specs.Sampling.{loopNodes, sampleLoop, ringOf, ringCount, ringAt, ringIds, midpoint, splitLongest, joinRing, ringIn, closeLoop}
+use Rattle.front.specs.Sampling.{boundaryTurn, loopIds}
 use Rattle.sampled.specs.Nodes.{Room, room-kept, Pushed, push-none, push-one, push-more}
 use Rattle.sampled.specs.Cuts.{loopCuts, cuts-length, cuts-least, loop-pushed}
 use Rattle.sampled.specs.Rings.{ring-longest, ring-in, ids-distinct, ids-length, ids-all}

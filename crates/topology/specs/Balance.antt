@@ -5,6 +5,7 @@ use mathlib.Core.List.{List, [], _∷_}
 use mathlib.Core.Path.{_≡_, refl, sym, _∙_, ap, ap₂}
 use native.Mathlib.Omega.{arith}
 use lib.IntN.{ℤ, pos, negsuc, negℤ, _+ℤ_, +ℤ-assoc, +ℤ-comm, +ℤ-idl, +ℤ-idr, +ℤ-invr, negℤ-+ℤ, pos-+ℤ-pos}
+use Rattle.laws.specs.Integer.{+ℤ-swap}
 use Rattle.topology.specs.Sums.{total, pathSum, loopSum, frontSum}
 use Rattle.topology.specs.Changes.{removed, added, Changed}
 use Rattle.topology.specs.Placing.{Kind, reused, fresh, placing}
@@ -42,19 +43,13 @@ Antisymmetric w = (u v : ℕ) → w v u ≡ negℤ (w u v)
 unfoldable pub difference : ℕ → ℕ → ℤ
 difference a b = pos a +ℤ negℤ (pos b)
 
-swap : (a b c d : ℤ) → (a +ℤ b) +ℤ (c +ℤ d) ≡ (a +ℤ c) +ℤ (b +ℤ d)
-swap a b c d =
-    +ℤ-assoc a b (c +ℤ d)
-    ∙ (ap (λ (z : ℤ). a +ℤ z) (sym (+ℤ-assoc b c d) ∙ (ap (λ (z : ℤ). z +ℤ d) (+ℤ-comm b c) ∙ +ℤ-assoc c b d))
-    ∙ sym (+ℤ-assoc a c (b +ℤ d)))
-
 pub difference-add : (a b c d : ℕ) → difference a b +ℤ difference c d ≡ difference (a + c) (b + d)
 unfolding difference
 difference-add a b c d =
-    swap (pos a) (negℤ (pos b)) (pos c) (negℤ (pos d))
+    +ℤ-swap (pos a) (negℤ (pos b)) (pos c) (negℤ (pos d))
     ∙ ap₂ _+ℤ_ (pos-+ℤ-pos a c) (sym (negℤ-+ℤ (pos b) (pos d)) ∙ ap negℤ (pos-+ℤ-pos b d))
 
-difference-zero : difference 0 0 ≡ pos 0
+pub difference-zero : difference 0 0 ≡ pos 0
 unfolding difference
 difference-zero = refl
 

@@ -111,6 +111,15 @@ pub link-in : (n : ℕ) (l : List ℕ) (u : ℕ) → u < n → linkOf n l u ≡ 
 unfolding linkOf
 link-in n l u h = rw (lt-ltb u n h)
 
+-- the entry of a node is its link, whatever is read past the list's end
+pub link-read : (n : ℕ) (l : List ℕ) (u : ℕ) → u < n → n ≤ length l → getD l u 0 ≡ linkOf n l u
+link-read n l u h few = any l u (omega arith) ∙ sym (link-in n l u h)
+  where
+    any : (l : List ℕ) (u : ℕ) → u < length l → getD l u 0 ≡ getD l u off
+    any [] u h = absurd (omega arith)
+    any (x ∷ l) zero h = refl
+    any (x ∷ l) (suc u) h = any l u (omega arith)
+
 pub link-out : (n : ℕ) (l : List ℕ) (u : ℕ) → n ≤ u → linkOf n l u ≡ off
 unfolding linkOf
 link-out n l u h = rw (le-ltb u n h)

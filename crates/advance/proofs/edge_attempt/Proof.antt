@@ -41,7 +41,8 @@ returns-2 c =
     let at-link-at = c .before in
     let at-if1 = at-link-at .before in
     let start = at-if1 .before .before .before .before .before .before .before .before .before .before .before .before in
-    attempt-gone (around start) (start .args .size) (field start) (lent start) (start .args .a) _ (at-if1 .if1 .left) (at-link-at .link-at .ensures) (c .if2 .taken)
+    attempt-gone (around start) (start .args .size) (field start) (lent start) (start .args .a) _ (at-if1 .if1 .left) (at-link-at .link-at .ensures)
+    (c .if2 .taken)
 
 try-edge-requires : tie.Need-try-edge-requires
 try-edge-requires c κs = search needs
@@ -53,7 +54,8 @@ returns-3 c =
     let at-if1 = at-link-at .before in
     let start = at-if1 .before .before .before .before .before .before .before .before .before .before .before .before in
     c .try-edge .ensures ∙ (try-seen (lent start) (field start) (around start) (start .args .size) (start .args .a) _
-    ∙ attempt-there (around start) (start .args .size) (field start) (lent start) (start .args .a) _ (at-if1 .if1 .left) (at-link-at .link-at .ensures) (at-if2 .if2 .left))
+    ∙ attempt-there (around start) (start .args .size) (field start) (lent start) (start .args .a) _ (at-if1 .if1 .left) (at-link-at .link-at .ensures)
+    (at-if2 .if2 .left))
 
 pub edge-attempt-spec : {M : Type 1} → statement M
 edge-attempt-spec =

@@ -7,8 +7,8 @@ use Rattle.attempts.specs.SeenLaws.{corner-point-seen}
 use Rattle.attempts.proofs.edges_free.Statement.{statement}
 use Rattle.attempts.proofs.edges_free.Tie as tie
 
-corner-id-requires : tie.Need-corner-id-requires
-corner-id-requires c κs = search needs
+id-requires : tie.Need-id-requires
+id-requires c κs = search needs
 
 second-id-requires : tie.Need-second-id-requires
 second-id-requires c κs = c .before .before .before .before .pre .nodes-few
@@ -19,8 +19,8 @@ side-crosses-requires c κs = c .before .before .before .before .before .pre .ed
 returns : tie.Need-returns
 unfolding edgesFree
 returns c =
-    let after-corner-id = c .before .before .before in
-    rw (← after-corner-id .corner-id .ensures, ← c .before .side-crosses .ensures, c .if1 .taken) refl
+    let after-id = c .before .before .before in
+    rw (← after-id .id .ensures, ← c .before .side-crosses .ensures, c .if1 .taken) refl
 
 corner-point-requires : tie.Need-corner-point-requires
 corner-point-requires c κs = search needs
@@ -36,11 +36,11 @@ unfolding edgesFree
 returns-2 c =
     let after-corner-point = c .before .before .before in
     let else1 = after-corner-point .before in
-    let after-corner-id = else1 .before .before .before in
-    let start = after-corner-id .before .before .before .before in
+    let after-id = else1 .before .before .before in
+    let start = after-id .before .before .before .before in
     let args = start .args in
     let s = seenEdges (args .xs .now) (args .ys .now) (args .edges .now) (args .counts) in
-    rw (← after-corner-id .corner-id .ensures, ← else1 .before .before .second-id .ensures)
+    rw (← after-id .id .ensures, ← else1 .before .before .second-id .ensures)
     (rw (← else1 .before .side-crosses .ensures, else1 .if1 .left)
     (rw (
       ← corner-point-seen s (args .c),
@@ -59,11 +59,11 @@ returns-3 c =
     let else2 = c .before in
     let after-corner-point = else2 .before .before .before in
     let else1 = after-corner-point .before in
-    let after-corner-id = else1 .before .before .before in
-    let start = after-corner-id .before .before .before .before in
+    let after-id = else1 .before .before .before in
+    let start = after-id .before .before .before .before in
     let args = start .args in
     let s = seenEdges (args .xs .now) (args .ys .now) (args .edges .now) (args .counts) in
-    rw (← after-corner-id .corner-id .ensures, ← else1 .before .before .second-id .ensures)
+    rw (← after-id .id .ensures, ← else1 .before .before .second-id .ensures)
     (rw (← else1 .before .side-crosses .ensures, else1 .if1 .left)
     (rw (
       ← corner-point-seen s (args .c),
@@ -77,7 +77,7 @@ pub edges-free-spec : {M : Type 1} → statement M
 edges-free-spec =
     tie.close
     (tie.spec
-    corner-id-requires
+    id-requires
     second-id-requires
     side-crosses-requires
     returns

@@ -2,7 +2,7 @@
 use mathlib.Core.Path.{sym}
 use borrow.Author.Needs.{needs}
 use Rattle.topology.specs.Links.{link-out}
-use Rattle.attempts.specs.Reads.{link-read}
+use Rattle.topology.specs.Links.{link-read}
 use Rattle.attempts.proofs.link_at.Statement.{statement}
 use Rattle.attempts.proofs.link_at.Tie as tie
 

@@ -12,8 +12,8 @@ use Rattle.attempts.specs.SeenLaws.{quad-fits-is}
 use Rattle.attempts.proofs.quad_fits.Statement.{statement}
 use Rattle.attempts.proofs.quad_fits.Tie as tie
 
-corner-id-requires : tie.Need-corner-id-requires
-corner-id-requires c κs = search needs
+id-requires : tie.Need-id-requires
+id-requires c κs = search needs
 
 second-id-requires : tie.Need-second-id-requires
 second-id-requires c κs = c .before .before .before .before .before .before .before .before .pre .0 .within .nodes-few
@@ -24,7 +24,7 @@ returns c =
     let args = start .args in
     let o = outline (args .outer .now) (args .holes .now) (args .lens .now) in
     let s = seen (args .xs .now) (args .ys .now) (args .next .now) [] (args .edges .now) (args .counts) in
-    rw (quad-fits-is s o (args .size) (args .a) (args .b) (args .c) (args .d) (c .before .before .corner-id .ensures)
+    rw (quad-fits-is s o (args .size) (args .a) (args .b) (args .c) (args .d) (c .before .before .id .ensures)
     (c .before .second-id .ensures))
     (fails _ (ap not (eq-eqb _ _ (c .if1 .taken))))
 
@@ -38,7 +38,7 @@ returns-2 c =
     let args = start .args in
     let o = outline (args .outer .now) (args .holes .now) (args .lens .now) in
     let s = seen (args .xs .now) (args .ys .now) (args .next .now) [] (args .edges .now) (args .counts) in
-    rw (quad-fits-is s o (args .size) (args .a) (args .b) (args .c) (args .d) (else1 .before .before .corner-id .ensures)
+    rw (quad-fits-is s o (args .size) (args .a) (args .b) (args .c) (args .d) (else1 .before .before .id .ensures)
     (else1 .before .second-id .ensures))
     (passes (ap not (ne-eqb _ _ (else1 .if1 .left)))
     (fails _ (refused (c .before .corner-free .ensures) (c .if2 .taken))))
@@ -54,7 +54,7 @@ returns-3 c =
     let args = start .args in
     let o = outline (args .outer .now) (args .holes .now) (args .lens .now) in
     let s = seen (args .xs .now) (args .ys .now) (args .next .now) [] (args .edges .now) (args .counts) in
-    rw (quad-fits-is s o (args .size) (args .a) (args .b) (args .c) (args .d) (else1 .before .before .corner-id .ensures)
+    rw (quad-fits-is s o (args .size) (args .a) (args .b) (args .c) (args .d) (else1 .before .before .id .ensures)
     (else1 .before .second-id .ensures))
     (passes (ap not (ne-eqb _ _ (else1 .if1 .left)))
     (passes (passed (else2 .before .corner-free .ensures) (else2 .if2 .left))
@@ -72,7 +72,7 @@ returns-4 c =
     let args = start .args in
     let o = outline (args .outer .now) (args .holes .now) (args .lens .now) in
     let s = seen (args .xs .now) (args .ys .now) (args .next .now) [] (args .edges .now) (args .counts) in
-    rw (quad-fits-is s o (args .size) (args .a) (args .b) (args .c) (args .d) (else1 .before .before .corner-id .ensures)
+    rw (quad-fits-is s o (args .size) (args .a) (args .b) (args .c) (args .d) (else1 .before .before .id .ensures)
     (else1 .before .second-id .ensures))
     (passes (ap not (ne-eqb _ _ (else1 .if1 .left)))
     (passes (passed (else2 .before .corner-free .ensures) (else2 .if2 .left))
@@ -81,8 +81,8 @@ returns-4 c =
 
 link-at-requires : tie.Need-link-at-requires
 link-at-requires c κs =
-    let after-corner-id = c .before .before .before .before .before .before .before .before in
-    after-corner-id .before .before .before .before .before .before .before .before .pre .1
+    let after-id = c .before .before .before .before .before .before .before .before in
+    after-id .before .before .before .before .before .before .before .before .pre .1
 
 returns-5 : tie.Need-returns-5
 returns-5 c =
@@ -94,7 +94,7 @@ returns-5 c =
     let args = start .args in
     let o = outline (args .outer .now) (args .holes .now) (args .lens .now) in
     let s = seen (args .xs .now) (args .ys .now) (args .next .now) [] (args .edges .now) (args .counts) in
-    rw (quad-fits-is s o (args .size) (args .a) (args .b) (args .c) (args .d) (else1 .before .before .corner-id .ensures)
+    rw (quad-fits-is s o (args .size) (args .a) (args .b) (args .c) (args .d) (else1 .before .before .id .ensures)
     (else1 .before .second-id .ensures))
     (passes (ap not (ne-eqb _ _ (else1 .if1 .left)))
     (passes (passed (else2 .before .corner-free .ensures) (else2 .if2 .left))
@@ -104,8 +104,8 @@ returns-5 c =
 
 quad-ok-requires : tie.Need-quad-ok-requires
 quad-ok-requires c κs =
-    let after-corner-id = c .before .before .before .before .before .before .before .before .before .before in
-    after-corner-id .before .before .before .before .before .before .before .before .pre .0
+    let after-id = c .before .before .before .before .before .before .before .before .before .before in
+    after-id .before .before .before .before .before .before .before .before .pre .0
 
 returns-6 : tie.Need-returns-6
 returns-6 c =
@@ -118,7 +118,7 @@ returns-6 c =
     let args = start .args in
     let o = outline (args .outer .now) (args .holes .now) (args .lens .now) in
     let s = seen (args .xs .now) (args .ys .now) (args .next .now) [] (args .edges .now) (args .counts) in
-    rw (quad-fits-is s o (args .size) (args .a) (args .b) (args .c) (args .d) (else1 .before .before .corner-id .ensures)
+    rw (quad-fits-is s o (args .size) (args .a) (args .b) (args .c) (args .d) (else1 .before .before .id .ensures)
     (else1 .before .second-id .ensures))
     (passes (ap not (ne-eqb _ _ (else1 .if1 .left)))
     (passes (passed (else2 .before .corner-free .ensures) (else2 .if2 .left))
@@ -130,7 +130,7 @@ pub quad-fits-spec : {M : Type 1} → statement M
 quad-fits-spec =
     tie.close
     (tie.spec
-    corner-id-requires
+    id-requires
     second-id-requires
     returns
     corner-free-requires

@@ -42,8 +42,8 @@ returns-2 c =
     (passes (passed (else1 .before .convex-ccw .ensures) (else1 .if1 .left))
     (rw (← c .before .before .centroid .ensures) (fails _ (refused (c .before .contains-point .ensures) (c .if2 .taken)))))
 
-corner-id-requires : tie.Need-corner-id-requires
-corner-id-requires c κs = search needs
+id-requires : tie.Need-id-requires
+id-requires c κs = search needs
 
 second-id-requires : tie.Need-second-id-requires
 second-id-requires c κs = c .before .before .before .before .before .before .before .before .before .before .before .before .before .pre .within .nodes-few
@@ -53,15 +53,15 @@ node-in-quad-requires c κs = search needs
 
 returns-3 : tie.Need-returns-3
 returns-3 c =
-    let after-corner-id = c .before .before .before in
-    let else2 = after-corner-id .before in
+    let after-id = c .before .before .before in
+    let else2 = after-id .before in
     let else1 = else2 .before .before .before in
     let start = else1 .before .before .before .before .before .before .before .before .before in
     let args = start .args in
     let s = seenEdges (args .xs .now) (args .ys .now) (args .edges .now) (args .counts) in
     let o = outline (args .outer .now) (args .holes .now) (args .lens .now) in
     rw (quad-ok-is s o (args .size) (args .a) (args .b) (args .c) (args .d) (else1 .before .before .corners-of .ensures))
-    (rw (← else2 .before .before .centroid .ensures, ← after-corner-id .corner-id .ensures, ← c .before .before .second-id .ensures)
+    (rw (← else2 .before .before .centroid .ensures, ← after-id .id .ensures, ← c .before .before .second-id .ensures)
     (passes (passed (else1 .before .convex-ccw .ensures) (else1 .if1 .left))
     (passes (passed (else2 .before .contains-point .ensures) (else2 .if2 .left))
     (fails _ (ap not (sym (c .before .node-in-quad .ensures) ∙ c .if3 .taken))))))
@@ -74,15 +74,15 @@ edges-free-requires c κs =
 returns-4 : tie.Need-returns-4
 returns-4 c =
     let else3 = c .before in
-    let after-corner-id = else3 .before .before .before in
-    let else2 = after-corner-id .before in
+    let after-id = else3 .before .before .before in
+    let else2 = after-id .before in
     let else1 = else2 .before .before .before in
     let start = else1 .before .before .before .before .before .before .before .before .before in
     let args = start .args in
     let s = seenEdges (args .xs .now) (args .ys .now) (args .edges .now) (args .counts) in
     let o = outline (args .outer .now) (args .holes .now) (args .lens .now) in
     rw (quad-ok-is s o (args .size) (args .a) (args .b) (args .c) (args .d) (else1 .before .before .corners-of .ensures))
-    (rw (← else2 .before .before .centroid .ensures, ← after-corner-id .corner-id .ensures, ← else3 .before .before .second-id .ensures)
+    (rw (← else2 .before .before .centroid .ensures, ← after-id .id .ensures, ← else3 .before .before .second-id .ensures)
     (passes (passed (else1 .before .convex-ccw .ensures) (else1 .if1 .left))
     (passes (passed (else2 .before .contains-point .ensures) (else2 .if2 .left))
     (passes (ap not (sym (else3 .before .node-in-quad .ensures) ∙ else3 .if3 .left)) (c .edges-free .ensures)))))
@@ -97,7 +97,7 @@ quad-ok-spec =
     centroid-requires
     contains-point-requires
     returns-2
-    corner-id-requires
+    id-requires
     second-id-requires
     node-in-quad-requires
     returns-3

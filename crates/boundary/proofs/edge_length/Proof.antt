@@ -8,10 +8,11 @@ use Rattle.boundary.proofs.edge_length.Tie as tie
 ordered-at-requires : tie.Need-ordered-at-requires
 ordered-at-requires c κs = (c .before .before .pre .1, omega (arith, c .before .before .pre .0 .few))
 
+cast-node-at : tie.Need-cast-node-at
+cast-node-at c = omega (arith, c .ordered-at .ensures .1, c .before .before .before .pre .0 .few)
+
 node-at-requires : tie.Need-node-at-requires
-node-at-requires c κs =
-    let start = c .before .before .before in
-    (omega (arith, c .ordered-at .ensures .1, start .pre .0 .in-xs), omega (arith, c .ordered-at .ensures .1, start .pre .0 .in-ys))
+node-at-requires c κs = search needs
 
 after-requires : tie.Need-after-requires
 after-requires c κs = c .before .before .before .before .pre .1
@@ -19,10 +20,11 @@ after-requires c κs = c .before .before .before .before .pre .1
 ordered-at-requires-2 : tie.Need-ordered-at-requires-2
 ordered-at-requires-2 c κs = (c .after .ensures .1, omega (arith, c .before .before .before .before .before .pre .0 .few))
 
+cast-node-at-2 : tie.Need-cast-node-at-2
+cast-node-at-2 c = omega (arith, c .ordered-at2 .ensures .1, c .before .before .before .before .before .before .pre .0 .few)
+
 node-at-requires-2 : tie.Need-node-at-requires-2
-node-at-requires-2 c κs =
-    let start = c .before .before .before .before .before .before in
-    (omega (arith, c .ordered-at2 .ensures .1, start .pre .0 .in-xs), omega (arith, c .ordered-at2 .ensures .1, start .pre .0 .in-ys))
+node-at-requires-2 c κs = search needs
 
 distance-requires : tie.Need-distance-requires
 distance-requires c κs = search needs
@@ -47,9 +49,11 @@ edge-length-spec =
     tie.close
     (tie.spec
     ordered-at-requires
+    cast-node-at
     node-at-requires
     after-requires
     ordered-at-requires-2
+    cast-node-at-2
     node-at-requires-2
     distance-requires
     returns)

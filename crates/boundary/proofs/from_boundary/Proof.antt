@@ -7,10 +7,10 @@ use lib.ListN.{length}
 use Rattle.laws.specs.Loop.{Loop, loop-start, loop-end}
 use Rattle.domain.specs.Outline.{outline}
 use Rattle.front.specs.Sampling.{loopCount, frontRefusal, boundaryTurn, fromBoundary}
-use Rattle.front.specs.State.{cleared}
+use Rattle.front.specs.State.{stateOf, cleared}
 use Rattle.front.specs.declared.Counts.{Counts}
 use Rattle.boundary.specs.Progress.{outline-shaped, Progress, progress-none, progress-few, progress-next, progress-room, turn-laid}
-use Rattle.boundary.specs.Laying.{lists, between}
+use Rattle.boundary.specs.Laying.{between}
 use Rattle.boundary.specs.Counting.{start-few}
 use Rattle.boundary.proofs.from_boundary.Statement.{statement}
 use Rattle.boundary.proofs.from_boundary.Tie as tie
@@ -19,8 +19,8 @@ abbrev Inv-loop : tie.InvT-loop
 Inv-loop outer holes lens size xs₀ ys₀ next₀ prev₀ edges₀ nodes₀ start₀ k₀ xs ys next prev edges nodes start k =
     Progress (outline outer holes lens) size k start nodes
     × (length xs ≡ length xs₀) × (length ys ≡ length ys₀) × (length next ≡ length next₀) × (length prev ≡ length prev₀) × (length edges ≡ length edges₀)
-    × ((snapshot quads : List ℕ) (counts : Counts) → frontRefusal (outline outer holes lens) size (lists xs₀ ys₀ next₀ prev₀ snapshot quads edges₀ counts) ≡ 0
-    → Loop (boundaryTurn (outline outer holes lens) size) (cleared (lists xs₀ ys₀ next₀ prev₀ snapshot quads edges₀ counts))
+    × ((snapshot quads : List ℕ) (counts : Counts) → frontRefusal (outline outer holes lens) size (stateOf xs₀ ys₀ next₀ prev₀ snapshot quads edges₀ counts) ≡ 0
+    → Loop (boundaryTurn (outline outer holes lens) size) (cleared (stateOf xs₀ ys₀ next₀ prev₀ snapshot quads edges₀ counts))
     (loopCount (outline outer holes lens)) k
     (between snapshot quads xs ys next prev edges nodes))
 
@@ -55,13 +55,15 @@ next-start-requires c κs =
 
 add-k : tie.Need-add-k Inv-loop μ-loop
 add-k c =
-    let past-test = c .before .before .before .before .before .before .before .before .before .before .before .before .before .before .before .before .before .before in
+    let midway = c .before .before .before .before .before .before .before .before .before in
+    let past-test = midway .before .before .before .before .before .before .before .before .before in
     let start = past-test .before .before .before .before .before .before .before .before .before .before in
     omega (arith, past-test .loop-test .taken, start .good .1 .1 .0)
 
 loop-less : tie.Need-loop-less Inv-loop μ-loop
 loop-less c =
-    let past-test = c .before .before .before .before .before .before .before .before .before .before .before .before .before .before .before .before .before .before in
+    let midway = c .before .before .before .before .before .before .before .before .before in
+    let past-test = midway .before .before .before .before .before .before .before .before .before in
     omega (arith, past-test .loop-test .taken)
 
 loop-again : tie.Need-loop-again Inv-loop μ-loop

@@ -18,8 +18,7 @@ ring-of-requires : tie.Need-ring-of-requires
 ring-of-requires c κs =
     let after-sample-loop = c .before .before .before .before .before .before .before .before .before .before in
     let start = after-sample-loop .before .before .before .before .before .before .before .before .before .before .before in
-    nodes-from (start .pre) (after-sample-loop .sample-loop .ensures .0) _ _ (after-sample-loop .sample-loop .kept .1 .1 .0)
-    (after-sample-loop .sample-loop .kept .1 .1 .1 .0)
+    nodes-from (start .pre) (after-sample-loop .sample-loop .ensures .0)
 
 split-longest-requires : tie.Need-split-longest-requires
 split-longest-requires c κs =
@@ -28,7 +27,7 @@ split-longest-requires c κs =
     let start = after-sample-loop .before .before .before .before .before .before .before .before .before .before .before in
     let called = after-sample-loop .sample-loop in
     let O = ring-of _ _ _ _ _ (nodes-some (start .pre) (called .ensures .0)) (after-ring-of .ring-of .ensures) in (
-      ring-nodes (start .pre) (called .ensures .0) _ _ (called .kept .1 .1 .0) (called .kept .1 .1 .1 .0) O,
+      ring-nodes (start .pre) (called .ensures .0) O,
       room-fewer _ _ _ _ _ (start .pre .nodes) (omega (arith, ring-end (start .pre) (called .ensures .0) O))
           (called .kept .1 .1 .0) (called .kept .1 .1 .1 .0) (called .kept .1 .1 .1 .1 .0) (called .kept .1 .1 .1 .1 .1 .0),
     )
@@ -51,28 +50,34 @@ link-ring-requires c κs =
 
 same-length : tie.Need-same-length
 same-length c =
-    let after-split-longest = c .before .before .before .before .before .before .before .before .before .before .before .before .before .before .before .before .before .before in
-    let after-sample-loop = after-split-longest .before .before .before .before .before .before .before .before .before .before .before .before .before .before .before .before in
+    let after-link-ring = c .before .before .before .before .before .before in
+    let after-split-longest = after-link-ring .before .before .before .before .before .before .before .before .before .before .before .before in
+    let after-ring-of = after-split-longest .before .before .before .before .before in
+    let after-sample-loop = after-ring-of .before .before .before .before .before .before .before .before .before .before .before in
     after-split-longest .split-longest .kept .1 .0 ∙ after-sample-loop .sample-loop .kept .1 .1 .0
 
 same-length-2 : tie.Need-same-length-2
 same-length-2 c =
-    let after-split-longest = c .before .before .before .before .before .before .before .before .before .before .before .before .before .before .before .before .before .before in
-    let after-sample-loop = after-split-longest .before .before .before .before .before .before .before .before .before .before .before .before .before .before .before .before in
+    let after-link-ring = c .before .before .before .before .before .before in
+    let after-split-longest = after-link-ring .before .before .before .before .before .before .before .before .before .before .before .before in
+    let after-ring-of = after-split-longest .before .before .before .before .before in
+    let after-sample-loop = after-ring-of .before .before .before .before .before .before .before .before .before .before .before in
     after-split-longest .split-longest .kept .1 .1 .0 ∙ after-sample-loop .sample-loop .kept .1 .1 .1 .0
 
 same-length-3 : tie.Need-same-length-3
 same-length-3 c =
     let after-link-ring = c .before .before .before .before .before .before in
     let after-split-longest = after-link-ring .before .before .before .before .before .before .before .before .before .before .before .before in
-    let after-sample-loop = after-split-longest .before .before .before .before .before .before .before .before .before .before .before .before .before .before .before .before in
+    let after-ring-of = after-split-longest .before .before .before .before .before in
+    let after-sample-loop = after-ring-of .before .before .before .before .before .before .before .before .before .before .before in
     after-link-ring .link-ring .kept .1 .0 ∙ after-split-longest .split-longest .kept .1 .1 .1 .0 ∙ after-sample-loop .sample-loop .kept .1 .1 .1 .1 .0
 
 same-length-4 : tie.Need-same-length-4
 same-length-4 c =
     let after-link-ring = c .before .before .before .before .before .before in
     let after-split-longest = after-link-ring .before .before .before .before .before .before .before .before .before .before .before .before in
-    let after-sample-loop = after-split-longest .before .before .before .before .before .before .before .before .before .before .before .before .before .before .before .before in
+    let after-ring-of = after-split-longest .before .before .before .before .before in
+    let after-sample-loop = after-ring-of .before .before .before .before .before .before .before .before .before .before .before in
     after-link-ring .link-ring .kept .1 .1 .0 ∙ after-split-longest .split-longest .kept .1 .1 .1 .1 .0 ∙ after-sample-loop .sample-loop .kept .1 .1 .1 .1 .1 .0
 
 same-length-5 : tie.Need-same-length-5

@@ -11,9 +11,6 @@ cast-k c = search needs
 sampled-at-requires : tie.Need-sampled-at-requires
 sampled-at-requires c κs = search needs
 
-cast-node-at : tie.Need-cast-node-at
-cast-node-at c = search needs
-
 node-at-requires : tie.Need-node-at-requires
 node-at-requires c κs = search needs
 
@@ -25,9 +22,6 @@ after-requires c κs = search needs
 
 sampled-at-requires-2 : tie.Need-sampled-at-requires-2
 sampled-at-requires-2 c κs = search needs
-
-cast-node-at-2 : tie.Need-cast-node-at-2
-cast-node-at-2 c = search needs
 
 node-at-requires-2 : tie.Need-node-at-requires-2
 node-at-requires-2 c κs = search needs
@@ -54,11 +48,9 @@ midpoint-spec =
     (tie.spec
     cast-k
     sampled-at-requires
-    cast-node-at
     node-at-requires
     cast-after
     after-requires
     sampled-at-requires-2
-    cast-node-at-2
     node-at-requires-2
     returns)

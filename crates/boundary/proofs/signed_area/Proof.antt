@@ -1,6 +1,7 @@
 -- `boundary::signed_area` meets its contract: the loop's invariant is `Loop` of `areaTurn`.
 use Prim.Native.Nat.{_-_}
 use native.Mathlib.Omega.{arith}
+use borrow.Author.Needs.{needs}
 use Rattle.laws.specs.Loop.{Loop, loop-start, loop-next, loop-end}
 use Rattle.numbers.specs.Float.{zeroF}
 use Rattle.geometry.specs.Plane.{areaTerm}
@@ -20,8 +21,11 @@ loop-holds c = loop-start _ _ _
 add-node-at : tie.Need-add-node-at Inv-loop μ-loop
 add-node-at c = omega (arith, c .before .before .before .before .pre .few)
 
+cast-node-at : tie.Need-cast-node-at Inv-loop μ-loop
+cast-node-at c = omega (arith, c .before .before .before .before .pre .few)
+
 node-at-requires : tie.Need-node-at-requires Inv-loop μ-loop
-node-at-requires c κs = (omega (arith, c .before .before .before .before .pre .in-xs), omega (arith, c .before .before .before .before .pre .in-ys))
+node-at-requires c κs = search needs
 
 after-requires : tie.Need-after-requires Inv-loop μ-loop
 after-requires c κs = c .before .loop-test .taken
@@ -29,10 +33,11 @@ after-requires c κs = c .before .loop-test .taken
 add-node-at-2 : tie.Need-add-node-at-2 Inv-loop μ-loop
 add-node-at-2 c = omega (arith, c .before .before .before .before .before .before .pre .few, c .after .ensures .1)
 
+cast-node-at-2 : tie.Need-cast-node-at-2 Inv-loop μ-loop
+cast-node-at-2 c = omega (arith, c .before .before .before .before .before .before .pre .few, c .after .ensures .1)
+
 node-at-requires-2 : tie.Need-node-at-requires-2 Inv-loop μ-loop
-node-at-requires-2 c κs =
-    let start = c .before .before .before .before .before .before in
-    (omega (arith, start .pre .in-xs, c .after .ensures .1), omega (arith, start .pre .in-ys, c .after .ensures .1))
+node-at-requires-2 c κs = search needs
 
 add-i : tie.Need-add-i Inv-loop μ-loop
 add-i c = omega arith
@@ -63,9 +68,11 @@ signed-area-spec =
     μ-loop
     loop-holds
     add-node-at
+    cast-node-at
     node-at-requires
     after-requires
     add-node-at-2
+    cast-node-at-2
     node-at-requires-2
     add-i
     loop-less

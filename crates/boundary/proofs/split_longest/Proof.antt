@@ -32,7 +32,8 @@ push-node-requires c κs =
 
 add-result : tie.Need-add-result
 add-result c =
-    let start = c .before .before .before .before .before .before .before .before .before .before .before .before .before .before .before .before .before .before .before .before .before .before in
+    let midway = c .before .before .before .before .before .before .before .before .before .before .before in
+    let start = midway .before .before .before .before .before .before .before .before .before .before .before in
     omega (arith, start .pre .0 .2, start .pre .0 .0 .few)
 
 same-length : tie.Need-same-length

@@ -34,7 +34,10 @@ grid-of-requires c κs = few-made _ _ _ _ (record {
 
 seed-all-requires : tie.Need-seed-all-requires
 seed-all-requires c κs = seeds-ask _ _ _ _ _ _
-    (record { outer = λ i h. c .before .before .before .before .before .before .before .before .before .before .before .shared-slice-known .given i; holes = λ i h. c .before .before .before .before .before .before .before .before .before .before .shared-slice-known2 .given i })
+    (record {
+      outer = λ i h. c .before .before .before .before .before .before .before .before .before .before .before .shared-slice-known .given i;
+      holes = λ i h. c .before .before .before .before .before .before .before .before .before .before .shared-slice-known2 .given i;
+    })
     (subst T (sym (c .before .before .before .before .before .before .before .before .before .before .before .before .good .1 .1 .1 .0 .1))
     tt) (sym (c .before .before .before .before .before .field-refusal .ensures) ∙ c .before .before .before .before .if1 .left)
     (c .before .before .before .before .before .before .lesser .ensures) (c .before .before .before .bounds-of .ensures)

@@ -66,7 +66,10 @@ grid-of-requires c κs = few _ _ _ (record {
 
 places-refusal-requires : tie.Need-places-refusal-requires
 places-refusal-requires c κs = rw (c .grid-of .ensures)
-    (few _ _ _ (record { outer = λ i h. c .before .before .before .before .before .before .before .before .before .before .before .before .shared-slice-known .given i; holes = λ i h. c .before .before .before .before .before .before .before .before .before .before .before .shared-slice-known2 .given i })
+    (few _ _ _ (record {
+      outer = λ i h. c .before .before .before .before .before .before .before .before .before .before .before .before .shared-slice-known .given i;
+      holes = λ i h. c .before .before .before .before .before .before .before .before .before .before .before .shared-slice-known2 .given i;
+    })
     (subst T (sym (c .before .before .before .before .before .before .before .before .before .before .before .before .before .good .1 .1 .1 .0 .1)) tt)
     (sym (c .before .before .before .before .before .before .before .before .before .outline-refusal .ensures)
     ∙ c .before .before .before .before .before .before .before .before .if1 .left)

@@ -21,7 +21,12 @@ returns-3 : tie.Need-returns-3
 unfolding misshapen
 returns-3 c =
     let sum = c .before in
-    rw (ne-eqb _ _ (sum .before .before .if1 .left), ne-eqb _ _ (sum .before .if2 .left), ← sum .add-up .ensures, not-true (sum .add-up .result) (c .if3 .taken))
+    rw (
+      ne-eqb _ _ (sum .before .before .if1 .left),
+      ne-eqb _ _ (sum .before .if2 .left),
+      ← sum .add-up .ensures,
+      not-true (sum .add-up .result) (c .if3 .taken),
+    )
     refl
 
 add-result : tie.Need-add-result
@@ -31,7 +36,12 @@ returns-4 : tie.Need-returns-4
 unfolding misshapen
 returns-4 c =
     let sum = c .before in
-    rw (ne-eqb _ _ (sum .before .before .if1 .left), ne-eqb _ _ (sum .before .if2 .left), ← sum .add-up .ensures, not-false (sum .add-up .result) (c .if3 .left))
+    rw (
+      ne-eqb _ _ (sum .before .before .if1 .left),
+      ne-eqb _ _ (sum .before .if2 .left),
+      ← sum .add-up .ensures,
+      not-false (sum .add-up .result) (c .if3 .left),
+    )
     refl
 
 pub is-misshapen-spec : {M : Type 1} → statement M

@@ -44,13 +44,23 @@ returns-4 : tie.Need-returns-4
 unfolding pointRefusal
 returns-4 c =
     let passed = c .before .before in
-    rw (finite-x (passed .before .before .before .before), finite-y (passed .before .before), near-x passed, sym (c .before .is-beyond2 .ensures) ∙ c .if4 .taken) refl
+    rw (
+      finite-x (passed .before .before .before .before),
+      finite-y (passed .before .before),
+      near-x passed,
+      sym (c .before .is-beyond2 .ensures) ∙ c .if4 .taken,
+    ) refl
 
 returns-5 : tie.Need-returns-5
 unfolding pointRefusal
 returns-5 c =
     let passed = c .before .before in
-    rw (finite-x (passed .before .before .before .before), finite-y (passed .before .before), near-x passed, sym (c .before .is-beyond2 .ensures) ∙ c .if4 .left) refl
+    rw (
+      finite-x (passed .before .before .before .before),
+      finite-y (passed .before .before),
+      near-x passed,
+      sym (c .before .is-beyond2 .ensures) ∙ c .if4 .left,
+    ) refl
 
 pub point-refusal-spec : {M : Type 1} → statement M
 point-refusal-spec =

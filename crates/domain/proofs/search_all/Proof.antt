@@ -29,8 +29,10 @@ search-loop-requires c κs = search needs
 
 loop-holds : tie.Need-loop-holds Inv-loop μ-loop
 loop-holds c =
-    let points = outer-points _ (c .before .before .loop-points .ensures) in
-    (passed-none (c .before .before .before .before .before .before .pre), rw (c .search-loop .ensures, c .before .search-start .ensures, points) (loop-start _ _ _))
+    let points = outer-points _ (c .before .before .loop-points .ensures) in (
+      passed-none (c .before .before .before .before .before .before .pre),
+      rw (c .search-loop .ensures, c .before .search-start .ensures, points) (loop-start _ _ _),
+    )
 
 add-loop-points : tie.Need-add-loop-points Inv-loop μ-loop
 add-loop-points c = omega arith
@@ -42,7 +44,8 @@ search-loop-requires-2 : tie.Need-search-loop-requires-2 Inv-loop μ-loop
 search-loop-requires-2 c κs = search needs
 
 mul-start : tie.Need-mul-start Inv-loop μ-loop
-mul-start c = omega (arith, c .before .before .loop-test .taken, c .before .before .before .before .before .before .before .before .before .before .good .1 .1 .0)
+mul-start c =
+    omega (arith, c .before .before .loop-test .taken, c .before .before .before .before .before .before .before .before .before .before .good .1 .1 .0)
 
 shared-slice-read-start : tie.Need-shared-slice-read-start Inv-loop μ-loop
 shared-slice-read-start c = omega arith

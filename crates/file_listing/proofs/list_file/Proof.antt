@@ -1,9 +1,14 @@
 -- `file_listing::list_file` meets its contract: refused as the file is, or what was read listed. Assumes nothing.
 use mathlib.Core.Path.{refl, sym}
-use Rattle.file_listing.specs.Laws.{lists-as, read-listed, read-told, refused-listed}
+use Rattle.file_listing.specs.Laws.{Held, lists-as, read-listed, read-told, refused-listed}
 use borrow.Author.Needs.{needs}
 use Rattle.file_listing.proofs.list_file.Statement.{statement}
 use Rattle.file_listing.proofs.list_file.Tie as tie
+
+-- what was read lies within the lists
+held : (c : tie.After-known-told2)
+    → Held (c .before .before .before .read-file .last .1 .0) (c .before .before .before .read-file .last .1 .1 .0) (c .before .read2 .given .0 .0)
+held c = read-told _ _ _ (c .before .before .before .read-file .ensures) (c .before .read2 .given .1) refl refl
 
 read-file-requires : tie.Need-read-file-requires
 read-file-requires c κs = search needs
@@ -18,13 +23,13 @@ enum-known-read-2 : tie.Need-enum-known-read-2
 enum-known-read-2 c = search needs
 
 slice-aggregate-list-request : tie.Need-slice-aggregate-list-request
-slice-aggregate-list-request c = sym (read-told _ _ _ (c .before .before .before .before .read-file .ensures) (c .before .before .read2 .given .1) refl refl .point-places)
+slice-aggregate-list-request c = sym (held (c .before) .point-places)
 
 slice-aggregate-list-request-2 : tie.Need-slice-aggregate-list-request-2
-slice-aggregate-list-request-2 c = sym (read-told _ _ _ (c .before .before .before .before .before .read-file .ensures) (c .before .before .before .read2 .given .1) refl refl .lens-places)
+slice-aggregate-list-request-2 c = sym (held (c .before .before) .lens-places)
 
 list-request-requires : tie.Need-list-request-requires
-list-request-requires c κs = read-told _ _ _ (c .before .before .before .before .before .before .read-file .ensures) (c .before .before .before .before .read2 .given .1) refl refl
+list-request-requires c κs = held (c .before .before .before)
 
 same-length : tie.Need-same-length
 same-length c = search needs

@@ -1,7 +1,6 @@
 -- `file_listing::list_outline` meets its contract: the run in the program's lists, then its listing. Assumes nothing.
-use native.Mathlib.Omega.{arith}
 use Rattle.file_listing.specs.Program.{programLent}
-use Rattle.file_listing.specs.Laws.{Long, run-listed}
+use Rattle.file_listing.specs.Laws.{run-listed}
 use borrow.Author.Needs.{needs}
 use Rattle.file_listing.proofs.list_outline.Statement.{statement}
 use Rattle.file_listing.proofs.list_outline.Tie as tie
@@ -69,9 +68,12 @@ same-length c = search needs
 returns : tie.Need-returns
 unfolding programLent
 returns c =
-    let at-pave = c .before .before .before .before .before .before .before .before .before .before .before .before .before .before .before .before .before .before .before .before .before in
     let at-heading = c .before .before .before .before .before .before .before .before in
-    run-listed _ _ _ _ (at-pave .pave .ensures) (at-heading .heading .ensures) (record { xs = at-pave .pave .kept .1 .1 .1 .1 .1 .1 .1 .1 .0; quads = at-pave .pave .kept .1 .1 .1 .1 .1 .1 .1 .1 .1 .1 .1 .1 .1 .0; loops = at-pave .pave .kept .1 .1 .1 .1 .1 .1 .1 .1 .1 .1 .1 .1 .1 .1 .1 .0; lengths = at-pave .pave .kept .1 .1 .1 .1 .1 .1 .1 .1 .1 .1 .1 .1 .1 .1 .1 .1 .0 }) (c .before .before .write-listing .ensures)
+    let at-pave = at-heading .before .before .before .before .before .before .before .before .before .before .before .before .before in
+    let kept = at-pave .pave .kept .1 .1 .1 .1 .1 .1 .1 .1 in
+    run-listed _ _ _ _ (at-pave .pave .ensures) (at-heading .heading .ensures)
+    (record { xs = kept .0; quads = kept .1 .1 .1 .1 .1 .0; loops = kept .1 .1 .1 .1 .1 .1 .1 .0; lengths = kept .1 .1 .1 .1 .1 .1 .1 .1 .0 })
+    (c .before .before .write-listing .ensures)
 
 pub list-outline-spec : {M : Type 1} → statement M
 list-outline-spec =

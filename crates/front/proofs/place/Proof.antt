@@ -40,7 +40,9 @@ lent c =
     stateOf (v .xs .now) (v .ys .now) (v .next .now) (v .prev .now) (v .snapshot .now) (v .quads .now) (v .edges .now) (v .k)
 
 abbrev beyond : tie.After-new-edges → Bool
-beyond c = isBeyond (lent c) (c .before .before .before .before .before .before .added .result + c .before .before .before .before .before .added2 .result) (c .new-edges .result)
+beyond c =
+    isBeyond (lent c) (c .before .before .before .before .before .before .added .result + c .before .before .before .before .before .added2 .result)
+    (c .new-edges .result)
 
 full : (c : tie.After-new-edges) → beyond c ≡ true
     → Places (start c .args .a) (start c .args .b) (start c .args .c) (start c .args .d) (lent c) Full (lent c)

@@ -1,7 +1,8 @@
 -- `geometry::candidate_at` meets its contract: each refusal is of one of the definition's tests.
 use borrow.Author.Needs.{needs}
 use Rattle.geometry.specs.Keys.{rectanglesMeet, candidateAt}
-use Rattle.geometry.specs.TestLaws.{refused, passed, and-false, and-true}
+use Rattle.laws.specs.Tests.{and-false, and-true}
+use Rattle.geometry.specs.TestLaws.{refused, passed}
 use Rattle.geometry.proofs.candidate_at.Statement.{statement}
 use Rattle.geometry.proofs.candidate_at.Tie as tie
 

@@ -1,7 +1,7 @@
 -- `geometry::too_close_at` meets its contract: its two tests are the definition's.
 use borrow.Author.Needs.{needs}
 use Rattle.geometry.specs.Keys.{tooCloseAt}
-use Rattle.geometry.specs.TestLaws.{and-false, and-true}
+use Rattle.laws.specs.Tests.{and-false, and-true}
 use Rattle.geometry.proofs.too_close_at.Statement.{statement}
 use Rattle.geometry.proofs.too_close_at.Tie as tie
 

@@ -37,8 +37,9 @@ loop-less c = omega arith
 
 loop-again : tie.Need-loop-again Inv-loop μ-loop
 loop-again c =
-    let turn = c .before .before .before .before .before in
-    left-next _ _ (turn .before .loop .inv) (spaced-next _ _ (turn .loop-test .taken)) (c .before .before .put-number .ensures)
+    let l = c .before .before .before .before .before .before .loop in
+    let ids = c .before .before .before .before .before .before .before .before .before .args .ids .now in
+    left-next _ _ (l .inv) (spaced-next ids (l .i) (omega arith)) (c .before .before .put-number .ensures)
 
 same-length : tie.Need-same-length Inv-loop μ-loop
 same-length c = left-length (c .before .loop .inv)

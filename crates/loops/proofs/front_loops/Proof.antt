@@ -32,10 +32,11 @@ same-length-3 c = search needs
 
 returns : tie.Need-returns
 returns c =
+    let at-cleared = c .before .before .before .before .before .before .before .before .before .before .before .before .before in
     listed-all
-    (c .before .before .before .before .before .before .before .before .before .before .before .before .before .before .before .before .before .before .before .before .pre)
+    (at-cleared .before .before .before .before .before .before .before .pre)
     _ _
-    (c .before .before .before .before .before .before .before .before .before .before .before .before .before .clear-marks .ensures)
+    (at-cleared .clear-marks .ensures)
     (c .before .before .before .before .before .before .list-all .ensures)
 
 pub front-loops-spec : {M : Type 1} → statement M

@@ -87,7 +87,8 @@ slice-write-lengths c =
     visit-room
     (c .before .before .before .before .before .before .before .before .before .before .before .before .before .before .before .before .before .pre)
     (c .before .before .before .before .before .before .before .before .before .before .before .if1 .left)
-    (c .before .before .before .before .before .before .before .before .before .if2 .left) (c .before .before .before .before .before .before .before .if3 .left)
+    (c .before .before .before .before .before .before .before .before .before .if2 .left)
+    (c .before .before .before .before .before .before .before .if3 .left)
 
 mul-lengths : tie.Need-mul-lengths
 mul-lengths c = omega (arith, slice-write-lengths c)

@@ -42,7 +42,8 @@ minus-in : (c : tie.After-ceil-bits)
 minus-in c =
     let s = c .before .before .before .before .before in
     rw (c .ceil-bits .ensures)
-    (floor-minus-in (s .args .x) (low s) (minus-sign (s .args .x) (held s) (c .before .before .before .if2 .left)) (c .before .before .if4 .left) (c .before .if5 .taken))
+    (floor-minus-in (s .args .x) (low s) (minus-sign (s .args .x) (held s) (c .before .before .before .if2 .left)) (c .before .before .if4 .left)
+    (c .before .if5 .taken))
 
 returns : tie.Need-returns
 returns c = floor-nan _ (c .if1 .taken)

@@ -12,7 +12,8 @@ use Rattle.numbers.proofs.nearest_root.Lts as lts
 use Rattle.numbers.proofs.root_by_digits.Reads as root-by-digits-reads
 
 chosen : (c : tie.Joined6)
-    → Chosen (c .before .before .before .before .before .before .args .s * 2 ^ 52) (c .before .before .before .before .before .before .args .q) (c .before .if5 .up) (c .if6 .down)
+    → Chosen (c .before .before .before .before .before .before .args .s * 2 ^ 52) (c .before .before .before .before .before .before .args .q)
+    (c .before .if5 .up) (c .if6 .down)
 chosen c =
     let at = c .before .before .before .before .before in
     let s = at .before .args .s in

@@ -22,7 +22,8 @@ held c = subst T (sym (c .good .0 .1)) tt
 abbrev bits : tie.Start → ℕ
 bits c = toBits binary64 (c .args .x)
 
-moved : (c : tie.Else3) → (11 ≤ leadingZeros 64 (bits (c .before .before .before))) × Moved (bits (c .before .before .before)) (leadingZeros 64 (bits (c .before .before .before)) - 11)
+moved : (c : tie.Else3) → (11 ≤ leadingZeros 64 (bits (c .before .before .before)))
+    × Moved (bits (c .before .before .before)) (leadingZeros 64 (bits (c .before .before .before)) - 11)
 moved c = leading (bits (c .before .before .before)) (omega (arith, c .if3 .left)) (c .before .if2 .taken)
 
 returns : tie.Need-returns

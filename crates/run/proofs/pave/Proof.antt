@@ -60,7 +60,8 @@ returns : tie.Need-returns
 returns c =
     let at-if1 = c .before in
     let at-refusal = at-if1 .before in
-    let at-shared-slice-known2 = at-refusal .before .before .before .before .before .before .before .before .before .before .before .before .before .before .before .before .before in
+    let midway = at-refusal .before .before .before .before .before .before .before .before in
+    let at-shared-slice-known2 = midway .before .before .before .before .before .before .before .before .before in
     let start = at-shared-slice-known2 .before .before in
     paves-refused (around start) (set start) (given start) _ (number-at (at-refusal)) (at-if1 .if1 .taken) _ (c .refused .ensures)
 

@@ -29,7 +29,8 @@ make-field-requires c κs =
 sample-and-advance-requires : tie.Need-sample-and-advance-requires
 sample-and-advance-requires c κs =
     let at-make-field = c .before .before .before .before .before .before .before .before .before .before .before .before in
-    let at-shared-slice-known2 = at-make-field .before .before .before .before .before .before .before .before .before .before .before .before .before .before .before in
+    let midway = at-make-field .before .before .before .before .before .before .before in
+    let at-shared-slice-known2 = midway .before .before .before .before .before .before .before .before in
     let at-shared-slice-known = at-shared-slice-known2 .before in
     let start = at-shared-slice-known .before in
     can-pave (around start) (set start) (given start) (start .pre)
@@ -41,7 +42,8 @@ front-loops-requires c κs =
     let at-xs = c .before .before .before .before .before .before .before .before .before .before .before .before .before .before .before .before .before in
     let at-sample-and-advance = at-xs .before in
     let at-make-field = at-sample-and-advance .before .before .before .before .before .before .before .before .before .before .before .before .before in
-    let at-shared-slice-known2 = at-make-field .before .before .before .before .before .before .before .before .before .before .before .before .before .before .before in
+    let midway = at-make-field .before .before .before .before .before .before .before in
+    let at-shared-slice-known2 = midway .before .before .before .before .before .before .before .before in
     let at-shared-slice-known = at-shared-slice-known2 .before in
     let start = at-shared-slice-known .before in
     can-list (around start) (start .args .size) _ _ (statePart (given start))
@@ -55,58 +57,69 @@ answer-requires c κs = search needs
 
 same-length : tie.Need-same-length
 same-length c =
-    let at-snapshot = c .before .before .before .before .before .before .before .before .before .before .before .before .before .before .before .before .before in
-    let at-sample-and-advance-arg = at-snapshot .before .before .before .before .before .before .before .before .before .before .before .before .before .before .before .before .before in
+    let midway = c .before .before .before .before .before .before .before .before in
+    let at-snapshot = midway .before .before .before .before .before .before .before .before .before in
+    let further = at-snapshot .before .before .before .before .before .before .before .before in
+    let at-sample-and-advance-arg = further .before .before .before .before .before .before .before .before .before in
     let at-make-field = at-sample-and-advance-arg .before .before .before .before .before in
     at-make-field .make-field .kept .1 .1 .1 .1 .1 .0
 
 same-length-2 : tie.Need-same-length-2
 same-length-2 c =
-    let at-snapshot = c .before .before .before .before .before .before .before .before .before .before .before .before .before .before .before .before .before in
-    let at-sample-and-advance-arg = at-snapshot .before .before .before .before .before .before .before .before .before .before .before .before .before .before .before .before .before in
+    let midway = c .before .before .before .before .before .before .before .before in
+    let at-snapshot = midway .before .before .before .before .before .before .before .before .before in
+    let further = at-snapshot .before .before .before .before .before .before .before .before in
+    let at-sample-and-advance-arg = further .before .before .before .before .before .before .before .before .before in
     let at-make-field = at-sample-and-advance-arg .before .before .before .before .before in
     at-make-field .make-field .kept .1 .1 .1 .1 .1 .1 .0
 
 same-length-3 : tie.Need-same-length-3
 same-length-3 c =
-    let at-snapshot = c .before .before .before .before .before .before .before .before .before .before .before .before .before .before .before .before .before in
+    let midway = c .before .before .before .before .before .before .before .before in
+    let at-snapshot = midway .before .before .before .before .before .before .before .before .before in
     let at-sample-and-advance = at-snapshot .before .before .before .before .before .before .before .before .before in
     at-sample-and-advance .sample-and-advance .kept .1 .1 .1 .1 .1 .1 .0
 
 same-length-4 : tie.Need-same-length-4
 same-length-4 c =
-    let at-snapshot = c .before .before .before .before .before .before .before .before .before .before .before .before .before .before .before .before .before in
+    let midway = c .before .before .before .before .before .before .before .before in
+    let at-snapshot = midway .before .before .before .before .before .before .before .before .before in
     let at-sample-and-advance = at-snapshot .before .before .before .before .before .before .before .before .before in
     at-sample-and-advance .sample-and-advance .kept .1 .1 .1 .1 .1 .1 .1 .0
 
 same-length-5 : tie.Need-same-length-5
 same-length-5 c =
-    let at-snapshot = c .before .before .before .before .before .before .before .before .before .before .before .before .before .before .before .before .before in
+    let midway = c .before .before .before .before .before .before .before .before in
+    let at-snapshot = midway .before .before .before .before .before .before .before .before .before in
     let at-sample-and-advance = at-snapshot .before .before .before .before .before .before .before .before .before in
     at-sample-and-advance .sample-and-advance .kept .1 .1 .1 .1 .1 .1 .1 .1 .0
 
 same-length-6 : tie.Need-same-length-6
 same-length-6 c =
-    let at-snapshot = c .before .before .before .before .before .before .before .before .before .before .before .before .before .before .before .before .before in
+    let midway = c .before .before .before .before .before .before .before .before in
+    let at-snapshot = midway .before .before .before .before .before .before .before .before .before in
     let at-sample-and-advance = at-snapshot .before .before .before .before .before .before .before .before .before in
     at-sample-and-advance .sample-and-advance .kept .1 .1 .1 .1 .1 .1 .1 .1 .1 .0
 
 same-length-7 : tie.Need-same-length-7
 same-length-7 c =
     let at-front-loops = c .before .before .before .before .before .before .before in
-    let at-slice-known14 = at-front-loops .before .before .before .before .before .before .before .before .before .before .before .before .before .before .before .before .before in
+    let midway = at-front-loops .before .before .before .before .before .before .before .before in
+    let at-slice-known14 = midway .before .before .before .before .before .before .before .before .before in
     let at-sample-and-advance = at-slice-known14 .before .before in
     at-front-loops .front-loops .kept .1 .1 .0 ∙ at-sample-and-advance .sample-and-advance .kept .1 .1 .1 .1 .1 .1 .1 .1 .1 .1 .0
 
 same-length-8 : tie.Need-same-length-8
 same-length-8 c =
-    let at-snapshot = c .before .before .before .before .before .before .before .before .before .before .before .before .before .before .before .before .before in
+    let midway = c .before .before .before .before .before .before .before .before in
+    let at-snapshot = midway .before .before .before .before .before .before .before .before .before in
     let at-sample-and-advance = at-snapshot .before .before .before .before .before .before .before .before .before in
     at-sample-and-advance .sample-and-advance .kept .1 .1 .1 .1 .1 .1 .1 .1 .1 .1 .1 .0
 
 same-length-9 : tie.Need-same-length-9
 same-length-9 c =
-    let at-snapshot = c .before .before .before .before .before .before .before .before .before .before .before .before .before .before .before .before .before in
+    let midway = c .before .before .before .before .before .before .before .before in
+    let at-snapshot = midway .before .before .before .before .before .before .before .before .before in
     let at-sample-and-advance = at-snapshot .before .before .before .before .before .before .before .before .before in
     at-sample-and-advance .sample-and-advance .kept .1 .1 .1 .1 .1 .1 .1 .1 .1 .1 .1 .1 .0
 
@@ -123,10 +136,12 @@ same-length-11 c =
 returns : tie.Need-returns
 returns c =
     let at-front-loops = c .before .before .before .before .before .before .before in
-    let at-slice-known14 = at-front-loops .before .before .before .before .before .before .before .before .before .before .before .before .before .before .before .before .before in
+    let midway = at-front-loops .before .before .before .before .before .before .before .before in
+    let at-slice-known14 = midway .before .before .before .before .before .before .before .before .before in
     let at-sample-and-advance = at-slice-known14 .before .before in
     let at-make-field = at-sample-and-advance .before .before .before .before .before .before .before .before .before .before .before .before .before in
-    let start = at-make-field .before .before .before .before .before .before .before .before .before .before .before .before .before .before .before .before .before in
+    let further = at-make-field .before .before .before .before .before .before .before .before in
+    let start = further .before .before .before .before .before .before .before .before .before in
     run-whole (around start) (set start) (given start) _ _ _ (at-make-field .make-field .ensures) _
     (at-sample-and-advance .sample-and-advance .ensures) _ (at-front-loops .front-loops .ensures) _ (c .answer .ensures)
 

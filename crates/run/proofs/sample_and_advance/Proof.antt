@@ -28,36 +28,42 @@ from-boundary-requires c κs =
 
 advance-requires : tie.Need-advance-requires
 advance-requires c κs =
-    let at-from-boundary = c .before .before .before .before .before .before .before .before .before .before .before .before .before .before .before .before .before in
-    let start = at-from-boundary .before .before .before .before .before .before .before .before .before .before .before .before .before .before .before .before .before in
+    let midway = c .before .before .before .before .before .before .before .before in
+    let at-from-boundary = midway .before .before .before .before .before .before .before .before .before in
+    let further = at-from-boundary .before .before .before .before .before .before .before .before in
+    let start = further .before .before .before .before .before .before .before .before .before in
     paveable-at (around start) (start .args .size) _ _ (given start) (start .pre) _
     (at-from-boundary .from-boundary .ensures (start .args .snapshot .now) (start .args .quads .now) unused (start .pre .front))
 
 same-length : tie.Need-same-length
 same-length c =
     let at-advance = c .before .before .before .before .before .before .before .before .before .before .before .before .before .before in
-    let at-xs = at-advance .before .before .before .before .before .before .before .before .before .before .before .before .before .before .before .before .before in
+    let midway = at-advance .before .before .before .before .before .before .before .before in
+    let at-xs = midway .before .before .before .before .before .before .before .before .before in
     let at-from-boundary = at-xs .before in
     at-advance .advance .kept .1 .1 .1 .1 .1 .1 .0 ∙ at-from-boundary .from-boundary .kept .1 .1 .1 .1 .0
 
 same-length-2 : tie.Need-same-length-2
 same-length-2 c =
     let at-advance = c .before .before .before .before .before .before .before .before .before .before .before .before .before .before in
-    let at-xs = at-advance .before .before .before .before .before .before .before .before .before .before .before .before .before .before .before .before .before in
+    let midway = at-advance .before .before .before .before .before .before .before .before in
+    let at-xs = midway .before .before .before .before .before .before .before .before .before in
     let at-from-boundary = at-xs .before in
     at-advance .advance .kept .1 .1 .1 .1 .1 .1 .1 .0 ∙ at-from-boundary .from-boundary .kept .1 .1 .1 .1 .1 .0
 
 same-length-3 : tie.Need-same-length-3
 same-length-3 c =
     let at-advance = c .before .before .before .before .before .before .before .before .before .before .before .before .before .before in
-    let at-xs = at-advance .before .before .before .before .before .before .before .before .before .before .before .before .before .before .before .before .before in
+    let midway = at-advance .before .before .before .before .before .before .before .before in
+    let at-xs = midway .before .before .before .before .before .before .before .before .before in
     let at-from-boundary = at-xs .before in
     at-advance .advance .kept .1 .1 .1 .1 .1 .1 .1 .1 .0 ∙ at-from-boundary .from-boundary .kept .1 .1 .1 .1 .1 .1 .0
 
 same-length-4 : tie.Need-same-length-4
 same-length-4 c =
     let at-advance = c .before .before .before .before .before .before .before .before .before .before .before .before .before .before in
-    let at-xs = at-advance .before .before .before .before .before .before .before .before .before .before .before .before .before .before .before .before .before in
+    let midway = at-advance .before .before .before .before .before .before .before .before in
+    let at-xs = midway .before .before .before .before .before .before .before .before .before in
     let at-from-boundary = at-xs .before in
     at-advance .advance .kept .1 .1 .1 .1 .1 .1 .1 .1 .1 .0 ∙ at-from-boundary .from-boundary .kept .1 .1 .1 .1 .1 .1 .1 .0
 
@@ -70,17 +76,21 @@ same-length-6 c = search needs
 same-length-7 : tie.Need-same-length-7
 same-length-7 c =
     let at-advance = c .before .before .before .before .before .before .before .before .before .before .before .before .before .before in
-    let at-xs = at-advance .before .before .before .before .before .before .before .before .before .before .before .before .before .before .before .before .before in
+    let midway = at-advance .before .before .before .before .before .before .before .before in
+    let at-xs = midway .before .before .before .before .before .before .before .before .before in
     let at-from-boundary = at-xs .before in
     at-advance .advance .kept .1 .1 .1 .1 .1 .1 .1 .1 .1 .1 .1 .1 .0 ∙ at-from-boundary .from-boundary .kept .1 .1 .1 .1 .1 .1 .1 .1 .0
 
 returns : tie.Need-returns
 returns c =
     let at-advance = c .before .before .before .before .before .before .before .before .before .before .before .before .before .before in
-    let at-xs = at-advance .before .before .before .before .before .before .before .before .before .before .before .before .before .before .before .before .before in
+    let midway = at-advance .before .before .before .before .before .before .before .before in
+    let at-xs = midway .before .before .before .before .before .before .before .before .before in
     let at-from-boundary = at-xs .before in
-    let start = at-from-boundary .before .before .before .before .before .before .before .before .before .before .before .before .before .before .before .before .before in
-    at-advance .advance .ensures ∙ ap (advance (around start) (start .args .size) (fieldRecord (start .args .grid) (start .args .values .now) []) (start .args .passes))
+    let further = at-from-boundary .before .before .before .before .before .before .before .before in
+    let start = further .before .before .before .before .before .before .before .before .before in
+    at-advance .advance .ensures
+    ∙ ap (advance (around start) (start .args .size) (fieldRecord (start .args .grid) (start .args .values .now) []) (start .args .passes))
     (at-from-boundary .from-boundary .ensures (start .args .snapshot .now) (start .args .quads .now) unused (start .pre .front))
 
 pub sample-and-advance-spec : {M : Type 1} → statement M

@@ -1,5 +1,0 @@
--- One placing of a run: what the checks before it say; the state after it; the book's step. And the snapshot that a pass begins with.
-pub mod Answered
-pub mod Step
-pub mod Booked
-pub mod Snapshot

@@ -1,8 +1,10 @@
 -- Two lists of bytes compared, and the lines of a text. Definitions only.
 use mathlib.Core.Bool.{cond}
 use mathlib.Core.List.{List, [], _∷_}
-use Prim.Native.Nat.{ℕ, suc}
+use mathlib.Core.Path.{_≡_}
+use Prim.Native.Nat.{ℕ, suc, _+_, _≤_}
 use lib.Dec.{eqb}
+use lib.ListN.{length, drop}
 use Rattle.replay.specs.declared.Compared.{Compared}
 use Rattle.replay.specs.declared.Compared.the-variants.{Same, DiffersAt}
 
@@ -20,3 +22,8 @@ compared = comparedFrom 0
 unfoldable pub lineLength : List ℕ → ℕ
 lineLength [] = 0
 lineLength (b ∷ l) = cond (eqb b 10) 0 (suc (lineLength l))
+
+-- the line of l that begins at place i ends at place r
+pub record EndsAt (l : List ℕ) (i r : ℕ) : Type 0 where
+  pub same : r ≡ i + lineLength (drop i l)
+  pub within : (i ≤ r) × (r ≤ length l)

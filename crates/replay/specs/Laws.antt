@@ -11,7 +11,7 @@ use lib.ListN.{length, getD, drop, drop-of-length-le}
 use lib.Seq.{drop-cons}
 use Rattle.replay.specs.declared.Compared.{Compared}
 use Rattle.replay.specs.declared.Compared.the-variants.{Same, DiffersAt}
-use Rattle.replay.specs.Compare.{comparedFrom, compared, lineLength}
+use Rattle.replay.specs.Compare.{comparedFrom, compared, lineLength, EndsAt}
 
 -- ---- what a comparison says
 
@@ -44,6 +44,9 @@ same-from i (x ∷ l) = ap (λ (b : Bool). cond b (comparedFrom (suc i) l l) (Di
 
 pub equal-same : (l m : List ℕ) → l ≡ m → compared l m ≡ Same
 equal-same l m e = subst (λ (k : List ℕ). compared l k ≡ Same) e (same-from 0 l)
+
+pub compared-as : {l m : List ℕ} (k : List ℕ) {r : Compared} → l ≡ m → r ≡ compared l k → r ≡ compared m k
+compared-as {l} {m} k {r} e = subst (λ (n : List ℕ). r ≡ compared n k) e
 
 -- ---- the loop that compares
 
@@ -89,37 +92,35 @@ module _ (l m : List ℕ) where
 
 -- ---- lines
 
-pub line-within : (l : List ℕ) → lineLength l ≤ length l
-unfolding lineLength
-line-within [] = omega arith
-line-within (b ∷ l) = head (eqb b 10) (line-within l)
-  where
-    head : (t : Bool) → lineLength l ≤ length l → cond t 0 (suc (lineLength l)) ≤ suc (length l)
-    head true h = omega arith
-    head false h = omega arith
+-- the invariant: no line feed from place k up to place i
+pub record Lined (l : List ℕ) (k i : ℕ) : Type 0 where
+  pub start : k ≤ i
+  pub within : i ≤ length l
+  pub same : k + lineLength (drop k l) ≡ i + lineLength (drop i l)
 
--- the invariant: no line feed among the first i places
-pub record Lined (l : List ℕ) (i : ℕ) : Type 0 where
-  pub same : lineLength l ≡ i + lineLength (drop i l)
+module _ (l : List ℕ) {k : ℕ} where
+  pub lined-start : k ≤ length l → Lined l k k
+  lined-start h = record { start = omega arith; within = h; same = refl }
 
-module _ (l : List ℕ) where
-  pub lined-start : Lined l 0
-  lined-start = record { same = omega arith }
-
-  module _ {i : ℕ} (a : Lined l i) where
-    headed-line : {b : Bool} → i < length l → eqb (getD l i 0) 10 ≡ b → lineLength l ≡ i + cond b 0 (suc (lineLength (drop (suc i) l)))
+  module _ {i : ℕ} (a : Lined l k i) where
+    headed-line : {b : Bool} → i < length l → eqb (getD l i 0) 10 ≡ b
+        → k + lineLength (drop k l) ≡ i + cond b 0 (suc (lineLength (drop (suc i) l)))
     unfolding lineLength
     headed-line h e =
         a .same
-        ∙ ap (λ (k : List ℕ). i + lineLength k) (drop-cons l i 0 h)
+        ∙ ap (λ (m : List ℕ). i + lineLength m) (drop-cons l i 0 h)
         ∙ ap (λ (b : Bool). i + cond b 0 (suc (lineLength (drop (suc i) l)))) e
 
-    pub lined-next : i < length l → (getD l i 0 ≡ 10 → ⊥) → Lined l (i + 1)
-    lined-next h e = record { same = rw add-one (omega (arith, headed-line h (ne-eqb _ _ e))) }
+    pub lined-next : i < length l → (getD l i 0 ≡ 10 → ⊥) → Lined l k (i + 1)
+    lined-next h e =
+        record { start = omega (arith, a .start); within = omega arith; same = rw add-one (omega (arith, headed-line h (ne-eqb _ _ e))) }
 
-    pub lined-out : i < length l → getD l i 0 ≡ 10 → i ≡ lineLength l
-    lined-out h e = omega (arith, headed-line h (eq-eqb _ _ e))
+    ends : i ≡ k + lineLength (drop k l) → EndsAt l k i
+    ends e = record { same = e; within = (a .start, a .within) }
 
-    pub lined-end : length l ≤ i → i ≡ lineLength l
+    pub lined-out : i < length l → getD l i 0 ≡ 10 → EndsAt l k i
+    lined-out h e = ends (omega (arith, headed-line h (eq-eqb _ _ e)))
+
+    pub lined-end : length l ≤ i → EndsAt l k i
     unfolding lineLength
-    lined-end h = omega (arith, a .same ∙ ap (λ (k : List ℕ). i + lineLength k) (drop-of-length-le l h))
+    lined-end h = ends (omega (arith, a .same ∙ ap (λ (m : List ℕ). i + lineLength m) (drop-of-length-le l h)))

@@ -1,11 +1,11 @@
--- Laws of what the program prints: `whole` (a buffer of 117,681 bytes holds any listing), `read-listed` (the listing is that of what was read) and
--- `start-decides` (of endless input the first 4,609 bytes decide). Assumes nothing.
-use mathlib.Core.Path.{_≡_, refl, sym, ap, ap₂, _∙_, subst}
-use mathlib.Core.List.{List, [], _∷_, _++_}
-use Prim.Native.Nat.{ℕ, zero, suc, _+_, _-_, _*_, _/_, _≤_, _<_}
+-- Laws of what the program prints: `lists-whole` (what a buffer holds that has places for the listing), `read-listed` (the listing is that of what was
+-- read) and `start-decides` (of endless input the first 4,609 bytes decide). Assumes nothing.
+use mathlib.Core.Path.{_≡_, refl, sym, ap, _∙_, subst}
+use mathlib.Core.List.{List, []}
+use Prim.Native.Nat.{ℕ, zero, suc, _-_, _*_, _/_, _≤_}
 use native.Mathlib.Omega.{arith}
 use lib.ListN.{length, getD, take, drop, length-append, length-drop}
-use lib.Seq.{length-take-le, take-append-le, drop-append-le, take-at}
+use lib.Seq.{length-take-le}
 use lib.Ieee.{Float}
 use Rattle.laws.specs.Tabulate.{tabulate-length, tabulate-at}
 use Rattle.laws.specs.Sums.{sum-term}
@@ -13,13 +13,14 @@ use Rattle.domain.specs.declared.Settings.{Settings}
 use Rattle.domain.specs.Outline.{Outline, outline}
 use Rattle.domain.specs.Queries.{answerBy}
 use Rattle.run.specs.declared.Paved.{Paved}
-use Rattle.run.specs.Run.{Lent, ran, Paves}
+use Rattle.run.specs.Run.{Lent, Paves}
 use Rattle.outline_file.specs.declared.Head.{Head}
 use Rattle.outline_file.specs.declared.FileAnswer.{FileAnswer}
 use Rattle.outline_file.specs.declared.FileAnswer.the-variants.{Refused, Read}
 use Rattle.outline_file.specs.File.{blockAt, headLoops, headLength, headPoints, coordinateAt, filePoints, fileRefusal, Request, requestOf, outlineOf}
 use Rattle.outline_file.specs.File.{headOf, overlay, Reading, reading, readAs, readFile}
 use Rattle.outline_file.specs.ReadLaws.{accepted}
+use Rattle.outline_file.specs.Lent.{lent-outline}
 use Rattle.outline_file.specs.Enough.{enough}
 use Rattle.listing.specs.declared.Heading.{Heading}
 use Rattle.listing.specs.Listing.{refusedListing, listing}
@@ -113,13 +114,6 @@ asked file e =
       loops = rw lengths (sound .few);
     }
 
--- the front part of a list that another is laid over
-part : {A : Type 0} (m n : ℕ) (l s : List A) → m ≤ n → n ≡ length l → take (n - m) (drop m (overlay l s)) ≡ drop m l
-unfolding overlay
-part m n l s h e =
-    ap (take (n - m)) (drop-append-le m l (drop (length l) s) (omega arith))
-    ∙ take-at (drop m l) (drop (length l) s) (n - m) (omega (arith, length-drop m l))
-
 overlaid : {A : Type 0} (l s : List A) → length l ≤ length s → length (overlay l s) ≡ length s
 unfolding overlay
 overlaid l s h = omega (arith, length-append l (drop (length l) s), length-drop (length l) s)
@@ -135,15 +129,6 @@ module _ (q : Request) (a : Asked q) (points : List Float) (lens : List ℕ) whe
     point-places = overlaid (q .coordinates) points (omega (arith, a .few)) ∙ long;
     lens-places = overlaid (q .lengths) lens (omega (arith, a .loops)) ∙ longs;
   }
-
-  held-outline : heldOutline (overlay (q .coordinates) points) (overlay (q .lengths) lens) (headOf q) ≡ outlineOf q
-  unfolding headOf outlineOf overlay
-  held-outline =
-      let outer = 2 * getD (q .lengths) 0 0 in
-      ap₂ (λ (a b : List Float). outline a b (take (length (q .lengths) - 1) (drop 1 (overlay (q .lengths) lens))))
-      (take-append-le outer (q .coordinates) _ (a .outer))
-      (part outer (2 * (length (q .coordinates) / 2)) (q .coordinates) points (omega (arith, a .even, a .outer)) (a .even))
-      ∙ ap (outline (take outer (q .coordinates)) (drop outer (q .coordinates))) (part 1 (length (q .lengths)) (q .lengths) lens (a .some) refl)
 
 -- ---- what was read, by cases
 
@@ -168,7 +153,7 @@ module _ (file : List ℕ) (points : List Float) (lens : List ℕ) where
       go : (n : ℕ) → fileRefusal file ≡ n
           → readListing (readAs n q points lens .answer) (readAs n q points lens .points) (readAs n q points lens .lens)
           ≡ answerBy refusedListing (outlineListing (outlineOf q) (q .settings)) n
-      go zero e = ap (λ (o : Outline). outlineListing o (q .settings)) (held-outline q (asked file e) points lens)
+      go zero e = ap (λ (o : Outline). outlineListing o (q .settings)) (lent-outline file e points lens)
       go (suc n) e = refl
 
   told-read : length points ≡ 496 → length lens ≡ 8 → let r = readFile file points lens in Told (r .answer) (r .points) (r .lens)

@@ -10,7 +10,7 @@ use Rattle.domain.specs.Outline.{Outline}
 use Rattle.domain.specs.Queries.{answerBy}
 use Rattle.run.specs.declared.Paved.{Paved}
 use Rattle.run.specs.Run.{Lent, lent, Ran, runAnswer}
-use Rattle.outline_file.specs.File.{Request, outlineOf, fileRefusal, requestOf}
+use Rattle.outline_file.specs.File.{outlineOf, fileRefusal, requestOf}
 use Rattle.listing.specs.declared.Heading.{Heading}
 use Rattle.listing.specs.Listing.{refusedListing, listing}
 use Rattle.listing.specs.Buffer.{buffer, written}

@@ -1,12 +1,12 @@
 -- What a caller of `read_file` hands on to a run: the parts of the two lists are the request's outline. `lent-outline` is the statement.
-use mathlib.Core.Path.{_≡_, refl, sym, ap, ap₂, _∙_}
-use mathlib.Core.List.{List, _++_}
-use Prim.Native.Nat.{ℕ, _+_, _-_, _*_, _/_, _≤_, _<_}
+use mathlib.Core.Path.{_≡_, refl, sym, _∙_}
+use mathlib.Core.List.{List}
+use Prim.Native.Nat.{ℕ, _-_, _*_, _/_, _≤_}
 use native.Mathlib.Omega.{arith}
 use lib.ListN.{length, getD, take, drop, length-drop}
 use lib.Seq.{take-append-le, drop-append-le, take-at}
 use lib.Ieee.{Float}
-use Rattle.laws.specs.Sums.{sum-zero, sum-term}
+use Rattle.laws.specs.Sums.{sum-term}
 use Rattle.laws.specs.Tabulate.{tabulate-length, tabulate-at}
 use Rattle.domain.specs.Outline.{Outline, outline}
 use Rattle.outline_file.specs.File.{blockAt, headLoops, headLength, headPoints, coordinateAt, filePoints, fileRefusal, Request, outlineOf, requestOf}
@@ -30,10 +30,10 @@ lentOutline r points lens =
     outline (take (2 * h .outer) points) (take (2 * h .points - 2 * h .outer) (drop (2 * h .outer) points)) (take (h .loops - 1) (drop 1 lens))
 
 module _ (file : List ℕ) (unrefused : fileRefusal file ≡ 0) where
-  private-lengths : (1 ≤ length (requestOf file .lengths)) × (length (requestOf file .coordinates) ≡ 2 * filePoints file)
+  request-lengths : (1 ≤ length (requestOf file .lengths)) × (length (requestOf file .coordinates) ≡ 2 * filePoints file)
       × (getD (requestOf file .lengths) 0 0 ≤ filePoints file)
   unfolding requestOf headPoints
-  private-lengths =
+  request-lengths =
       let b = blockAt file 0 in
       let s = accepted file unrefused .head .sound in
       let n = tabulate-length (headLoops b) (headLength b) in (
@@ -47,9 +47,10 @@ module _ (file : List ℕ) (unrefused : fileRefusal file ≡ 0) where
   unfolding headOf outlineOf
   lent-outline points lens =
       let r = requestOf file in
-      let k = private-lengths in
+      let k = request-lengths in
+      let outer = 2 * getD (r .lengths) 0 0 in
       rw (
-        first-part (r .coordinates) points (2 * getD (r .lengths) 0 0) (omega (arith, k)),
-        last-part (r .coordinates) points (2 * getD (r .lengths) 0 0) (2 * (length (r .coordinates) / 2) - 2 * getD (r .lengths) 0 0) (omega (arith, k)) (omega (arith, k)),
+        first-part (r .coordinates) points outer (omega (arith, k)),
+        last-part (r .coordinates) points outer (2 * (length (r .coordinates) / 2) - outer) (omega (arith, k)) (omega (arith, k)),
         last-part (r .lengths) lens 1 (length (r .lengths) - 1) (k .0) refl,
       )

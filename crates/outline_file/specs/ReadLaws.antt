@@ -1,10 +1,10 @@
 -- Laws of reading a file that isn't refused. Assumes nothing.
-use mathlib.Core.Path.{_≡_, refl, sym, ap, ap₂, _∙_, subst}
-use mathlib.Core.List.{List, [], _∷_, _++_}
+use mathlib.Core.Path.{_≡_, refl, sym, ap, ap₂, _∙_}
+use mathlib.Core.List.{List, _++_}
 use Prim.Native.Nat.{ℕ, zero, suc, _+_, _-_, _*_, _/_, _%_, _≤_, _<_}
 use native.Mathlib.Numerals.{add-one}
 use native.Mathlib.Omega.{arith}
-use lib.ListN.{length, getD, set, take, drop, length-append, length-take, length-drop, length-set}
+use lib.ListN.{length, getD, set, drop, length-append, length-take, length-drop}
 use lib.Seq.{drop-cons, set-at, append-snoc}
 use lib.Ieee.{Float}
 use Rattle.laws.specs.Loop.{forUp}
@@ -12,8 +12,8 @@ use Rattle.laws.specs.Tabulate.{tabulate, tabulate-suc, tabulate-length, tabula
 use Rattle.domain.specs.Accepted.{first-zero}
 use Rattle.outline_file.specs.declared.Head.{Head}
 use Rattle.outline_file.specs.File.{numberAt, floatAt, blockAt, blockRefusal, headLoops, headLength, headPoints, headRefusal, pointBlocks}
-use Rattle.outline_file.specs.File.{pointsRefusal, pointsTurn, blocksRefusal, coordinateAt, filePoints, fileLength, endRefusal, fileRefusal, Request}
-use Rattle.outline_file.specs.File.{requestOf, headOf, overlay, Reading, reading, readAs, readFile}
+use Rattle.outline_file.specs.File.{pointsRefusal, pointsTurn, blocksRefusal, coordinateAt, filePoints, fileLength, endRefusal, fileRefusal}
+use Rattle.outline_file.specs.File.{requestOf, headOf, overlay, reading, readAs, readFile}
 use Rattle.outline_file.specs.declared.FileAnswer.the-variants.{Refused, Read}
 use Rattle.outline_file.specs.ByteLaws.{NumberOf}
 use Rattle.outline_file.specs.RefusalLaws.{block-long, Headed, headed}

@@ -1,13 +1,13 @@
 -- Laws of the refusals: each way out of the code is a case of a definition. Assumes nothing.
 use mathlib.Core.Path.{_≡_, refl, sym, ap, ap₂, _∙_, subst}
-use mathlib.Core.Bool.{Bool, true, false, not, _&&_, cond, true≢false}
+use mathlib.Core.Bool.{Bool, true, false, _&&_, cond, true≢false}
 use mathlib.Core.List.{List}
-use Prim.Native.Nat.{ℕ, zero, suc, _+_, _-_, _*_, _/_, _%_, _^_, _≤_, _<_, min}
+use Prim.Native.Nat.{ℕ, _+_, _-_, _*_, _≤_, _<_, min}
 use native.Mathlib.Omega.{arith}
 use borrow.Author.Tests.{lt-ltb, le-ltb, le-leb, lt-leb, eq-eqb, ne-eqb, ltb-false, leb-true}
 use lib.Dec.{leb, ltb, eqb}
-use lib.ListN.{length, getD, take, drop}
-use Rattle.laws.specs.Loop.{Loop, loop-start, loop-end, loop-next, sumUp, sumTurn, forUp, forUp-stays}
+use lib.ListN.{length}
+use Rattle.laws.specs.Loop.{Loop, loop-start, loop-end, loop-next, sumUp, sumTurn, forUp-stays}
 use Rattle.domain.specs.Outline.{firstOf}
 use Rattle.domain.specs.RefusalLaws.{first-stays}
 use Rattle.domain.specs.Accepted.{first-zero}

@@ -1,19 +1,19 @@
 -- The file of a request reads back as the request, the floats as doubles. `round-trip`, the last statement, says so of every request that a file can
 -- hold. The logic has one NaN, whose bits a file has as 0x7ff8_0000_0000_0000, so a NaN reads back as a NaN.
 use mathlib.Core.Path.{_≡_, refl, sym, ap, ap₂, _∙_, subst}
-use mathlib.Core.Bool.{Bool, true, false, not, _&&_, _||_, cond, true≢false}
+use mathlib.Core.Bool.{Bool, true, false, not}
 use mathlib.Core.List.{List, [], _∷_, _++_, append-assoc, append-nil, map, flatten}
 use Prim.Native.Nat.{ℕ, zero, suc, _+_, _-_, _*_, _/_, _%_, _^_, _≤_, _<_, min}
 use native.Mathlib.Nat.{add-comm, mul-zero, mul-suc}
 use native.Mathlib.Omega.{arith}
 use borrow.Author.Tests.{le-ltb, le-leb, eq-eqb, leb-true, eqb-true, ltb-true}
-use lib.Dec.{T, leb, ltb, eqb}
+use lib.Dec.{T}
 use lib.Pow.{pow-add}
 use lib.ListN.{length, getD, take, drop, replicate, length-append, length-take, length-drop, length-replicate, getD-replicate, List·getD-append}
-use lib.Seq.{take-at, take-length, drop-append-add, getD-append-add, getD-take, getD-drop, length-take-le}
-use lib.Ieee.{Float, nan, binary64, fits, toBits, ofBits}
+use lib.Seq.{take-at, take-length, drop-append-add, getD-append-add, getD-take, getD-drop}
+use lib.Ieee.{Float, nan, binary64, fits, toBits}
 use lib.Ieee.Bits.{ofBits-toBits, toBits-lt}
-use Rattle.laws.specs.Loop.{forUp, forUp-same, forUp-keeps, anyUp, anyTurn, sumUp, sumTurn}
+use Rattle.laws.specs.Loop.{forUp-same, forUp-keeps, anyUp, anyTurn, sumUp, sumTurn}
 use Rattle.laws.specs.Sums.{sum-term}
 use Rattle.laws.specs.Tabulate.{tabulate, tabulate-same, tabulate-take, tabulate-length, tabulate-map, tabulate-at}
 use Rattle.numbers.specs.Float.{bits}
@@ -350,15 +350,17 @@ module _ (r : Request) (fit : Fileable r) where
   head-accepted : headRefusal head ≡ 0
   unfolding headRefusal headSound
   head-accepted =
-      let zeros = block-zeros (headBytes (r .settings) lens) (omega (arith, head-length (r .settings) lens, fit .few)) in
-      let from : length (headBytes (r .settings) lens) ≡ 14 + 2 * headLoops head = head-length (r .settings) lens ∙ ap (λ (n : ℕ). 14 + 2 * n) (sym loops-are) in
+      let contents = headBytes (r .settings) lens in
+      let wide = head-length (r .settings) lens in
+      let few : length contents ≤ 510 = omega (arith, fit .few) in
+      let from : length contents ≡ 14 + 2 * headLoops head = wide ∙ ap (λ (n : ℕ). 14 + 2 * n) (sym loops-are) in
       rw (
-        block-accepted (headBytes (r .settings) lens) (omega (arith, head-length (r .settings) lens, fit .few)),
+        block-accepted contents few,
         le-leb 1 (headLoops head) (omega (arith, loops-are, fit .some)),
         le-leb (headLoops head) 8 (omega (arith, loops-are, fit .few)),
         le-leb (headPoints head (headLoops head)) 248 (omega (arith, points-are, fit .points)),
         ← from,
-        zeros,
+        block-zeros contents few,
       )
 
   -- ---- it isn't refused

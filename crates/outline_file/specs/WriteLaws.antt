@@ -9,7 +9,7 @@ use native.Mathlib.Omega.{arith}
 use borrow.Author.Tests.{not-true, not-false, lt-leb, le-leb, lt-ltb, le-ltb, eq-eqb, ne-eqb}
 use lib.Dec.{T, ltb}
 use lib.ListN.{length, getD, set, take, drop, replicate, length-append, length-take, length-drop, length-replicate, take-append-drop, drop-of-length-le}
-use lib.Seq.{sets, length-sets, sets-eq, drop-cons, drop-append-add, drop-drop, drop-length, length-take-le, take-at, take-all}
+use lib.Seq.{sets, length-sets, sets-eq, drop-cons, drop-append-add, drop-drop, length-take-le, take-at, take-all}
 use lib.Ieee.{Float, nan, inf, fin, binary64, isNan, ne, toBits}
 use lib.Ieee.Compare.{nan-differs, differs-from-itself}
 use Rattle.laws.specs.Loop.{Loop, loop-start, loop-next, loop-end, sumUp, sumTurn}
@@ -18,7 +18,7 @@ use Rattle.laws.specs.Tabulate.{tabulate, tabulate-suc}
 use Rattle.domain.specs.declared.Settings.{Settings}
 use Rattle.outline_file.specs.File.{checkOf, numberBytes, floatBytes, blockOf, lengthBytes, headBytes, pointBytes, overlay}
 use Rattle.outline_file.specs.File.{Request, request, fileLength, pointBlocks, pointBlock, blocksOf, fileOf, totalPoints, fileable, writing, writeFile}
-use Rattle.outline_file.specs.RoundTrip.{bytes-length, pieces-length, head-length, block-wide, check-same, point-block-wide, Fileable, fileable-is}
+use Rattle.outline_file.specs.RoundTrip.{bytes-length, pieces-length, block-wide, check-same, point-block-wide, Fileable, fileable-is}
 use Rattle.outline_file.specs.RoundTrip.{head-wide, file-length}
 
 -- ---- floats
@@ -123,7 +123,9 @@ pub record Pieces {A : Type 0} (w : ℕ) (piece : A → List ℕ) (l : List A) (
 
 module _ {A : Type 0} (w : ℕ) (piece : A → List ℕ) (wide : (x : A) → length (piece x) ≡ w) (l : List A) (base : ℕ) (b₀ : List ℕ) where
   pub pieces-start : Pieces w piece l base b₀ 0 b₀
-  pieces-start = let e : base + w * 0 ≡ base = omega (arith, mul-zero w) in record { within = omega arith; same = ap (λ (n : ℕ). sets b₀ n (flatten (map piece l))) e }
+  pieces-start =
+      let e : base + w * 0 ≡ base = omega (arith, mul-zero w) in
+      record { within = omega arith; same = ap (λ (n : ℕ). sets b₀ n (flatten (map piece l))) e }
 
   module _ {k : ℕ} {b : List ℕ} (p : Pieces w piece l base b₀ k b) where
     pub pieces-long : length b ≡ length b₀
@@ -282,14 +284,17 @@ module _ (points : List Float) where
       blocks-put f = record {
         within = omega arith;
         same =
-            sets-part s (512 * (k + 1)) (pointBlock points k) (omega (arith, blocks-long, point-block-wide points k)) (f ∙ ap (λ (r : List Float). sets (take (length s - 512 * (k + 1)) (drop (512 * (k + 1)) s)) 0 (blockOf (pointBytes r))) here)
+            let rest = take (length s - 512 * (k + 1)) (drop (512 * (k + 1)) s) in
+            sets-part s (512 * (k + 1)) (pointBlock points k) (omega (arith, blocks-long, point-block-wide points k))
+            (f ∙ ap (λ (r : List Float). sets rest 0 (blockOf (pointBytes r))) here)
             ∙ ap₂ (λ (r : List ℕ) (j : ℕ). sets r j (pointBlock points k)) (l .same) place
             ∙ sym (sets-append file 512 (firstBlocks k) (pointBlock points k))
             ∙ rw add-one (ap (sets file 512) (sym (blocks-next k)));
       }
         where
           here : take (to - 62 * k) (drop (62 * k) points) ≡ take 62 (drop (62 * k) points)
-          here = let at : to - 62 * k ≡ min 62 (length (drop (62 * k) points)) = omega (arith, length-drop (62 * k) points) in
+          here =
+              let at : to - 62 * k ≡ min 62 (length (drop (62 * k) points)) = omega (arith, length-drop (62 * k) points) in
               ap (λ (j : ℕ). take j (drop (62 * k) points)) at ∙ take-least 62 (drop (62 * k) points)
 
           place : 512 * (k + 1) ≡ 512 + length (firstBlocks k)

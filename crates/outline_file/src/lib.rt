@@ -1,6 +1,5 @@
 // The outline file: 512-byte blocks with a check, read from and written to slices. Refusals 12 and 13.
 ghost use mathlib.Core.Path.{_≡_};
-ghost use mathlib.Core.List.{List};
 ghost use Prim.Native.Nat.{_+_, _-_, _*_, _/_, _≤_, _<_, min};
 ghost use lib.ListN.{length, take, replicate};
 ghost use lib.Seq.{sets};
@@ -8,8 +7,8 @@ ghost use lib.Ieee.{binary64, toBits};
 ghost use Rattle.laws.specs.Tabulate.{tabulate};
 ghost use Rattle.numbers.specs.Float.{bits};
 ghost use Rattle.outline_file.specs.File.{floatAt, blockAt, checkOf, blockRefusal, zeroFrom, headLength, headPoints, headSound, headRefusal};
-ghost use Rattle.outline_file.specs.File.{pointsRefusal, blocksRefusal, coordinateAt, fileLength, fileRefusal, headOf, requestOf, overlay, reading};
-ghost use Rattle.outline_file.specs.File.{readFile, request, numberBytes, blockOf, lengthBytes, headBytes, pointBytes, pointBlock, blocksOf};
+ghost use Rattle.outline_file.specs.File.{pointsRefusal, blocksRefusal, coordinateAt, fileLength, fileRefusal, overlay, reading};
+ghost use Rattle.outline_file.specs.File.{readFile, request, numberBytes, blockOf, lengthBytes, headBytes, pointBytes, blocksOf};
 ghost use Rattle.outline_file.specs.File.{totalPoints, fileable, writing, writeFile};
 ghost use Rattle.outline_file.specs.ByteLaws.{NumberOf};
 ghost use Rattle.outline_file.specs.RefusalLaws.{Headed};
@@ -401,9 +400,9 @@ fn write_blocks(points: &[f64], file: &mut [u8])
     ensures { λ r. ⌜ now (file .exit) ≡ sets (now (file .entry)) 512 (blocksOf (now (points .entry))) ⌝ }
 {
     let all = points.len();
-    let n = all / 2;
+    let count = all / 2;
     let mut k = 0;
-    while 31 * k < n {
+    while 31 * k < count {
         let from = 62 * k;
         let to = least(from + 62, all);
         let at = 512 * (k + 1);

@@ -1,6 +1,5 @@
 -- `outline_file::block_refusal` meets its contract: each way out is a case of `blockRefusal`.
 use Rattle.outline_file.specs.RefusalLaws.{block-refused-short, block-unrefused, block-refused-check}
-use native.Mathlib.Omega.{arith}
 use borrow.Author.Needs.{needs}
 use Rattle.outline_file.proofs.block_refusal.Statement.{statement}
 use Rattle.outline_file.proofs.block_refusal.Tie as tie

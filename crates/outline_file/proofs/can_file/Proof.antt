@@ -1,4 +1,6 @@
 -- `outline_file::can_file` meets its contract: each way out is a case of `fileable`.
+use native.Mathlib.Omega.{arith}
+-- `outline_file::can_file` meets its contract: each way out is a case of `fileable`.
 use Rattle.outline_file.specs.WriteLaws.{no-loops, many-loops, many-points, not-adding, many-sweeps, by-passes}
 use borrow.Author.Needs.{needs}
 use Rattle.outline_file.proofs.can_file.Statement.{statement}
@@ -27,13 +29,14 @@ returns-4 c =
 returns-5 : tie.Need-returns-5
 returns-5 c =
     many-sweeps _ _ _ (c .before .before .before .before .before .before .if1 .left) (c .before .before .before .before .before .if2 .left)
-    (c .before .before .before .before .few-points .ensures) (c .before .before .before .if3 .left) (c .before .before .if4 .left) (c .if5 .taken)
+    (c .before .before .before .before .few-points .ensures) (c .before .before .before .if3 .left) (c .before .before .if4 .left)
+    (omega (arith, c .if5 .taken))
 
 returns-6 : tie.Need-returns-6
 returns-6 c =
     by-passes _ _ _ (c .before .before .before .before .before .before .before .if1 .left) (c .before .before .before .before .before .before .if2 .left)
     (c .before .before .before .before .before .few-points .ensures) (c .before .before .before .before .if3 .left) (c .before .before .before .if4 .left)
-    (c .before .if5 .left)
+    (omega (arith, c .before .if5 .left))
 
 pub can-file-spec : {M : Type 1} → statement M
 can-file-spec =

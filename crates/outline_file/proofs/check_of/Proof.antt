@@ -2,9 +2,7 @@
 use Rattle.laws.specs.Loop.{loop-start, loop-next}
 -- `outline_file::check_of` meets its contract: the loop's invariant is `Adding`.
 use Rattle.outline_file.specs.ByteLaws.{AreBytes, Adding, weight, sum-fits, check-end}
-use Rattle.outline_file.specs.File.{checkOf, weighed}
-use Rattle.laws.specs.Loop.{loop-start, loop-next, loop-end}
-use mathlib.Core.Path.{ap}
+use Rattle.laws.specs.Loop.{loop-start, loop-next}
 use native.Mathlib.Omega.{arith}
 use Prim.Native.Nat.{_-_}
 use Rattle.outline_file.proofs.check_of.Statement.{statement}

@@ -19,39 +19,36 @@ number-at-requires : tie.Need-number-at-requires
 number-at-requires c κs = omega (arith, headed _ (sym (c .before .head-refusal .ensures) ∙ c .if1 .left) .long)
 
 head-points-requires : tie.Need-head-points-requires
-head-points-requires c κs = let h = headed _ (sym (c .before .before .head-refusal .ensures) ∙ c .before .if1 .left) in
-    omega (arith, h .long, h .sound .few, c .number-at .ensures .same)
+head-points-requires c κs = let d = headed _ (sym (c .before .before .head-refusal .ensures) ∙ c .before .if1 .left) in
+    omega (arith, d .long, d .sound .few, c .number-at .ensures .same)
 
 blocks-refusal-requires : tie.Need-blocks-refusal-requires
-blocks-refusal-requires c κs = let h = headed _ (sym (c .before .before .before .head-refusal .ensures) ∙ c .before .before .if1 .left) in
-    head-count h (c .before .number-at .ensures) (c .head-points .ensures)
+blocks-refusal-requires c κs =
+    head-count (headed _ (sym (c .before .before .before .head-refusal .ensures) ∙ c .before .before .if1 .left)) (c .before .number-at .ensures)
+    (c .head-points .ensures)
 
 returns-2 : tie.Need-returns-2
-returns-2 c =
-    file-blocks _ (c .before .before .before .before .before .before .block .ensures) (c .before .before .before .before .before .head-refusal .ensures)
-    (c .before .before .before .before .if1 .left) (c .before .before .before .number-at .ensures) (c .before .before .head-points .ensures)
-    (c .before .blocks-refusal .ensures) (c .if2 .taken)
+returns-2 c = let d = c .before .before in
+    file-blocks _ (d .before .before .before .before .block .ensures) (d .before .before .before .head-refusal .ensures) (d .before .before .if1 .left)
+    (d .before .number-at .ensures) (d .head-points .ensures) (c .before .blocks-refusal .ensures)
+    (c .if2 .taken)
 
 file-length-requires : tie.Need-file-length-requires
-file-length-requires c κs =
-    let h = headed _ (sym (c .before .before .before .before .before .head-refusal .ensures) ∙ c .before .before .before .before .if1 .left) in
-    head-count h (c .before .before .before .number-at .ensures) (c .before .before .head-points .ensures)
+file-length-requires c κs = let d = c .before .before in
+    head-count (headed _ (sym (d .before .before .before .head-refusal .ensures) ∙ d .before .before .if1 .left)) (d .before .number-at .ensures)
+    (d .head-points .ensures)
 
 returns-3 : tie.Need-returns-3
-returns-3 c =
-    file-longer _ (c .before .before .before .before .before .before .before .before .block .ensures)
-    (c .before .before .before .before .before .before .before .head-refusal .ensures) (c .before .before .before .before .before .before .if1 .left)
-    (c .before .before .before .before .before .number-at .ensures) (c .before .before .before .before .head-points .ensures)
-    (c .before .before .before .blocks-refusal .ensures) (c .before .before .if2 .left)
-    (omega (arith, c .before .file-length .ensures, c .if3 .taken))
+returns-3 c = let d = c .before .before .before .before in
+    file-longer _ (d .before .before .before .before .block .ensures) (d .before .before .before .head-refusal .ensures) (d .before .before .if1 .left)
+    (d .before .number-at .ensures) (d .head-points .ensures) (c .before .before .before .blocks-refusal .ensures)
+    (c .before .before .if2 .left) (omega (arith, c .before .file-length .ensures, c .if3 .taken))
 
 returns-4 : tie.Need-returns-4
-returns-4 c =
-    file-accepted _ (c .before .before .before .before .before .before .before .before .block .ensures)
-    (c .before .before .before .before .before .before .before .head-refusal .ensures) (c .before .before .before .before .before .before .if1 .left)
-    (c .before .before .before .before .before .number-at .ensures) (c .before .before .before .before .head-points .ensures)
-    (c .before .before .before .blocks-refusal .ensures) (c .before .before .if2 .left)
-    (omega (arith, c .before .file-length .ensures, c .if3 .left))
+returns-4 c = let d = c .before .before .before .before in
+    file-accepted _ (d .before .before .before .before .block .ensures) (d .before .before .before .head-refusal .ensures) (d .before .before .if1 .left)
+    (d .before .number-at .ensures) (d .head-points .ensures) (c .before .before .before .blocks-refusal .ensures)
+    (c .before .before .if2 .left) (omega (arith, c .before .file-length .ensures, c .if3 .left))
 
 pub file-refusal-spec : {M : Type 1} → statement M
 file-refusal-spec =

@@ -27,7 +27,9 @@ cast-byte : tie.Need-cast-byte Inv-loop μ-loop
 cast-byte c = omega (arith, c .shared-slice-known .given (c .before .before .loop .j - 1))
 
 mul-x : tie.Need-mul-x Inv-loop μ-loop
-mul-x c = omega (arith, number-fits (c .before .before .loop .inv) (c .before .before .before .pre .0) (c .before .loop-test .taken))
+mul-x c =
+    let fits = number-fits (c .before .before .loop .inv) (c .before .before .before .pre .0) (c .before .loop-test .taken) in
+    omega (arith, c .shared-slice-known .given (c .before .before .loop .j - 1))
 
 add-x : tie.Need-add-x Inv-loop μ-loop
 add-x c =

@@ -31,9 +31,8 @@ add-put-number : tie.Need-add-put-number Inv-loop μ-loop
 add-put-number c = omega (arith, c .before .before .before .before .before .before .pre)
 
 put-number-requires : tie.Need-put-number-requires Inv-loop μ-loop
-put-number-requires c κs =
-    omega
-    (arith, c .before .before .before .before .before .before .pre, pieces-long 2 (numberBytes 2) (bytes-length 2) _ _ _ (c .before .before .before .loop .inv))
+put-number-requires c κs = let long = pieces-long 2 (numberBytes 2) (bytes-length 2) _ _ _ (c .before .before .before .loop .inv) in
+    omega (arith, c .before .before .before .before .before .before .pre)
 
 add-k : tie.Need-add-k Inv-loop μ-loop
 add-k c = omega (arith, c .before .before .before .before .before .before .before .before .before .pre)

@@ -31,9 +31,8 @@ mul-put-number : tie.Need-mul-put-number Inv-loop μ-loop
 mul-put-number c = omega (arith, c .before .before .before .before .before .before .before .pre)
 
 put-number-requires : tie.Need-put-number-requires Inv-loop μ-loop
-put-number-requires c κs =
-    omega
-    (arith, c .before .before .before .before .before .before .before .pre, pieces-long 8 floatBytes float-wide _ _ _ (c .before .before .before .before .loop .inv))
+put-number-requires c κs = let long = pieces-long 8 floatBytes float-wide _ _ _ (c .before .before .before .before .loop .inv) in
+    omega (arith, c .before .before .before .before .before .before .before .pre)
 
 add-c : tie.Need-add-c Inv-loop μ-loop
 add-c c = omega (arith, c .before .before .before .before .before .before .before .before .before .before .pre)
@@ -43,9 +42,12 @@ loop-less c = omega arith
 
 loop-again : tie.Need-loop-again Inv-loop μ-loop
 loop-again c =
-    pieces-next 8 floatBytes float-wide _ _ _ (c .before .before .before .before .before .before .before .loop .inv) nan
-    (c .before .before .before .before .before .before .loop-test .taken) (omega arith)
-    (put-float (getD (c .before .before .before .before .before .before .before .before .before .before .args .points .now) (c .before .before .before .before .before .before .before .loop .c) nan) (c .before .before .before .before .before .before .before .loop .b) (8 * c .before .before .before .before .before .before .before .loop .c) (c .before .before .before .before .bits-of .ensures) (c .before .before .put-number .ensures))
+    let turn = c .before .before .before .before .before .before .before in
+    let points = turn .before .before .before .args .points .now in
+    let put =
+    put-float (getD points (turn .loop .c) nan) (turn .loop .b) (8 * turn .loop .c) (c .before .before .before .before .bits-of .ensures)
+    (c .before .before .put-number .ensures) in
+    pieces-next 8 floatBytes float-wide _ _ _ (turn .loop .inv) nan (c .before .before .before .before .before .before .loop-test .taken) (omega arith) put
 
 same-length : tie.Need-same-length Inv-loop μ-loop
 same-length c = pieces-long 8 floatBytes float-wide _ _ _ (c .before .loop .inv)

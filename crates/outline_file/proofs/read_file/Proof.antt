@@ -15,32 +15,26 @@ block-requires : tie.Need-block-requires
 block-requires c κs = search needs
 
 read-head-requires : tie.Need-read-head-requires
-read-head-requires c κs =
-    read-headed _ (c .before .before .before .before .args .points .now) (c .before .before .before .before .args .lens .now)
-    (c .before .before .file-refusal .ensures) (c .before .if1 .left) (c .block .ensures)
+read-head-requires c κs = let a = c .before .before .before .before in
+    read-headed _ (a .args .points .now) (a .args .lens .now) (c .before .before .file-refusal .ensures) (c .before .if1 .left) (c .block .ensures)
 
 read-lengths-requires : tie.Need-read-lengths-requires
-read-lengths-requires c κs =
-    let n = read-loops _ (c .before .before .before .before .before .before .args .points .now)
-    (c .before .before .before .before .before .before .args .lens .now) (c .before .before .before .before .file-refusal .ensures)
+read-lengths-requires c κs = let a = c .before .before .before .before .before .before in
+    let n = read-loops _ (a .args .points .now) (a .args .lens .now) (c .before .before .before .before .file-refusal .ensures)
     (c .before .before .before .if1 .left) (c .before .before .block .ensures) (c .before .read-head .ensures) in
-    let g = c .before .before .before .before .before .before .good .1 .1 .0 in
     (n .0, n .1, omega arith)
 
 read-points-requires : tie.Need-read-points-requires
-read-points-requires c κs =
-    let n = read-count _ (c .before .before .before .before .before .before .before .before .args .points .now)
-    (c .before .before .before .before .before .before .before .before .args .lens .now)
-    (c .before .before .before .before .before .before .file-refusal .ensures) (c .before .before .before .before .before .if1 .left)
-    (c .before .before .before .before .block .ensures) (c .before .before .before .read-head .ensures) in
-    let g = c .before .before .before .before .before .before .before .before .good .1 .0 in
+read-points-requires c κs = let d = c .before .before .before in
+    let a = d .before .before .before .before .before in
+    let n = read-count _ (a .args .points .now) (a .args .lens .now) (d .before .before .before .file-refusal .ensures) (d .before .before .if1 .left)
+    (d .before .block .ensures) (d .read-head .ensures) in
     (n .0, n .1, omega arith)
 
 returns-2 : tie.Need-returns-2
-returns-2 c =
-    read-whole _ _ _ (c .before .before .before .before .before .before .before .file-refusal .ensures)
-    (c .before .before .before .before .before .before .if1 .left) (c .before .before .before .before .before .block .ensures)
-    (c .before .before .before .before .read-head .ensures) (c .before .before .read-lengths .ensures) (c .read-points .ensures)
+returns-2 c = let d = c .before .before .before .before in
+    read-whole _ _ _ (d .before .before .before .file-refusal .ensures) (d .before .before .if1 .left) (d .before .block .ensures) (d .read-head .ensures)
+    (c .before .before .read-lengths .ensures) (c .read-points .ensures)
 
 pub read-file-spec : {M : Type 1} → statement M
 read-file-spec =

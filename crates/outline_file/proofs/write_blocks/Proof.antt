@@ -10,10 +10,10 @@ use Rattle.outline_file.proofs.write_blocks.Statement.{statement}
 use Rattle.outline_file.proofs.write_blocks.Tie as tie
 
 abbrev Inv-loop : tie.InvT-loop
-Inv-loop points file₀ all n k₀ file k = Blocks points file₀ (pointBlocks n) k file
+Inv-loop points file₀ all count k₀ file k = Blocks points file₀ (pointBlocks count) k file
 
 abbrev μ-loop : tie.MeasureT-loop
-μ-loop points file₀ all n k₀ file k = n - k
+μ-loop points file₀ all count k₀ file k = count - k
 
 loop-holds : tie.Need-loop-holds Inv-loop μ-loop
 loop-holds c = blocks-start _ _ _
@@ -69,10 +69,8 @@ loop-less : tie.Need-loop-less Inv-loop μ-loop
 loop-less c = omega arith
 
 loop-again : tie.Need-loop-again Inv-loop μ-loop
-loop-again c =
-    blocks-put _ (c .before .before .before .before .before .before .before .loop .inv)
-    (omega (arith, c .before .before .before .before .before .before .before .before .before .before .pre))
-    (omega (arith, c .before .before .before .before .before .before .before .before .before .before .pre))
+loop-again c = let turn = c .before .before .before .before .before .before .before in
+    blocks-put _ (turn .loop .inv) (omega (arith, turn .before .before .before .pre)) (omega (arith, turn .before .before .before .pre))
     (omega (arith, c .before .before .before .before .before .before .loop-test .taken)) (c .before .before .before .before .before .least .ensures)
     (c .before .before .write-points .ensures)
 

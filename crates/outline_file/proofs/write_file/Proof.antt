@@ -11,54 +11,42 @@ can-file-requires : tie.Need-can-file-requires
 can-file-requires c κs = search needs
 
 returns : tie.Need-returns
-returns c =
-    write-refused
-    (request (c .before .before .before .before .before .args .settings) (c .before .before .before .before .before .args .points .now) (c .before .before .before .before .before .args .lens .now))
-    _ (c .before .can-file .ensures) (c .if1 .taken)
+returns c = let a = c .before .before .before .before .before in
+    write-refused (request (a .args .settings) (a .args .points .now) (a .args .lens .now)) _ (c .before .can-file .ensures) (c .if1 .taken)
 
 file-length-requires : tie.Need-file-length-requires
-file-length-requires c κs =
-    few-coordinates
-    (request (c .before .before .before .before .before .args .settings) (c .before .before .before .before .before .args .points .now) (c .before .before .before .before .before .args .lens .now))
-    (c .before .before .before .before .before .args .file .now) (c .before .can-file .ensures) (c .if1 .left)
+file-length-requires c κs = let a = c .before .before .before .before .before in
+    few-coordinates (request (a .args .settings) (a .args .points .now) (a .args .lens .now)) (a .args .file .now) (c .before .can-file .ensures) (c .if1 .left)
 
 returns-2 : tie.Need-returns-2
-returns-2 c =
-    write-short
-    (request (c .before .before .before .before .before .before .before .args .settings) (c .before .before .before .before .before .before .before .args .points .now) (c .before .before .before .before .before .before .before .args .lens .now))
-    (c .before .before .before .before .before .before .before .args .file .now) (c .before .before .before .can-file .ensures) (c .before .before .if1 .left)
+returns-2 c = let a = c .before .before .before .before .before .before .before in
+    write-short (request (a .args .settings) (a .args .points .now) (a .args .lens .now)) (a .args .file .now) (c .before .before .before .can-file .ensures)
+    (c .before .before .if1 .left)
     (c .before .file-length .ensures) (c .if2 .taken)
 
 write-head-requires : tie.Need-write-head-requires
-write-head-requires c κs =
-    let fit = within
-    (request (c .before .before .before .before .before .before .before .before .args .settings) (c .before .before .before .before .before .before .before .before .args .points .now) (c .before .before .before .before .before .before .before .before .args .lens .now))
-    (c .before .before .before .before .before .before .before .before .args .file .now) (c .before .before .before .before .can-file .ensures)
-    (c .before .before .before .if1 .left) in
+write-head-requires c κs = let a = c .before .before .before .before .before .before .before .before in
+    let fit = within (request (a .args .settings) (a .args .points .now) (a .args .lens .now)) (a .args .file .now)
+    (c .before .before .before .before .can-file .ensures) (c .before .before .before .if1 .left) in
     (fit .few, omega (arith, c .before .before .file-length .ensures, c .before .if2 .left))
 
 write-blocks-requires : tie.Need-write-blocks-requires
-write-blocks-requires c κs =
-    blocks-room
-    (request (c .before .before .before .before .before .before .before .before .before .before .before .before .args .settings) (c .before .before .before .before .before .before .before .before .before .before .before .before .args .points .now) (c .before .before .before .before .before .before .before .before .before .before .before .before .args .lens .now))
-    (c .before .before .before .before .before .before .before .before .before .before .before .before .args .file .now)
-    (c .before .before .before .before .before .before .before .before .can-file .ensures)
-    (c .before .before .before .before .before .before .before .if1 .left) (c .before .before .before .before .before .before .file-length .ensures)
-    (c .before .before .before .before .before .if2 .left) (c .before .before .before .write-head .ensures)
+write-blocks-requires c κs = let t = c .before .before .before .before .before .before in
+    let a = t .before .before .before .before .before .before in
+    blocks-room (request (a .args .settings) (a .args .points .now) (a .args .lens .now)) (a .args .file .now) (t .before .before .can-file .ensures)
+    (t .before .if1 .left)
+    (t .file-length .ensures) (c .before .before .before .before .before .if2 .left) (c .before .before .before .write-head .ensures)
 
 same-length : tie.Need-same-length
 same-length c = search needs
 
 returns-3 : tie.Need-returns-3
-returns-3 c =
-    write-whole
-    (request (c .before .before .before .before .before .before .before .before .before .before .before .before .before .before .before .args .settings) (c .before .before .before .before .before .before .before .before .before .before .before .before .before .before .before .args .points .now) (c .before .before .before .before .before .before .before .before .before .before .before .before .before .before .before .args .lens .now))
-    (c .before .before .before .before .before .before .before .before .before .before .before .before .before .before .before .args .file .now)
-    (c .before .before .before .before .before .before .before .before .before .before .before .can-file .ensures)
-    (c .before .before .before .before .before .before .before .before .before .before .if1 .left)
-    (c .before .before .before .before .before .before .before .before .before .file-length .ensures)
-    (c .before .before .before .before .before .before .before .before .if2 .left) (c .before .before .before .before .before .before .write-head .ensures)
-    (c .before .before .write-blocks .ensures)
+returns-3 c = let t = c .before .before .before .before .before .before .before .before .before in
+    let a = t .before .before .before .before .before .before in
+    write-whole (request (a .args .settings) (a .args .points .now) (a .args .lens .now)) (a .args .file .now) (t .before .before .can-file .ensures)
+    (t .before .if1 .left)
+    (t .file-length .ensures) (c .before .before .before .before .before .before .before .before .if2 .left)
+    (c .before .before .before .before .before .before .write-head .ensures) (c .before .before .write-blocks .ensures)
 
 pub write-file-spec : {M : Type 1} → statement M
 write-file-spec =

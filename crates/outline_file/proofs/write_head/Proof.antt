@@ -40,19 +40,17 @@ same-length : tie.Need-same-length
 same-length c = search needs
 
 returns : tie.Need-returns
-returns c =
-    let s = c .before .before .before .before .before .before .before .before .before .before .before .before .before .before .before .before .before .before
-    .before .before .before .before .before .before .before .before .before .args .settings in
-    let lens = c .before .before .before .before .before .before .before .before .before .before .before .before .before .before .before .before .before
-    .before .before .before .before .before .before .before .before .before .before .args .lens .now in
-    let b = c .before .before .before .before .before .before .before .before .before .before .before .before .before .before .before .before .before .before
-    .before .before .before .before .before .before .before .before .before .args .b .now in
-    sealed b (headBytes s lens)
-    (omega (arith, c .before .before .before .before .before .before .before .before .before .before .before .before .before .before .before .before .before .before .before .before .before .before .before .before .before .before .before .pre))
-    (c .before .before .before .before .before .before .before .before .before .before .before .before .before .before .before .before .before .before .before .before .before .before .before .before .before .before .before .pre .1)
-    (sym (head-length s lens))
-    (head-put s lens b (c .before .before .before .before .before .before .before .before .before .before .before .before .before .before .before .before .before .before .before .before .before .before .before .before .bits-of .ensures) (c .before .before .before .before .before .before .before .before .before .before .before .before .before .before .before .before .before .before .before .before .before .before .put-number .ensures) (c .before .before .before .before .before .before .before .before .before .before .before .before .before .before .before .before .before .before .put-number2 .ensures) (c .before .before .before .before .before .before .before .before .before .before .before .before .before .before .put-number3 .ensures) (c .before .before .before .before .before .before .before .before .before .before .put-number4 .ensures) (c .before .before .before .before .before .before .put-lengths .ensures))
-    (c .before .before .seal .ensures)
+returns c = let d = c .before .before .before .before .before .before in
+    let e = d .before .before .before .before .before .before .before .before .before .before .before .before in
+    let start = e .before .before .before .before .before .before .before .before .before in
+    let s = start .args .settings in
+    let lens = start .args .lens .now in
+    let b = start .args .b .now in
+    let put = head-put s lens b (e .before .before .before .before .before .before .bits-of .ensures) (e .before .before .before .before .put-number .ensures)
+    (e .put-number2 .ensures) (d .before .before .before .before .before .before .before .before .put-number3 .ensures)
+    (d .before .before .before .before .put-number4 .ensures)
+    (d .put-lengths .ensures) in
+    sealed b (headBytes s lens) (omega (arith, start .pre)) (start .pre .1) (sym (head-length s lens)) put (c .before .before .seal .ensures)
 
 pub write-head-spec : {M : Type 1} → statement M
 write-head-spec =

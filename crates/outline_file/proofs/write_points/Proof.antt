@@ -20,10 +20,9 @@ same-length : tie.Need-same-length
 same-length c = search needs
 
 returns : tie.Need-returns
-returns c = let points = c .before .before .before .before .before .before .before .before .before .before .args .points .now in
-    sealed (c .before .before .before .before .before .before .before .before .before .before .args .b .now) (pointBytes points)
-    (omega (arith, c .before .before .before .before .before .before .before .before .before .before .pre))
-    (c .before .before .before .before .before .before .before .before .before .before .pre .1) (points-used points)
+returns c = let start = c .before .before .before .before .before .before .before .before .before .before in
+    let points = start .args .points .now in
+    sealed (start .args .b .now) (pointBytes points) (omega (arith, start .pre)) (start .pre .1) (points-used points)
     (c .before .before .before .before .before .before .put-points .ensures) (c .before .before .seal .ensures)
 
 pub write-points-spec : {M : Type 1} → statement M

@@ -248,12 +248,22 @@ pub fn front(outline: Outline<'_>, size: f64, lent: &Lent) -> Result<Run, Refusa
 
 /// The whole run, from the field to `front_loops`: refusals 1 to 10.
 pub fn pave(outline: Outline<'_>, settings: Settings, lent: &Lent) -> Result<Run, Refusal> {
+    pave_again(outline, settings, lent, &mut None)
+}
+
+/// The same run, which leaves its field for the next one: runs of the same outline, size and sweeps make it once.
+pub fn pave_again(
+    outline: Outline<'_>,
+    settings: Settings,
+    lent: &Lent,
+    field: &mut Option<Field>,
+) -> Result<Run, Refusal> {
     let Settings { size, sweeps, passes } = settings;
     let region = Region::new(outline)?;
     check_field(&region, size, sweeps, lent.field_nodes)?;
     let mut paving = sample(&region, size, lent)?;
-    let field = Field::build(&region, size, sweeps);
-    let end = paving.advance_to_end(&field.field, &region.domain, size, passes);
+    let Field { field } = field.get_or_insert_with(|| Field::build(&region, size, sweeps));
+    let end = paving.advance_to_end(field, &region.domain, size, passes);
     Ok(paving.answer(end))
 }
 

@@ -135,7 +135,7 @@ impl Rng {
     }
 }
 
-type Loops = Vec<Vec<[f64; 2]>>;
+pub type Loops = Vec<Vec<[f64; 2]>>;
 
 // --- shapes ---
 

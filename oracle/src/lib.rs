@@ -3,9 +3,12 @@
 //! `patched` has document 01's stand-ins for the angle functions, and is what the port must equal bit for bit; `plain` has the
 //! Rust's own. Both offer the same functions and types (driver.rs).
 
+pub mod cases;
 pub mod compare;
 pub mod file;
+pub mod fixed;
 pub mod generate;
+pub mod live;
 pub mod stand_ins;
 pub mod terms;
 

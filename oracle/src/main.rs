@@ -1,11 +1,12 @@
 //! The oracle's command line.
 
 use std::io::{self, BufWriter, Read, Write};
+use std::path::Path;
 use std::process::ExitCode;
 
 use oracle::generate::{Case, KINDS};
 use oracle::terms::{Lent, Refusal, Run};
-use oracle::{compare, patched, plain};
+use oracle::{compare, fixed, live, patched, plain};
 
 const USAGE: &str =
     "usage: oracle [--plain] pave [FILE]            the listing of a file of 512-byte blocks, or of standard input
@@ -13,6 +14,8 @@ const USAGE: &str =
        oracle gen SEED COUNT KIND [FIRST]     generated questions
        oracle compare SEED COUNT KIND         what differs between the patched and the plain build
        oracle steps SEED COUNT KIND           pass by pass against one call of advance
+       oracle fixed FOLDER                    writes the fixed list of the program `replay`
+       oracle live SEED COUNT PROGRAM ..      the built program's listings beside the oracle's
 kinds: mixed";
 
 fn main() -> ExitCode {
@@ -60,6 +63,18 @@ fn command(words: &[&str], plain: bool) -> io::Result<bool> {
         ["steps", seed, count, kind] => match cases(seed, count, kind, "0") {
             Some(cases) => writeln!(output, "{} runs, pass by pass as in one call", compare::steps(&cases)?)?,
             None => return Ok(false),
+        },
+        ["fixed", folder] => writeln!(output, "{} files", fixed::write(Path::new(folder))?)?,
+        ["live", seed, count, program @ ..] if !program.is_empty() => match (seed.parse(), count.parse()) {
+            (Ok(seed), Ok(count)) => {
+                let found = live::compare(program, seed, count)?;
+                write!(output, "{found}")?;
+                if !found.differences.is_empty() {
+                    output.flush()?;
+                    return Err(io::Error::other("the program differs"));
+                }
+            }
+            _ => return Ok(false),
         },
         _ => return Ok(false),
     }

@@ -1,6 +1,7 @@
 pub mod Grid
 pub mod Seeds
 pub mod Sweeps
+pub mod TwoRows
 pub mod Field
 pub mod Direction
 pub mod Places

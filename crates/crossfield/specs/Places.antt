@@ -56,7 +56,7 @@ pub record RowMarks (w n base bytes : ℕ) : Type 0 where
 pub row-in : (j n w : ℕ) → j < n → j * w + w ≤ n * w
 row-in j n w h = omega (arith, mul-le-mul-right w h)
 
-row-over : (j n w : ℕ) → j + 1 < n → j * w + w + w ≤ n * w
+pub row-over : (j n w : ℕ) → j + 1 < n → j * w + w + w ≤ n * w
 row-over j n w h = omega (arith, mul-le-mul-right w h)
 
 row-under : (j w : ℕ) → 0 < j → w ≤ j * w

@@ -494,7 +494,37 @@ fn sweep_row(g: Grid, marks: &[u8], values: &mut [f64], quiet: bool, j: usize, b
     still
 }
 
-// One sweep; the answer is whether it was quiet.
+// Rows j and j + 1, the first node of row j having the number base. The upper row is a column behind, so that two roots are under way at once.
+fn sweep_two_rows(
+    g: Grid,
+    marks: &[u8],
+    values: &mut [f64],
+    quiet: bool,
+    j: usize,
+    base: usize,
+) -> bool
+    requires { ⌜ Row (g .nx) (g .ny) j base (length (now values)) ⌝ }
+    requires { ⌜ (j + 1 < g .ny) × (base + g .nx + g .nx ≤ length (now marks)) ⌝ }
+    ensures { λ r. ⌜ swept (now (values .exit)) r ≡ sweepRow g (now (marks .entry)) (j + 1) (sweepRow g (now (marks .entry)) j (swept (now (values .entry)) quiet)) ⌝ }
+{
+    let nx = g.nx;
+    if nx == 0 {
+        return quiet;
+    }
+    let last = nx - 1;
+    let above = j + 1;
+    let up = base + nx;
+    let mut still = sweep_node(g, marks, values, quiet, j, 0, base);
+    let mut i = 0;
+    while i < last {
+        still = sweep_node(g, marks, values, still, j, i + 1, base + (i + 1));
+        still = sweep_node(g, marks, values, still, above, i, up + i);
+        i += 1;
+    }
+    sweep_node(g, marks, values, still, above, last, up + last)
+}
+
+// One sweep, two rows at a time; the answer is whether it was quiet.
 fn sweep(g: Grid, marks: &[u8], values: &mut [f64]) -> bool
     requires { ⌜ Room (g .nx) (g .ny) (length (now values)) (length (now marks)) ⌝ }
     ensures { λ r. ⌜ swept (now (values .exit)) r ≡ sweep g (now (marks .entry)) (now (values .entry)) ⌝ }
@@ -504,12 +534,16 @@ fn sweep(g: Grid, marks: &[u8], values: &mut [f64]) -> bool
     let mut quiet = true;
     let mut base = 0;
     let mut j = 0;
-    while j < ny {
-        quiet = sweep_row(g, marks, values, quiet, j, base);
-        base += nx;
-        j += 1;
+    while 1 < ny - j {
+        quiet = sweep_two_rows(g, marks, values, quiet, j, base);
+        base = base + nx + nx;
+        j += 2;
     }
-    quiet
+    if j < ny {
+        sweep_row(g, marks, values, quiet, j, base)
+    } else {
+        quiet
+    }
 }
 
 // At most n sweeps: a quiet one is the last.

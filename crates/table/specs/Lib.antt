@@ -1,3 +1,4 @@
 pub mod Opened
 pub mod Table
 pub mod Square
+pub mod Unreached

@@ -1,6 +1,9 @@
 //! What the tests share: outlines that own their lists, lists lent with guards round them, and the raw answers.
 #![allow(dead_code)] // each test uses a part of it
 
+pub mod book;
+pub mod whole;
+
 use std::hint::black_box;
 
 use sitjorbe::{ffi, field, pave, FieldRecord, Lists, Mesh, Outline, Places, Refusal, Settings};
@@ -204,7 +207,8 @@ pub fn said(mesh: &Mesh<'_>) -> Vec<Vec<u64>> {
     all
 }
 
-fn bits<T: Place>(list: &[T]) -> Vec<u64> {
+/// The bits of each place.
+pub fn bits<T: Place>(list: &[T]) -> Vec<u64> {
     list.iter().map(|place| place.bits()).collect()
 }
 

@@ -1,8 +1,8 @@
 //! Outlines, points, settings and field records to ask about, random and hostile; the same for a seed on every machine.
 
-use sitjorbe::FieldRecord;
+use sitjorbe::{FieldRecord, Places};
 
-use crate::common::Drawing;
+use crate::common::{list_lengths, Drawing};
 
 /// SplitMix64.
 pub struct Rng(pub u64);
@@ -237,7 +237,7 @@ pub fn setting(rng: &mut Rng, drawing: &Drawing) -> Setting {
 }
 
 /// The greater side of the outline's box, as far as it is a number.
-fn extent(drawing: &Drawing) -> f64 {
+pub fn extent(drawing: &Drawing) -> f64 {
     let side = |axis: usize| {
         let along =
             || [&drawing.outer, &drawing.holes].into_iter().flat_map(move |list| list.iter().skip(axis).step_by(2));
@@ -343,4 +343,70 @@ pub fn target(rng: &mut Rng) -> [f64; 2] {
         2 => [0, 0].map(|_| f64::from_bits(rng.next())),
         _ => [rng.unit(), rng.unit()],
     }
+}
+
+// --- runs ---
+
+/// What a run has used where space was ample, and the points sampled.
+#[derive(Clone, Copy, Debug)]
+pub struct Needs {
+    pub places: Places,
+    pub sampled: usize,
+}
+
+/// The ways to choose the places for a run are numbered from 0.
+pub const SPACES: usize = 13;
+
+/// Exactly enough places, more, or too few of some.
+pub fn places(rng: &mut Rng, needs: &Needs, space: usize) -> Places {
+    let Needs { places: exact, sampled } = *needs;
+    let Places { field_nodes, nodes, quads, edges } = exact;
+    let mut between = |low: usize, high: usize| low + rng.below(high - low + 1);
+    match space {
+        0 => exact,
+        1 => Places {
+            field_nodes: field_nodes + between(0, 9),
+            nodes: nodes + between(0, 9),
+            quads: quads + between(0, 9),
+            edges: edges + between(0, 9),
+        },
+        2 => Places { nodes: nodes - 1, ..exact },
+        3 => Places { nodes: between(sampled, nodes), ..exact },
+        4 => Places { nodes: between(0, sampled), ..exact },
+        5 => Places { quads: quads.saturating_sub(1), ..exact },
+        6 => Places { quads: between(0, quads), ..exact },
+        7 => Places { quads: 0, ..exact },
+        8 => Places { edges: edges - 1, ..exact },
+        9 => Places { edges: between(sampled, edges), ..exact },
+        10 => Places { edges: between(0, sampled), ..exact },
+        11 => Places {
+            field_nodes,
+            nodes: between(sampled, nodes),
+            quads: between(0, quads),
+            edges: between(sampled, edges),
+        },
+        _ => Places { field_nodes: field_nodes - 1, ..exact },
+    }
+}
+
+/// None, few, all that count, and more.
+pub fn passes(rng: &mut Rng) -> usize {
+    rng.pick(&[0, 0, 1, 2, 3, 5, 599, 600, 601, usize::MAX])
+}
+
+/// Lists of which the shortest have these places; of those that hold the same places one is the shortest, and others may be longer.
+pub fn lengths(rng: &mut Rng, places: &Places) -> [usize; 11] {
+    let mut lengths = list_lengths(*places);
+    let [values, marks, xs, ys, next, prev, snapshot, quads, edges, loops, others] = &mut lengths;
+    let by_node = [xs, ys, next, prev, snapshot, loops, others];
+    let shortest = rng.below(by_node.len());
+    for (_, length) in by_node.into_iter().enumerate().filter(|(k, _)| *k != shortest) {
+        *length += rng.below(4);
+    }
+    let fewer_values = rng.once_in(2);
+    *values += rng.below(if fewer_values { 2 } else { 6 });
+    *marks += if fewer_values { rng.below(4) } else { 0 };
+    *quads += rng.below(4);
+    *edges += rng.below(2);
+    lengths
 }

@@ -8,6 +8,7 @@ mod cases;
 #[path = "../common/mod.rs"]
 mod common;
 mod fields;
+mod paving;
 
 use std::collections::BTreeMap;
 

@@ -1,0 +1,202 @@
+-- Laws of what the program prints: `lists-whole` (what a buffer holds that has places for the listing), `read-listed` (the listing is that of what was
+-- read) and `start-decides` (of endless input the first 4,609 bytes decide). Assumes nothing.
+use mathlib.Core.Path.{_≡_, refl, sym, ap, _∙_, subst}
+use mathlib.Core.List.{List, []}
+use Prim.Native.Nat.{ℕ, zero, suc, _-_, _*_, _/_, _≤_}
+use native.Mathlib.Omega.{arith}
+use lib.ListN.{length, getD, take, drop, length-append, length-drop}
+use lib.Seq.{length-take-le}
+use lib.Ieee.{Float}
+use Rattle.laws.specs.Tabulate.{tabulate-length, tabulate-at}
+use Rattle.laws.specs.Sums.{sum-term}
+use Rattle.domain.specs.declared.Settings.{Settings}
+use Rattle.domain.specs.Outline.{Outline, outline}
+use Rattle.domain.specs.Queries.{answerBy}
+use Rattle.run.specs.declared.Paved.{Paved}
+use Rattle.run.specs.Run.{Lent, Paves}
+use Rattle.outline_file.specs.declared.Head.{Head}
+use Rattle.outline_file.specs.declared.FileAnswer.{FileAnswer}
+use Rattle.outline_file.specs.declared.FileAnswer.the-variants.{Refused, Read}
+use Rattle.outline_file.specs.File.{blockAt, headLoops, headLength, headPoints, coordinateAt, filePoints, fileRefusal, Request, requestOf, outlineOf}
+use Rattle.outline_file.specs.File.{headOf, overlay, Reading, reading, readAs, readFile}
+use Rattle.outline_file.specs.ReadLaws.{accepted}
+use Rattle.outline_file.specs.Lent.{lent-outline}
+use Rattle.outline_file.specs.Enough.{enough}
+use Rattle.listing.specs.declared.Heading.{Heading}
+use Rattle.listing.specs.Listing.{refusedListing, listing}
+use Rattle.listing.specs.Buffer.{Buffer, buffer, written}
+use Rattle.listing.specs.Fits.{listing-fits, written-front}
+use Rattle.file_listing.specs.Program.{programLent, headingOf, ranListing, outlineListing, programListing, Lists}
+
+-- ---- the buffer
+
+-- the same listing by another name
+pub lists-as : {l m before after : List ℕ} {n : ℕ} → l ≡ m → Lists l before after n → Lists m before after n
+lists-as {before = before} {after = after} {n = n} e = subst (λ (k : List ℕ). Lists k before after n) e
+
+within : (l before after : List ℕ) (n : ℕ) → buffer after n ≡ written l before → n ≤ length after
+unfolding written
+within l before after n e =
+    let cut = take (length before) l in
+    rw (ap (λ (b : Buffer). b .used) e, ap (λ (b : Buffer). b .bytes) e, length-append cut (drop (length cut) before)) (omega arith)
+
+pub lists-whole : {l before after : List ℕ} {n : ℕ} → buffer after n ≡ written l before → length l ≤ 117681 → Lists l before after n
+lists-whole {l} {before} {after} {n} e h =
+    let w = within l before after n e in
+    record { same = e; whole = λ room. written-front l before after n (omega arith) e; counts = (w, sym (length-take-le n after w)) }
+
+-- ---- the run
+
+-- the lists that are listed are as long as the program's
+pub record Long (l : Lent) : Type 0 where
+  pub xs : length (l .xs) ≡ 800
+  pub quads : length (l .quads) ≡ 3200
+  pub loops : length (l .loops) ≡ 800
+  pub lengths : length (l .lengths) ≡ 800
+
+module _ (o : Outline) (set : Settings) (r : Paved) (after : Lent) (p : Paves o set programLent r after) {h : Heading} (e : h ≡ headingOf r) where
+  abbrev listed : List ℕ
+  listed = listing (r .refusal) h (after .xs) (after .ys) (after .quads) (after .loops) (after .lengths)
+
+  listed-is : listed ≡ outlineListing o set
+  unfolding outlineListing ranListing
+  listed-is =
+      ap (λ (k : Heading). listing (r .refusal) k (after .xs) (after .ys) (after .quads) (after .loops) (after .lengths)) e
+      ∙ ap ranListing (p .equal)
+
+  pub run-listed : Long after → {s t : List ℕ} {n : ℕ} → buffer t n ≡ written listed s → Lists (outlineListing o set) s t n
+  run-listed long f =
+      lists-as listed-is
+      (lists-whole f
+      (listing-fits h (after .xs) (after .ys) (after .quads) (after .loops) (after .lengths) (r .refusal) (omega (arith, long .xs))
+      (omega (arith, long .quads)) (omega (arith, long .loops)) (omega (arith, long .lengths))))
+
+-- ---- the request
+
+-- what was read lies within the lists
+pub record Held (points : List Float) (lens : List ℕ) (head : Head) : Type 0 where
+  pub outer : head .outer ≤ head .points
+  pub few : head .points ≤ 248
+  pub some : 1 ≤ head .loops
+  pub loops : head .loops ≤ 8
+  pub point-places : length points ≡ 496
+  pub lens-places : length lens ≡ 8
+
+-- the outline that was read
+abbrev pub heldOutline : List Float → List ℕ → Head → Outline
+heldOutline points lens head =
+    outline (take (2 * head .outer) points) (take (2 * head .points - 2 * head .outer) (drop (2 * head .outer) points))
+    (take (head .loops - 1) (drop 1 lens))
+
+-- what a file asks for that isn't refused
+record Asked (q : Request) : Type 0 where
+  even : 2 * (length (q .coordinates) / 2) ≡ length (q .coordinates)
+  outer : 2 * getD (q .lengths) 0 0 ≤ length (q .coordinates)
+  few : length (q .coordinates) ≤ 496
+  some : 1 ≤ length (q .lengths)
+  loops : length (q .lengths) ≤ 8
+
+asked : (file : List ℕ) → fileRefusal file ≡ 0 → Asked (requestOf file)
+unfolding requestOf headPoints
+asked file e =
+    let h = blockAt file 0 in
+    let n = filePoints file in
+    let sound = accepted file e .head .sound in
+    let coordinates = tabulate-length (2 * n) (coordinateAt file) in
+    let lengths = tabulate-length (headLoops h) (headLength h) in
+    let first = tabulate-at (headLoops h) (headLength h) 0 0 (sound .some) in
+    let term = sum-term (headLength h) 0 (headLoops h) (sound .some) in
+    record {
+      even = omega (arith, coordinates);
+      outer = rw (first, coordinates) (omega arith);
+      few = omega (arith, coordinates, sound .points);
+      some = rw lengths (sound .some);
+      loops = rw lengths (sound .few);
+    }
+
+overlaid : {A : Type 0} (l s : List A) → length l ≤ length s → length (overlay l s) ≡ length s
+unfolding overlay
+overlaid l s h = omega (arith, length-append l (drop (length l) s), length-drop (length l) s)
+
+module _ (q : Request) (a : Asked q) (points : List Float) (lens : List ℕ) where
+  held : length points ≡ 496 → length lens ≡ 8 → Held (overlay (q .coordinates) points) (overlay (q .lengths) lens) (headOf q)
+  unfolding headOf
+  held long longs = record {
+    outer = omega (arith, a .even, a .outer);
+    few = omega (arith, a .few);
+    some = a .some;
+    loops = a .loops;
+    point-places = overlaid (q .coordinates) points (omega (arith, a .few)) ∙ long;
+    lens-places = overlaid (q .lengths) lens (omega (arith, a .loops)) ∙ longs;
+  }
+
+-- ---- what was read, by cases
+
+-- the listing of an answer of `read_file`
+abbrev pub readListing : FileAnswer → List Float → List ℕ → List ℕ
+readListing (Refused n) points lens = refusedListing n
+readListing (Read head) points lens = outlineListing (heldOutline points lens head) (head .settings)
+
+-- what it tells of the lists
+abbrev pub Told : FileAnswer → List Float → List ℕ → Type 0
+Told (Refused n) points lens = n ≡ 0 → ⊥
+Told (Read head) points lens = Held points lens head
+
+module _ (file : List ℕ) (points : List Float) (lens : List ℕ) where
+  listing-read : let r = readFile file points lens in readListing (r .answer) (r .points) (r .lens) ≡ programListing file
+  unfolding readFile programListing headOf
+  listing-read = go (fileRefusal file) refl
+    where
+      q : Request
+      q = requestOf file
+
+      go : (n : ℕ) → fileRefusal file ≡ n
+          → readListing (readAs n q points lens .answer) (readAs n q points lens .points) (readAs n q points lens .lens)
+          ≡ answerBy refusedListing (outlineListing (outlineOf q) (q .settings)) n
+      go zero e = ap (λ (o : Outline). outlineListing o (q .settings)) (lent-outline file e points lens)
+      go (suc n) e = refl
+
+  told-read : length points ≡ 496 → length lens ≡ 8 → let r = readFile file points lens in Told (r .answer) (r .points) (r .lens)
+  unfolding readFile
+  told-read long longs = go (fileRefusal file) refl
+    where
+      q : Request
+      q = requestOf file
+
+      go : (n : ℕ) → fileRefusal file ≡ n → Told (readAs n q points lens .answer) (readAs n q points lens .points) (readAs n q points lens .lens)
+      go zero e = held q (asked file e) points lens long longs
+      go (suc n) e = λ z. absurd (omega arith)
+
+  -- what the code has in hand: the answer r of `read_file`, which is one of the two cases
+  module _ {r : FileAnswer} {points′ : List Float} {lens′ : List ℕ} (e : reading r points′ lens′ ≡ readFile file points lens) {answer : FileAnswer}
+      (case : r ≡ answer) where
+    same : reading answer points′ lens′ ≡ readFile file points lens
+    same = ap (λ (a : FileAnswer). reading a points′ lens′) (sym case) ∙ e
+
+    pub read-listed : readListing answer points′ lens′ ≡ programListing file
+    read-listed = ap (λ (r : Reading). readListing (r .answer) (r .points) (r .lens)) same ∙ listing-read
+
+    pub read-told : length points ≡ 496 → length lens ≡ 8 → Told answer points′ lens′
+    read-told long longs = subst (λ (r : Reading). Told (r .answer) (r .points) (r .lens)) (sym same) (told-read long longs)
+
+-- ---- a refusal
+
+pub refused-listed : {number : ℕ} → (number ≡ 0 → ⊥) → {s t : List ℕ} {n : ℕ} → buffer t n ≡ written (refusedListing number) s
+    → Lists (refusedListing number) s t n
+unfolding listing
+refused-listed {number} h e = lists-whole e (short number h)
+  where
+    none : Heading
+    none = record { nodes = 0; quads = 0; front = 0; end = 0; loops = 0 }
+
+    short : (number : ℕ) → (number ≡ 0 → ⊥) → length (refusedListing number) ≤ 117681
+    short zero h = absurd (h refl)
+    short (suc n) h = listing-fits none [] [] [] [] [] (suc n) (omega arith) (omega arith) (omega arith) (omega arith)
+
+-- ---- endless input
+
+pub start-decides : (file : List ℕ) → programListing (take 4609 file) ≡ programListing file
+start-decides file =
+    sym (listing-read (take 4609 file) [] [])
+    ∙ ap (λ (r : Reading). readListing (r .answer) (r .points) (r .lens)) (enough file [] [])
+    ∙ listing-read file [] []

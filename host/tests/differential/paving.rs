@@ -1,0 +1,455 @@
+//! Whole runs: nodes, quads, edges, front, loops, counts, end and field, every bit; and the exact books of each run.
+//!
+//! Each outline is paved with ample space, and again with space chosen from what that run used: exactly enough, one place short,
+//! any number short; and with other passes. SITJORBE_OUTLINES says how many outlines of each kind, SITJORBE_SEED which ones.
+
+use std::collections::BTreeMap;
+use std::env;
+
+use oracle::generate::Case;
+use oracle::patched::{front, pave_again, Field};
+use oracle::terms::{self, Run};
+use sitjorbe::{End, Mesh, Places, Refusal, Settings, OFF};
+
+use crate::cases::{self, Needs, Rng, Setting};
+use crate::common::book::{self, Answered, Sampled};
+use crate::common::{bits, used, Drawing, Lent, RunPlaces};
+
+/// Enough for most outlines that are generated.
+const AMPLE: Places = Places { field_nodes: 2_500, nodes: 1_500, quads: 1_500, edges: 4_500 };
+
+/// All that a run answers, floats as bits.
+#[derive(Debug, PartialEq)]
+struct Outcome {
+    end: String,
+    whole: bool,
+    grid: [u64; 5],
+    values: Vec<u64>,
+    marks: Vec<u8>,
+    nodes: Vec<[u64; 2]>,
+    quads: Vec<[usize; 4]>,
+    edges: Vec<(usize, usize)>,
+    front: Vec<(usize, usize)>,
+    loops: Vec<Vec<usize>>,
+    /// Nodes, quads, edges and front edges.
+    counts: [usize; 4],
+}
+
+impl Outcome {
+    fn of_library(mesh: &Mesh<'_>) -> Outcome {
+        let pair = |[u, v]: [u32; 2]| (u as usize, v as usize);
+        let record = mesh.record();
+        let (values, marks) = mesh.field();
+        let mut edges: Vec<(usize, usize)> = mesh.edges().map(pair).collect();
+        edges.sort_unstable();
+        Outcome {
+            end: mesh.end().to_string(),
+            whole: mesh.is_whole(),
+            grid: grid([record.xmin, record.ymin, record.h], [record.nx as u64, record.ny as u64]),
+            values: bits(values),
+            marks: marks.to_vec(),
+            nodes: mesh.nodes().map(|node| node.map(f64::to_bits)).collect(),
+            quads: mesh.quads().map(|quad| quad.map(|id| id as usize)).collect(),
+            edges,
+            front: mesh.front().map(pair).collect(),
+            loops: ids(mesh),
+            counts: [mesh.node_count(), mesh.quad_count(), mesh.edge_count(), mesh.front_count()],
+        }
+    }
+
+    fn of_oracle(run: Run, field: &Field) -> Outcome {
+        let record = field.record();
+        Outcome {
+            end: run.end.name().to_string(),
+            whole: run.whole(),
+            grid: grid([record.xmin, record.ymin, record.h], [record.nx, record.ny]),
+            values: bits(field.values().as_flattened()),
+            marks: field.marks().iter().map(|&mark| u8::from(mark)).collect(),
+            nodes: run.nodes.iter().map(|node| node.map(f64::to_bits)).collect(),
+            counts: [run.nodes.len(), run.quads.len(), run.edges.len(), run.front.len()],
+            quads: run.quads,
+            edges: run.edges,
+            front: run.front,
+            loops: run.loops,
+        }
+    }
+
+    /// The names of the parts that differ.
+    fn differences(&self, other: &Outcome) -> Vec<&'static str> {
+        let parts = [
+            ("end", self.end == other.end),
+            ("whole", self.whole == other.whole),
+            ("grid", self.grid == other.grid),
+            ("values", self.values == other.values),
+            ("marks", self.marks == other.marks),
+            ("nodes", self.nodes == other.nodes),
+            ("quads", self.quads == other.quads),
+            ("edges", self.edges == other.edges),
+            ("front", self.front == other.front),
+            ("loops", self.loops == other.loops),
+            ("counts", self.counts == other.counts),
+        ];
+        parts.into_iter().filter(|(_, same)| !same).map(|(name, _)| name).collect()
+    }
+}
+
+fn grid([xmin, ymin, h]: [f64; 3], [nx, ny]: [u64; 2]) -> [u64; 5] {
+    [xmin.to_bits(), ymin.to_bits(), h.to_bits(), nx, ny]
+}
+
+fn ids(mesh: &Mesh<'_>) -> Vec<Vec<usize>> {
+    mesh.front_loops().map(|ids| ids.iter().map(|&id| id as usize).collect()).collect()
+}
+
+/// What the books are closed with.
+fn answered(mesh: &Mesh<'_>) -> Answered {
+    Answered {
+        nodes: mesh.nodes().collect(),
+        quads: mesh.quads().map(|quad| quad.map(|id| id as usize)).collect(),
+        next: mesh.links().0.iter().map(|&next| (next != OFF).then_some(next as usize)).collect(),
+        front: mesh.front_count(),
+        loops: ids(mesh),
+    }
+}
+
+/// Whether `prev` undoes `next`, and holds nothing else.
+fn links_agree(mesh: &Mesh<'_>) -> bool {
+    let (next, prev) = mesh.links();
+    let mut expected = vec![OFF; next.len()];
+    for [u, v] in mesh.front() {
+        expected[v as usize] = u;
+    }
+    prev == expected
+}
+
+/// An outline with settings, put to both; the oracle's field and the sampled outline are made once.
+struct Asked {
+    drawing: Drawing,
+    settings: Settings,
+    field: Option<Field>,
+    sampled: Option<Sampled>,
+}
+
+impl Asked {
+    fn new(drawing: Drawing, settings: Settings) -> Asked {
+        Asked { drawing, settings, field: None, sampled: None }
+    }
+
+    fn outline(drawing: &Drawing) -> terms::Outline<'_> {
+        let Drawing { outer, holes, hole_lengths } = drawing;
+        terms::Outline { outer, holes, hole_lengths }
+    }
+
+    fn of_oracle(&mut self, places: &Places) -> Result<Run, u32> {
+        let Settings { size, sweeps, passes } = self.settings;
+        let settings = terms::Settings { size, sweeps: sweeps as u64, passes: passes as u64 };
+        let run = pave_again(Asked::outline(&self.drawing), settings, &lent(places), &mut self.field);
+        run.map_err(|refusal| u32::from(refusal.0))
+    }
+
+    /// The outline as the reference's `from_boundary` samples it.
+    fn sampled(&mut self) -> &Sampled {
+        let Asked { drawing, settings, sampled, .. } = self;
+        sampled.get_or_insert_with(|| {
+            let endless = Places { field_nodes: 0, nodes: usize::MAX, quads: 0, edges: usize::MAX };
+            let run = front(Asked::outline(drawing), settings.size, &lent(&endless)).expect("it was paved");
+            Sampled { nodes: run.nodes, edges: run.front, loops: 1 + drawing.hole_lengths.len() }
+        })
+    }
+
+    /// What is wrong with a run of the library, where the oracle's is this.
+    fn faults(&mut self, mesh: &Mesh<'_>, run: Run) -> Vec<String> {
+        let expected = Outcome::of_oracle(run, self.field.as_ref().expect("the run has made it"));
+        let mut faults: Vec<String> =
+            Outcome::of_library(mesh).differences(&expected).into_iter().map(String::from).collect();
+        if !links_agree(mesh) {
+            faults.push("prev".to_string());
+        }
+        faults.extend(book::check(self.sampled(), &answered(mesh)).err());
+        faults
+    }
+
+    /// What the run needs where space is ample, if it isn't refused.
+    fn needs(&mut self) -> Option<Needs> {
+        let run = self.of_oracle(&AMPLE).ok()?;
+        let field_nodes = self.field.as_ref().expect("the run has made it").marks().len();
+        let places = Places { field_nodes, nodes: run.nodes.len(), quads: run.quads.len(), edges: run.edges.len() };
+        Some(Needs { places, sampled: self.sampled().nodes.len() })
+    }
+}
+
+fn lent(places: &Places) -> terms::Lent {
+    let [field_nodes, nodes, quads, edges] =
+        [places.field_nodes, places.nodes, places.quads, places.edges].map(|count| count as u64);
+    terms::Lent { field_nodes, nodes, quads, edges }
+}
+
+/// What was asked, and how it was answered: ends and refusals by their names, each with its number of runs.
+#[derive(Default)]
+struct Tally {
+    outlines: usize,
+    answers: BTreeMap<String, usize>,
+    whole: usize,
+    nodes: usize,
+    quads: usize,
+    faults: Vec<String>,
+}
+
+impl Tally {
+    /// Puts a run to both, in lists of which the shortest have these places; `short` says what they are short of.
+    fn compare(&mut self, rng: &mut Rng, asked: &mut Asked, places: &Places, short: &str) {
+        let lengths = cases::lengths(rng, places);
+        let (lent, mut lists) = (Lent::new(&asked.drawing), RunPlaces::new(lengths));
+        let reference = asked.of_oracle(places);
+        let library = lists.pave(&lent.outline(), &asked.settings).map_err(Refusal::number);
+        let (answer, used, mut faults) = match (library, reference) {
+            (Ok(mesh), Ok(run)) => {
+                self.whole += usize::from(mesh.is_whole());
+                self.nodes += mesh.node_count();
+                self.quads += mesh.quad_count();
+                let full = mesh.end() == End::Full;
+                let answer = if full { format!("full ({short})") } else { mesh.end().to_string() };
+                (answer, used(&mesh), asked.faults(&mesh, run))
+            }
+            (library, reference) => {
+                let [library, reference] = [library.err(), reference.err()];
+                let fault = (library != reference).then(|| format!("refused {library:?}, not {reference:?}"));
+                (library.unwrap_or(0).to_string(), [0; 11], fault.into_iter().collect())
+            }
+        };
+        faults.extend(lists.written_past(used).iter().map(|name| format!("{name} written")));
+        if !lent.kept() {
+            faults.push("the outline written".to_string());
+        }
+        *self.answers.entry(answer).or_default() += 1;
+        let asked = || format!("{:?} {:?} {lengths:?}", asked.drawing, asked.settings);
+        self.faults.extend(faults.into_iter().map(|fault| format!("{fault}: {}", asked())));
+    }
+
+    /// An outline with ample space, with space of two kinds chosen from what it used, and with other passes.
+    fn outline(&mut self, rng: &mut Rng, mut asked: Asked) {
+        self.outlines += 1;
+        let Some(needs) = asked.needs() else {
+            return self.compare(rng, &mut asked, &AMPLE, "nothing");
+        };
+        for space in [1, self.outlines % cases::SPACES, rng.below(cases::SPACES)] {
+            let places = cases::places(rng, &needs, space);
+            self.compare(rng, &mut asked, &places, short(&places, &needs));
+        }
+        if self.outlines % 3 == 0 {
+            asked.settings.passes = cases::passes(rng);
+            let places = cases::places(rng, &needs, 1);
+            self.compare(rng, &mut asked, &places, "other passes");
+        }
+    }
+
+    /// Prints the figures; fails on a fault, or if one of these answers is rare.
+    fn finish(self, what: &str, expected: &[&str]) {
+        let Tally { outlines, answers, whole, nodes, quads, faults } = self;
+        let runs: usize = answers.values().sum();
+        let counts: Vec<String> = answers.iter().map(|(answer, count)| format!("{answer}: {count}")).collect();
+        println!(
+            "{what}: {outlines} outlines, {runs} runs with {nodes} nodes and {quads} quads; {}; whole {whole}; {} faults",
+            counts.join(", "),
+            faults.len()
+        );
+        assert!(faults.is_empty(), "{}", faults[..faults.len().min(5)].join("\n"));
+        for answer in expected {
+            assert!(answers.get(*answer).is_some_and(|&count| count >= outlines / 200), "{what}: {answer} is rare");
+        }
+    }
+}
+
+/// What these places are short of.
+fn short(places: &Places, needs: &Needs) -> &'static str {
+    let Needs { places: exact, .. } = needs;
+    match [places.nodes < exact.nodes, places.quads < exact.quads, places.edges < exact.edges] {
+        [false, false, false] => "nothing",
+        [true, false, false] => "nodes",
+        [false, true, false] => "quads",
+        [false, false, true] => "edges",
+        _ => "several",
+    }
+}
+
+fn number(variable: &str, usual: u64) -> u64 {
+    env::var(variable).map_or(usual, |text| text.parse().expect("a number"))
+}
+
+/// A generated outline of a kind. Seven in eight get few sweeps, since the field's time is most of a run's.
+fn generated(kind: &str, seed: u64, place: u64) -> Asked {
+    let Some(Case::Pave { drawing, settings, .. }) = Case::new(kind, seed, place) else {
+        panic!("the oracle generates outlines");
+    };
+    let terms::Drawing { outer, holes, hole_lengths } = drawing;
+    let terms::Settings { size, sweeps, passes } = settings;
+    let few = place % 8 != 0 && sweeps <= 1_000;
+    let sweeps = if few { sweeps.min(3) } else { sweeps };
+    let settings = Settings { size, sweeps: sweeps as usize, passes: passes as usize };
+    Asked::new(Drawing { outer, holes, hole_lengths }, settings)
+}
+
+fn runs(kind: &str, expected: &[&str]) {
+    let (outlines, seed) = (number("SITJORBE_OUTLINES", 2_000), number("SITJORBE_SEED", 1));
+    let (mut tally, mut rng) = (Tally::default(), Rng(seed));
+    for place in 0..outlines {
+        tally.outline(&mut rng, generated(kind, seed, place));
+    }
+    tally.finish(&format!("runs, {kind}"), expected);
+}
+
+/// The answers that each kind of outline must give often.
+const USUAL: [&str; 7] = ["still", "passes", "full (nodes)", "full (quads)", "full (edges)", "9", "10"];
+
+#[test]
+fn runs_of_visual_fields() {
+    runs("visual", &USUAL);
+}
+
+#[test]
+fn runs_on_whole_coordinates() {
+    runs("lattice", &USUAL);
+}
+
+#[test]
+fn runs_of_concave_outlines() {
+    runs("concave", &USUAL);
+}
+
+#[test]
+fn runs_of_outlines_that_cross_themselves() {
+    runs("crossing", &USUAL);
+}
+
+#[test]
+fn runs_round_several_holes() {
+    runs("holes", &USUAL);
+}
+
+#[test]
+fn runs_of_degenerate_outlines() {
+    runs("degenerate", &[&USUAL[..], &["2", "3", "4", "7"]].concat());
+}
+
+#[test]
+fn runs_of_all_sizes() {
+    runs("sizes", &[&USUAL[..], &["5", "6"]].concat());
+}
+
+#[test]
+fn runs_of_all_settings() {
+    runs("settings", &[&USUAL[..], &["8"]].concat());
+}
+
+#[test]
+fn runs_of_lists_that_do_not_fit() {
+    runs("lists", &["still", "passes", "1", "2"]);
+}
+
+#[test]
+fn runs_in_tight_places() {
+    runs("tight", &USUAL);
+}
+
+#[test]
+fn runs_of_hostile_outlines() {
+    let (mut tally, mut rng) = (Tally::default(), Rng(10 + number("SITJORBE_SEED", 1)));
+    for _ in 0..number("SITJORBE_OUTLINES", 2_000) {
+        let drawing = cases::field_drawing(&mut rng);
+        let Setting { size, sweeps, .. } = cases::setting(&mut rng, &drawing);
+        let (sweeps, passes) = (if sweeps <= 1_000 { sweeps.min(3) } else { sweeps }, cases::passes(&mut rng));
+        tally.outline(&mut rng, Asked::new(drawing, Settings { size, sweeps, passes }));
+    }
+    tally.finish("runs, hostile outlines", &["still", "passes", "1", "2", "3", "4", "5", "6", "7", "8", "9", "10"]);
+}
+
+/// A run with all the space it needs.
+fn roomy(tally: &mut Tally, rng: &mut Rng, drawing: Drawing, settings: Settings) {
+    let places = Places { field_nodes: 250_000, nodes: 70_000, quads: 4_000, edges: 70_000 };
+    tally.outlines += 1;
+    tally.compare(rng, &mut Asked::new(drawing, settings), &places, "nothing");
+}
+
+#[test]
+fn runs_of_many_nodes() {
+    let (mut tally, mut rng) = (Tally::default(), Rng(8));
+    for (place, (across, passes)) in [(45.0, 600), (60.0, 12), (50.0, 600), (80.0, 3)].into_iter().enumerate() {
+        let Asked { drawing, .. } = generated("visual", 2, place as u64);
+        let size = cases::extent(&drawing) / across;
+        roomy(&mut tally, &mut rng, drawing, Settings { size, sweeps: 2, passes });
+    }
+    for (points, passes) in [(65_535, 0), (65_534, 0), (3_001, 1)] {
+        let drawing = cases::large(&mut rng, points);
+        roomy(&mut tally, &mut rng, drawing, Settings { size: 100.0, sweeps: 0, passes });
+    }
+    tally.finish("runs of many nodes", &["still", "passes"]);
+}
+
+// --- what is compared is found to differ ---
+
+/// A run of the library, and what the oracle answers.
+fn example() -> (Outcome, Outcome, Sampled, Answered) {
+    let mut asked = generated("lattice", 1, 5);
+    let run = asked.of_oracle(&AMPLE).expect("it is accepted");
+    let reference = Outcome::of_oracle(run, asked.field.as_ref().expect("the run has made it"));
+    let mut lists = RunPlaces::new(cases::lengths(&mut Rng(9), &AMPLE));
+    let mesh = lists.pave(&asked.drawing.outline(), &asked.settings).expect("it is accepted");
+    (Outcome::of_library(&mesh), reference, asked.sampled().clone(), answered(&mesh))
+}
+
+/// One thing changed in each part of what is answered, in the order of the parts.
+const CHANGES: [(&str, fn(&mut Outcome)); 11] = [
+    ("end", |outcome| outcome.end = "full".to_string()),
+    ("whole", |outcome| outcome.whole = !outcome.whole),
+    ("grid", |outcome| outcome.grid[2] += 1),
+    ("values", |outcome| outcome.values[7] ^= 1),
+    ("marks", |outcome| outcome.marks[3] ^= 1),
+    ("nodes", |outcome| outcome.nodes[9][1] ^= 1),
+    ("quads", |outcome| outcome.quads[1].swap(0, 3)),
+    ("edges", |outcome| outcome.edges.truncate(8)),
+    ("front", |outcome| outcome.front[0].1 += 1),
+    ("loops", |outcome| outcome.loops.push(vec![1, 2, 3])),
+    ("counts", |outcome| outcome.counts[3] += 1),
+];
+
+#[test]
+fn differences_of_runs_are_found() {
+    let (library, reference, ..) = example();
+    assert!(library.differences(&reference).is_empty());
+    for (part, change) in CHANGES {
+        let (_, mut changed, ..) = example();
+        change(&mut changed);
+        assert_eq!(library.differences(&changed), [part]);
+    }
+}
+
+#[test]
+fn faults_in_the_books_of_runs_are_found() {
+    let (_, _, sampled, run) = example();
+    assert_eq!(book::check(&sampled, &run), Ok(()));
+    let spoilt = |spoil: &dyn Fn(&mut Answered)| {
+        let mut run = run.clone();
+        spoil(&mut run);
+        book::check(&sampled, &run).is_err()
+    };
+    let (nodes, quads) = (run.nodes.len(), run.quads.len());
+    assert!(quads >= 12, "{quads} quads are few");
+    for quad in 0..quads {
+        assert!(
+            spoilt(&|run| run.quads = [&run.quads[..quad], &run.quads[quad + 1..]].concat()),
+            "quad {quad} is dropped"
+        );
+        assert!(spoilt(&|run| run.quads.insert(quad, run.quads[quad])), "quad {quad} stands twice");
+        for (corner, id) in (0..4).flat_map(|corner| (0..nodes).map(move |id| (corner, id))) {
+            let same = run.quads[quad][corner] == id;
+            assert!(same || spoilt(&|run| run.quads[quad][corner] = id), "corner {corner} of quad {quad} is {id}");
+        }
+    }
+    for node in 0..nodes {
+        let other = if run.next[node].is_some() { None } else { Some(0) };
+        assert!(spoilt(&|run| run.next[node] = other), "the link of {node} is {other:?}");
+    }
+    for node in 0..sampled.nodes.len() {
+        assert!(spoilt(&|run| run.nodes[node][0] = run.nodes[node][0].next_up()), "node {node} is moved");
+    }
+}

@@ -1,0 +1,66 @@
+"""The built program: document 01's square, endless input, and generated files beside the oracle; and `tools/pave` over it."""
+
+import os
+import pathlib
+import subprocess
+import tempfile
+import unittest
+
+import common
+from common import ORACLE, ROOT, SQUARE, SQUARE_LISTING, TOOLS, ask, run
+
+PROGRAM = ROOT / "target/bin/pave"
+LONGEST = 4_608
+
+
+def printed(data):
+    """What the program prints for a file."""
+    return run(PROGRAM, data=data)[1].decode()
+
+
+@unittest.skipUnless(os.access(PROGRAM, os.X_OK), "the program isn't built")
+class Program(unittest.TestCase):
+    def test_the_square(self):
+        self.assertEqual(printed((ROOT / "crates/pave/stdin").read_bytes()), SQUARE_LISTING)
+
+    def test_endless_input_ends(self):
+        with subprocess.Popen(["yes"], stdout=subprocess.PIPE) as endless:
+            result = subprocess.run([PROGRAM], stdin=endless.stdout, capture_output=True, timeout=60)
+            endless.kill()
+        self.assertEqual(result.stdout, b"refused 12\n")
+        with open("/dev/zero", "rb") as zeros:
+            self.assertEqual(subprocess.run([PROGRAM], stdin=zeros, capture_output=True, timeout=60).stdout, b"refused 13\n")
+
+    def test_a_byte_too_many(self):
+        with tempfile.TemporaryDirectory() as folder:
+            points, outline = pathlib.Path(folder, "points.csv"), pathlib.Path(folder, "outline")
+            sides = [(k, 0) for k in range(62)] + [(62, k) for k in range(62)] + [(62 - k, 62) for k in range(62)] + [(0, 62 - k) for k in range(62)]
+            points.write_text("".join(f"{x},{y}\n" for x, y in sides))
+            self.assertEqual(run(TOOLS / "outline", points, "--size", "5", "-o", outline)[0], 0)
+            data = outline.read_bytes()
+        self.assertEqual(len(data), LONGEST)
+        self.assertRegex(printed(data), "^mesh ")
+        self.assertEqual(printed(data + b"\0"), "refused 13\n")
+
+    @unittest.skipUnless(common.oracle_there(), "the reference isn't here")
+    def test_generated_files_beside_the_oracle(self):
+        for kind in ("files", "damaged"):
+            for question in ask("gen", "3", "150", kind).splitlines():
+                if question.startswith("file"):
+                    data = bytes.fromhex(question.removeprefix("file"))
+                    self.assertEqual(printed(data), run(ORACLE, "pave", data=data)[1].decode(), question)
+
+    def test_points_to_a_picture(self):
+        with tempfile.TemporaryDirectory() as folder:
+            points, picture = pathlib.Path(folder, "square.csv"), pathlib.Path(folder, "square.svg")
+            points.write_text(SQUARE)
+            self.assertEqual(run(TOOLS / "pave", points, picture, "--size", "1"), (0, b"mesh 9 4 2 still whole\n", ""))
+            self.assertIn("<title>square</title>", picture.read_text())
+            picture.unlink()
+            status, said, wrong = run(TOOLS / "pave", points, picture, "--size", "0.001")
+            self.assertEqual((status, said, picture.exists()), (1, b"", False))
+            self.assertIn("refused (6)", wrong)
+
+
+if __name__ == "__main__":
+    unittest.main()

@@ -1,14 +1,13 @@
 -- Each check reads only the lists that its function is lent; so an attempt on a state is that on what `seenOf` keeps of it. Assumes nothing.
 use mathlib.Core.Path.{_≡_, refl, sym, _∙_}
-use mathlib.Core.Bool.{Bool, false, not, _&&_}
-use mathlib.Core.List.{List, []}
+use mathlib.Core.Bool.{Bool, not, _&&_}
+use mathlib.Core.List.{[]}
 use Prim.Native.Nat.{ℕ}
-use native.Mathlib.Omega.{arith}
 use lib.Dec.{eqb}
 use lib.Ieee.{Float}
 use Rattle.numbers.specs.Float.{_⊖_, _⊗_}
 use Rattle.domain.specs.declared.Point.{Point}
-use Rattle.domain.specs.Outline.{Outline, misshapen}
+use Rattle.domain.specs.Outline.{Outline}
 use Rattle.domain.specs.Queries.{contains}
 use Rattle.geometry.specs.declared.Key.{Key}
 use Rattle.geometry.specs.declared.Corners.{Corners}
@@ -18,13 +17,12 @@ use Rattle.crossfield.specs.Field.{FieldRecord, fieldRecord}
 use Rattle.crossfield.specs.Direction.{nearestDirection}
 use Rattle.front.specs.declared.Corner.{Corner}
 use Rattle.front.specs.declared.Corner.the-variants.{Reused, Fresh}
-use Rattle.front.specs.State.{State, nodePlaces, edgePlaces, node, nextOf, edgeFrom, edgeTo}
-use Rattle.front.specs.Sound.{Sound}
+use Rattle.front.specs.State.{State, node, nextOf, edgeFrom, edgeTo}
 use Rattle.front.specs.Place.{cornerPoint, idC, idD}
 use Rattle.paving.specs.Checks.{closeNode, tooClose, nodeOk, cornerFree, cornersApart, blocks, nodeInside}
 use Rattle.paving.specs.Checks.{crossesEdge, edgeCrosses, edgesFree, cornersOf, quadOk, quadFits}
 use Rattle.paving.specs.Attempt.{isReused, cornerAt, cornerC, cornerD, ideal, quadIf, attemptQuad, normalOf, tryToward, tryEdge}
-use Rattle.attempts.specs.Seen.{seen, seenOf, seenNodes, seenPoints, seenEdges, blocksAt, crossesAt, AttemptLent}
+use Rattle.attempts.specs.Seen.{seen, seenOf, seenNodes, seenPoints, seenEdges, blocksAt, crossesAt}
 
 -- ---- the tests of the scans, by what the code has at hand: r is the test's answer
 
@@ -168,17 +166,3 @@ try-seen s field o size a b =
     let da = nearestDirection field (node s a) normal in
     let db = nearestDirection field (node s b) normal in
     rw (attempt-seen s o size a b da db, attempt-seen s o size a b normal normal)
-
--- ---- what is asked holds of every state of a run
-
-pub lent-of : {n : ℕ} {s : State} {ls : List (List ℕ)} → Sound n s ls → (o : Outline) → misshapen o ≡ false
-    → AttemptLent o (s .next) (s .prev) (s .edges) (s .counts)
-unfolding nodePlaces edgePlaces
-lent-of {n} {s} sound o shape =
-    let nodes = sound .nodes-fit in
-    let edges = sound .edges-fit in
-    record {
-      quad = record { shape = shape; within = record { nodes-few = omega arith; edges-fit = omega arith } };
-      next-fit = omega arith;
-      prev-fit = omega arith;
-    }

@@ -12,10 +12,10 @@ use Rattle.attempts.proofs.edge_crosses.Statement.{statement}
 use Rattle.attempts.proofs.edge_crosses.Tie as tie
 
 abbrev Inv-loop : tie.InvT-loop
-Inv-loop size xs ys edges a b u v n bucket k l i₀ i = Scan (crossesEdge size (seenEdges xs ys edges (counted 0 0 0 0)) a b u v) n i
+Inv-loop size xs ys edges pool a b u v n bucket k l i₀ i = Scan (crossesEdge size (seenEdges xs ys edges (counted 0 0 0 0)) a b u v) n i
 
 abbrev μ-loop : tie.MeasureT-loop
-μ-loop size xs ys edges a b u v n bucket k l i₀ i = n - i
+μ-loop size xs ys edges pool a b u v n bucket k l i₀ i = n - i
 
 key-of-requires : tie.Need-key-of-requires Inv-loop μ-loop
 key-of-requires c κs = search needs
@@ -27,25 +27,25 @@ loop-holds : tie.Need-loop-holds Inv-loop μ-loop
 loop-holds c = scan-start _ _
 
 mul-crosses-at : tie.Need-mul-crosses-at Inv-loop μ-loop
-mul-crosses-at c = omega (arith, c .before .before .before .before .before .before .before .pre)
+mul-crosses-at c = omega (arith, c .before .before .before .before .before .before .before .before .pre .edges-fit)
 
 mul-crosses-at-2 : tie.Need-mul-crosses-at-2 Inv-loop μ-loop
-mul-crosses-at-2 c = omega (arith, c .before .before .before .before .before .before .before .pre)
+mul-crosses-at-2 c = omega (arith, c .before .before .before .before .before .before .before .before .pre .edges-fit)
 
 shared-slice-read-crosses-at : tie.Need-shared-slice-read-crosses-at Inv-loop μ-loop
-shared-slice-read-crosses-at c = omega (arith, c .before .before .before .before .before .before .before .before .pre)
+shared-slice-read-crosses-at c = omega (arith, c .before .before .before .before .before .before .before .before .before .pre .edges-fit)
 
 mul-crosses-at-3 : tie.Need-mul-crosses-at-3 Inv-loop μ-loop
-mul-crosses-at-3 c = omega (arith, c .before .before .before .before .before .before .before .before .pre)
+mul-crosses-at-3 c = omega (arith, c .before .before .before .before .before .before .before .before .before .pre .edges-fit)
 
 add-crosses-at : tie.Need-add-crosses-at Inv-loop μ-loop
-add-crosses-at c = omega (arith, c .before .before .before .before .before .before .before .before .pre)
+add-crosses-at c = omega (arith, c .before .before .before .before .before .before .before .before .before .pre .edges-fit)
 
 mul-crosses-at-4 : tie.Need-mul-crosses-at-4 Inv-loop μ-loop
-mul-crosses-at-4 c = omega (arith, c .before .before .before .before .before .before .before .before .pre)
+mul-crosses-at-4 c = omega (arith, c .before .before .before .before .before .before .before .before .before .pre .edges-fit)
 
 shared-slice-read-crosses-at-2 : tie.Need-shared-slice-read-crosses-at-2 Inv-loop μ-loop
-shared-slice-read-crosses-at-2 c = omega (arith, c .before .before .before .before .before .before .before .before .before .pre)
+shared-slice-read-crosses-at-2 c = omega (arith, c .before .before .before .before .before .before .before .before .before .before .pre .edges-fit)
 
 crosses-at-requires : tie.Need-crosses-at-requires Inv-loop μ-loop
 crosses-at-requires c κs = search needs
@@ -55,7 +55,7 @@ unfolding edgeCrosses
 returns c =
     let in-loop = c .before .before .before .before in
     let after-key-of = in-loop .before .before .before in
-    let start = after-key-of .before .before .before .before in
+    let start = after-key-of .before .before .before .before .before in
     let args = start .args in
     let s = seenEdges (args .xs .now) (args .ys .now) (args .edges .now) (args .counts) in
     scan-hit _ (in-loop .before .loop .inv) (in-loop .loop-test .taken)
@@ -63,7 +63,7 @@ returns c =
     (after-key-of .key-of .ensures) (in-loop .before .before .key-of2 .ensures) (c .before .crosses-at .ensures) ∙ c .if1 .taken)
 
 add-i : tie.Need-add-i Inv-loop μ-loop
-add-i c = omega (arith, c .before .before .before .before .before .before .before .before .before .before .before .pre)
+add-i c = omega (arith, c .before .before .before .before .before .before .before .before .before .before .before .before .pre .edges-fit)
 
 loop-less : tie.Need-loop-less Inv-loop μ-loop
 loop-less c = omega arith
@@ -72,7 +72,7 @@ loop-again : tie.Need-loop-again Inv-loop μ-loop
 loop-again c =
     let in-loop = c .before .before .before .before in
     let after-key-of = in-loop .before .before .before in
-    let start = after-key-of .before .before .before .before in
+    let start = after-key-of .before .before .before .before .before in
     let args = start .args in
     let s = seenEdges (args .xs .now) (args .ys .now) (args .edges .now) (args .counts) in
     scan-next _ (in-loop .before .loop .inv) (in-loop .loop-test .taken)

@@ -11,10 +11,10 @@ use Rattle.attempts.proofs.node_in_quad.Statement.{statement}
 use Rattle.attempts.proofs.node_in_quad.Tie as tie
 
 abbrev Inv-loop : tie.InvT-loop
-Inv-loop size xs ys p a b d c nodes low high id₀ id = Scan (blocks size (seenPoints xs ys) p a b d c) nodes id
+Inv-loop size xs ys pool p a b d c nodes low high id₀ id = Scan (blocks size (seenPoints xs ys) p a b d c) nodes id
 
 abbrev μ-loop : tie.MeasureT-loop
-μ-loop size xs ys p a b d c nodes low high id₀ id = nodes - id
+μ-loop size xs ys pool p a b d c nodes low high id₀ id = nodes - id
 
 lowest-requires : tie.Need-lowest-requires Inv-loop μ-loop
 lowest-requires c κs = search needs
@@ -42,7 +42,7 @@ unfolding nodeInside
 returns c =
     let in-loop = c .before .before .before in
     let after-highest = in-loop .before .before .before in
-    let start = after-highest .before .before .before .before .before in
+    let start = after-highest .before .before .before .before .before .before in
     let args = start .args in
     let s = seenPoints (args .xs .now) (args .ys .now) in
     scan-hit _ (in-loop .before .loop .inv) (in-loop .loop-test .taken)
@@ -53,8 +53,8 @@ returns c =
 add-id : tie.Need-add-id Inv-loop μ-loop
 add-id c =
     let in-loop = c .before .before .before in
-    let start = in-loop .before .before .before .before .before .before .before .before in
-    omega (arith, in-loop .loop-test .taken, start .good .1 .1 .1 .0)
+    let start = in-loop .before .before .before .before .before .before .before .before .before in
+    omega (arith, in-loop .loop-test .taken, start .good .1 .1 .1 .1 .0)
 
 loop-less : tie.Need-loop-less Inv-loop μ-loop
 loop-less c = omega arith
@@ -63,7 +63,7 @@ loop-again : tie.Need-loop-again Inv-loop μ-loop
 loop-again c =
     let in-loop = c .before .before .before in
     let after-highest = in-loop .before .before .before in
-    let start = after-highest .before .before .before .before .before in
+    let start = after-highest .before .before .before .before .before .before in
     let args = start .args in
     let s = seenPoints (args .xs .now) (args .ys .now) in
     scan-next _ (in-loop .before .loop .inv) (in-loop .loop-test .taken)

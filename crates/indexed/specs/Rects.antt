@@ -1,0 +1,36 @@
+-- Under which keys the nodes and edges of a state are filed, and the tests of its scans. Definitions only.
+use mathlib.Core.Bool.{Bool}
+use mathlib.Core.List.{List}
+use mathlib.Core.Path.{_≡_}
+use Prim.Native.Nat.{ℕ, _+_, _*_, _≤_}
+use lib.ListN.{length, getD}
+use lib.Ieee.{Float}
+use Rattle.domain.specs.declared.Point.{Point}
+use Rattle.geometry.specs.Keys.{isTooClose}
+use Rattle.index.specs.declared.Rect.{Rect}
+use Rattle.index.specs.Pool.{live, Indexed}
+use Rattle.index.specs.Rects.{nodeRect, edgeRect}
+use Rattle.front.specs.State.{nodeIn}
+
+-- node id
+abbrev pub nodeRects : Float → List Float → List Float → ℕ → Rect
+nodeRects size xs ys id = nodeRect size (nodeIn xs ys id)
+
+-- edge k
+abbrev pub edgeRects : Float → List Float → List Float → List ℕ → ℕ → Rect
+edgeRects size xs ys edges k = edgeRect size (nodeIn xs ys (getD edges (2 * k) 0)) (nodeIn xs ys (getD edges (2 * k + 1) 0))
+
+-- the nodes before `from` are filed, and there are more
+pub record NodesFiled (pool : List ℕ) (size : Float) (xs ys : List Float) (from to : ℕ) : Type 0 where
+  pub more : from ≤ to
+  pub filed : Indexed pool (nodeRects size xs ys) from
+
+-- the edges before `from` are filed, and there are more
+pub record EdgesFiled (pool : List ℕ) (size : Float) (xs ys : List Float) (edges : List ℕ) (from to : ℕ) : Type 0 where
+  pub more : from ≤ to
+  pub lent : 2 * to ≤ length edges
+  pub filed : Indexed pool (edgeRects size xs ys edges) from
+
+-- node id is too close to p
+abbrev pub closeAt : Float → List Float → List Float → Point → ℕ → Bool
+closeAt size xs ys p id = isTooClose size p (nodeIn xs ys id)

@@ -53,7 +53,9 @@ loop-holds c =
     let start = rect .before .before .before .before .before in
     let args = start .args in
     walk-start (start .pre .0) (start .pre .1)
-    (λ id less e. rw (rect .rect-around .ensures, rect .before .key-of .ensures) (close-meets (args .size) (args .p) (nodeIn (args .xs .now) (args .ys .now) id) e))
+    (λ id less e.
+    rw (rect .rect-around .ensures, rect .before .key-of .ensures)
+    (close-meets (args .size) (args .p) (nodeIn (args .xs .now) (args .ys .now) id) e))
     (c .first .ensures)
 
 is-over-requires : tie.Need-is-over-requires Inv-loop μ-loop

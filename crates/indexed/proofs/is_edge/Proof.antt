@@ -1,5 +1,5 @@
 -- `indexed::is_edge` meets its contract.
-use mathlib.Core.Path.{_∙_, sym, refl}
+use mathlib.Core.Path.{refl}
 use borrow.Author.Needs.{needs}
 use borrow.Author.Tests.{eq-eqb, ne-eqb}
 use Rattle.indexed.proofs.is_edge.Statement.{statement}

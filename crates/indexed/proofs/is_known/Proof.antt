@@ -1,5 +1,5 @@
 -- `indexed::is_known` meets its contract: what is left of the walk answers. Every edge that joins u and v has the rectangle of that edge, and u's key is in it.
-use mathlib.Core.Path.{_≡_, refl, sym, _∙_}
+use mathlib.Core.Path.{_≡_, sym, _∙_}
 use mathlib.Core.Bool.{true, false}
 use borrow.Author.Needs.{needs}
 use borrow.Author.Tests.{not-true, not-false}

@@ -191,7 +191,22 @@ fn settle<'a>(
     match attempt {
         Attempt::Nothing => Settled::Same,
         Attempt::Quad(c, d) => {
-            let placed = front::place(xs, ys, next, prev, snapshot, quads, edges, k, a, b, c, d);
+            let across = indexed::is_known_across(edge_pool, size, xs, ys, edges, k.edges, c, d);
+            let placed = front::place(
+                xs,
+                ys,
+                next,
+                prev,
+                snapshot,
+                quads,
+                edges,
+                k,
+                a,
+                b,
+                c,
+                d,
+                across,
+            );
             match placed {
                 Placed::Full => Settled::Over(End::Full, k),
                 Placed::Done(m) => {

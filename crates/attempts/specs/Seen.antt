@@ -1,23 +1,17 @@
 -- The part of a state that an attempt reads, as it is lent to the code, and what the code asks of it. Definitions only.
 use mathlib.Core.Path.{_≡_}
-use mathlib.Core.Bool.{Bool, false, not, _&&_}
+use mathlib.Core.Bool.{false}
 use mathlib.Core.List.{List, []}
 use Prim.Native.Nat.{ℕ, _*_, _≤_}
 use lib.ListN.{length}
 use lib.Ieee.{Float}
-use Rattle.domain.specs.declared.Point.{Point}
 use Rattle.domain.specs.Outline.{Outline, misshapen}
-use Rattle.geometry.specs.declared.Key.{Key}
-use Rattle.geometry.specs.declared.Corners.{Corners}
-use Rattle.geometry.specs.Plane.{pointInConvex, segmentsCross}
-use Rattle.geometry.specs.Keys.{inBoxAt, candidateAt}
 use Rattle.crossfield.specs.declared.Grid.{Grid}
 use Rattle.crossfield.specs.Places.{Lent}
 use Rattle.index.specs.Pool.{Indexed}
 use Rattle.front.specs.declared.Counts.{Counts}
-use Rattle.front.specs.State.{State, counted, nodeIn}
+use Rattle.front.specs.State.{State, counted}
 use Rattle.indexed.specs.Rects.{nodeRects, edgeRects}
-use Rattle.paving.specs.Checks.{isCorner, shareEnd}
 
 -- ---- states with the lists that are read, the others empty
 
@@ -40,19 +34,6 @@ seenPoints xs ys = seenNodes xs ys (counted 0 0 0 0)
 -- nodes and edges
 abbrev pub seenEdges : List Float → List Float → List ℕ → Counts → State
 seenEdges xs ys edges counts = seen xs ys [] [] edges counts
-
--- ---- the tests of the scans, with the query's keys at hand
-
--- `blocks` of the node q, where the quad's box has the keys low and high
-unfoldable pub blocksAt : Key → Key → Float → Corners → ℕ → ℕ → ℕ → ℕ → ℕ → Point → Bool
-blocksAt low high size p a b d c id q = inBoxAt low high size q && (not (isCorner a b d c id) && pointInConvex p q)
-
--- `crossesEdge` of the edge c to d, where a and b have the keys k and l
-unfoldable pub crossesAt : Key → Key → Float → List Float → List Float → Point → Point → ℕ → ℕ → ℕ → ℕ → Bool
-crossesAt k l size xs ys a b u v c d =
-    let p = nodeIn xs ys c in
-    let q = nodeIn xs ys d in
-    not (shareEnd c d u v) && (candidateAt k l size p q && segmentsCross a b p q)
 
 -- ---- what the code asks
 

@@ -12,17 +12,18 @@ use Rattle.domain.specs.Queries.{contains}
 use Rattle.geometry.specs.declared.Key.{Key}
 use Rattle.geometry.specs.declared.Corners.{Corners}
 use Rattle.geometry.specs.Plane.{norm, convexCcw, centroid}
-use Rattle.geometry.specs.Keys.{keyOf, edgeBucket, lowest, highest, clearance, isTooClose, tooCloseAt, isInBox, isCandidate}
+use Rattle.geometry.specs.Keys.{keyOf, clearance, isTooClose, tooCloseAt}
 use Rattle.crossfield.specs.Field.{FieldRecord, fieldRecord}
 use Rattle.crossfield.specs.Direction.{nearestDirection}
 use Rattle.front.specs.declared.Corner.{Corner}
 use Rattle.front.specs.declared.Corner.the-variants.{Reused, Fresh}
-use Rattle.front.specs.State.{State, node, nextOf, edgeFrom, edgeTo}
+use Rattle.front.specs.State.{State, node, nextOf}
 use Rattle.front.specs.Place.{cornerPoint, idC, idD}
+use Rattle.indexed.specs.Rects.{blocksAt}
 use Rattle.paving.specs.Checks.{closeNode, tooClose, nodeOk, cornerFree, cornersApart, blocks, nodeInside}
-use Rattle.paving.specs.Checks.{crossesEdge, edgeCrosses, edgesFree, cornersOf, quadOk, quadFits}
+use Rattle.paving.specs.Checks.{edgeCrosses, edgesFree, cornersOf, quadOk, quadFits}
 use Rattle.paving.specs.Attempt.{isReused, cornerAt, cornerC, cornerD, ideal, quadIf, attemptQuad, normalOf, tryToward, tryEdge}
-use Rattle.attempts.specs.Seen.{seen, seenOf, seenNodes, seenPoints, seenEdges, blocksAt, crossesAt}
+use Rattle.attempts.specs.Seen.{seen, seenOf, seenNodes, seenPoints, seenEdges}
 
 -- ---- the tests of the scans, by what the code has at hand: r is the test's answer
 
@@ -32,17 +33,9 @@ pub close-is : (size : Float) (s : State) (p : Point) (id : ℕ) {key : Key} {q 
 unfolding isTooClose
 close-is size s p id k e t = rw (← k, ← e) (sym t)
 
-pub blocks-is : (size : Float) (s : State) (p : Corners) (a b d c id : ℕ) {low high : Key} {l h q : Point} {r : Bool}
-    → l ≡ lowest p → low ≡ keyOf size l → h ≡ highest p → high ≡ keyOf size h → q ≡ node s id
-    → r ≡ blocksAt low high size p a b d c id q → blocks size s p a b d c id ≡ r
-unfolding isInBox blocksAt
-blocks-is size s p a b d c id el kl eh kh e t = rw (← el, ← kl, ← eh, ← kh, ← e) (sym t)
-
-pub crosses-is : (size : Float) (s : State) (a b : Point) (u v i : ℕ) {k l : Key} {r : Bool}
-    → k ≡ keyOf (edgeBucket size) a → l ≡ keyOf (edgeBucket size) b
-    → r ≡ crossesAt k l size (s .xs) (s .ys) a b u v (edgeFrom s i) (edgeTo s i) → crossesEdge size s a b u v i ≡ r
-unfolding isCandidate crossesAt
-crosses-is size s a b u v i ek el t = rw (← ek, ← el) (sym t)
+pub blocks-is : (size : Float) (s : State) (p : Corners) (a b d c id : ℕ) {q : Point} {r : Bool}
+    → q ≡ node s id → r ≡ blocksAt size p a b d c id q → blocks size s p a b d c id ≡ r
+blocks-is size s p a b d c id e t = rw (← e) (sym t)
 
 -- ---- what each function reads
 

@@ -11,10 +11,10 @@ ghost use Rattle.crossfield.specs.Field.{fieldRecord};
 ghost use Rattle.index.specs.Pool.{Indexed};
 ghost use Rattle.front.specs.Place.{added, cornerId, cornerPoint};
 ghost use Rattle.indexed.specs.Rects.{nodeRects};
-ghost use Rattle.paving.specs.Checks.{tooClose, nodeOk, cornerFree, cornersApart, isCorner, nodeInside, shareEnd};
+ghost use Rattle.paving.specs.Checks.{tooClose, nodeOk, cornerFree, cornersApart, nodeInside};
 ghost use Rattle.paving.specs.Checks.{edgeCrosses, sideCrosses, edgesFree, cornersOf, quadOk, quadFits};
 ghost use Rattle.paving.specs.Attempt.{isReused, cornerAt, ideal, attemptQuad, normalOf, tryToward, tryEdge};
-ghost use Rattle.attempts.specs.Seen.{seen, seenNodes, seenPoints, seenEdges, blocksAt, crossesAt};
+ghost use Rattle.attempts.specs.Seen.{seen, seenNodes, seenPoints, seenEdges};
 ghost use Rattle.attempts.specs.Seen.{NodesLent, EdgesIndexed, EdgesLent, QuadLent, AttemptLent, TryLent};
 use crossfield::Grid;
 use domain::Point;
@@ -23,7 +23,6 @@ use front::Corner;
 use front::Counts;
 use front::OFF;
 use geometry::Corners;
-use geometry::Key;
 use paving::Attempt;
 
 // ---- reading
@@ -153,48 +152,7 @@ pub fn corners_apart(size: f64, c: Corner, d: Corner) -> bool
 
 // ---- nodes inside the quad
 
-// Whether id is one of the corners a, b, d, c.
-fn is_corner(a: u32, b: u32, d: u32, c: u32, id: u32) -> bool
-    ensures { λ r. ⌜ r ≡ isCorner a b d c id ⌝ }
-{
-    if id == a {
-        return true;
-    }
-    if id == b {
-        return true;
-    }
-    if id == d {
-        return true;
-    }
-    id == c
-}
-
-// Whether the node q of number id, not a corner, lies in the quad p, whose box has the keys `low` and `high`.
-fn blocks_at(
-    low: Key,
-    high: Key,
-    size: f64,
-    p: Corners,
-    a: u32,
-    b: u32,
-    d: u32,
-    c: u32,
-    id: u32,
-    q: Point,
-) -> bool
-    ensures { λ r. ⌜ r ≡ blocksAt low high size p a b d c id q ⌝ }
-{
-    if geometry::in_box_at(low, high, size, q) {
-        if is_corner(a, b, d, c, id) {
-            return false;
-        }
-        geometry::point_in_convex(p, q)
-    } else {
-        false
-    }
-}
-
-// Whether some node other than the corners a, b, d, c lies in the quad p. A scan of all nodes.
+// Whether some node other than the corners a, b, d, c lies in the quad p: by a walk, as `too_close`.
 pub fn node_in_quad(
     size: f64,
     xs: &[f64],
@@ -211,22 +169,12 @@ pub fn node_in_quad(
     ensures { λ r. ⌜ r ≡ nodeInside size (seenNodes (now (xs .entry)) (now (ys .entry)) counts) p a b d c ⌝ }
 {
     let nodes = counts.nodes;
-    let low = geometry::key_of(size, geometry::lowest(p));
-    let high = geometry::key_of(size, geometry::highest(p));
+    if index::is_live(node_pool) {
+        return indexed::any_inside(node_pool, size, xs, ys, nodes, p, a, b, d, c);
+    }
     let mut id: u32 = 0;
     while id < nodes {
-        if blocks_at(
-            low,
-            high,
-            size,
-            p,
-            a,
-            b,
-            d,
-            c,
-            id,
-            front::node_at(xs, ys, id),
-        ) {
+        if indexed::blocks_at(size, p, a, b, d, c, id, front::node_at(xs, ys, id)) {
             return true;
         }
         id += 1;
@@ -236,51 +184,8 @@ pub fn node_in_quad(
 
 // ---- edges
 
-// Whether the edges c to d and u to v have an end in common.
-fn share_end(c: u32, d: u32, u: u32, v: u32) -> bool
-    ensures { λ r. ⌜ r ≡ shareEnd c d u v ⌝ }
-{
-    if c == u {
-        return true;
-    }
-    if c == v {
-        return true;
-    }
-    if d == u {
-        return true;
-    }
-    d == v
-}
-
-// Whether the edge c to d shares no end with the new edge a to b, whose ends are the nodes u and v and have the keys k and l, and crosses it.
-fn crosses_at(
-    k: Key,
-    l: Key,
-    size: f64,
-    xs: &[f64],
-    ys: &[f64],
-    a: Point,
-    b: Point,
-    u: u32,
-    v: u32,
-    c: u32,
-    d: u32,
-) -> bool
-    ensures { λ r. ⌜ r ≡ crossesAt k l size (now (xs .entry)) (now (ys .entry)) a b u v c d ⌝ }
-{
-    if share_end(c, d, u, v) {
-        return false;
-    }
-    let p = front::node_at(xs, ys, c);
-    let q = front::node_at(xs, ys, d);
-    if geometry::candidate_at(k, l, size, p, q) {
-        geometry::segments_cross(a, b, p, q)
-    } else {
-        false
-    }
-}
-
-// Whether some edge crosses the new edge a to b, whose ends are the nodes u and v. A scan of all edges.
+// Whether some edge crosses the new edge a to b, whose ends are the nodes u and v: by a walk of the pool of edges, and by a scan of all edges where it
+// isn't in use.
 pub fn edge_crosses(
     size: f64,
     xs: &[f64],
@@ -297,24 +202,12 @@ pub fn edge_crosses(
     ensures { λ r. ⌜ r ≡ edgeCrosses size (seenEdges (now (xs .entry)) (now (ys .entry)) (now (edges .entry)) counts) a b u v ⌝ }
 {
     let n = counts.edges;
-    let bucket = 2.0 * size;
-    let k = geometry::key_of(bucket, a);
-    let l = geometry::key_of(bucket, b);
+    if index::is_live(edge_pool) {
+        return indexed::any_crossing(edge_pool, size, xs, ys, edges, n, a, b, u, v);
+    }
     let mut i = 0;
     while i < n {
-        if crosses_at(
-            k,
-            l,
-            size,
-            xs,
-            ys,
-            a,
-            b,
-            u,
-            v,
-            edges[2 * i],
-            edges[2 * i + 1],
-        ) {
+        if indexed::crosses_at(size, xs, ys, a, b, u, v, edges[2 * i], edges[2 * i + 1]) {
             return true;
         }
         i += 1;

@@ -8,6 +8,7 @@ use lib.Dec.{leb, ltb}
 use lib.IntN.{ℤ, pos, negsuc, natAbs, subℕ, _+ℤ_, _-ℤ_, pos-+ℤ-pos}
 use lib.Signed.{leZ}
 use lib.Ieee.{Float}
+use Rattle.laws.specs.Tests.{both}
 use Rattle.domain.specs.declared.Point.{Point}
 use Rattle.geometry.specs.declared.Key.{Key}
 use Rattle.geometry.specs.declared.Corners.{Corners}
@@ -69,10 +70,6 @@ shifted-near (negsuc a) (pos (suc b)) = omega arith
 shifted-near (negsuc a) (negsuc b) = omega (arith, apart (suc b) (suc a))
 
 -- ---- rectangles that meet
-
-both : (a b : Bool) → a && b ≡ true → (a ≡ true) × (b ≡ true)
-both true b e = (refl, e)
-both false b e = absurd (true≢false (sym e))
 
 -- a key within two of k each way
 pub near-meets : (k l : Key) → nearKeys k l ≡ true → Meets (rectAt l) (rectAround k)
@@ -165,11 +162,24 @@ unfolding isInBox inBoxAt nodeRect
 box-meets size p q e = between-meets (keyOf size q) (keyOf size (lowest p)) (keyOf size (highest p)) e
 
 -- a candidate for the edge a to b
-pub candidate-meets : (size : Float) (a b c d : Point) → isCandidate size a b c d ≡ true
-    → Meets (edgeRect size c d) (rectOf (keyOf (edgeBucket size) a) (keyOf (edgeBucket size) b))
+pub candidate-meets : (size : Float) (a b c d : Point) → isCandidate size a b c d ≡ true → Meets (edgeRect size c d) (edgeRect size a b)
 unfolding isCandidate candidateAt edgeRect
 candidate-meets size a b c d e =
     let key = keyOf (edgeBucket size) in
-    let later = both (spansKept (key a) (key b)) _ e .1 in
-    let halves = both (spansKept (key c) (key d)) (rectanglesMeet (key a) (key b) (key c) (key d)) later in
-    rw (halves .0) (rectangles-meet (key a) (key b) (key c) (key d) (halves .1))
+    let query = both (spansKept (key a) (key b)) _ e in
+    let halves = both (spansKept (key c) (key d)) (rectanglesMeet (key a) (key b) (key c) (key d)) (query .1) in
+    rw (query .0, halves .0) (rectangles-meet (key a) (key b) (key c) (key d) (halves .1))
+
+-- an edge from c that is filed
+pub end-meets : (size : Float) (c d : Point) → spansKept (keyOf (edgeBucket size) c) (keyOf (edgeBucket size) d) ≡ true
+    → Meets (edgeRect size c d) (rectAt (keyOf (edgeBucket size) c))
+unfolding edgeRect rectOf rectAt
+end-meets size c d e =
+    let k = keyOf (edgeBucket size) c in
+    rw e
+    (record {
+      i = shifted (k .i);
+      j = shifted (k .j);
+      first = record { left = omega arith; right = omega arith; low = omega arith; high = omega arith };
+      second = record { left = omega arith; right = omega arith; low = omega arith; high = omega arith };
+    })

@@ -46,14 +46,23 @@ enum-told c = search needs
 enum-known-attempt : tie.Need-enum-known-attempt
 enum-known-attempt c = search needs
 
+is-known-across-requires : tie.Need-is-known-across-requires
+is-known-across-requires c κs =
+    let at-edge-attempt = c .before .before .before .before .before .before .before .before in
+    let at-shared-slice-known5 = at-edge-attempt .before .before .before .before .before .before .before .before .before .before .before .before in
+    let start = at-shared-slice-known5 .before .before .before .before .before .before .before .before .before in
+    (held _ _ _ _ (start .pre .0) .edges, start .pre .2 .edges-filed)
+
 place-requires : tie.Need-place-requires
 place-requires c κs =
-    let at-attempt = c .before .before .before .before .before .before .before in
+    let at-across = c .before .before .before .before .before .before in
+    let at-attempt = at-across .before .before .before .before .before .before in
     let at-edge-attempt = at-attempt .before .before .before in
     let at-shared-slice-known5 = at-edge-attempt .before .before .before .before .before .before .before .before .before .before .before .before in
     let start = at-shared-slice-known5 .before .before .before .before .before .before .before .before .before in
-    settle-ready (around start) (start .args .size) (field start) (lent start) (start .args .a) _
-    (at-edge-attempt .edge-attempt .ensures) _ _ (at-attempt .attempt .given .1) _ _ (start .pre .0)
+    let ready = settle-ready (around start) (start .args .size) (field start) (lent start) (start .args .a) _
+    (at-edge-attempt .edge-attempt .ensures) _ _ (at-attempt .attempt .given .1) _ _ (start .pre .0) in
+    (ready, at-across .is-known-across .ensures)
 
 enum-told-2 : tie.Need-enum-told-2
 enum-told-2 c = search needs
@@ -66,7 +75,8 @@ file-added-requires c κs =
     let at-placed = c .before .before .before .before .before .before in
     let at-slice-known9 = at-placed .before .before .before .before .before .before .before .before .before .before .before .before in
     let at-place = at-slice-known9 .before .before in
-    let at-attempt = at-place .before .before .before .before .before .before .before .before in
+    let at-across = at-place .before .before .before .before .before .before .before in
+    let at-attempt = at-across .before .before .before .before .before .before in
     let at-edge-attempt = at-attempt .before .before .before in
     let at-shared-slice-known5 = at-edge-attempt .before .before .before .before .before .before .before .before .before .before .before .before in
     let start = at-shared-slice-known5 .before .before .before .before .before .before .before .before .before in
@@ -138,7 +148,8 @@ returns-2 : tie.Need-returns-2
 returns-2 c =
     let at-slice-known9 = c .before .before .before .before .before .before .before .before .before .before .before .before in
     let at-place = at-slice-known9 .before .before in
-    let at-attempt = at-place .before .before .before .before .before .before .before .before in
+    let at-across = at-place .before .before .before .before .before .before .before in
+    let at-attempt = at-across .before .before .before .before .before .before in
     let at-edge-attempt = at-attempt .before .before .before in
     let at-shared-slice-known5 = at-edge-attempt .before .before .before .before .before .before .before .before .before .before .before .before in
     let start = at-shared-slice-known5 .before .before .before .before .before .before .before .before .before in
@@ -181,7 +192,8 @@ returns-3 c =
     let at-placed = at-file-added .before .before .before .before .before .before .before in
     let at-slice-known9 = at-placed .before .before .before .before .before .before .before .before .before .before .before .before in
     let at-place = at-slice-known9 .before .before in
-    let at-attempt = at-place .before .before .before .before .before .before .before .before in
+    let at-across = at-place .before .before .before .before .before .before .before in
+    let at-attempt = at-across .before .before .before .before .before .before in
     let at-edge-attempt = at-attempt .before .before .before in
     let at-shared-slice-known5 = at-edge-attempt .before .before .before .before .before .before .before .before .before .before .before .before in
     let start = at-shared-slice-known5 .before .before .before .before .before .before .before .before .before in (
@@ -200,6 +212,7 @@ settle-spec =
     shared-slice-read-b
     enum-told
     enum-known-attempt
+    is-known-across-requires
     place-requires
     enum-told-2
     enum-known-placed

@@ -1,7 +1,6 @@
 -- `indexed::any_close` meets its contract: what is left of the walk answers.
 use mathlib.Core.Path.{_≡_, sym, _∙_}
 use mathlib.Core.Bool.{false}
-use native.Mathlib.Omega.{arith}
 use borrow.Author.Needs.{needs}
 use borrow.Author.Tests.{not-true, not-false}
 use lib.ListN.{length}
@@ -53,7 +52,9 @@ loop-holds c =
     let start = rect .before .before .before .before .before in
     let args = start .args in
     walk-start (start .pre .0) (start .pre .1)
-    (λ id less e. rw (rect .rect-around .ensures, rect .before .key-of .ensures) (close-meets (args .size) (args .p) (nodeIn (args .xs .now) (args .ys .now) id) e))
+    (λ id less e.
+    rw (rect .rect-around .ensures, rect .before .key-of .ensures)
+    (close-meets (args .size) (args .p) (nodeIn (args .xs .now) (args .ys .now) id) e))
     (c .first .ensures)
 
 is-over-requires : tie.Need-is-over-requires Inv-loop μ-loop

@@ -1,8 +1,8 @@
--- `attempts::share_end` meets its contract. Assumes nothing.
+-- `indexed::is_corner` meets its contract. Assumes nothing.
 use mathlib.Core.Path.{refl}
 use borrow.Author.Tests.{eq-eqb, ne-eqb}
-use Rattle.attempts.proofs.share_end.Statement.{statement}
-use Rattle.attempts.proofs.share_end.Tie as tie
+use Rattle.indexed.proofs.is_corner.Statement.{statement}
+use Rattle.indexed.proofs.is_corner.Tie as tie
 
 returns : tie.Need-returns
 returns c = rw (eq-eqb _ _ (c .if1 .taken)) refl
@@ -16,5 +16,5 @@ returns-3 c = rw (ne-eqb _ _ (c .before .before .if1 .left), ne-eqb _ _ (c .befo
 returns-4 : tie.Need-returns-4
 returns-4 c = rw (ne-eqb _ _ (c .before .before .if1 .left), ne-eqb _ _ (c .before .if2 .left), ne-eqb _ _ (c .if3 .left)) refl
 
-pub share-end-spec : {M : Type 1} → statement M
-share-end-spec = tie.close (tie.spec returns returns-2 returns-3 returns-4)
+pub is-corner-spec : {M : Type 1} → statement M
+is-corner-spec = tie.close (tie.spec returns returns-2 returns-3 returns-4)

@@ -16,6 +16,7 @@ const USAGE: &str =
        oracle steps SEED COUNT KIND           pass by pass against one call of advance
        oracle fixed FOLDER                    writes the fixed list of the program `replay`
        oracle live SEED COUNT PROGRAM ..      the built program's listings beside the oracle's
+       oracle file SEED KIND PLACE            one of these files
 kinds: mixed";
 
 fn main() -> ExitCode {
@@ -65,6 +66,13 @@ fn command(words: &[&str], plain: bool) -> io::Result<bool> {
             None => return Ok(false),
         },
         ["fixed", folder] => writeln!(output, "{} files", fixed::write(Path::new(folder))?)?,
+        ["file", seed, kind, place] => match (seed.parse(), place.parse()) {
+            (Ok(seed), Ok(place)) => match live::file(kind, seed, place) {
+                Some(bytes) => output.write_all(&bytes)?,
+                None => return Ok(false),
+            },
+            _ => return Ok(false),
+        },
         ["live", seed, count, program @ ..] if !program.is_empty() => match (seed.parse(), count.parse()) {
             (Ok(seed), Ok(count)) => {
                 let found = live::compare(program, seed, count)?;

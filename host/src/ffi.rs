@@ -168,5 +168,9 @@ extern "C" {
         loops_len: usize,
         lengths: *mut u32,
         lengths_len: usize,
+        node_pool: *mut u32,
+        node_pool_len: usize,
+        edge_pool: *mut u32,
+        edge_pool_len: usize,
     ) -> PaveAnswer;
 }

@@ -41,6 +41,10 @@ pub struct Lists<'a> {
     pub loops: &'a mut [u32],
     /// The lengths of the listed loops; a place a node.
     pub lengths: &'a mut [u32],
+    /// For the run's own use: it files nodes there, so as not to search them all. With few places or none it takes longer, and answers the same.
+    pub node_pool: &'a mut [u32],
+    /// As `node_pool`, for edges.
+    pub edge_pool: &'a mut [u32],
 }
 
 /// What `next` and `prev` hold for a node off the front.
@@ -186,7 +190,7 @@ impl<'a> Mesh<'a> {
 
 /// Paves an outline with quads, in the lists lent.
 ///
-/// Places past those that the mesh counts keep their contents.
+/// Places past those that the mesh counts keep their contents, but in the pools.
 ///
 /// # Errors
 ///
@@ -253,6 +257,10 @@ pub fn pave_numbers(outline: &Outline<'_>, settings: &Settings, lists: &mut List
             lists.loops.len(),
             lists.lengths.as_mut_ptr(),
             lists.lengths.len(),
+            lists.node_pool.as_mut_ptr(),
+            lists.node_pool.len(),
+            lists.edge_pool.as_mut_ptr(),
+            lists.edge_pool.len(),
         )
     }
 }
@@ -270,6 +278,14 @@ pub struct Places {
     pub edges: usize,
 }
 
+impl Places {
+    /// Lengths of `node_pool` and `edge_pool` that are enough: eight numbers hold three places, a node takes one place, and an edge seldom
+    /// more than five.
+    pub fn pools(&self) -> [usize; 2] {
+        [4 * self.nodes, 16 * self.edges]
+    }
+}
+
 /// The lists of a run, owned, for one run after the other.
 #[derive(Clone, Debug)]
 pub struct Memory {
@@ -281,6 +297,8 @@ pub struct Memory {
     by_node: [Vec<u32>; 5],
     quads: Vec<u32>,
     edges: Vec<u32>,
+    /// `node_pool` and `edge_pool`.
+    pools: [Vec<u32>; 2],
 }
 
 impl Memory {
@@ -295,12 +313,14 @@ impl Memory {
             by_node: [(); 5].map(|()| vec![0; nodes]),
             quads: vec![0; 4 * quads],
             edges: vec![0; 2 * edges],
+            pools: places.pools().map(|length| vec![0; length]),
         }
     }
 
     /// The lists, to lend them.
     pub fn lists(&mut self) -> Lists<'_> {
         let [next, prev, snapshot, loops, lengths] = &mut self.by_node;
+        let [node_pool, edge_pool] = &mut self.pools;
         Lists {
             values: &mut self.values,
             marks: &mut self.marks,
@@ -313,6 +333,8 @@ impl Memory {
             edges: &mut self.edges,
             loops,
             lengths,
+            node_pool,
+            edge_pool,
         }
     }
 

@@ -95,16 +95,16 @@ fn a_field_is_written_and_read_within_its_lists() {
 fn the_guards_of_a_run_show_a_write() {
     let lengths = list_lengths(Places { field_nodes: 4, nodes: 5, quads: 6, edges: 7 });
     let nothing = RunPlaces::new(lengths);
-    assert_eq!(nothing.written_past([0; 11]), [""; 0]);
+    assert_eq!(nothing.written_past([0; 13]), [""; 0]);
     let mut places = RunPlaces::new(lengths);
     let Lists { values, marks, lengths: last, .. } = places.lists();
     (values[7], marks[0], last[4]) = (1.0, 1, 1);
-    assert_eq!(places.written_past([0; 11]), ["values", "marks", "lengths"]);
-    assert_eq!(places.written_past([8, 0, 0, 0, 0, 0, 0, 0, 0, 0, 4]), ["marks", "lengths"]);
-    assert_eq!(places.written_past([7, 1, 0, 0, 0, 0, 0, 0, 0, 0, 5]), ["values"]);
+    assert_eq!(places.written_past([0; 13]), ["values", "marks", "lengths"]);
+    assert_eq!(places.written_past([8, 0, 0, 0, 0, 0, 0, 0, 0, 0, 4, 0, 0]), ["marks", "lengths"]);
+    assert_eq!(places.written_past([7, 1, 0, 0, 0, 0, 0, 0, 0, 0, 5, 0, 0]), ["values"]);
 }
 
-/// The outline in read-only memory, and each of the eleven lists of a run, just as long as the run needs, in memory of its own
+/// The outline in read-only memory, and each of the thirteen lists of a run, just as long as the run needs, in memory of its own
 /// between pages that can't be touched: a run that ends still, runs that are full where a list is shorter, and refused ones.
 #[cfg(target_os = "linux")]
 #[test]
@@ -145,12 +145,12 @@ fn a_run_is_written_and_read_within_its_lists() {
 struct RunPages {
     floats: [pages::Pages<f64>; 3],
     marks: pages::Pages<u8>,
-    numbers: [pages::Pages<u32>; 7],
+    numbers: [pages::Pages<u32>; 9],
 }
 
 #[cfg(target_os = "linux")]
 impl RunPages {
-    fn new(lengths: [usize; 11], side: pages::Side) -> RunPages {
+    fn new(lengths: [usize; 13], side: pages::Side) -> RunPages {
         let [values, marks, xs, ys, numbers @ ..] = lengths;
         RunPages {
             floats: [values, xs, ys].map(|length| pages::Pages::writable(&vec![-7.5; length], side)),
@@ -161,9 +161,10 @@ impl RunPages {
 
     fn lists(&mut self) -> Lists<'_> {
         let [values, xs, ys] = self.floats.each_mut().map(pages::Pages::list_mut);
-        let [next, prev, snapshot, quads, edges, loops, lengths] = self.numbers.each_mut().map(pages::Pages::list_mut);
+        let [next, prev, snapshot, quads, edges, loops, lengths, node_pool, edge_pool] =
+            self.numbers.each_mut().map(pages::Pages::list_mut);
         let marks = self.marks.list_mut();
-        Lists { values, marks, xs, ys, next, prev, snapshot, quads, edges, loops, lengths }
+        Lists { values, marks, xs, ys, next, prev, snapshot, quads, edges, loops, lengths, node_pool, edge_pool }
     }
 }
 

@@ -143,7 +143,7 @@ fn a_run_ends_where_the_lists_are_full() {
     let square = Drawing::square(2.0);
     let mut memory = Memory::new(PROGRAM);
     let all: Vec<[u32; 4]> = memory.pave(&square.outline(), &USUAL).unwrap().quads().collect();
-    let ends = |lengths: [usize; 11], quads: usize, end: End, what: &str| {
+    let ends = |lengths: [usize; 13], quads: usize, end: End, what: &str| {
         let mut places = RunPlaces::new(lengths);
         let mesh = places.pave(&square.outline(), &USUAL).unwrap();
         assert_eq!((mesh.end(), mesh.quad_count()), (end, quads), "{what}");
@@ -206,12 +206,28 @@ fn memory_serves_one_run_after_the_other() {
     assert_eq!(said(&memory.pave(&ring.outline(), &USUAL).unwrap()), first);
 }
 
+/// Pools that are too short, that run out in the midst of a run, and that hold everything.
+#[test]
+fn a_mesh_does_not_depend_on_the_pools() {
+    let settings = Settings { size: 0.4, ..USUAL };
+    let expected = said(&Memory::new(PROGRAM).pave(&ring().outline(), &settings).unwrap());
+    for (node_pool, edge_pool) in [(0, 0), (3, 3), (4, 4), (100, 40), (40, 100), (500, 9_000), (4_000, 1_000)] {
+        let mut lengths = list_lengths(PROGRAM);
+        [lengths[11], lengths[12]] = [node_pool, edge_pool];
+        let mut places = RunPlaces::new(lengths);
+        let mesh = places.pave(&ring().outline(), &settings).unwrap();
+        assert_eq!(said(&mesh), expected, "pools of {node_pool} and {edge_pool}");
+        let used = used(&mesh);
+        assert_eq!(places.written_past(used), [""; 0], "pools of {node_pool} and {edge_pool}");
+    }
+}
+
 /// What is asked of a run.
 #[derive(Clone)]
 struct Asked {
     drawing: Drawing,
     settings: Settings,
-    lengths: [usize; 11],
+    lengths: [usize; 13],
 }
 
 /// A run of the ring that is refused for nothing.
@@ -236,7 +252,7 @@ impl Asked {
         assert_eq!((end, whole, [xmin, ymin, h].map(f64::to_bits), nodes), (0, false, [0; 3], 0), "{what}");
         assert_eq!([nx, ny, quads, edges, front, loops, ids], [0; 7], "{what}");
         assert!(lent.kept(), "{what}: the outline is written");
-        assert_eq!(places.written_past([0; 11]), [""; 0], "{what}");
+        assert_eq!(places.written_past([0; 13]), [""; 0], "{what}");
         let mut places = RunPlaces::new(self.lengths);
         let refusal = places.pave(&self.drawing.outline(), &self.settings).err();
         assert_eq!(refusal, Refusal::of_number(number), "{what}: through the wrapper");
@@ -295,7 +311,7 @@ fn the_shortest_list_counts() {
     let needed = list_lengths(Places { field_nodes: 49, nodes: 8, quads: 0, edges: 8 });
     let just = Asked { drawing: square(), settings: USUAL, lengths: needed };
     assert_eq!((just.raw().0.refusal, just.raw().0.end), (0, End::Full as u32));
-    let numbers = [9, 9, 10, 10, 10, 10, 10, 0, 10, 10, 10];
+    let numbers = [9, 9, 10, 10, 10, 10, 10, 0, 10, 10, 10, 0, 0];
     for (k, number) in numbers.into_iter().enumerate().filter(|(_, number)| *number != 0) {
         for length in [needed[k] - 1, 0] {
             let mut lengths = list_lengths(PROGRAM);

@@ -21,6 +21,8 @@ use Rattle.paving.specs.Advance.{withSnapshot}
 use Rattle.paving.specs.Reach.{Reaches, begin, snapshot, placed}
 use Rattle.books.specs.Answered.{answered}
 use Rattle.books.specs.Snapshot.{snapshot-frame, snapshot-sound}
+use Rattle.index.specs.Pool.{Indexed}
+use Rattle.indexed.specs.Rects.{nodeRects, edgeRects}
 use Rattle.attempts.specs.Seen.{TryLent}
 
 -- ---- definitions
@@ -74,6 +76,11 @@ module _ (o : Outline) (g : Grid) (values : List Float) where
         frame = frame-trans s t (place a b c d t) (L .frame) (S .frame);
       }
 
+  -- the state after a quad
+  pub later-placed : (s : State) → Paveable o g values s → (a b : ℕ) (c d : Corner) → Choice s a b c d → isFull s a b c d ≡ false
+      → Later o g values s (place a b c d s)
+  later-placed s P a b c d H full = place-later s s a b c d (record { paveable = P; frame = frame-same s }) H full
+
   -- a state that is reached
   pub reached-later : (size : Float) (s t : State) (k : ℕ) → Paveable o g values s → Reaches o size s k t → Later o g values s t
   reached-later size s t k P begin = record { paveable = P; frame = frame-same s }
@@ -106,12 +113,17 @@ module _ (o : Outline) (g : Grid) (values : List Float) (s : State) (P : Paveabl
         edges = omega (arith, S .edges-fit);
       }
 
-  pub try-lent : TryLent o g values (s .next) (s .prev) (s .edges) (s .counts)
-  try-lent =
+  pub try-lent : (size : Float) {node-pool edge-pool : List ℕ} → Indexed node-pool (nodeRects size (s .xs) (s .ys)) (s .counts .nodes)
+      → Indexed edge-pool (edgeRects size (s .xs) (s .ys) (s .edges)) (s .counts .edges)
+      → TryLent o g values size (s .xs) (s .ys) (s .next) (s .prev) (s .edges) node-pool edge-pool (s .counts)
+  try-lent size nodes edges =
       let L = held in
       record {
         attempt = record {
-          quad = record { shape = P .shape; within = record { nodes-few = L .few; edges-fit = L .edges } };
+          quad = record {
+            nodes = record { shape = P .shape; filed = nodes };
+            within = record { nodes-few = L .few; indexed = record { edges-fit = L .edges; filed = edges } };
+          };
           next-fit = L .next;
           prev-fit = L .prev;
         };

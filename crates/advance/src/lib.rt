@@ -1,18 +1,21 @@
 // The passes of the paving (src/alt_crossfield.rs): a pass over the front edges present at its start, and `advance` with its four ends.
-// All seven lists of a `Paving` are lent; the counts go in and come back by value.
+// All seven lists of a `Paving` are lent, and two pools in which its nodes and edges are filed, so that searches go by them; the counts go in and come
+// back by value.
 ghost use mathlib.Core.Path.{_≡_};
 ghost use mathlib.Core.Bool.{false};
 ghost use mathlib.Core.List.{[]};
-ghost use Prim.Native.Nat.{_≤_, _<_, min};
+ghost use Prim.Native.Nat.{_*_, _≤_, _<_, min};
 ghost use lib.ListN.{length};
 ghost use Rattle.laws.specs.Loop.{run};
 ghost use Rattle.domain.specs.Outline.{outline};
 ghost use Rattle.crossfield.specs.Field.{fieldRecord};
 ghost use Rattle.front.specs.State.{stateOf};
+ghost use Rattle.indexed.specs.Rects.{NodesFiled, EdgesFiled};
 ghost use Rattle.attempts.specs.Seen.{TryLent};
 ghost use Rattle.paving.specs.Advance.{copied, passing, passTurn, afterPass, pass, paved, advance};
 ghost use Rattle.advance.specs.Answers.{edgeAttempt, Settles, settledCounts, quadSettled, passed, passedCounts, passAnswer};
 ghost use Rattle.advance.specs.Paveable.{Paveable};
+ghost use Rattle.advance.specs.Searchable.{Searchable};
 use crossfield::Grid;
 use domain::Settings;
 use front::Counts;
@@ -69,10 +72,13 @@ fn edge_attempt<'a>(
     prev: &[u32],
     snapshot: &[u32],
     edges: &[u32],
+    node_pool: &[u32],
+    edge_pool: &[u32],
     k: Counts,
     a: u32,
 ) -> Attempt
-    requires { ⌜ TryLent (outline (now outer) (now holes) (now lens)) grid (now values) (now next) (now prev) (now edges) k × (a < length (now snapshot)) ⌝ }
+    requires { ⌜ TryLent (outline (now outer) (now holes) (now lens)) grid (now values) size (now xs) (now ys) (now next) (now prev) (now edges)
+        (now «node_pool») (now «edge_pool») k × (a < length (now snapshot)) ⌝ }
     ensures { λ r. ⌜ r ≡ edgeAttempt (outline (now (outer .entry)) (now (holes .entry)) (now (lens .entry))) size (fieldRecord grid (now (values .entry)) [])
         (stateOf (now (xs .entry)) (now (ys .entry)) (now (next .entry)) (now (prev .entry)) (now (snapshot .entry)) [] (now (edges .entry)) k) a ⌝ }
 {
@@ -95,6 +101,8 @@ fn edge_attempt<'a>(
         next,
         prev,
         edges,
+        node_pool,
+        edge_pool,
         k,
         a,
         b,
@@ -112,7 +120,26 @@ fn after_quad(m: Counts) -> Settled
     }
 }
 
-// Tries the snapshot's edge from node a, and places the quad that is answered.
+// Files what `m` counts and `k` doesn't.
+fn file_added(
+    size: f64,
+    xs: &[f64],
+    ys: &[f64],
+    edges: &[u32],
+    node_pool: &mut [u32],
+    edge_pool: &mut [u32],
+    k: Counts,
+    m: Counts,
+)
+    requires { ⌜ NodesFiled (now «node_pool») size (now xs) (now ys) (k .nodes) (m .nodes)
+        × EdgesFiled (now «edge_pool») size (now xs) (now ys) (now edges) (k .edges) (m .edges) ⌝ }
+    ensures { λ r. ⌜ Searchable size (now (xs .entry)) (now (ys .entry)) (now (edges .entry)) m (now («node_pool» .exit)) (now («edge_pool» .exit)) ⌝ }
+{
+    indexed::file_nodes(node_pool, size, xs, ys, k.nodes, m.nodes);
+    indexed::file_edges(edge_pool, size, xs, ys, edges, k.edges, m.edges);
+}
+
+// Tries the snapshot's edge from node a, and places and files the quad that is answered.
 fn settle<'a>(
     outer: &'a [f64],
     holes: &'a [f64],
@@ -127,16 +154,20 @@ fn settle<'a>(
     snapshot: &[u32],
     quads: &mut [u32],
     edges: &mut [u32],
+    node_pool: &mut [u32],
+    edge_pool: &mut [u32],
     k: Counts,
     a: u32,
 ) -> Settled
     requires { ⌜ Paveable (outline (now outer) (now holes) (now lens)) grid (now values)
-        (stateOf (now xs) (now ys) (now next) (now prev) (now snapshot) (now quads) (now edges) k) × (a < k .nodes) ⌝ }
+        (stateOf (now xs) (now ys) (now next) (now prev) (now snapshot) (now quads) (now edges) k) × (a < k .nodes)
+        × Searchable size (now xs) (now ys) (now edges) k (now «node_pool») (now «edge_pool») ⌝ }
     ensures { λ r. ⌜ Settles (outline (now (outer .entry)) (now (holes .entry)) (now (lens .entry))) size (fieldRecord grid (now (values .entry)) [])
         (stateOf (now (xs .entry)) (now (ys .entry)) (now (next .entry)) (now (prev .entry)) (now (snapshot .entry)) (now (quads .entry))
         (now (edges .entry)) k) a r
         (stateOf (now (xs .exit)) (now (ys .exit)) (now (next .exit)) (now (prev .exit)) (now (snapshot .entry)) (now (quads .exit)) (now (edges .exit))
-        (settledCounts k r)) ⌝ }
+        (settledCounts k r))
+        × Searchable size (now (xs .exit)) (now (ys .exit)) (now (edges .exit)) (settledCounts k r) (now («node_pool» .exit)) (now («edge_pool» .exit)) ⌝ }
 {
     let attempt = edge_attempt(
         outer,
@@ -151,6 +182,8 @@ fn settle<'a>(
         prev,
         snapshot,
         edges,
+        node_pool,
+        edge_pool,
         k,
         a,
     );
@@ -158,10 +191,28 @@ fn settle<'a>(
     match attempt {
         Attempt::Nothing => Settled::Same,
         Attempt::Quad(c, d) => {
-            let placed = front::place(xs, ys, next, prev, snapshot, quads, edges, k, a, b, c, d);
+            let across = indexed::is_known_across(edge_pool, size, xs, ys, edges, k.edges, c, d);
+            let placed = front::place(
+                xs,
+                ys,
+                next,
+                prev,
+                snapshot,
+                quads,
+                edges,
+                k,
+                a,
+                b,
+                c,
+                d,
+                across,
+            );
             match placed {
                 Placed::Full => Settled::Over(End::Full, k),
-                Placed::Done(m) => after_quad(m),
+                Placed::Done(m) => {
+                    file_added(size, xs, ys, edges, node_pool, edge_pool, k, m);
+                    after_quad(m)
+                }
             }
         }
     }
@@ -195,12 +246,15 @@ fn sweep<'a>(
     snapshot: &[u32],
     quads: &mut [u32],
     edges: &mut [u32],
+    node_pool: &mut [u32],
+    edge_pool: &mut [u32],
     k: Counts,
 ) -> Swept
     requires { ⌜ Paveable (outline (now outer) (now holes) (now lens)) grid (now values)
-        (stateOf (now xs) (now ys) (now next) (now prev) (now snapshot) (now quads) (now edges) k) ⌝ }
+        (stateOf (now xs) (now ys) (now next) (now prev) (now snapshot) (now quads) (now edges) k)
+        × Searchable size (now xs) (now ys) (now edges) k (now «node_pool») (now «edge_pool») ⌝ }
     ensures { λ r. ⌜
-        passed r
+        (passed r
         (stateOf (now (xs .exit)) (now (ys .exit)) (now (next .exit)) (now (prev .exit)) (now (snapshot .entry)) (now (quads .exit)) (now (edges .exit))
         (passedCounts r))
         ≡ run (k .nodes)
@@ -208,7 +262,8 @@ fn sweep<'a>(
         afterPass (passing
         (stateOf (now (xs .entry)) (now (ys .entry)) (now (next .entry)) (now (prev .entry)) (now (snapshot .entry)) (now (quads .entry))
         (now (edges .entry)) k)
-        false) ⌝ }
+        false))
+        × Searchable size (now (xs .exit)) (now (ys .exit)) (now (edges .exit)) (passedCounts r) (now («node_pool» .exit)) (now («edge_pool» .exit)) ⌝ }
 {
     let n = k.nodes;
     let mut j = k;
@@ -231,6 +286,8 @@ fn sweep<'a>(
             snapshot,
             quads,
             edges,
+            node_pool,
+            edge_pool,
             j,
             i,
         );
@@ -263,17 +320,21 @@ fn pass<'a>(
     snapshot: &mut [u32],
     quads: &mut [u32],
     edges: &mut [u32],
+    node_pool: &mut [u32],
+    edge_pool: &mut [u32],
     k: Counts,
 ) -> Swept
     requires { ⌜ Paveable (outline (now outer) (now holes) (now lens)) grid (now values)
-        (stateOf (now xs) (now ys) (now next) (now prev) (now snapshot) (now quads) (now edges) k) ⌝ }
+        (stateOf (now xs) (now ys) (now next) (now prev) (now snapshot) (now quads) (now edges) k)
+        × Searchable size (now xs) (now ys) (now edges) k (now «node_pool») (now «edge_pool») ⌝ }
     ensures { λ r. ⌜
-        passed r
+        (passed r
         (stateOf (now (xs .exit)) (now (ys .exit)) (now (next .exit)) (now (prev .exit)) (now (snapshot .exit)) (now (quads .exit)) (now (edges .exit))
         (passedCounts r))
         ≡ pass (outline (now (outer .entry)) (now (holes .entry)) (now (lens .entry))) size (fieldRecord grid (now (values .entry)) [])
         (stateOf (now (xs .entry)) (now (ys .entry)) (now (next .entry)) (now (prev .entry)) (now (snapshot .entry)) (now (quads .entry))
-        (now (edges .entry)) k) ⌝ }
+        (now (edges .entry)) k))
+        × Searchable size (now (xs .exit)) (now (ys .exit)) (now (edges .exit)) (passedCounts r) (now («node_pool» .exit)) (now («edge_pool» .exit)) ⌝ }
 {
     copy_links(next, snapshot, k.nodes);
     sweep(
@@ -290,11 +351,37 @@ fn pass<'a>(
         snapshot,
         quads,
         edges,
+        node_pool,
+        edge_pool,
         k,
     )
 }
 
 // ---- `advance`
+
+// Files all that `k` counts, in pools that hold nothing else.
+fn file_all(
+    size: f64,
+    xs: &[f64],
+    ys: &[f64],
+    edges: &[u32],
+    node_pool: &mut [u32],
+    edge_pool: &mut [u32],
+    k: Counts,
+)
+    requires { ⌜ 2 * k .edges ≤ length (now edges) ⌝ }
+    ensures { λ r. ⌜ Searchable size (now (xs .entry)) (now (ys .entry)) (now (edges .entry)) k (now («node_pool» .exit)) (now («edge_pool» .exit)) ⌝ }
+{
+    index::clear(node_pool);
+    index::clear(edge_pool);
+    let none = Counts {
+        nodes: 0,
+        quads: 0,
+        edges: 0,
+        front: 0,
+    };
+    file_added(size, xs, ys, edges, node_pool, edge_pool, none, k);
+}
 
 fn most_passes(passes: usize) -> usize
     ensures { λ r. ⌜ r ≡ min passes 600 ⌝ }
@@ -306,6 +393,7 @@ fn most_passes(passes: usize) -> usize
     }
 }
 
+// The pools are scratch: nothing is said of what they hold, before or after.
 // Pass after pass, until one places nothing, the cap is reached, the places lent are full, or as many are done as asked for, at most 600.
 pub fn advance<'a>(
     outer: &'a [f64],
@@ -321,6 +409,8 @@ pub fn advance<'a>(
     snapshot: &mut [u32],
     quads: &mut [u32],
     edges: &mut [u32],
+    node_pool: &mut [u32],
+    edge_pool: &mut [u32],
     k: Counts,
     passes: usize,
 ) -> Advanced
@@ -335,6 +425,7 @@ pub fn advance<'a>(
         (now (edges .entry)) k) ⌝ }
 {
     let most = most_passes(passes);
+    file_all(size, xs, ys, edges, node_pool, edge_pool, k);
     let mut counts = k;
     let mut i = 0;
     while i < most {
@@ -353,6 +444,8 @@ pub fn advance<'a>(
             snapshot,
             quads,
             edges,
+            node_pool,
+            edge_pool,
             counts,
         );
         match p {

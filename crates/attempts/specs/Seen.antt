@@ -1,21 +1,17 @@
 -- The part of a state that an attempt reads, as it is lent to the code, and what the code asks of it. Definitions only.
 use mathlib.Core.Path.{_≡_}
-use mathlib.Core.Bool.{Bool, false, not, _&&_}
+use mathlib.Core.Bool.{false}
 use mathlib.Core.List.{List, []}
 use Prim.Native.Nat.{ℕ, _*_, _≤_}
 use lib.ListN.{length}
 use lib.Ieee.{Float}
-use Rattle.domain.specs.declared.Point.{Point}
 use Rattle.domain.specs.Outline.{Outline, misshapen}
-use Rattle.geometry.specs.declared.Key.{Key}
-use Rattle.geometry.specs.declared.Corners.{Corners}
-use Rattle.geometry.specs.Plane.{pointInConvex, segmentsCross}
-use Rattle.geometry.specs.Keys.{inBoxAt, candidateAt}
 use Rattle.crossfield.specs.declared.Grid.{Grid}
 use Rattle.crossfield.specs.Places.{Lent}
+use Rattle.index.specs.Pool.{Indexed}
 use Rattle.front.specs.declared.Counts.{Counts}
-use Rattle.front.specs.State.{State, counted, nodeIn}
-use Rattle.paving.specs.Checks.{isCorner, shareEnd}
+use Rattle.front.specs.State.{State, counted}
+use Rattle.indexed.specs.Rects.{nodeRects, edgeRects}
 
 -- ---- states with the lists that are read, the others empty
 
@@ -39,38 +35,36 @@ seenPoints xs ys = seenNodes xs ys (counted 0 0 0 0)
 abbrev pub seenEdges : List Float → List Float → List ℕ → Counts → State
 seenEdges xs ys edges counts = seen xs ys [] [] edges counts
 
--- ---- the tests of the scans, with the query's keys at hand
-
--- `blocks` of the node q, where the quad's box has the keys low and high
-unfoldable pub blocksAt : Key → Key → Float → Corners → ℕ → ℕ → ℕ → ℕ → ℕ → Point → Bool
-blocksAt low high size p a b d c id q = inBoxAt low high size q && (not (isCorner a b d c id) && pointInConvex p q)
-
--- `crossesEdge` of the edge c to d, where a and b have the keys k and l
-unfoldable pub crossesAt : Key → Key → Float → List Float → List Float → Point → Point → ℕ → ℕ → ℕ → ℕ → Bool
-crossesAt k l size xs ys a b u v c d =
-    let p = nodeIn xs ys c in
-    let q = nodeIn xs ys d in
-    not (shareEnd c d u v) && (candidateAt k l size p q && segmentsCross a b p q)
-
 -- ---- what the code asks
 
--- the edges counted are lent, and two new nodes have numbers
-pub record EdgesLent (edges : List ℕ) (counts : Counts) : Type 0 where
-  pub nodes-few : counts .nodes ≤ 4294967294
-  pub edges-fit : 2 * counts .edges ≤ length edges
-
--- and the outline has its shape
-pub record QuadLent (o : Outline) (edges : List ℕ) (counts : Counts) : Type 0 where
+-- the outline has its shape, and the nodes counted are filed
+pub record NodesLent (o : Outline) (size : Float) (xs ys : List Float) (node-pool : List ℕ) (counts : Counts) : Type 0 where
   pub shape : misshapen o ≡ false
-  pub within : EdgesLent edges counts
+  pub filed : Indexed node-pool (nodeRects size xs ys) (counts .nodes)
+
+-- the first n edges are lent and filed
+pub record EdgesIndexed (size : Float) (xs ys : List Float) (edges edge-pool : List ℕ) (n : ℕ) : Type 0 where
+  pub edges-fit : 2 * n ≤ length edges
+  pub filed : Indexed edge-pool (edgeRects size xs ys edges) n
+
+-- the edges counted are, and two new nodes have numbers
+pub record EdgesLent (size : Float) (xs ys : List Float) (edges edge-pool : List ℕ) (counts : Counts) : Type 0 where
+  pub nodes-few : counts .nodes ≤ 4294967294
+  pub indexed : EdgesIndexed size xs ys edges edge-pool (counts .edges)
+
+-- and so are the nodes
+pub record QuadLent (o : Outline) (size : Float) (xs ys : List Float) (edges node-pool edge-pool : List ℕ) (counts : Counts) : Type 0 where
+  pub nodes : NodesLent o size xs ys node-pool counts
+  pub within : EdgesLent size xs ys edges edge-pool counts
 
 -- and the links of the nodes counted are lent
-pub record AttemptLent (o : Outline) (next prev edges : List ℕ) (counts : Counts) : Type 0 where
-  pub quad : QuadLent o edges counts
+pub record AttemptLent (o : Outline) (size : Float) (xs ys : List Float) (next prev edges node-pool edge-pool : List ℕ) (counts : Counts) : Type 0 where
+  pub quad : QuadLent o size xs ys edges node-pool edge-pool counts
   pub next-fit : counts .nodes ≤ length next
   pub prev-fit : counts .nodes ≤ length prev
 
 -- and so is the field
-pub record TryLent (o : Outline) (g : Grid) (values : List Float) (next prev edges : List ℕ) (counts : Counts) : Type 0 where
-  pub attempt : AttemptLent o next prev edges counts
+pub record TryLent (o : Outline) (g : Grid) (values : List Float) (size : Float) (xs ys : List Float) (next prev edges node-pool edge-pool : List ℕ)
+    (counts : Counts) : Type 0 where
+  pub attempt : AttemptLent o size xs ys next prev edges node-pool edge-pool counts
   pub field : Lent g values

@@ -1,30 +1,29 @@
 -- Each check reads only the lists that its function is lent; so an attempt on a state is that on what `seenOf` keeps of it. Assumes nothing.
 use mathlib.Core.Path.{_≡_, refl, sym, _∙_}
-use mathlib.Core.Bool.{Bool, false, not, _&&_}
-use mathlib.Core.List.{List, []}
+use mathlib.Core.Bool.{Bool, not, _&&_}
+use mathlib.Core.List.{[]}
 use Prim.Native.Nat.{ℕ}
-use native.Mathlib.Omega.{arith}
 use lib.Dec.{eqb}
 use lib.Ieee.{Float}
 use Rattle.numbers.specs.Float.{_⊖_, _⊗_}
 use Rattle.domain.specs.declared.Point.{Point}
-use Rattle.domain.specs.Outline.{Outline, misshapen}
+use Rattle.domain.specs.Outline.{Outline}
 use Rattle.domain.specs.Queries.{contains}
 use Rattle.geometry.specs.declared.Key.{Key}
 use Rattle.geometry.specs.declared.Corners.{Corners}
 use Rattle.geometry.specs.Plane.{norm, convexCcw, centroid}
-use Rattle.geometry.specs.Keys.{keyOf, edgeBucket, lowest, highest, clearance, isTooClose, tooCloseAt, isInBox, isCandidate}
+use Rattle.geometry.specs.Keys.{keyOf, clearance, isTooClose, tooCloseAt}
 use Rattle.crossfield.specs.Field.{FieldRecord, fieldRecord}
 use Rattle.crossfield.specs.Direction.{nearestDirection}
 use Rattle.front.specs.declared.Corner.{Corner}
 use Rattle.front.specs.declared.Corner.the-variants.{Reused, Fresh}
-use Rattle.front.specs.State.{State, nodePlaces, edgePlaces, node, nextOf, edgeFrom, edgeTo}
-use Rattle.front.specs.Sound.{Sound}
+use Rattle.front.specs.State.{State, node, nextOf}
 use Rattle.front.specs.Place.{cornerPoint, idC, idD}
+use Rattle.indexed.specs.Rects.{blocksAt}
 use Rattle.paving.specs.Checks.{closeNode, tooClose, nodeOk, cornerFree, cornersApart, blocks, nodeInside}
-use Rattle.paving.specs.Checks.{crossesEdge, edgeCrosses, edgesFree, cornersOf, quadOk, quadFits}
+use Rattle.paving.specs.Checks.{edgeCrosses, edgesFree, cornersOf, quadOk, quadFits}
 use Rattle.paving.specs.Attempt.{isReused, cornerAt, cornerC, cornerD, ideal, quadIf, attemptQuad, normalOf, tryToward, tryEdge}
-use Rattle.attempts.specs.Seen.{seen, seenOf, seenNodes, seenPoints, seenEdges, blocksAt, crossesAt, AttemptLent}
+use Rattle.attempts.specs.Seen.{seen, seenOf, seenNodes, seenPoints, seenEdges}
 
 -- ---- the tests of the scans, by what the code has at hand: r is the test's answer
 
@@ -34,17 +33,9 @@ pub close-is : (size : Float) (s : State) (p : Point) (id : ℕ) {key : Key} {q 
 unfolding isTooClose
 close-is size s p id k e t = rw (← k, ← e) (sym t)
 
-pub blocks-is : (size : Float) (s : State) (p : Corners) (a b d c id : ℕ) {low high : Key} {l h q : Point} {r : Bool}
-    → l ≡ lowest p → low ≡ keyOf size l → h ≡ highest p → high ≡ keyOf size h → q ≡ node s id
-    → r ≡ blocksAt low high size p a b d c id q → blocks size s p a b d c id ≡ r
-unfolding isInBox blocksAt
-blocks-is size s p a b d c id el kl eh kh e t = rw (← el, ← kl, ← eh, ← kh, ← e) (sym t)
-
-pub crosses-is : (size : Float) (s : State) (a b : Point) (u v i : ℕ) {k l : Key} {r : Bool}
-    → k ≡ keyOf (edgeBucket size) a → l ≡ keyOf (edgeBucket size) b
-    → r ≡ crossesAt k l size (s .xs) (s .ys) a b u v (edgeFrom s i) (edgeTo s i) → crossesEdge size s a b u v i ≡ r
-unfolding isCandidate crossesAt
-crosses-is size s a b u v i ek el t = rw (← ek, ← el) (sym t)
+pub blocks-is : (size : Float) (s : State) (p : Corners) (a b d c id : ℕ) {q : Point} {r : Bool}
+    → q ≡ node s id → r ≡ blocksAt size p a b d c id q → blocks size s p a b d c id ≡ r
+blocks-is size s p a b d c id e t = rw (← e) (sym t)
 
 -- ---- what each function reads
 
@@ -168,17 +159,3 @@ try-seen s field o size a b =
     let da = nearestDirection field (node s a) normal in
     let db = nearestDirection field (node s b) normal in
     rw (attempt-seen s o size a b da db, attempt-seen s o size a b normal normal)
-
--- ---- what is asked holds of every state of a run
-
-pub lent-of : {n : ℕ} {s : State} {ls : List (List ℕ)} → Sound n s ls → (o : Outline) → misshapen o ≡ false
-    → AttemptLent o (s .next) (s .prev) (s .edges) (s .counts)
-unfolding nodePlaces edgePlaces
-lent-of {n} {s} sound o shape =
-    let nodes = sound .nodes-fit in
-    let edges = sound .edges-fit in
-    record {
-      quad = record { shape = shape; within = record { nodes-few = omega arith; edges-fit = omega arith } };
-      next-fit = omega arith;
-      prev-fit = omega arith;
-    }

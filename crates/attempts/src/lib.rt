@@ -2,18 +2,20 @@
 // Lists are lent as a `Paving` holds them. A contract speaks of the state that has just the lists its function is lent (specs/Seen.antt);
 // the laws in specs/SeenLaws.antt carry it to a state with all of them. Each scan is one function.
 ghost use mathlib.Core.Path.{_≡_};
-ghost use mathlib.Core.Bool.{false};
 ghost use mathlib.Core.List.{[]};
-ghost use Prim.Native.Nat.{_+_, _*_, _≤_};
+ghost use Prim.Native.Nat.{_+_, _≤_};
 ghost use lib.ListN.{length};
 ghost use Rattle.topology.specs.Links.{linkOf};
-ghost use Rattle.domain.specs.Outline.{outline, misshapen};
+ghost use Rattle.domain.specs.Outline.{outline};
 ghost use Rattle.crossfield.specs.Field.{fieldRecord};
+ghost use Rattle.index.specs.Pool.{Indexed};
 ghost use Rattle.front.specs.Place.{added, cornerId, cornerPoint};
-ghost use Rattle.paving.specs.Checks.{tooClose, nodeOk, cornerFree, cornersApart, isCorner, nodeInside, shareEnd};
+ghost use Rattle.indexed.specs.Rects.{nodeRects};
+ghost use Rattle.paving.specs.Checks.{tooClose, nodeOk, cornerFree, cornersApart, nodeInside};
 ghost use Rattle.paving.specs.Checks.{edgeCrosses, sideCrosses, edgesFree, cornersOf, quadOk, quadFits};
 ghost use Rattle.paving.specs.Attempt.{isReused, cornerAt, ideal, attemptQuad, normalOf, tryToward, tryEdge};
-ghost use Rattle.attempts.specs.Seen.{seen, seenNodes, seenPoints, seenEdges, blocksAt, crossesAt, EdgesLent, QuadLent, AttemptLent, TryLent};
+ghost use Rattle.attempts.specs.Seen.{seen, seenNodes, seenPoints, seenEdges};
+ghost use Rattle.attempts.specs.Seen.{NodesLent, EdgesIndexed, EdgesLent, QuadLent, AttemptLent, TryLent};
 use crossfield::Grid;
 use domain::Point;
 use domain::Settings;
@@ -21,7 +23,6 @@ use front::Corner;
 use front::Counts;
 use front::OFF;
 use geometry::Corners;
-use geometry::Key;
 use paving::Attempt;
 
 // ---- reading
@@ -55,11 +56,22 @@ pub fn corner_point(xs: &[f64], ys: &[f64], c: Corner) -> Point
 
 // ---- new nodes
 
-// Whether some node is too close to p. A scan of all nodes.
-pub fn too_close(size: f64, xs: &[f64], ys: &[f64], counts: Counts, p: Point) -> bool
+// Whether some node is too close to p: by a walk of the pool of nodes, and by a scan of all nodes where it isn't in use.
+pub fn too_close(
+    size: f64,
+    xs: &[f64],
+    ys: &[f64],
+    node_pool: &[u32],
+    counts: Counts,
+    p: Point,
+) -> bool
+    requires { ⌜ Indexed (now «node_pool») (nodeRects size (now xs) (now ys)) (counts .nodes) ⌝ }
     ensures { λ r. ⌜ r ≡ tooClose size (seenNodes (now (xs .entry)) (now (ys .entry)) counts) p ⌝ }
 {
     let nodes = counts.nodes;
+    if index::is_live(node_pool) {
+        return indexed::any_close(node_pool, size, xs, ys, nodes, p);
+    }
     let radius = Settings::CLEARANCE * size;
     let radius2 = radius * radius;
     let key = geometry::key_of(size, p);
@@ -80,10 +92,11 @@ pub fn node_ok<'a>(
     size: f64,
     xs: &[f64],
     ys: &[f64],
+    node_pool: &[u32],
     counts: Counts,
     p: Point,
 ) -> bool
-    requires { ⌜ misshapen (outline (now outer) (now holes) (now lens)) ≡ false ⌝ }
+    requires { ⌜ NodesLent (outline (now outer) (now holes) (now lens)) size (now xs) (now ys) (now «node_pool») counts ⌝ }
     ensures { λ r. ⌜ r ≡ nodeOk (outline (now (outer .entry)) (now (holes .entry)) (now (lens .entry))) size
         (seenNodes (now (xs .entry)) (now (ys .entry)) counts) p ⌝ }
 {
@@ -96,7 +109,7 @@ pub fn node_ok<'a>(
     if !domain::contains_point(outer, holes, lens, p) {
         return false;
     }
-    !too_close(size, xs, ys, counts, p)
+    !too_close(size, xs, ys, node_pool, counts, p)
 }
 
 // Whether a new corner is inside and not too close to a node; nothing is asked of a reused one.
@@ -107,10 +120,11 @@ pub fn corner_free<'a>(
     size: f64,
     xs: &[f64],
     ys: &[f64],
+    node_pool: &[u32],
     counts: Counts,
     c: Corner,
 ) -> bool
-    requires { ⌜ misshapen (outline (now outer) (now holes) (now lens)) ≡ false ⌝ }
+    requires { ⌜ NodesLent (outline (now outer) (now holes) (now lens)) size (now xs) (now ys) (now «node_pool») counts ⌝ }
     ensures { λ r. ⌜ r ≡ cornerFree (outline (now (outer .entry)) (now (holes .entry)) (now (lens .entry))) size
         (seenNodes (now (xs .entry)) (now (ys .entry)) counts) c ⌝ }
 {
@@ -118,7 +132,7 @@ pub fn corner_free<'a>(
         return true;
     };
     let p = Point { x, y };
-    node_ok(outer, holes, lens, size, xs, ys, counts, p)
+    node_ok(outer, holes, lens, size, xs, ys, node_pool, counts, p)
 }
 
 // Whether two new corners are more than 0.45 × size apart.
@@ -138,52 +152,12 @@ pub fn corners_apart(size: f64, c: Corner, d: Corner) -> bool
 
 // ---- nodes inside the quad
 
-// Whether id is one of the corners a, b, d, c.
-fn is_corner(a: u32, b: u32, d: u32, c: u32, id: u32) -> bool
-    ensures { λ r. ⌜ r ≡ isCorner a b d c id ⌝ }
-{
-    if id == a {
-        return true;
-    }
-    if id == b {
-        return true;
-    }
-    if id == d {
-        return true;
-    }
-    id == c
-}
-
-// Whether the node q of number id, not a corner, lies in the quad p, whose box has the keys `low` and `high`.
-fn blocks_at(
-    low: Key,
-    high: Key,
-    size: f64,
-    p: Corners,
-    a: u32,
-    b: u32,
-    d: u32,
-    c: u32,
-    id: u32,
-    q: Point,
-) -> bool
-    ensures { λ r. ⌜ r ≡ blocksAt low high size p a b d c id q ⌝ }
-{
-    if geometry::in_box_at(low, high, size, q) {
-        if is_corner(a, b, d, c, id) {
-            return false;
-        }
-        geometry::point_in_convex(p, q)
-    } else {
-        false
-    }
-}
-
-// Whether some node other than the corners a, b, d, c lies in the quad p. A scan of all nodes.
+// Whether some node other than the corners a, b, d, c lies in the quad p: by a walk, as `too_close`.
 pub fn node_in_quad(
     size: f64,
     xs: &[f64],
     ys: &[f64],
+    node_pool: &[u32],
     counts: Counts,
     p: Corners,
     a: u32,
@@ -191,25 +165,16 @@ pub fn node_in_quad(
     d: u32,
     c: u32,
 ) -> bool
+    requires { ⌜ Indexed (now «node_pool») (nodeRects size (now xs) (now ys)) (counts .nodes) ⌝ }
     ensures { λ r. ⌜ r ≡ nodeInside size (seenNodes (now (xs .entry)) (now (ys .entry)) counts) p a b d c ⌝ }
 {
     let nodes = counts.nodes;
-    let low = geometry::key_of(size, geometry::lowest(p));
-    let high = geometry::key_of(size, geometry::highest(p));
+    if index::is_live(node_pool) {
+        return indexed::any_inside(node_pool, size, xs, ys, nodes, p, a, b, d, c);
+    }
     let mut id: u32 = 0;
     while id < nodes {
-        if blocks_at(
-            low,
-            high,
-            size,
-            p,
-            a,
-            b,
-            d,
-            c,
-            id,
-            front::node_at(xs, ys, id),
-        ) {
+        if indexed::blocks_at(size, p, a, b, d, c, id, front::node_at(xs, ys, id)) {
             return true;
         }
         id += 1;
@@ -219,84 +184,30 @@ pub fn node_in_quad(
 
 // ---- edges
 
-// Whether the edges c to d and u to v have an end in common.
-fn share_end(c: u32, d: u32, u: u32, v: u32) -> bool
-    ensures { λ r. ⌜ r ≡ shareEnd c d u v ⌝ }
-{
-    if c == u {
-        return true;
-    }
-    if c == v {
-        return true;
-    }
-    if d == u {
-        return true;
-    }
-    d == v
-}
-
-// Whether the edge c to d shares no end with the new edge a to b, whose ends are the nodes u and v and have the keys k and l, and crosses it.
-fn crosses_at(
-    k: Key,
-    l: Key,
-    size: f64,
-    xs: &[f64],
-    ys: &[f64],
-    a: Point,
-    b: Point,
-    u: u32,
-    v: u32,
-    c: u32,
-    d: u32,
-) -> bool
-    ensures { λ r. ⌜ r ≡ crossesAt k l size (now (xs .entry)) (now (ys .entry)) a b u v c d ⌝ }
-{
-    if share_end(c, d, u, v) {
-        return false;
-    }
-    let p = front::node_at(xs, ys, c);
-    let q = front::node_at(xs, ys, d);
-    if geometry::candidate_at(k, l, size, p, q) {
-        geometry::segments_cross(a, b, p, q)
-    } else {
-        false
-    }
-}
-
-// Whether some edge crosses the new edge a to b, whose ends are the nodes u and v. A scan of all edges.
+// Whether some edge crosses the new edge a to b, whose ends are the nodes u and v: by a walk of the pool of edges, and by a scan of all edges where it
+// isn't in use.
 pub fn edge_crosses(
     size: f64,
     xs: &[f64],
     ys: &[f64],
     edges: &[u32],
+    edge_pool: &[u32],
     counts: Counts,
     a: Point,
     b: Point,
     u: u32,
     v: u32,
 ) -> bool
-    requires { ⌜ 2 * counts .edges ≤ length (now edges) ⌝ }
+    requires { ⌜ EdgesIndexed size (now xs) (now ys) (now edges) (now «edge_pool») (counts .edges) ⌝ }
     ensures { λ r. ⌜ r ≡ edgeCrosses size (seenEdges (now (xs .entry)) (now (ys .entry)) (now (edges .entry)) counts) a b u v ⌝ }
 {
     let n = counts.edges;
-    let bucket = 2.0 * size;
-    let k = geometry::key_of(bucket, a);
-    let l = geometry::key_of(bucket, b);
+    if index::is_live(edge_pool) {
+        return indexed::any_crossing(edge_pool, size, xs, ys, edges, n, a, b, u, v);
+    }
     let mut i = 0;
     while i < n {
-        if crosses_at(
-            k,
-            l,
-            size,
-            xs,
-            ys,
-            a,
-            b,
-            u,
-            v,
-            edges[2 * i],
-            edges[2 * i + 1],
-        ) {
+        if indexed::crosses_at(size, xs, ys, a, b, u, v, edges[2 * i], edges[2 * i + 1]) {
             return true;
         }
         i += 1;
@@ -310,12 +221,13 @@ pub fn side_crosses(
     xs: &[f64],
     ys: &[f64],
     edges: &[u32],
+    edge_pool: &[u32],
     counts: Counts,
     c: Corner,
     id: u32,
     to: u32,
 ) -> bool
-    requires { ⌜ 2 * counts .edges ≤ length (now edges) ⌝ }
+    requires { ⌜ EdgesIndexed size (now xs) (now ys) (now edges) (now «edge_pool») (counts .edges) ⌝ }
     ensures { λ r. ⌜ r ≡ sideCrosses size (seenEdges (now (xs .entry)) (now (ys .entry)) (now (edges .entry)) counts) c id to ⌝ }
 {
     let Corner::Fresh(x, y) = c else {
@@ -327,6 +239,7 @@ pub fn side_crosses(
         xs,
         ys,
         edges,
+        edge_pool,
         counts,
         p,
         front::node_at(xs, ys, to),
@@ -341,26 +254,27 @@ pub fn edges_free(
     xs: &[f64],
     ys: &[f64],
     edges: &[u32],
+    edge_pool: &[u32],
     counts: Counts,
     a: u32,
     b: u32,
     c: Corner,
     d: Corner,
 ) -> bool
-    requires { ⌜ EdgesLent (now edges) counts ⌝ }
+    requires { ⌜ EdgesLent size (now xs) (now ys) (now edges) (now «edge_pool») counts ⌝ }
     ensures { λ r. ⌜ r ≡ edgesFree size (seenEdges (now (xs .entry)) (now (ys .entry)) (now (edges .entry)) counts) a b c d ⌝ }
 {
     let id_c = c.id(counts.nodes);
     let id_d = second_id(counts.nodes, c, d);
-    if side_crosses(size, xs, ys, edges, counts, c, id_c, a) {
+    if side_crosses(size, xs, ys, edges, edge_pool, counts, c, id_c, a) {
         return false;
     }
     let p = corner_point(xs, ys, c);
     let q = corner_point(xs, ys, d);
-    if edge_crosses(size, xs, ys, edges, counts, p, q, id_c, id_d) {
+    if edge_crosses(size, xs, ys, edges, edge_pool, counts, p, q, id_c, id_d) {
         return false;
     }
-    !side_crosses(size, xs, ys, edges, counts, d, id_d, b)
+    !side_crosses(size, xs, ys, edges, edge_pool, counts, d, id_d, b)
 }
 
 // ---- the quad
@@ -385,13 +299,16 @@ pub fn quad_ok<'a>(
     xs: &[f64],
     ys: &[f64],
     edges: &[u32],
+    node_pool: &[u32],
+    edge_pool: &[u32],
     counts: Counts,
     a: u32,
     b: u32,
     c: Corner,
     d: Corner,
 ) -> bool
-    requires { ⌜ QuadLent (outline (now outer) (now holes) (now lens)) (now edges) counts ⌝ }
+    requires { ⌜ QuadLent (outline (now outer) (now holes) (now lens)) size (now xs) (now ys)
+        (now edges) (now «node_pool») (now «edge_pool») counts ⌝ }
     ensures { λ r. ⌜ r ≡ quadOk (outline (now (outer .entry)) (now (holes .entry)) (now (lens .entry))) size
         (seenEdges (now (xs .entry)) (now (ys .entry)) (now (edges .entry)) counts) a b c d ⌝ }
 {
@@ -404,10 +321,10 @@ pub fn quad_ok<'a>(
     }
     let id_c = c.id(counts.nodes);
     let id_d = second_id(counts.nodes, c, d);
-    if node_in_quad(size, xs, ys, counts, p, a, b, id_d, id_c) {
+    if node_in_quad(size, xs, ys, node_pool, counts, p, a, b, id_d, id_c) {
         return false;
     }
-    edges_free(size, xs, ys, edges, counts, a, b, c, d)
+    edges_free(size, xs, ys, edges, edge_pool, counts, a, b, c, d)
 }
 
 // Every check of `attempt_quad`, in its order; the first that fails refuses the quad.
@@ -420,13 +337,16 @@ pub fn quad_fits<'a>(
     ys: &[f64],
     next: &[u32],
     edges: &[u32],
+    node_pool: &[u32],
+    edge_pool: &[u32],
     counts: Counts,
     a: u32,
     b: u32,
     c: Corner,
     d: Corner,
 ) -> bool
-    requires { ⌜ QuadLent (outline (now outer) (now holes) (now lens)) (now edges) counts × (counts .nodes ≤ length (now next)) ⌝ }
+    requires { ⌜ QuadLent (outline (now outer) (now holes) (now lens)) size (now xs) (now ys)
+        (now edges) (now «node_pool») (now «edge_pool») counts × (counts .nodes ≤ length (now next)) ⌝ }
     ensures { λ r. ⌜ r ≡ quadFits (outline (now (outer .entry)) (now (holes .entry)) (now (lens .entry))) size
         (seen (now (xs .entry)) (now (ys .entry)) (now (next .entry)) [] (now (edges .entry)) counts) a b c d ⌝ }
 {
@@ -435,10 +355,10 @@ pub fn quad_fits<'a>(
     if id_c == id_d {
         return false;
     }
-    if !corner_free(outer, holes, lens, size, xs, ys, counts, c) {
+    if !corner_free(outer, holes, lens, size, xs, ys, node_pool, counts, c) {
         return false;
     }
-    if !corner_free(outer, holes, lens, size, xs, ys, counts, d) {
+    if !corner_free(outer, holes, lens, size, xs, ys, node_pool, counts, d) {
         return false;
     }
     if !corners_apart(size, c, d) {
@@ -447,7 +367,22 @@ pub fn quad_fits<'a>(
     if link_at(next, counts.nodes, id_c) == id_d {
         return false;
     }
-    quad_ok(outer, holes, lens, size, xs, ys, edges, counts, a, b, c, d)
+    quad_ok(
+        outer,
+        holes,
+        lens,
+        size,
+        xs,
+        ys,
+        edges,
+        node_pool,
+        edge_pool,
+        counts,
+        a,
+        b,
+        c,
+        d,
+    )
 }
 
 // ---- the choice of corners
@@ -498,13 +433,16 @@ pub fn attempt_quad<'a>(
     next: &[u32],
     prev: &[u32],
     edges: &[u32],
+    node_pool: &[u32],
+    edge_pool: &[u32],
     counts: Counts,
     a: u32,
     b: u32,
     da: Point,
     db: Point,
 ) -> Attempt
-    requires { ⌜ AttemptLent (outline (now outer) (now holes) (now lens)) (now next) (now prev) (now edges) counts ⌝ }
+    requires { ⌜ AttemptLent (outline (now outer) (now holes) (now lens)) size (now xs) (now ys) (now next) (now prev)
+        (now edges) (now «node_pool») (now «edge_pool») counts ⌝ }
     ensures { λ r. ⌜ r ≡ attemptQuad (outline (now (outer .entry)) (now (holes .entry)) (now (lens .entry))) size
         (seen (now (xs .entry)) (now (ys .entry)) (now (next .entry)) (now (prev .entry)) (now (edges .entry)) counts) a b da db ⌝ }
 {
@@ -521,6 +459,8 @@ pub fn attempt_quad<'a>(
         ys,
         next,
         edges,
+        node_pool,
+        edge_pool,
         counts,
         a,
         b,
@@ -556,12 +496,15 @@ fn try_toward<'a>(
     next: &[u32],
     prev: &[u32],
     edges: &[u32],
+    node_pool: &[u32],
+    edge_pool: &[u32],
     counts: Counts,
     a: u32,
     b: u32,
     normal: Point,
 ) -> Attempt
-    requires { ⌜ TryLent (outline (now outer) (now holes) (now lens)) grid (now values) (now next) (now prev) (now edges) counts ⌝ }
+    requires { ⌜ TryLent (outline (now outer) (now holes) (now lens)) grid (now values) size (now xs) (now ys) (now next) (now prev)
+        (now edges) (now «node_pool») (now «edge_pool») counts ⌝ }
     ensures { λ r. ⌜ r ≡ tryToward (outline (now (outer .entry)) (now (holes .entry)) (now (lens .entry))) size
         (fieldRecord grid (now (values .entry)) [])
         (seen (now (xs .entry)) (now (ys .entry)) (now (next .entry)) (now (prev .entry)) (now (edges .entry)) counts) a b normal ⌝ }
@@ -578,6 +521,8 @@ fn try_toward<'a>(
         next,
         prev,
         edges,
+        node_pool,
+        edge_pool,
         counts,
         a,
         b,
@@ -595,6 +540,8 @@ fn try_toward<'a>(
             next,
             prev,
             edges,
+            node_pool,
+            edge_pool,
             counts,
             a,
             b,
@@ -618,11 +565,14 @@ pub fn try_edge<'a>(
     next: &[u32],
     prev: &[u32],
     edges: &[u32],
+    node_pool: &[u32],
+    edge_pool: &[u32],
     counts: Counts,
     a: u32,
     b: u32,
 ) -> Attempt
-    requires { ⌜ TryLent (outline (now outer) (now holes) (now lens)) grid (now values) (now next) (now prev) (now edges) counts ⌝ }
+    requires { ⌜ TryLent (outline (now outer) (now holes) (now lens)) grid (now values) size (now xs) (now ys) (now next) (now prev)
+        (now edges) (now «node_pool») (now «edge_pool») counts ⌝ }
     ensures { λ r. ⌜ r ≡ tryEdge (outline (now (outer .entry)) (now (holes .entry)) (now (lens .entry))) size
         (fieldRecord grid (now (values .entry)) [])
         (seen (now (xs .entry)) (now (ys .entry)) (now (next .entry)) (now (prev .entry)) (now (edges .entry)) counts) a b ⌝ }
@@ -648,6 +598,8 @@ pub fn try_edge<'a>(
         next,
         prev,
         edges,
+        node_pool,
+        edge_pool,
         counts,
         a,
         b,

@@ -24,6 +24,7 @@ fn heading(r: Paved) -> Heading
 }
 
 // The listing of an outline. The lists that the program lends are all here: 1,600 field nodes, 800 nodes, 800 quads, 2,400 edges.
+// The pools have room for each node, and for each edge six times.
 fn list_outline<'a>(
     outer: &'a [f64],
     holes: &'a [f64],
@@ -45,6 +46,8 @@ fn list_outline<'a>(
     let mut edges = [0u32; 4800];
     let mut loops = [0u32; 800];
     let mut lengths = [0u32; 800];
+    let mut node_pool = [0u32; 3200];
+    let mut edge_pool = [0u32; 38400];
     let paved = run::pave(
         outer,
         holes,
@@ -63,6 +66,8 @@ fn list_outline<'a>(
         &mut edges,
         &mut loops,
         &mut lengths,
+        &mut node_pool,
+        &mut edge_pool,
     );
     listing::write_listing(
         out,

@@ -137,20 +137,20 @@ fn put_corners(c: Corner, d: Corner, xs: &mut [f64], ys: &mut [f64], n: u32)
 
 // ---- the mesh edges
 
-fn smaller(u: u32, v: u32) -> u32
+pub fn smaller(u: u32, v: u32) -> u32
     ensures { λ r. ⌜ r ≡ min u v ⌝ }
 {
     if u < v { u } else { v }
 }
 
-fn larger(u: u32, v: u32) -> u32
+pub fn larger(u: u32, v: u32) -> u32
     ensures { λ r. ⌜ r ≡ max u v ⌝ }
 {
     if u < v { v } else { u }
 }
 
 // Whether one of the first n edges joins u and v, u the smaller.
-fn scan_edges(edges: &[u32], n: usize, u: u32, v: u32) -> bool
+pub fn scan_edges(edges: &[u32], n: usize, u: u32, v: u32) -> bool
     requires { ⌜ 2 * n ≤ length (now edges) ⌝ }
     ensures { λ r. ⌜ r ≡ anyUp n (edgeIs (now (edges .entry)) u v) ⌝ }
 {
@@ -167,7 +167,7 @@ fn scan_edges(edges: &[u32], n: usize, u: u32, v: u32) -> bool
 }
 
 // Whether the far corners are joined already. Only two reused ones can be: they alone are searched for.
-fn is_known_across(edges: &[u32], n: usize, c: Corner, d: Corner) -> bool
+pub fn is_known_across(edges: &[u32], n: usize, c: Corner, d: Corner) -> bool
     requires { ⌜ 2 * n ≤ length (now edges) ⌝ }
     ensures { λ r. ⌜ r ≡ knownAcross (now (edges .entry)) n c d ⌝ }
 {
@@ -340,7 +340,7 @@ fn is_beyond(
     k.edges + e > edges.len() / 2
 }
 
-// Places the quad a, b, d, c on the front edge a to b; or says that it is full, and writes nothing.
+// Places the quad a, b, d, c on the front edge a to b; or says that it is full, and writes nothing. `across` says whether c and d are joined already.
 pub fn place(
     xs: &mut [f64],
     ys: &mut [f64],
@@ -354,8 +354,10 @@ pub fn place(
     b: u32,
     c: Corner,
     d: Corner,
+    across: bool,
 ) -> Placed
-    requires { ⌜ Ready (stateOf (now xs) (now ys) (now next) (now prev) (now snapshot) (now quads) (now edges) k) a b c d ⌝ }
+    requires { ⌜ Ready (stateOf (now xs) (now ys) (now next) (now prev) (now snapshot) (now quads) (now edges) k) a b c d
+        × (across ≡ knownAcross (now edges) (k .edges) c d) ⌝ }
     ensures { λ r. ⌜ Places a b c d
         (stateOf (now (xs .entry)) (now (ys .entry)) (now (next .entry)) (now (prev .entry)) (now (snapshot .entry)) (now (quads .entry))
         (now (edges .entry)) k)
@@ -369,7 +371,6 @@ pub fn place(
     let more = more_c + d.added();
     let id_c = c.id(n);
     let id_d = d.id(n + more_c);
-    let across = is_known_across(edges, e, c, d);
     let w = new_edges(across, c, d);
     if is_beyond(xs, ys, next, prev, snapshot, quads, edges, k, more, w) {
         return Placed::Full;

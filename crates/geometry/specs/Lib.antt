@@ -1,4 +1,5 @@
 pub mod Plane
+pub mod Sides
 pub mod Keys
 pub mod KeyLaws
 pub mod TestLaws

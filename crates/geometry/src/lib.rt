@@ -2,7 +2,8 @@
 ghost use mathlib.Core.Path.{_≡_};
 ghost use mathlib.Core.Bool.{_&&_};
 ghost use Rattle.geometry.specs.Plane.{norm, distance, tangent, areaTerm, cross2, doubledArea, leftOf, pointInConvex, onSegment, opposite};
-ghost use Rattle.geometry.specs.Plane.{touches, segmentsCross, centroid, cornerOk, convexCcw};
+ghost use Rattle.geometry.specs.Plane.{touches, segmentsCross, centroid, convexCcw};
+ghost use Rattle.geometry.specs.Sides.{sideOf, turnOk};
 ghost use Rattle.geometry.specs.Keys.{keyOf, gap, atMost, lesser, greater, spansOf, spansKept, rangesMeet, rectanglesMeet, candidateAt};
 ghost use Rattle.geometry.specs.Keys.{isCandidate, nearKeys, tooCloseAt, isTooClose, leastOf, greatestOf, lowest, highest, between, inBoxAt};
 ghost use Rattle.geometry.specs.Keys.{isInBox};
@@ -28,6 +29,13 @@ pub struct Key {
 struct Spans {
     i: u64,
     j: u64,
+}
+
+// A side of a quad: the step along it, and its length.
+struct Side {
+    x: f64,
+    y: f64,
+    length: f64,
 }
 
 // ---- lengths
@@ -90,27 +98,33 @@ pub fn doubled_area(p: Corners) -> f64
 
 // ---- the quad's corners
 
-// One corner of `convex_ccw`: both sides above 1e-12, and the sine of the turn from a to b to c above sin 20°.
-pub fn corner_ok(a: Point, b: Point, c: Point) -> bool
-    ensures { λ r. ⌜ r ≡ cornerOk a b c ⌝ }
+// The side a to b.
+fn side_of(a: Point, b: Point) -> Side
+    ensures { λ r. ⌜ r ≡ sideOf a b ⌝ }
 {
-    let ux = b.x - a.x;
-    let uy = b.y - a.y;
-    let vx = c.x - b.x;
-    let vy = c.y - b.y;
-    let lu = norm(ux, uy);
+    let x = b.x - a.x;
+    let y = b.y - a.y;
+    let length = norm(x, y);
+    Side { x, y, length }
+}
+
+// One corner of `convex_ccw`, where u ends and v starts: both sides above 1e-12, and the sine of the turn above sin 20°.
+fn turns(u: Side, v: Side) -> bool
+    ensures { λ r. ⌜ r ≡ turnOk u v ⌝ }
+{
+    let lu = u.length;
     if lu <= 1.0e-12 {
         return false;
     }
-    let lv = norm(vx, vy);
+    let lv = v.length;
     if lv <= 1.0e-12 {
         return false;
     }
-    let sine = (ux * vy - uy * vx) / (lu * lv);
+    let sine = (u.x * v.y - u.y * v.x) / (lu * lv);
     !(sine <= Settings::LEAST_SINE)
 }
 
-// Whether the quad turns left by more than 20° at each corner.
+// Whether the quad turns left by more than 20° at each corner. A side's length is taken once, for both its corners.
 pub fn convex_ccw(p: Corners) -> bool
     ensures { λ r. ⌜ r ≡ convexCcw p ⌝ }
 {
@@ -121,16 +135,20 @@ pub fn convex_ccw(p: Corners) -> bool
     let b = p.b;
     let d = p.d;
     let c = p.c;
-    if !corner_ok(c, a, b) {
+    let ca = side_of(c, a);
+    let ab = side_of(a, b);
+    if !turns(ca, ab) {
         return false;
     }
-    if !corner_ok(a, b, d) {
+    let bd = side_of(b, d);
+    if !turns(ab, bd) {
         return false;
     }
-    if !corner_ok(b, d, c) {
+    let dc = side_of(d, c);
+    if !turns(bd, dc) {
         return false;
     }
-    corner_ok(d, c, a)
+    turns(dc, ca)
 }
 
 pub fn centroid(p: Corners) -> Point

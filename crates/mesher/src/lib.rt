@@ -268,7 +268,8 @@ fn pave_numbers(paved: Paved) -> PaveAnswer
     }
 }
 
-// The run whole, from the field to the loops of the front, in the lists lent. Nothing is written on a refusal.
+// The run whole, from the field to the loops of the front, in the lists lent. Nothing is written on a refusal. The pools are scratch of any length,
+// which searches go by as long as they have room; the answer doesn't depend on them.
 #[no_mangle]
 pub extern "C" fn sitjorbe_pave<'a>(
     outer: &'a [f64],
@@ -288,6 +289,8 @@ pub extern "C" fn sitjorbe_pave<'a>(
     edges: &mut [u32],
     loops: &mut [u32],
     lengths: &mut [u32],
+    node_pool: &mut [u32],
+    edge_pool: &mut [u32],
 ) -> PaveAnswer
     ensures { λ r. ⌜ HostPaves (outline (now (outer .entry)) (now (holes .entry)) (now (lens .entry))) (settings size sweeps passes)
         (lent (now (values .entry)) (now (marks .entry)) (now (xs .entry)) (now (ys .entry)) (now (next .entry)) (now (prev .entry))
@@ -314,6 +317,8 @@ pub extern "C" fn sitjorbe_pave<'a>(
         edges,
         loops,
         lengths,
+        node_pool,
+        edge_pool,
     );
     pave_numbers(paved)
 }

@@ -157,6 +157,8 @@ fn sample_and_advance<'a>(
     snapshot: &mut [u32],
     quads: &mut [u32],
     edges: &mut [u32],
+    node_pool: &mut [u32],
+    edge_pool: &mut [u32],
     passes: usize,
 ) -> Advanced
     requires { ⌜ CanPave (outline (now outer) (now holes) (now lens)) size grid (now values)
@@ -185,6 +187,8 @@ fn sample_and_advance<'a>(
         snapshot,
         quads,
         edges,
+        node_pool,
+        edge_pool,
         k,
         passes,
     )
@@ -209,6 +213,8 @@ fn pave_in<'a>(
     edges: &mut [u32],
     loops: &mut [u32],
     lengths: &mut [u32],
+    node_pool: &mut [u32],
+    edge_pool: &mut [u32],
 ) -> Paved
     requires { ⌜ CanRun (outline (now outer) (now holes) (now lens)) (settings size sweeps passes)
         (lent (now values) (now marks) (now xs) (now ys) (now next) (now prev) (now snapshot) (now quads) (now edges) (now loops) (now lengths)) ⌝ }
@@ -235,6 +241,8 @@ fn pave_in<'a>(
         snapshot,
         quads,
         edges,
+        node_pool,
+        edge_pool,
         passes,
     );
     let listed = loops::front_loops(a.counts, next, snapshot, loops, lengths);
@@ -244,7 +252,8 @@ fn pave_in<'a>(
 // ---- the run
 
 // Paves an outline, in the lists that the caller lends; on a refusal nothing is written. Of the lists of nodes the shortest counts, those of
-// the loops among them: so the run gets no more of `snapshot` than they have places.
+// the loops among them: so the run gets no more of `snapshot` than they have places. The pools may have any length: searches go by them as long
+// as they have room. The answer doesn't depend on what they hold, and nothing is said of what they hold afterwards.
 pub fn pave<'a>(
     outer: &'a [f64],
     holes: &'a [f64],
@@ -263,6 +272,8 @@ pub fn pave<'a>(
     edges: &mut [u32],
     loops: &mut [u32],
     lengths: &mut [u32],
+    node_pool: &mut [u32],
+    edge_pool: &mut [u32],
 ) -> Paved
     ensures { λ r. ⌜ Paves (outline (now (outer .entry)) (now (holes .entry)) (now (lens .entry))) (settings size sweeps passes)
         (lent (now (values .entry)) (now (marks .entry)) (now (xs .entry)) (now (ys .entry)) (now (next .entry)) (now (prev .entry))
@@ -308,5 +319,7 @@ pub fn pave<'a>(
         edges,
         loops,
         lengths,
+        node_pool,
+        edge_pool,
     )
 }

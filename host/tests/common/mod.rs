@@ -110,6 +110,7 @@ impl<T: Place> Guarded<T> {
     pub fn kept_from(&self, first: usize) -> bool {
         let places = black_box(&self.places);
         let same = |k: usize| places[k].bits() == self.before[k];
+        let first = first.min(self.list().len());
         (0..Self::GUARDS).chain(Self::GUARDS + first..places.len()).all(same)
     }
 }
@@ -161,21 +162,36 @@ impl FieldPlaces {
     }
 }
 
-/// The lists lent to a run, in the entry's order. The arrays of eleven lengths below have it too.
-pub const LISTS: [&str; 11] =
-    ["values", "marks", "xs", "ys", "next", "prev", "snapshot", "quads", "edges", "loops", "lengths"];
+/// The lists lent to a run, in the entry's order. The arrays of thirteen lengths below have it too.
+pub const LISTS: [&str; 13] = [
+    "values",
+    "marks",
+    "xs",
+    "ys",
+    "next",
+    "prev",
+    "snapshot",
+    "quads",
+    "edges",
+    "loops",
+    "lengths",
+    "node_pool",
+    "edge_pool",
+];
 
 /// The lengths of lists with so many places.
-pub fn list_lengths(places: Places) -> [usize; 11] {
+pub fn list_lengths(places: Places) -> [usize; 13] {
     let Places { field_nodes: f, nodes: n, quads: q, edges: e } = places;
-    [2 * f, f, n, n, n, n, n, 4 * q, 2 * e, n, n]
+    let [node_pool, edge_pool] = places.pools();
+    [2 * f, f, n, n, n, n, n, 4 * q, 2 * e, n, n, node_pool, edge_pool]
 }
 
-/// How many places of each list a mesh has used.
-pub fn used(mesh: &Mesh<'_>) -> [usize; 11] {
+/// How many places of each list a mesh has used: of the pools it may use all.
+pub fn used(mesh: &Mesh<'_>) -> [usize; 13] {
     let (f, n) = (mesh.record().nodes(), mesh.node_count());
     let ids = mesh.front_loops().map(<[u32]>::len).sum();
-    [2 * f, f, n, n, n, n, n, 4 * mesh.quad_count(), 2 * mesh.edge_count(), ids, mesh.loop_count()]
+    let (quads, edges, all) = (4 * mesh.quad_count(), 2 * mesh.edge_count(), usize::MAX);
+    [2 * f, f, n, n, n, n, n, quads, edges, ids, mesh.loop_count(), all, all]
 }
 
 /// All that a mesh says, as bits.
@@ -202,12 +218,12 @@ pub struct RunPlaces {
     pub marks: Guarded<u8>,
     pub xs: Guarded<f64>,
     pub ys: Guarded<f64>,
-    /// From `next` to `lengths`.
-    pub numbers: [Guarded<u32>; 7],
+    /// From `next` to `edge_pool`.
+    pub numbers: [Guarded<u32>; 9],
 }
 
 impl RunPlaces {
-    pub fn new(lengths: [usize; 11]) -> RunPlaces {
+    pub fn new(lengths: [usize; 13]) -> RunPlaces {
         let [values, marks, xs, ys, numbers @ ..] = lengths;
         RunPlaces {
             values: Guarded::new(&vec![-7.5; values]),
@@ -219,7 +235,8 @@ impl RunPlaces {
     }
 
     pub fn lists(&mut self) -> Lists<'_> {
-        let [next, prev, snapshot, quads, edges, loops, lengths] = self.numbers.each_mut().map(Guarded::list_mut);
+        let [next, prev, snapshot, quads, edges, loops, lengths, node_pool, edge_pool] =
+            self.numbers.each_mut().map(Guarded::list_mut);
         Lists {
             values: self.values.list_mut(),
             marks: self.marks.list_mut(),
@@ -232,6 +249,8 @@ impl RunPlaces {
             edges,
             loops,
             lengths,
+            node_pool,
+            edge_pool,
         }
     }
 
@@ -241,7 +260,7 @@ impl RunPlaces {
     }
 
     /// The lists of which something was written past so many places, or beside the list.
-    pub fn written_past(&self, used: [usize; 11]) -> Vec<&'static str> {
+    pub fn written_past(&self, used: [usize; 13]) -> Vec<&'static str> {
         let [values, marks, xs, ys, numbers @ ..] = used;
         let mut kept = vec![self.values.kept_from(values), self.marks.kept_from(marks)];
         kept.extend([self.xs.kept_from(xs), self.ys.kept_from(ys)]);

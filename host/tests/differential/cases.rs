@@ -361,7 +361,7 @@ pub const SPACES: usize = 13;
 pub fn places(rng: &mut Rng, needs: &Needs, space: usize) -> Places {
     let Needs { places: exact, sampled } = *needs;
     let Places { field_nodes, nodes, quads, edges } = exact;
-    let mut between = |low: usize, high: usize| low + rng.below(high - low + 1);
+    let mut between = |low: usize, high: usize| between(rng, low, high);
     match space {
         0 => exact,
         1 => Places {
@@ -394,10 +394,12 @@ pub fn passes(rng: &mut Rng) -> usize {
     rng.pick(&[0, 0, 1, 2, 3, 5, 599, 600, 601, usize::MAX])
 }
 
-/// Lists of which the shortest have these places; of those that hold the same places one is the shortest, and others may be longer.
-pub fn lengths(rng: &mut Rng, places: &Places) -> [usize; 11] {
+/// Lists of which the shortest have these places, and pools of these lengths; of those that hold the same places one is the shortest,
+/// and others may be longer.
+pub fn lengths(rng: &mut Rng, places: &Places, pools: [usize; 2]) -> [usize; 13] {
     let mut lengths = list_lengths(*places);
-    let [values, marks, xs, ys, next, prev, snapshot, quads, edges, loops, others] = &mut lengths;
+    let [values, marks, xs, ys, next, prev, snapshot, quads, edges, loops, others, node_pool, edge_pool] = &mut lengths;
+    [*node_pool, *edge_pool] = pools;
     let by_node = [xs, ys, next, prev, snapshot, loops, others];
     let shortest = rng.below(by_node.len());
     for (_, length) in by_node.into_iter().enumerate().filter(|(k, _)| *k != shortest) {
@@ -409,4 +411,96 @@ pub fn lengths(rng: &mut Rng, places: &Places) -> [usize; 11] {
     *quads += rng.below(4);
     *edges += rng.below(2);
     lengths
+}
+
+// --- pools ---
+
+/// How the lengths of a run's pools are chosen.
+#[derive(Clone, Copy, Debug, PartialEq, Eq, PartialOrd, Ord)]
+pub enum Pools {
+    /// What `Places::pools` says.
+    Ample,
+    /// No cell in either.
+    None,
+    /// Seven cells in each. They come with ten or eleven places, so that only the least outlines don't run out at once: a pool's length
+    /// decides both numbers. `Crowded` is for many items in few cells.
+    SevenCells,
+    /// One or both run out in the midst of the run, where it files anything then.
+    RunOut,
+    NodesAlone,
+    EdgesAlone,
+    /// Just the places that are needed in one, and one fewer in the other.
+    Exact,
+    /// Enough places, and so many cells that the keys (i, j) and (i + 1, j - 1) share one: chains are long.
+    Crowded,
+}
+
+impl Pools {
+    /// Those that every outline is paved with.
+    pub const EACH: [Pools; 4] = [Pools::Ample, Pools::None, Pools::SevenCells, Pools::RunOut];
+
+    pub const ALL: [Pools; 8] = [
+        Pools::Ample,
+        Pools::None,
+        Pools::SevenCells,
+        Pools::RunOut,
+        Pools::NodesAlone,
+        Pools::EdgesAlone,
+        Pools::Exact,
+        Pools::Crowded,
+    ];
+
+    /// One of any kind.
+    pub fn pick(rng: &mut Rng) -> [Pools; 1] {
+        [rng.pick(&Pools::ALL)]
+    }
+
+    /// The lengths of `node_pool` and `edge_pool` for a run in these places that files so much.
+    pub fn lengths(self, rng: &mut Rng, places: &Places, filed: &Filed) -> [usize; 2] {
+        let [nodes, edges] = places.pools();
+        let Filed { first, all } = *filed;
+        let any = rng.below(4);
+        match self {
+            Pools::Ample => [nodes, edges],
+            Pools::None => [any, rng.below(4)],
+            Pools::SevenCells => [28 + any, 28 + rng.below(4)],
+            Pools::NodesAlone => [nodes, any],
+            Pools::EdgesAlone => [any, edges],
+            Pools::RunOut => {
+                let [node_pool, edge_pool] = [0, 1].map(|k| with_places(between(rng, first[k], all[k].max(1) - 1)));
+                [[node_pool, edges], [nodes, edge_pool], [node_pool, edge_pool]][rng.below(3)]
+            }
+            Pools::Exact => [0, 1].map(|k| with_places(all[k].saturating_sub((any + k) % 2))),
+            Pools::Crowded => all.map(|places| crowded(places) + any),
+        }
+    }
+}
+
+/// A number from `low` to `high`; `low` if there is none.
+fn between(rng: &mut Rng, low: usize, high: usize) -> usize {
+    low + rng.below((high + 1).saturating_sub(low).max(1))
+}
+
+/// How many places a run takes in `node_pool` and `edge_pool`.
+#[derive(Clone, Copy, Debug, Default)]
+pub struct Filed {
+    /// Before the first pass.
+    pub first: [usize; 2],
+    pub all: [usize; 2],
+}
+
+/// The places of a pool of this length, if it has a cell: crates/index/specs/Pool.antt has the layout.
+pub fn pool_places(length: usize) -> Option<usize> {
+    (length >= 4).then(|| (length - 1 - length / 4) / 2)
+}
+
+/// The least length with so many places.
+fn with_places(places: usize) -> usize {
+    (8 * places / 3..).find(|&length| pool_places(length) >= Some(places)).expect("places grow with the length")
+}
+
+/// A length with so many places, or more, whose cells divide what the index's stride is above 1.
+fn crowded(places: usize) -> usize {
+    let cells = with_places(places).div_ceil(4);
+    4 * (cells..).find(|cells| 2_654_435_760 % cells == 0).expect("it divides itself")
 }

@@ -1,7 +1,9 @@
 //! Whole runs: nodes, quads, edges, front, loops, counts, end and field, every bit; and the exact books of each run.
 //!
 //! Each outline is paved with ample space, and again with space chosen from what that run used: exactly enough, one place short,
-//! any number short; and with other passes. SITJORBE_OUTLINES says how many outlines of each kind, SITJORBE_SEED which ones.
+//! any number short; and with other passes. With ample space it is paved four times: with full pools, none, seven cells in each, and
+//! pools that run out; the other runs have pools of any kind. SITJORBE_OUTLINES says how many outlines of each kind, SITJORBE_SEED
+//! which ones.
 
 use std::collections::BTreeMap;
 use std::env;
@@ -11,9 +13,9 @@ use oracle::patched::{front, pave_again, Field};
 use oracle::terms::{self, Run};
 use sitjorbe::{End, Mesh, Places, Refusal, Settings, OFF};
 
-use crate::cases::{self, Needs, Rng, Setting};
+use crate::cases::{self, Filed, Needs, Pools, Rng, Setting};
 use crate::common::book::{self, Answered, Sampled};
-use crate::common::{bits, used, Drawing, Lent, RunPlaces};
+use crate::common::{bits, used, Drawing, Guarded, Lent, RunPlaces};
 
 /// Enough for most outlines that are generated.
 const AMPLE: Places = Places { field_nodes: 2_500, nodes: 1_500, quads: 1_500, edges: 4_500 };
@@ -112,6 +114,41 @@ fn answered(mesh: &Mesh<'_>) -> Answered {
     }
 }
 
+/// The places that these nodes and edges take in the pools: one a node, and one for each key of an edge's rectangle.
+fn filed(nodes: &[[f64; 2]], edges: &[(usize, usize)], size: f64) -> [usize; 2] {
+    let keys = |node: [f64; 2]| node.map(|x| (x / (2.0 * size)).floor() as i64);
+    let spans = |&(u, v): &(usize, usize)| {
+        let (k, l) = (keys(nodes[u]), keys(nodes[v]));
+        [k[0].abs_diff(l[0]) as usize, k[1].abs_diff(l[1]) as usize]
+    };
+    // An edge whose spans are above 4,096 is filed nowhere.
+    let kept = edges.iter().map(spans).filter(|[i, j]| i + j <= 4_096);
+    [nodes.len(), kept.map(|[i, j]| (i + 1) * (j + 1)).sum()]
+}
+
+/// How far a pool serves a run.
+#[derive(Clone, Copy, Debug, PartialEq, Eq, PartialOrd, Ord)]
+enum Served {
+    /// It has no cell, or runs out before the first pass.
+    Never,
+    /// It runs out later.
+    Partly,
+    Always,
+}
+
+impl Served {
+    const ALL: [Served; 3] = [Served::Never, Served::Partly, Served::Always];
+
+    /// For a pool of this length, where the run takes so many places before the first pass and in all.
+    fn new(length: usize, first: usize, all: usize) -> Served {
+        match cases::pool_places(length) {
+            Some(places) if all <= places => Served::Always,
+            Some(places) if first <= places => Served::Partly,
+            _ => Served::Never,
+        }
+    }
+}
+
 /// Whether `prev` undoes `next`, and holds nothing else.
 fn links_agree(mesh: &Mesh<'_>) -> bool {
     let (next, prev) = mesh.links();
@@ -121,6 +158,9 @@ fn links_agree(mesh: &Mesh<'_>) -> bool {
     }
     prev == expected
 }
+
+/// The oracle's outcome, and what such a run files; or the refusal.
+type Expected = Result<(Outcome, Filed), u32>;
 
 /// An outline with settings, put to both; the oracle's field and the sampled outline are made once.
 struct Asked {
@@ -157,15 +197,28 @@ impl Asked {
         })
     }
 
-    /// What is wrong with a run of the library, where the oracle's is this.
-    fn faults(&mut self, mesh: &Mesh<'_>, run: Run) -> Vec<String> {
-        let expected = Outcome::of_oracle(run, self.field.as_ref().expect("the run has made it"));
+    /// What the oracle answers in these places, and what such a run files.
+    fn expected(&mut self, places: &Places) -> Expected {
+        let run = self.of_oracle(places)?;
+        let size = self.settings.size;
+        let all = filed(&run.nodes, &run.edges, size);
+        let Sampled { nodes, edges, .. } = self.sampled();
+        let first = filed(nodes, edges, size);
+        let outcome = Outcome::of_oracle(run, self.field.as_ref().expect("the run has made it"));
+        Ok((outcome, Filed { first, all }))
+    }
+
+    /// What is wrong with a run of the library, where the oracle's outcome is this. The books follow from the outcome: of runs with the same
+    /// one they are gone through once.
+    fn faults(&mut self, mesh: &Mesh<'_>, expected: &Outcome, books: bool) -> Vec<String> {
         let mut faults: Vec<String> =
-            Outcome::of_library(mesh).differences(&expected).into_iter().map(String::from).collect();
+            Outcome::of_library(mesh).differences(expected).into_iter().map(String::from).collect();
         if !links_agree(mesh) {
             faults.push("prev".to_string());
         }
-        faults.extend(book::check(self.sampled(), &answered(mesh)).err());
+        if books {
+            faults.extend(book::check(self.sampled(), &answered(mesh)).err());
+        }
         faults
     }
 
@@ -192,29 +245,54 @@ struct Tally {
     whole: usize,
     nodes: usize,
     quads: usize,
+    /// How far the nodes' and the edges' pools served runs that weren't refused.
+    pools: BTreeMap<(Pools, [Served; 2]), usize>,
     faults: Vec<String>,
 }
 
 impl Tally {
-    /// Puts a run to both, in lists of which the shortest have these places; `short` says what they are short of.
-    fn compare(&mut self, rng: &mut Rng, asked: &mut Asked, places: &Places, short: &str) {
-        let lengths = cases::lengths(rng, places);
-        let (lent, mut lists) = (Lent::new(&asked.drawing), RunPlaces::new(lengths));
-        let reference = asked.of_oracle(places);
+    /// Puts a run to both, in lists of which the shortest have these places, with each of these pools; `short` says what the lists are
+    /// short of.
+    fn compare(&mut self, rng: &mut Rng, asked: &mut Asked, places: &Places, short: &str, pools: &[Pools]) {
+        let expected = asked.expected(places);
+        let filed = expected.as_ref().map_or(Filed::default(), |(_, filed)| *filed);
+        for (k, &kind) in pools.iter().enumerate() {
+            let pools = kind.lengths(rng, places, &filed);
+            let lengths = cases::lengths(rng, places, pools);
+            let mut lists = RunPlaces::new(lengths);
+            let mut faults = self.run(asked, &expected, &mut lists, short, k == 0);
+            if expected.is_ok() {
+                faults.extend(self.pools(kind, &lists, &filed));
+            }
+            let asked = || format!("{:?} {:?} {lengths:?}", asked.drawing, asked.settings);
+            self.faults.extend(faults.into_iter().map(|fault| format!("{fault}: {}", asked())));
+        }
+    }
+
+    /// What is wrong with a run in these lists.
+    fn run(
+        &mut self,
+        asked: &mut Asked,
+        expected: &Expected,
+        lists: &mut RunPlaces,
+        short: &str,
+        books: bool,
+    ) -> Vec<String> {
+        let lent = Lent::new(&asked.drawing);
         let library = lists.pave(&lent.outline(), &asked.settings).map_err(Refusal::number);
-        let (answer, used, mut faults) = match (library, reference) {
-            (Ok(mesh), Ok(run)) => {
+        let (answer, used, mut faults) = match (library, expected) {
+            (Ok(mesh), Ok((outcome, _))) => {
                 self.whole += usize::from(mesh.is_whole());
                 self.nodes += mesh.node_count();
                 self.quads += mesh.quad_count();
                 let full = mesh.end() == End::Full;
                 let answer = if full { format!("full ({short})") } else { mesh.end().to_string() };
-                (answer, used(&mesh), asked.faults(&mesh, run))
+                (answer, used(&mesh), asked.faults(&mesh, outcome, books))
             }
-            (library, reference) => {
-                let [library, reference] = [library.err(), reference.err()];
+            (library, expected) => {
+                let [library, reference] = [library.err(), expected.as_ref().err().copied()];
                 let fault = (library != reference).then(|| format!("refused {library:?}, not {reference:?}"));
-                (library.unwrap_or(0).to_string(), [0; 11], fault.into_iter().collect())
+                (library.unwrap_or(0).to_string(), [0; 13], fault.into_iter().collect())
             }
         };
         faults.extend(lists.written_past(used).iter().map(|name| format!("{name} written")));
@@ -222,30 +300,66 @@ impl Tally {
             faults.push("the outline written".to_string());
         }
         *self.answers.entry(answer).or_default() += 1;
-        let asked = || format!("{:?} {:?} {lengths:?}", asked.drawing, asked.settings);
-        self.faults.extend(faults.into_iter().map(|fault| format!("{fault}: {}", asked())));
+        faults
+    }
+
+    /// Notes how far the pools serve a run that files so much. Names those that are in use at its end and shouldn't be, or the reverse:
+    /// a pool without a cell isn't, nor one whose first number stands for no place.
+    fn pools(&mut self, kind: Pools, lists: &RunPlaces, filed: &Filed) -> Vec<String> {
+        let [.., node_pool, edge_pool] = lists.numbers.each_ref().map(Guarded::list);
+        let pools = [("node_pool", node_pool), ("edge_pool", edge_pool)];
+        let served = [0, 1].map(|k| Served::new(pools[k].1.len(), filed.first[k], filed.all[k]));
+        *self.pools.entry((kind, served)).or_default() += 1;
+        let in_use = |pool: &[u32]| pool.len() >= 4 && pool[0] != OFF;
+        let wrong =
+            pools.into_iter().zip(served).filter(|((_, pool), served)| in_use(pool) != (*served == Served::Always));
+        wrong.map(|((name, _), served)| format!("{name} should serve {served:?}")).collect()
     }
 
     /// An outline with ample space, with space of two kinds chosen from what it used, and with other passes.
     fn outline(&mut self, rng: &mut Rng, mut asked: Asked) {
         self.outlines += 1;
         let Some(needs) = asked.needs() else {
-            return self.compare(rng, &mut asked, &AMPLE, "nothing");
+            return self.compare(rng, &mut asked, &AMPLE, "nothing", &Pools::EACH);
         };
-        for space in [1, self.outlines % cases::SPACES, rng.below(cases::SPACES)] {
+        for (space, pools) in [
+            (1, &Pools::EACH[..]),
+            (self.outlines % cases::SPACES, &Pools::pick(rng)),
+            (rng.below(cases::SPACES), &Pools::pick(rng)),
+        ] {
             let places = cases::places(rng, &needs, space);
-            self.compare(rng, &mut asked, &places, short(&places, &needs));
+            self.compare(rng, &mut asked, &places, short(&places, &needs), pools);
         }
         if self.outlines % 3 == 0 {
             asked.settings.passes = cases::passes(rng);
             let places = cases::places(rng, &needs, 1);
-            self.compare(rng, &mut asked, &places, "other passes");
+            let pools = Pools::pick(rng);
+            self.compare(rng, &mut asked, &places, "other passes", &pools);
         }
+    }
+
+    /// The runs, not refused, with pools of this kind that served so far.
+    fn count_pools(&self, is_counted: impl Fn(Pools, [Served; 2]) -> bool) -> usize {
+        self.pools.iter().filter(|((kind, served), _)| is_counted(*kind, *served)).map(|(_, count)| count).sum()
+    }
+
+    /// Prints how far the pools served; fails if a kind of pools is rare, or one that served nowhere, part of a run, or all of it.
+    fn finish_pools(&self, what: &str) {
+        let kinds = Pools::ALL.map(|kind| (format!("{kind:?}"), self.count_pools(|k, _| k == kind)));
+        let served = [("node_pool", 0), ("edge_pool", 1)].into_iter().flat_map(|(name, k)| {
+            let count = move |how| self.count_pools(|_, served| served[k] == how);
+            Served::ALL.map(|how| (format!("{name} {how:?}"), count(how)))
+        });
+        let counts: Vec<(String, usize)> = kinds.into_iter().chain(served).collect();
+        let texts: Vec<String> = counts.iter().map(|(name, count)| format!("{name}: {count}")).collect();
+        println!("{what}, pools: {}", texts.join(", "));
+        let rare = counts.iter().find(|(_, count)| *count < self.outlines / 200);
+        assert_eq!(rare, None, "{what}: such pools are rare");
     }
 
     /// Prints the figures; fails on a fault, or if one of these answers is rare.
     fn finish(self, what: &str, expected: &[&str]) {
-        let Tally { outlines, answers, whole, nodes, quads, faults } = self;
+        let Tally { outlines, answers, whole, nodes, quads, faults, .. } = &self;
         let runs: usize = answers.values().sum();
         let counts: Vec<String> = answers.iter().map(|(answer, count)| format!("{answer}: {count}")).collect();
         println!(
@@ -257,6 +371,7 @@ impl Tally {
         for answer in expected {
             assert!(answers.get(*answer).is_some_and(|&count| count >= outlines / 200), "{what}: {answer} is rare");
         }
+        self.finish_pools(what);
     }
 }
 
@@ -367,7 +482,7 @@ fn runs_of_hostile_outlines() {
 fn roomy(tally: &mut Tally, rng: &mut Rng, drawing: Drawing, settings: Settings) {
     let places = Places { field_nodes: 250_000, nodes: 70_000, quads: 4_000, edges: 70_000 };
     tally.outlines += 1;
-    tally.compare(rng, &mut Asked::new(drawing, settings), &places, "nothing");
+    tally.compare(rng, &mut Asked::new(drawing, settings), &places, "nothing", &[Pools::Ample, Pools::Crowded]);
 }
 
 #[test]
@@ -392,7 +507,7 @@ fn example() -> (Outcome, Outcome, Sampled, Answered) {
     let mut asked = generated("lattice", 1, 5);
     let run = asked.of_oracle(&AMPLE).expect("it is accepted");
     let reference = Outcome::of_oracle(run, asked.field.as_ref().expect("the run has made it"));
-    let mut lists = RunPlaces::new(cases::lengths(&mut Rng(9), &AMPLE));
+    let mut lists = RunPlaces::new(cases::lengths(&mut Rng(9), &AMPLE, AMPLE.pools()));
     let mesh = lists.pave(&asked.drawing.outline(), &asked.settings).expect("it is accepted");
     (Outcome::of_library(&mesh), reference, asked.sampled().clone(), answered(&mesh))
 }

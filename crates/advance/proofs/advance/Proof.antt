@@ -1,6 +1,6 @@
 -- `advance::advance` meets its contract: the loop is the run over the passes. Assumes nothing.
 use mathlib.Core.List.{[]}
-use mathlib.Core.Path.{_∙_}
+use mathlib.Core.Path.{_∙_, ap, refl}
 use Prim.Native.Nat.{_-_}
 use native.Mathlib.Omega.{arith}
 use borrow.Author.Needs.{needs}
@@ -10,17 +10,23 @@ use Rattle.crossfield.specs.Field.{FieldRecord, fieldRecord}
 use Rattle.front.specs.State.{State, stateOf}
 use Rattle.paving.specs.Advance.{passesTurn, allUsed}
 use Rattle.advance.specs.Laws.{in-advance, pass-on, pass-over, advance-whole}
-use Rattle.advance.specs.Paveable.{Later}
+use Rattle.advance.specs.declared.Swept.{Swept}
+use Rattle.advance.specs.Answers.{passedCounts}
+use Rattle.advance.specs.Paveable.{Later, held}
+use Rattle.advance.specs.Searchable.{Pools, search-at}
 use Rattle.advance.proofs.advance.Statement.{statement}
 use Rattle.advance.proofs.advance.Tie as tie
 
 abbrev Inv-loop : tie.InvT-loop
-Inv-loop outer holes lens size grid values xs₀ ys₀ next₀ prev₀ snapshot₀ quads₀ edges₀ passes most counts₀ i₀ xs ys next prev snapshot quads edges counts i =
+Inv-loop outer holes lens size grid values xs₀ ys₀ next₀ prev₀ snapshot₀ quads₀ edges₀ nodePool₀ edgePool₀ passes most counts₀ i₀ xs ys next prev snapshot quads
+    edges nodePool edgePool counts i =
     Run (passesTurn (outline outer holes lens) size (fieldRecord grid values [])) allUsed
     (stateOf xs₀ ys₀ next₀ prev₀ snapshot₀ quads₀ edges₀ counts₀) most i (stateOf xs ys next prev snapshot quads edges counts)
+    × Pools size xs ys edges counts nodePool₀ edgePool₀ nodePool edgePool
 
 abbrev μ-loop : tie.MeasureT-loop
-μ-loop outer holes lens size grid values xs₀ ys₀ next₀ prev₀ snapshot₀ quads₀ edges₀ passes most counts₀ i₀ xs ys next prev snapshot quads edges counts i =
+μ-loop outer holes lens size grid values xs₀ ys₀ next₀ prev₀ snapshot₀ quads₀ edges₀ nodePool₀ edgePool₀ passes most counts₀ i₀ xs ys next prev snapshot quads
+    edges nodePool edgePool counts i =
     most - i
 
 -- the outline, the field and the state as they are lent
@@ -37,25 +43,35 @@ lent s =
 
 -- the state in the loop comes after the one that is lent
 abbrev start : tie.At-loop Inv-loop μ-loop → tie.Start Inv-loop μ-loop
-start c = c .before .before .before .before .before .before .before .before .before .before .before .before .before
+start c =
+    let at-most-passes = c .before .before .before .before .before .before .before .before .before .before .before .before in
+    at-most-passes .before .before .before .before .before .before .before .before .before .before .before .before .before
 
 later : (c : tie.At-loop Inv-loop μ-loop) → Later (around (start c)) (start c .args .grid) (start c .args .values .now) (lent (start c))
     (stateOf (c .loop .xs) (c .loop .ys) (c .loop .next) (c .loop .prev) (c .loop .snapshot) (c .loop .quads) (c .loop .edges) (c .loop .counts))
-later c = in-advance (around (start c)) (start c .args .size) _ _ (field (start c)) (lent (start c)) (start c .pre) (c .loop .inv)
+later c = in-advance (around (start c)) (start c .args .size) _ _ (field (start c)) (lent (start c)) (start c .pre) (c .loop .inv .0)
 
 most-passes-requires : tie.Need-most-passes-requires Inv-loop μ-loop
 most-passes-requires c κs = search needs
 
+file-all-requires : tie.Need-file-all-requires Inv-loop μ-loop
+file-all-requires c κs =
+    let at-slice-known3 = c .before .before .before .before .before .before .before .before .before .before .before .before in
+    let start = at-slice-known3 .before .before .before .before .before .before .before in
+    held _ _ _ _ (start .pre) .edges
+
 loop-holds : tie.Need-loop-holds Inv-loop μ-loop
-loop-holds c = run-start _ allUsed _ _
+loop-holds c =
+    let at-file-all = c .before .before .before .before in
+    (run-start _ allUsed _ _, record { search = at-file-all .file-all .ensures; node-long = refl; edge-long = refl })
 
 add-i : tie.Need-add-i Inv-loop μ-loop
 add-i c = omega arith
 
 pass-requires : tie.Need-pass-requires Inv-loop μ-loop
 pass-requires c κs =
-    let at-loop = c .before .before .before .before .before .before .before .before in
-    later at-loop .paveable
+    let at-loop = c .before .before .before .before .before .before .before .before .before .before in
+    (later at-loop .paveable, at-loop .loop .inv .1 .search)
 
 enum-known-p : tie.Need-enum-known-p Inv-loop μ-loop
 enum-known-p c = search needs
@@ -66,120 +82,156 @@ loop-less c = omega arith
 loop-again : tie.Need-loop-again Inv-loop μ-loop
 loop-again c =
     let at-p = c .before in
-    let at-slice-known9 = at-p .before .before .before .before .before .before .before .before .before .before .before .before in
-    let at-pass = at-slice-known9 .before .before .before .before in
-    let at-loop-test = at-pass .before .before .before .before .before .before .before .before in
-    let at-loop = at-loop-test .before in
-    run-go _ allUsed _ _ (at-loop .loop .inv) (at-loop-test .loop-test .taken)
-    (pass-on (at-pass .pass .result) (at-pass .pass .ensures) (at-p .p .given .1))
+    let at-slice-known15 = at-p .before .before .before .before .before .before .before .before .before .before .before .before in
+    let at-pass = at-slice-known15 .before .before .before .before .before .before .before .before in
+    let in-loop = at-pass .before .before .before .before .before .before .before .before .before .before in
+    let at-loop = in-loop .before in (
+      run-go _ allUsed _ _ (at-loop .loop .inv .0) (in-loop .loop-test .taken)
+          (pass-on (at-pass .pass .result) (at-pass .pass .ensures .0) (at-p .p .given .1)),
+      record {
+        search = search-at (ap (λ (r : Swept). passedCounts r) (at-p .p .given .1)) (at-pass .pass .ensures .1);
+        node-long = at-pass .pass .kept .1 .1 .1 .1 .1 .1 .1 .1 .1 .1 .1 .1 .1 .0 ∙ at-loop .loop .inv .1 .node-long;
+        edge-long = at-pass .pass .kept .1 .1 .1 .1 .1 .1 .1 .1 .1 .1 .1 .1 .1 .1 .0 ∙ at-loop .loop .inv .1 .edge-long;
+      },
+    )
 
 enum-known-p-2 : tie.Need-enum-known-p-2 Inv-loop μ-loop
 enum-known-p-2 c = search needs
 
 same-length : tie.Need-same-length Inv-loop μ-loop
 same-length c =
-    let at-next = c .before .before .before .before .before .before .before .before .before .before .before .before in
-    let at-pass = at-next .before .before .before .before .before in
-    let at-loop = at-pass .before .before .before .before .before .before .before .before .before in
+    let at-snapshot = c .before .before .before .before .before .before .before .before .before .before .before .before in
+    let at-pass = at-snapshot .before .before .before .before .before .before .before .before .before in
+    let at-loop = at-pass .before .before .before .before .before .before .before .before .before .before .before in
     at-pass .pass .kept .1 .1 .1 .1 .1 .1 .0 ∙ later at-loop .frame .xs .long
 
 same-length-2 : tie.Need-same-length-2 Inv-loop μ-loop
 same-length-2 c =
-    let at-next = c .before .before .before .before .before .before .before .before .before .before .before .before in
-    let at-pass = at-next .before .before .before .before .before in
-    let at-loop = at-pass .before .before .before .before .before .before .before .before .before in
+    let at-snapshot = c .before .before .before .before .before .before .before .before .before .before .before .before in
+    let at-pass = at-snapshot .before .before .before .before .before .before .before .before .before in
+    let at-loop = at-pass .before .before .before .before .before .before .before .before .before .before .before in
     at-pass .pass .kept .1 .1 .1 .1 .1 .1 .1 .0 ∙ later at-loop .frame .ys .long
 
 same-length-3 : tie.Need-same-length-3 Inv-loop μ-loop
 same-length-3 c =
-    let at-next = c .before .before .before .before .before .before .before .before .before .before .before .before in
-    let at-pass = at-next .before .before .before .before .before in
-    let at-loop = at-pass .before .before .before .before .before .before .before .before .before in
+    let at-snapshot = c .before .before .before .before .before .before .before .before .before .before .before .before in
+    let at-pass = at-snapshot .before .before .before .before .before .before .before .before .before in
+    let at-loop = at-pass .before .before .before .before .before .before .before .before .before .before .before in
     at-pass .pass .kept .1 .1 .1 .1 .1 .1 .1 .1 .0 ∙ later at-loop .frame .next .long
 
 same-length-4 : tie.Need-same-length-4 Inv-loop μ-loop
 same-length-4 c =
-    let at-next = c .before .before .before .before .before .before .before .before .before .before .before .before in
-    let at-pass = at-next .before .before .before .before .before in
-    let at-loop = at-pass .before .before .before .before .before .before .before .before .before in
+    let at-snapshot = c .before .before .before .before .before .before .before .before .before .before .before .before in
+    let at-pass = at-snapshot .before .before .before .before .before .before .before .before .before in
+    let at-loop = at-pass .before .before .before .before .before .before .before .before .before .before .before in
     at-pass .pass .kept .1 .1 .1 .1 .1 .1 .1 .1 .1 .0 ∙ later at-loop .frame .prev .long
 
 same-length-5 : tie.Need-same-length-5 Inv-loop μ-loop
 same-length-5 c =
-    let at-next = c .before .before .before .before .before .before .before .before .before .before .before .before in
-    let at-pass = at-next .before .before .before .before .before in
-    let at-loop = at-pass .before .before .before .before .before .before .before .before .before in
+    let at-snapshot = c .before .before .before .before .before .before .before .before .before .before .before .before in
+    let at-pass = at-snapshot .before .before .before .before .before .before .before .before .before in
+    let at-loop = at-pass .before .before .before .before .before .before .before .before .before .before .before in
     at-pass .pass .kept .1 .1 .1 .1 .1 .1 .1 .1 .1 .1 .0 ∙ later at-loop .frame .snapshot .long
 
 same-length-6 : tie.Need-same-length-6 Inv-loop μ-loop
 same-length-6 c =
-    let at-next = c .before .before .before .before .before .before .before .before .before .before .before .before in
-    let at-pass = at-next .before .before .before .before .before in
-    let at-loop = at-pass .before .before .before .before .before .before .before .before .before in
+    let at-snapshot = c .before .before .before .before .before .before .before .before .before .before .before .before in
+    let at-pass = at-snapshot .before .before .before .before .before .before .before .before .before in
+    let at-loop = at-pass .before .before .before .before .before .before .before .before .before .before .before in
     at-pass .pass .kept .1 .1 .1 .1 .1 .1 .1 .1 .1 .1 .1 .0 ∙ later at-loop .frame .quadList .long
 
 same-length-7 : tie.Need-same-length-7 Inv-loop μ-loop
 same-length-7 c =
-    let at-next = c .before .before .before .before .before .before .before .before .before .before .before .before in
-    let at-pass = at-next .before .before .before .before .before in
-    let at-loop = at-pass .before .before .before .before .before .before .before .before .before in
+    let at-snapshot = c .before .before .before .before .before .before .before .before .before .before .before .before in
+    let at-pass = at-snapshot .before .before .before .before .before .before .before .before .before in
+    let at-loop = at-pass .before .before .before .before .before .before .before .before .before .before .before in
     at-pass .pass .kept .1 .1 .1 .1 .1 .1 .1 .1 .1 .1 .1 .1 .0 ∙ later at-loop .frame .edgeList .long
+
+same-length-8 : tie.Need-same-length-8 Inv-loop μ-loop
+same-length-8 c =
+    let at-snapshot = c .before .before .before .before .before .before .before .before .before .before .before .before in
+    let at-pass = at-snapshot .before .before .before .before .before .before .before .before .before in
+    let at-loop = at-pass .before .before .before .before .before .before .before .before .before .before .before in
+    let at-file-all = at-loop .before .before .before .before .before in
+    at-pass .pass .kept .1 .1 .1 .1 .1 .1 .1 .1 .1 .1 .1 .1 .1 .0 ∙ at-loop .loop .inv .1 .node-long ∙ at-file-all .file-all .kept .1 .1 .1 .1 .0
+
+same-length-9 : tie.Need-same-length-9 Inv-loop μ-loop
+same-length-9 c =
+    let at-snapshot = c .before .before .before .before .before .before .before .before .before .before .before .before in
+    let at-pass = at-snapshot .before .before .before .before .before .before .before .before .before in
+    let at-loop = at-pass .before .before .before .before .before .before .before .before .before .before .before in
+    let at-file-all = at-loop .before .before .before .before .before in
+    at-pass .pass .kept .1 .1 .1 .1 .1 .1 .1 .1 .1 .1 .1 .1 .1 .1 .0 ∙ at-loop .loop .inv .1 .edge-long ∙ at-file-all .file-all .kept .1 .1 .1 .1 .1 .0
 
 returns : tie.Need-returns Inv-loop μ-loop
 returns c =
     let at-p2 = c .before in
-    let at-slice-known9 = at-p2 .before .before .before .before .before .before .before .before .before .before .before .before in
-    let at-pass = at-slice-known9 .before .before .before .before in
-    let at-loop-test = at-pass .before .before .before .before .before .before .before .before in
-    let at-loop = at-loop-test .before in
-    let at-most-passes = at-loop .before in
-    let start = at-most-passes .before .before .before .before .before .before .before .before .before .before .before .before in
+    let at-slice-known15 = at-p2 .before .before .before .before .before .before .before .before .before .before .before .before in
+    let at-pass = at-slice-known15 .before .before .before .before .before .before .before .before in
+    let in-loop = at-pass .before .before .before .before .before .before .before .before .before .before in
+    let at-loop = in-loop .before in
+    let at-most-passes = at-loop .before .before .before .before .before .before .before .before .before .before .before in
+    let at-shared-slice-known2 = at-most-passes .before .before .before .before .before .before .before .before .before .before .before .before in
+    let start = at-shared-slice-known2 .before .before in
     advance-whole (around start) (start .args .size) (field start) (start .args .passes) (lent start) (at-most-passes .most-passes .ensures)
-    (run-out _ allUsed _ _ (at-loop .loop .inv) (at-loop-test .loop-test .taken)
-    (pass-over (at-pass .pass .result) (at-pass .pass .ensures) (at-p2 .p2 .given .1)))
-
-same-length-8 : tie.Need-same-length-8 Inv-loop μ-loop
-same-length-8 c =
-    let at-loop = c .before in
-    later at-loop .frame .xs .long
-
-same-length-9 : tie.Need-same-length-9 Inv-loop μ-loop
-same-length-9 c =
-    let at-loop = c .before in
-    later at-loop .frame .ys .long
+    (run-out _ allUsed _ _ (at-loop .loop .inv .0) (in-loop .loop-test .taken)
+    (pass-over (at-pass .pass .result) (at-pass .pass .ensures .0) (at-p2 .p2 .given .1)))
 
 same-length-10 : tie.Need-same-length-10 Inv-loop μ-loop
 same-length-10 c =
     let at-loop = c .before in
-    later at-loop .frame .next .long
+    later at-loop .frame .xs .long
 
 same-length-11 : tie.Need-same-length-11 Inv-loop μ-loop
 same-length-11 c =
     let at-loop = c .before in
-    later at-loop .frame .prev .long
+    later at-loop .frame .ys .long
 
 same-length-12 : tie.Need-same-length-12 Inv-loop μ-loop
 same-length-12 c =
     let at-loop = c .before in
-    later at-loop .frame .snapshot .long
+    later at-loop .frame .next .long
 
 same-length-13 : tie.Need-same-length-13 Inv-loop μ-loop
 same-length-13 c =
     let at-loop = c .before in
-    later at-loop .frame .quadList .long
+    later at-loop .frame .prev .long
 
 same-length-14 : tie.Need-same-length-14 Inv-loop μ-loop
 same-length-14 c =
     let at-loop = c .before in
+    later at-loop .frame .snapshot .long
+
+same-length-15 : tie.Need-same-length-15 Inv-loop μ-loop
+same-length-15 c =
+    let at-loop = c .before in
+    later at-loop .frame .quadList .long
+
+same-length-16 : tie.Need-same-length-16 Inv-loop μ-loop
+same-length-16 c =
+    let at-loop = c .before in
     later at-loop .frame .edgeList .long
+
+same-length-17 : tie.Need-same-length-17 Inv-loop μ-loop
+same-length-17 c =
+    let at-loop = c .before in
+    let at-file-all = at-loop .before .before .before .before .before in
+    at-loop .loop .inv .1 .node-long ∙ at-file-all .file-all .kept .1 .1 .1 .1 .0
+
+same-length-18 : tie.Need-same-length-18 Inv-loop μ-loop
+same-length-18 c =
+    let at-loop = c .before in
+    let at-file-all = at-loop .before .before .before .before .before in
+    at-loop .loop .inv .1 .edge-long ∙ at-file-all .file-all .kept .1 .1 .1 .1 .1 .0
 
 returns-2 : tie.Need-returns-2 Inv-loop μ-loop
 returns-2 c =
     let at-loop = c .before in
-    let at-most-passes = at-loop .before in
-    let start = at-most-passes .before .before .before .before .before .before .before .before .before .before .before .before in
+    let at-most-passes = at-loop .before .before .before .before .before .before .before .before .before .before .before in
+    let at-shared-slice-known2 = at-most-passes .before .before .before .before .before .before .before .before .before .before .before .before in
+    let start = at-shared-slice-known2 .before .before in
     advance-whole (around start) (start .args .size) (field start) (start .args .passes) (lent start) (at-most-passes .most-passes .ensures)
-    (run-end _ allUsed _ (at-loop .loop .inv) (c .loop-test .left))
+    (run-end _ allUsed _ (at-loop .loop .inv .0) (c .loop-test .left))
 
 pub advance-spec : {M : Type 1} → statement M
 advance-spec =
@@ -188,6 +240,7 @@ advance-spec =
     Inv-loop
     μ-loop
     most-passes-requires
+    file-all-requires
     loop-holds
     add-i
     pass-requires
@@ -202,12 +255,16 @@ advance-spec =
     same-length-5
     same-length-6
     same-length-7
-    returns
     same-length-8
     same-length-9
+    returns
     same-length-10
     same-length-11
     same-length-12
     same-length-13
     same-length-14
+    same-length-15
+    same-length-16
+    same-length-17
+    same-length-18
     returns-2)

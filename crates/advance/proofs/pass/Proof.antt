@@ -23,17 +23,17 @@ lent s =
 
 copy-links-requires : tie.Need-copy-links-requires
 copy-links-requires c κs =
-    let at-shared-slice-known = c .before .before .before .before .before .before .before .before .before .before .before .before in
-    let start = at-shared-slice-known .before in
-    let P = held _ _ _ _ (start .pre) in
+    let at-shared-slice-known3 = c .before .before .before .before .before .before .before .before .before .before .before .before in
+    let start = at-shared-slice-known3 .before .before .before in
+    let P = held _ _ _ _ (start .pre .0) in
     (P .next, P .snapshot)
 
 sweep-requires : tie.Need-sweep-requires
 sweep-requires c κs =
-    let at-copy-links = c .before .before .before .before .before .before .before .before .before in
-    let at-shared-slice-known2 = at-copy-links .before .before .before .before .before .before .before .before .before .before .before .before in
-    let start = at-shared-slice-known2 .before .before in
-    pass-begun _ _ _ (lent start) (start .pre) (at-copy-links .copy-links .ensures)
+    let at-copy-links = c .before .before .before .before .before .before .before .before .before .before .before in
+    let at-shared-slice-known4 = at-copy-links .before .before .before .before .before .before .before .before .before .before .before .before in
+    let start = at-shared-slice-known4 .before .before .before .before in
+    (pass-begun _ _ _ (lent start) (start .pre .0) (at-copy-links .copy-links .ensures), start .pre .1)
 
 same-length : tie.Need-same-length
 same-length c = search needs
@@ -56,13 +56,22 @@ same-length-6 c = search needs
 same-length-7 : tie.Need-same-length-7
 same-length-7 c = search needs
 
+same-length-8 : tie.Need-same-length-8
+same-length-8 c = search needs
+
+same-length-9 : tie.Need-same-length-9
+same-length-9 c = search needs
+
 returns : tie.Need-returns
 returns c =
-    let at-sweep = c .before .before .before .before .before .before .before .before .before .before .before .before in
-    let at-copy-links = at-sweep .before .before .before .before .before .before .before .before .before .before in
-    let at-shared-slice-known2 = at-copy-links .before .before .before .before .before .before .before .before .before .before .before .before in
-    let start = at-shared-slice-known2 .before .before in
-    pass-whole (around start) (start .args .size) (field start) (lent start) _ _ (at-copy-links .copy-links .ensures) (at-sweep .sweep .ensures)
+    let at-slice-known12 = c .before .before .before .before .before .before .before .before .before .before .before .before in
+    let at-sweep = at-slice-known12 .before .before .before .before in
+    let at-copy-links = at-sweep .before .before .before .before .before .before .before .before .before .before .before .before in
+    let at-shared-slice-known4 = at-copy-links .before .before .before .before .before .before .before .before .before .before .before .before in
+    let start = at-shared-slice-known4 .before .before .before .before in (
+      pass-whole (around start) (start .args .size) (field start) (lent start) _ _ (at-copy-links .copy-links .ensures) (at-sweep .sweep .ensures .0),
+      at-sweep .sweep .ensures .1,
+    )
 
 pub pass-spec : {M : Type 1} → statement M
 pass-spec =
@@ -77,4 +86,6 @@ pass-spec =
     same-length-5
     same-length-6
     same-length-7
+    same-length-8
+    same-length-9
     returns)

@@ -1,7 +1,7 @@
 -- `advance::sweep` meets its contract: the loop is the run over the turns of a pass. Assumes nothing.
 use mathlib.Core.Bool.{false}
 use mathlib.Core.List.{[]}
-use mathlib.Core.Path.{_∙_}
+use mathlib.Core.Path.{_∙_, ap, refl, sym}
 use Prim.Native.Nat.{_-_}
 use native.Mathlib.Omega.{arith}
 use borrow.Author.Needs.{needs}
@@ -11,17 +11,23 @@ use Rattle.crossfield.specs.Field.{FieldRecord, fieldRecord}
 use Rattle.front.specs.State.{State, stateOf}
 use Rattle.paving.specs.Advance.{passing, passTurn, afterPass}
 use Rattle.advance.specs.Laws.{in-pass, went-same, went-put, went-over, pass-ends}
+use Rattle.advance.specs.declared.Settled.{Settled}
+use Rattle.advance.specs.Answers.{settledCounts}
 use Rattle.advance.specs.Paveable.{Later}
+use Rattle.advance.specs.Searchable.{Pools, search-at, counts-passed}
 use Rattle.advance.proofs.sweep.Statement.{statement}
 use Rattle.advance.proofs.sweep.Tie as tie
 
 abbrev Inv-loop : tie.InvT-loop
-Inv-loop outer holes lens size grid values xs₀ ys₀ next₀ prev₀ snapshot quads₀ edges₀ n j₀ some₀ a₀ xs ys next prev quads edges j some a =
+Inv-loop outer holes lens size grid values xs₀ ys₀ next₀ prev₀ snapshot quads₀ edges₀ nodePool₀ edgePool₀ n j₀ some₀ a₀ xs ys next prev quads edges nodePool
+    edgePool j some a =
     Run (passTurn (outline outer holes lens) size (fieldRecord grid values [])) afterPass
     (passing (stateOf xs₀ ys₀ next₀ prev₀ snapshot quads₀ edges₀ j₀) false) n a (passing (stateOf xs ys next prev snapshot quads edges j) some)
+    × Pools size xs ys edges j nodePool₀ edgePool₀ nodePool edgePool
 
 abbrev μ-loop : tie.MeasureT-loop
-μ-loop outer holes lens size grid values xs₀ ys₀ next₀ prev₀ snapshot quads₀ edges₀ n j₀ some₀ a₀ xs ys next prev quads edges j some a =
+μ-loop outer holes lens size grid values xs₀ ys₀ next₀ prev₀ snapshot quads₀ edges₀ nodePool₀ edgePool₀ n j₀ some₀ a₀ xs ys next prev quads edges nodePool
+    edgePool j some a =
     n - a
 
 -- the outline, the field and the state as they are lent
@@ -38,24 +44,27 @@ lent s =
 
 -- the state in the loop comes after the one that is lent
 abbrev start : tie.At-loop Inv-loop μ-loop → tie.Start Inv-loop μ-loop
-start c = c .before .before .before .before .before .before .before .before .before .before .before .before
+start c = c .before .before .before .before .before .before .before .before .before .before .before .before .before .before
 
 later : (c : tie.At-loop Inv-loop μ-loop) → Later (around (start c)) (start c .args .grid) (start c .args .values .now) (lent (start c))
     (stateOf (c .loop .xs) (c .loop .ys) (c .loop .next) (c .loop .prev) (start c .args .snapshot .now) (c .loop .quads) (c .loop .edges) (c .loop .j))
-later c = in-pass (around (start c)) (start c .args .size) _ _ (field (start c)) (lent (start c)) (start c .pre) (c .loop .inv)
+later c = in-pass (around (start c)) (start c .args .size) _ _ (field (start c)) (lent (start c)) (start c .pre .0) (c .loop .inv .0)
 
 loop-holds : tie.Need-loop-holds Inv-loop μ-loop
-loop-holds c = run-start _ afterPass _ _
+loop-holds c =
+    let at-shared-slice-known = c .before .before .before .before .before .before .before .before .before .before .before .before in
+    let start = at-shared-slice-known .before in
+    (run-start _ afterPass _ _, record { search = start .pre .1; node-long = refl; edge-long = refl })
 
 add-a : tie.Need-add-a Inv-loop μ-loop
 add-a c = omega arith
 
 settle-requires : tie.Need-settle-requires Inv-loop μ-loop
 settle-requires c κs =
-    let at-loop-test = c .before .before .before .before .before .before in
-    let at-loop = at-loop-test .before in
+    let in-loop = c .before .before .before .before .before .before .before .before in
+    let at-loop = in-loop .before in
     let L = later at-loop in
-    (L .paveable, omega (arith, L .frame .nodes, at-loop-test .loop-test .taken))
+    (L .paveable, omega (arith, L .frame .nodes, in-loop .loop-test .taken), at-loop .loop .inv .1 .search)
 
 enum-told : tie.Need-enum-told Inv-loop μ-loop
 enum-told c = search needs
@@ -65,12 +74,19 @@ loop-less c = omega arith
 
 loop-again : tie.Need-loop-again Inv-loop μ-loop
 loop-again c =
-    let at-slice-known7 = c .before .before .before .before .before .before .before .before .before .before .before .before in
-    let at-settle = at-slice-known7 .before .before in
-    let at-loop-test = at-settle .before .before .before .before .before .before .before in
-    let at-loop = at-loop-test .before in
-    run-go _ afterPass _ _ (at-loop .loop .inv) (at-loop-test .loop-test .taken)
-    (went-same (at-loop .loop .j) (at-loop .loop .some) (at-settle .settle .result) (at-settle .settle .ensures (at-loop .loop .some)) (c .enum-told .given .1))
+    let at-slice-known11 = c .before .before .before .before .before .before .before .before .before .before .before .before in
+    let at-settle = at-slice-known11 .before .before .before .before .before .before in
+    let in-loop = at-settle .before .before .before .before .before .before .before .before .before in
+    let at-loop = in-loop .before in (
+      run-go _ afterPass _ _ (at-loop .loop .inv .0) (in-loop .loop-test .taken)
+          (went-same (at-loop .loop .j) (at-loop .loop .some) (at-settle .settle .result) (at-settle .settle .ensures .0 (at-loop .loop .some))
+          (c .enum-told .given .1)),
+      record {
+        search = search-at (ap (λ (t : Settled). settledCounts (at-loop .loop .j) t) (c .enum-told .given .1)) (at-settle .settle .ensures .1);
+        node-long = at-settle .settle .kept .1 .1 .1 .1 .1 .1 .1 .1 .1 .1 .1 .1 .1 .0 ∙ at-loop .loop .inv .1 .node-long;
+        edge-long = at-settle .settle .kept .1 .1 .1 .1 .1 .1 .1 .1 .1 .1 .1 .1 .1 .1 .0 ∙ at-loop .loop .inv .1 .edge-long;
+      },
+    )
 
 enum-known-t : tie.Need-enum-known-t Inv-loop μ-loop
 enum-known-t c = search needs
@@ -81,106 +97,142 @@ loop-less-2 c = omega arith
 loop-again-2 : tie.Need-loop-again-2 Inv-loop μ-loop
 loop-again-2 c =
     let at-t = c .before in
-    let at-slice-known7 = at-t .before .before .before .before .before .before .before .before .before .before .before .before in
-    let at-settle = at-slice-known7 .before .before in
-    let at-loop-test = at-settle .before .before .before .before .before .before .before in
-    let at-loop = at-loop-test .before in
-    run-go _ afterPass _ _ (at-loop .loop .inv) (at-loop-test .loop-test .taken)
-    (went-put (at-loop .loop .j) (at-loop .loop .some) (at-settle .settle .result) (at-settle .settle .ensures (at-loop .loop .some)) (at-t .t .given .1))
+    let at-slice-known11 = at-t .before .before .before .before .before .before .before .before .before .before .before .before in
+    let at-settle = at-slice-known11 .before .before .before .before .before .before in
+    let in-loop = at-settle .before .before .before .before .before .before .before .before .before in
+    let at-loop = in-loop .before in (
+      run-go _ afterPass _ _ (at-loop .loop .inv .0) (in-loop .loop-test .taken)
+          (went-put (at-loop .loop .j) (at-loop .loop .some) (at-settle .settle .result) (at-settle .settle .ensures .0 (at-loop .loop .some))
+          (at-t .t .given .1)),
+      record {
+        search = search-at (ap (λ (t : Settled). settledCounts (at-loop .loop .j) t) (at-t .t .given .1)) (at-settle .settle .ensures .1);
+        node-long = at-settle .settle .kept .1 .1 .1 .1 .1 .1 .1 .1 .1 .1 .1 .1 .1 .0 ∙ at-loop .loop .inv .1 .node-long;
+        edge-long = at-settle .settle .kept .1 .1 .1 .1 .1 .1 .1 .1 .1 .1 .1 .1 .1 .1 .0 ∙ at-loop .loop .inv .1 .edge-long;
+      },
+    )
 
 enum-known-t-2 : tie.Need-enum-known-t-2 Inv-loop μ-loop
 enum-known-t-2 c = search needs
 
 same-length : tie.Need-same-length Inv-loop μ-loop
 same-length c =
-    let at-ys = c .before .before .before .before .before .before .before .before .before .before .before .before in
-    let at-settle = at-ys .before .before .before in
-    let at-loop = at-settle .before .before .before .before .before .before .before .before in
+    let at-prev = c .before .before .before .before .before .before .before .before .before .before .before .before in
+    let at-settle = at-prev .before .before .before .before .before .before .before in
+    let at-loop = at-settle .before .before .before .before .before .before .before .before .before .before in
     at-settle .settle .kept .1 .1 .1 .1 .1 .1 .0 ∙ later at-loop .frame .xs .long
 
 same-length-2 : tie.Need-same-length-2 Inv-loop μ-loop
 same-length-2 c =
-    let at-ys = c .before .before .before .before .before .before .before .before .before .before .before .before in
-    let at-settle = at-ys .before .before .before in
-    let at-loop = at-settle .before .before .before .before .before .before .before .before in
+    let at-prev = c .before .before .before .before .before .before .before .before .before .before .before .before in
+    let at-settle = at-prev .before .before .before .before .before .before .before in
+    let at-loop = at-settle .before .before .before .before .before .before .before .before .before .before in
     at-settle .settle .kept .1 .1 .1 .1 .1 .1 .1 .0 ∙ later at-loop .frame .ys .long
 
 same-length-3 : tie.Need-same-length-3 Inv-loop μ-loop
 same-length-3 c =
-    let at-ys = c .before .before .before .before .before .before .before .before .before .before .before .before in
-    let at-settle = at-ys .before .before .before in
-    let at-loop = at-settle .before .before .before .before .before .before .before .before in
+    let at-prev = c .before .before .before .before .before .before .before .before .before .before .before .before in
+    let at-settle = at-prev .before .before .before .before .before .before .before in
+    let at-loop = at-settle .before .before .before .before .before .before .before .before .before .before in
     at-settle .settle .kept .1 .1 .1 .1 .1 .1 .1 .1 .0 ∙ later at-loop .frame .next .long
 
 same-length-4 : tie.Need-same-length-4 Inv-loop μ-loop
 same-length-4 c =
-    let at-ys = c .before .before .before .before .before .before .before .before .before .before .before .before in
-    let at-settle = at-ys .before .before .before in
-    let at-loop = at-settle .before .before .before .before .before .before .before .before in
+    let at-prev = c .before .before .before .before .before .before .before .before .before .before .before .before in
+    let at-settle = at-prev .before .before .before .before .before .before .before in
+    let at-loop = at-settle .before .before .before .before .before .before .before .before .before .before in
     at-settle .settle .kept .1 .1 .1 .1 .1 .1 .1 .1 .1 .0 ∙ later at-loop .frame .prev .long
 
 same-length-5 : tie.Need-same-length-5 Inv-loop μ-loop
 same-length-5 c =
-    let at-ys = c .before .before .before .before .before .before .before .before .before .before .before .before in
-    let at-settle = at-ys .before .before .before in
-    let at-loop = at-settle .before .before .before .before .before .before .before .before in
+    let at-prev = c .before .before .before .before .before .before .before .before .before .before .before .before in
+    let at-settle = at-prev .before .before .before .before .before .before .before in
+    let at-loop = at-settle .before .before .before .before .before .before .before .before .before .before in
     at-settle .settle .kept .1 .1 .1 .1 .1 .1 .1 .1 .1 .1 .1 .0 ∙ later at-loop .frame .quadList .long
 
 same-length-6 : tie.Need-same-length-6 Inv-loop μ-loop
 same-length-6 c =
-    let at-ys = c .before .before .before .before .before .before .before .before .before .before .before .before in
-    let at-settle = at-ys .before .before .before in
-    let at-loop = at-settle .before .before .before .before .before .before .before .before in
+    let at-prev = c .before .before .before .before .before .before .before .before .before .before .before .before in
+    let at-settle = at-prev .before .before .before .before .before .before .before in
+    let at-loop = at-settle .before .before .before .before .before .before .before .before .before .before in
     at-settle .settle .kept .1 .1 .1 .1 .1 .1 .1 .1 .1 .1 .1 .1 .0 ∙ later at-loop .frame .edgeList .long
+
+same-length-7 : tie.Need-same-length-7 Inv-loop μ-loop
+same-length-7 c =
+    let at-prev = c .before .before .before .before .before .before .before .before .before .before .before .before in
+    let at-settle = at-prev .before .before .before .before .before .before .before in
+    let at-loop = at-settle .before .before .before .before .before .before .before .before .before .before in
+    at-settle .settle .kept .1 .1 .1 .1 .1 .1 .1 .1 .1 .1 .1 .1 .1 .0 ∙ at-loop .loop .inv .1 .node-long
+
+same-length-8 : tie.Need-same-length-8 Inv-loop μ-loop
+same-length-8 c =
+    let at-prev = c .before .before .before .before .before .before .before .before .before .before .before .before in
+    let at-settle = at-prev .before .before .before .before .before .before .before in
+    let at-loop = at-settle .before .before .before .before .before .before .before .before .before .before in
+    at-settle .settle .kept .1 .1 .1 .1 .1 .1 .1 .1 .1 .1 .1 .1 .1 .1 .0 ∙ at-loop .loop .inv .1 .edge-long
 
 returns : tie.Need-returns Inv-loop μ-loop
 returns c =
     let at-t2 = c .before in
-    let at-slice-known7 = at-t2 .before .before .before .before .before .before .before .before .before .before .before .before in
-    let at-settle = at-slice-known7 .before .before in
-    let at-loop-test = at-settle .before .before .before .before .before .before .before in
-    let at-loop = at-loop-test .before in
-    run-out _ afterPass _ _ (at-loop .loop .inv) (at-loop-test .loop-test .taken)
-    (went-over (at-loop .loop .j) (at-loop .loop .some) (at-settle .settle .result) (at-settle .settle .ensures (at-loop .loop .some)) (at-t2 .t2 .given .1))
+    let at-slice-known11 = at-t2 .before .before .before .before .before .before .before .before .before .before .before .before in
+    let at-settle = at-slice-known11 .before .before .before .before .before .before in
+    let in-loop = at-settle .before .before .before .before .before .before .before .before .before in
+    let at-loop = in-loop .before in (
+      run-out _ afterPass _ _ (at-loop .loop .inv .0) (in-loop .loop-test .taken)
+          (went-over (at-loop .loop .j) (at-loop .loop .some) (at-settle .settle .result) (at-settle .settle .ensures .0 (at-loop .loop .some))
+          (at-t2 .t2 .given .1)),
+      search-at (ap (λ (t : Settled). settledCounts (at-loop .loop .j) t) (at-t2 .t2 .given .1)) (at-settle .settle .ensures .1),
+    )
 
 after-pass-requires : tie.Need-after-pass-requires Inv-loop μ-loop
 after-pass-requires c κs = search needs
 
-same-length-7 : tie.Need-same-length-7 Inv-loop μ-loop
-same-length-7 c =
-    let at-loop = c .before .before in
-    later at-loop .frame .xs .long
-
-same-length-8 : tie.Need-same-length-8 Inv-loop μ-loop
-same-length-8 c =
-    let at-loop = c .before .before in
-    later at-loop .frame .ys .long
-
 same-length-9 : tie.Need-same-length-9 Inv-loop μ-loop
 same-length-9 c =
     let at-loop = c .before .before in
-    later at-loop .frame .next .long
+    later at-loop .frame .xs .long
 
 same-length-10 : tie.Need-same-length-10 Inv-loop μ-loop
 same-length-10 c =
     let at-loop = c .before .before in
-    later at-loop .frame .prev .long
+    later at-loop .frame .ys .long
 
 same-length-11 : tie.Need-same-length-11 Inv-loop μ-loop
 same-length-11 c =
     let at-loop = c .before .before in
-    later at-loop .frame .quadList .long
+    later at-loop .frame .next .long
 
 same-length-12 : tie.Need-same-length-12 Inv-loop μ-loop
 same-length-12 c =
     let at-loop = c .before .before in
+    later at-loop .frame .prev .long
+
+same-length-13 : tie.Need-same-length-13 Inv-loop μ-loop
+same-length-13 c =
+    let at-loop = c .before .before in
+    later at-loop .frame .quadList .long
+
+same-length-14 : tie.Need-same-length-14 Inv-loop μ-loop
+same-length-14 c =
+    let at-loop = c .before .before in
     later at-loop .frame .edgeList .long
+
+same-length-15 : tie.Need-same-length-15 Inv-loop μ-loop
+same-length-15 c =
+    let at-loop = c .before .before in
+    at-loop .loop .inv .1 .node-long
+
+same-length-16 : tie.Need-same-length-16 Inv-loop μ-loop
+same-length-16 c =
+    let at-loop = c .before .before in
+    at-loop .loop .inv .1 .edge-long
 
 returns-2 : tie.Need-returns-2 Inv-loop μ-loop
 returns-2 c =
-    let at-loop-test = c .before in
-    let at-loop = at-loop-test .before in
-    pass-ends _ (at-loop .loop .inv) (at-loop-test .loop-test .left) (c .after-pass .ensures)
+    let past-loop = c .before in
+    let at-loop = past-loop .before in (
+      pass-ends _ (at-loop .loop .inv .0) (past-loop .loop-test .left) (c .after-pass .ensures),
+      search-at (sym (counts-passed (at-loop .loop .some) (at-loop .loop .j) (c .after-pass .ensures))) (at-loop .loop .inv .1 .search),
+    )
 
 pub sweep-spec : {M : Type 1} → statement M
 sweep-spec =
@@ -204,12 +256,16 @@ sweep-spec =
     same-length-4
     same-length-5
     same-length-6
-    returns
-    after-pass-requires
     same-length-7
     same-length-8
+    returns
+    after-pass-requires
     same-length-9
     same-length-10
     same-length-11
     same-length-12
+    same-length-13
+    same-length-14
+    same-length-15
+    same-length-16
     returns-2)

@@ -11,10 +11,10 @@ id-requires : tie.Need-id-requires
 id-requires c κs = search needs
 
 second-id-requires : tie.Need-second-id-requires
-second-id-requires c κs = c .before .before .before .before .pre .nodes-few
+second-id-requires c κs = c .before .before .before .before .before .pre .nodes-few
 
 side-crosses-requires : tie.Need-side-crosses-requires
-side-crosses-requires c κs = c .before .before .before .before .before .pre .edges-fit
+side-crosses-requires c κs = c .before .before .before .before .before .before .pre .indexed
 
 returns : tie.Need-returns
 unfolding edgesFree
@@ -29,7 +29,7 @@ corner-point-requires-2 : tie.Need-corner-point-requires-2
 corner-point-requires-2 c κs = search needs
 
 edge-crosses-requires : tie.Need-edge-crosses-requires
-edge-crosses-requires c κs = c .before .before .before .before .before .before .before .before .before .pre .edges-fit
+edge-crosses-requires c κs = c .before .before .before .before .before .before .before .before .before .before .pre .indexed
 
 returns-2 : tie.Need-returns-2
 unfolding edgesFree
@@ -37,7 +37,7 @@ returns-2 c =
     let after-corner-point = c .before .before .before in
     let else1 = after-corner-point .before in
     let after-id = else1 .before .before .before in
-    let start = after-id .before .before .before .before in
+    let start = after-id .before .before .before .before .before in
     let args = start .args in
     let s = seenEdges (args .xs .now) (args .ys .now) (args .edges .now) (args .counts) in
     rw (← after-id .id .ensures, ← else1 .before .before .second-id .ensures)
@@ -51,7 +51,7 @@ returns-2 c =
     (rw (← c .before .edge-crosses .ensures, c .if2 .taken) refl)))
 
 side-crosses-requires-2 : tie.Need-side-crosses-requires-2
-side-crosses-requires-2 c κs = c .before .before .before .before .before .before .before .before .before .before .before .pre .edges-fit
+side-crosses-requires-2 c κs = c .before .before .before .before .before .before .before .before .before .before .before .before .pre .indexed
 
 returns-3 : tie.Need-returns-3
 unfolding edgesFree
@@ -60,7 +60,7 @@ returns-3 c =
     let after-corner-point = else2 .before .before .before in
     let else1 = after-corner-point .before in
     let after-id = else1 .before .before .before in
-    let start = after-id .before .before .before .before in
+    let start = after-id .before .before .before .before .before in
     let args = start .args in
     let s = seenEdges (args .xs .now) (args .ys .now) (args .edges .now) (args .counts) in
     rw (← after-id .id .ensures, ← else1 .before .before .second-id .ensures)

@@ -1,5 +1,5 @@
--- `attempts::node_in_quad` meets its contract: the loop's invariant is a search that has found nothing.
-use mathlib.Core.Path.{_∙_}
+-- `attempts::node_in_quad` meets its contract: a walk answers, or a scan, whose loop's invariant is a search that has found nothing.
+use mathlib.Core.Path.{_∙_, sym}
 use Prim.Native.Nat.{_-_}
 use native.Mathlib.Omega.{arith}
 use borrow.Author.Needs.{needs}
@@ -11,22 +11,20 @@ use Rattle.attempts.proofs.node_in_quad.Statement.{statement}
 use Rattle.attempts.proofs.node_in_quad.Tie as tie
 
 abbrev Inv-loop : tie.InvT-loop
-Inv-loop size xs ys p a b d c nodes low high id₀ id = Scan (blocks size (seenPoints xs ys) p a b d c) nodes id
+Inv-loop size xs ys pool p a b d c nodes id₀ id = Scan (blocks size (seenPoints xs ys) p a b d c) nodes id
 
 abbrev μ-loop : tie.MeasureT-loop
-μ-loop size xs ys p a b d c nodes low high id₀ id = nodes - id
+μ-loop size xs ys pool p a b d c nodes id₀ id = nodes - id
 
-lowest-requires : tie.Need-lowest-requires Inv-loop μ-loop
-lowest-requires c κs = search needs
+is-live-requires : tie.Need-is-live-requires Inv-loop μ-loop
+is-live-requires c κs = search needs
 
-key-of-requires : tie.Need-key-of-requires Inv-loop μ-loop
-key-of-requires c κs = search needs
+any-inside-requires : tie.Need-any-inside-requires Inv-loop μ-loop
+any-inside-requires c κs = (sym (c .before .is-live .ensures) ∙ c .if1 .taken, c .before .before .before .before .before .pre)
 
-highest-requires : tie.Need-highest-requires Inv-loop μ-loop
-highest-requires c κs = search needs
-
-key-of-requires-2 : tie.Need-key-of-requires-2 Inv-loop μ-loop
-key-of-requires-2 c κs = search needs
+returns : tie.Need-returns Inv-loop μ-loop
+unfolding nodeInside
+returns c = c .any-inside .ensures
 
 loop-holds : tie.Need-loop-holds Inv-loop μ-loop
 loop-holds c = scan-start _ _
@@ -37,24 +35,19 @@ node-at-requires c κs = search needs
 blocks-at-requires : tie.Need-blocks-at-requires Inv-loop μ-loop
 blocks-at-requires c κs = search needs
 
-returns : tie.Need-returns Inv-loop μ-loop
+returns-2 : tie.Need-returns-2 Inv-loop μ-loop
 unfolding nodeInside
-returns c =
+returns-2 c =
     let in-loop = c .before .before .before in
-    let after-highest = in-loop .before .before .before in
-    let start = after-highest .before .before .before .before .before in
+    let start = in-loop .before .before .before .before .before .before .before in
     let args = start .args in
     let s = seenPoints (args .xs .now) (args .ys .now) in
     scan-hit _ (in-loop .before .loop .inv) (in-loop .loop-test .taken)
     (blocks-is (args .size) s (args .p) (args .a) (args .b) (args .d) (args .c) (in-loop .before .loop .id)
-    (after-highest .before .before .lowest .ensures) (after-highest .before .key-of .ensures) (after-highest .highest .ensures)
-    (in-loop .before .before .key-of2 .ensures) (c .before .before .node-at .ensures) (c .before .blocks-at .ensures) ∙ c .if1 .taken)
+    (c .before .before .node-at .ensures) (c .before .blocks-at .ensures) ∙ c .if2 .taken)
 
 add-id : tie.Need-add-id Inv-loop μ-loop
-add-id c =
-    let in-loop = c .before .before .before in
-    let start = in-loop .before .before .before .before .before .before .before .before in
-    omega (arith, in-loop .loop-test .taken, start .good .1 .1 .1 .0)
+add-id c = omega arith
 
 loop-less : tie.Need-loop-less Inv-loop μ-loop
 loop-less c = omega arith
@@ -62,18 +55,16 @@ loop-less c = omega arith
 loop-again : tie.Need-loop-again Inv-loop μ-loop
 loop-again c =
     let in-loop = c .before .before .before in
-    let after-highest = in-loop .before .before .before in
-    let start = after-highest .before .before .before .before .before in
+    let start = in-loop .before .before .before .before .before .before .before in
     let args = start .args in
     let s = seenPoints (args .xs .now) (args .ys .now) in
     scan-next _ (in-loop .before .loop .inv) (in-loop .loop-test .taken)
     (blocks-is (args .size) s (args .p) (args .a) (args .b) (args .d) (args .c) (in-loop .before .loop .id)
-    (after-highest .before .before .lowest .ensures) (after-highest .before .key-of .ensures) (after-highest .highest .ensures)
-    (in-loop .before .before .key-of2 .ensures) (c .before .before .node-at .ensures) (c .before .blocks-at .ensures) ∙ c .if1 .left)
+    (c .before .before .node-at .ensures) (c .before .blocks-at .ensures) ∙ c .if2 .left)
 
-returns-2 : tie.Need-returns-2 Inv-loop μ-loop
+returns-3 : tie.Need-returns-3 Inv-loop μ-loop
 unfolding nodeInside
-returns-2 c = scan-none _ (c .before .loop .inv) (c .loop-test .left)
+returns-3 c = scan-none _ (c .before .loop .inv) (c .loop-test .left)
 
 pub node-in-quad-spec : {M : Type 1} → statement M
 node-in-quad-spec =
@@ -81,15 +72,14 @@ node-in-quad-spec =
     (tie.spec
     Inv-loop
     μ-loop
-    lowest-requires
-    key-of-requires
-    highest-requires
-    key-of-requires-2
+    is-live-requires
+    any-inside-requires
+    returns
     loop-holds
     node-at-requires
     blocks-at-requires
-    returns
+    returns-2
     add-id
     loop-less
     loop-again
-    returns-2)
+    returns-3)

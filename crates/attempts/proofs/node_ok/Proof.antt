@@ -26,7 +26,7 @@ returns-2 c =
     (fails _ (refused (c .before .is-finite-f642 .ensures) (c .if2 .taken)))
 
 contains-point-requires : tie.Need-contains-point-requires
-contains-point-requires c κs = c .before .before .before .before .before .before .before .before .before .pre
+contains-point-requires c κs = c .before .before .before .before .before .before .before .before .before .before .pre .shape
 
 returns-3 : tie.Need-returns-3
 unfolding nodeOk
@@ -38,7 +38,9 @@ returns-3 c =
     (fails _ (refused (c .before .contains-point .ensures) (c .if3 .taken))))
 
 too-close-requires : tie.Need-too-close-requires
-too-close-requires c κs = search needs
+too-close-requires c κs =
+    let else2 = c .before .before in
+    else2 .before .before .before .before .before .before .before .before .before .before .pre .filed
 
 returns-4 : tie.Need-returns-4
 unfolding nodeOk

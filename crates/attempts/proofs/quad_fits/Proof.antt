@@ -16,11 +16,11 @@ id-requires : tie.Need-id-requires
 id-requires c κs = search needs
 
 second-id-requires : tie.Need-second-id-requires
-second-id-requires c κs = c .before .before .before .before .before .before .before .before .pre .0 .within .nodes-few
+second-id-requires c κs = c .before .before .before .before .before .before .before .before .before .before .pre .0 .within .nodes-few
 
 returns : tie.Need-returns
 returns c =
-    let start = c .before .before .before .before .before .before .before .before .before .before in
+    let start = c .before .before .before .before .before .before .before .before .before .before .before .before in
     let args = start .args in
     let o = outline (args .outer .now) (args .holes .now) (args .lens .now) in
     let s = seen (args .xs .now) (args .ys .now) (args .next .now) [] (args .edges .now) (args .counts) in
@@ -29,12 +29,12 @@ returns c =
     (fails _ (ap not (eq-eqb _ _ (c .if1 .taken))))
 
 corner-free-requires : tie.Need-corner-free-requires
-corner-free-requires c κs = c .before .before .before .before .before .before .before .before .before .before .pre .0 .shape
+corner-free-requires c κs = c .before .before .before .before .before .before .before .before .before .before .before .before .pre .0 .nodes
 
 returns-2 : tie.Need-returns-2
 returns-2 c =
     let else1 = c .before .before in
-    let start = else1 .before .before .before .before .before .before .before .before .before .before in
+    let start = else1 .before .before .before .before .before .before .before .before .before .before .before .before in
     let args = start .args in
     let o = outline (args .outer .now) (args .holes .now) (args .lens .now) in
     let s = seen (args .xs .now) (args .ys .now) (args .next .now) [] (args .edges .now) (args .counts) in
@@ -44,13 +44,13 @@ returns-2 c =
     (fails _ (refused (c .before .corner-free .ensures) (c .if2 .taken))))
 
 corner-free-requires-2 : tie.Need-corner-free-requires-2
-corner-free-requires-2 c κs = c .before .before .before .before .before .before .before .before .before .before .before .before .pre .0 .shape
+corner-free-requires-2 c κs = c .before .before .before .before .before .before .before .before .before .before .before .before .before .before .pre .0 .nodes
 
 returns-3 : tie.Need-returns-3
 returns-3 c =
     let else2 = c .before .before in
     let else1 = else2 .before .before in
-    let start = else1 .before .before .before .before .before .before .before .before .before .before in
+    let start = else1 .before .before .before .before .before .before .before .before .before .before .before .before in
     let args = start .args in
     let o = outline (args .outer .now) (args .holes .now) (args .lens .now) in
     let s = seen (args .xs .now) (args .ys .now) (args .next .now) [] (args .edges .now) (args .counts) in
@@ -68,7 +68,7 @@ returns-4 c =
     let else3 = c .before .before in
     let else2 = else3 .before .before in
     let else1 = else2 .before .before in
-    let start = else1 .before .before .before .before .before .before .before .before .before .before in
+    let start = else1 .before .before .before .before .before .before .before .before .before .before .before .before in
     let args = start .args in
     let o = outline (args .outer .now) (args .holes .now) (args .lens .now) in
     let s = seen (args .xs .now) (args .ys .now) (args .next .now) [] (args .edges .now) (args .counts) in
@@ -82,7 +82,7 @@ returns-4 c =
 link-at-requires : tie.Need-link-at-requires
 link-at-requires c κs =
     let after-id = c .before .before .before .before .before .before .before .before in
-    after-id .before .before .before .before .before .before .before .before .pre .1
+    after-id .before .before .before .before .before .before .before .before .before .before .pre .1
 
 returns-5 : tie.Need-returns-5
 returns-5 c =
@@ -90,7 +90,7 @@ returns-5 c =
     let else3 = else4 .before .before in
     let else2 = else3 .before .before in
     let else1 = else2 .before .before in
-    let start = else1 .before .before .before .before .before .before .before .before .before .before in
+    let start = else1 .before .before .before .before .before .before .before .before .before .before .before .before in
     let args = start .args in
     let o = outline (args .outer .now) (args .holes .now) (args .lens .now) in
     let s = seen (args .xs .now) (args .ys .now) (args .next .now) [] (args .edges .now) (args .counts) in
@@ -105,7 +105,7 @@ returns-5 c =
 quad-ok-requires : tie.Need-quad-ok-requires
 quad-ok-requires c κs =
     let after-id = c .before .before .before .before .before .before .before .before .before .before in
-    after-id .before .before .before .before .before .before .before .before .pre .0
+    after-id .before .before .before .before .before .before .before .before .before .before .pre .0
 
 returns-6 : tie.Need-returns-6
 returns-6 c =
@@ -114,7 +114,7 @@ returns-6 c =
     let else3 = else4 .before .before in
     let else2 = else3 .before .before in
     let else1 = else2 .before .before in
-    let start = else1 .before .before .before .before .before .before .before .before .before .before in
+    let start = else1 .before .before .before .before .before .before .before .before .before .before .before .before in
     let args = start .args in
     let o = outline (args .outer .now) (args .holes .now) (args .lens .now) in
     let s = seen (args .xs .now) (args .ys .now) (args .next .now) [] (args .edges .now) (args .counts) in

@@ -17,7 +17,7 @@ node-at-requires : tie.Need-node-at-requires
 node-at-requires c κs = search needs
 
 edge-crosses-requires : tie.Need-edge-crosses-requires
-edge-crosses-requires c κs = c .before .before .before .before .before .before .before .pre
+edge-crosses-requires c κs = c .before .before .before .before .before .before .before .before .pre
 
 returns-2 : tie.Need-returns-2
 returns-2 c =

@@ -38,6 +38,12 @@ slice-aggregate-pave-10 c = search needs
 slice-aggregate-pave-11 : tie.Need-slice-aggregate-pave-11
 slice-aggregate-pave-11 c = search needs
 
+slice-aggregate-pave-12 : tie.Need-slice-aggregate-pave-12
+slice-aggregate-pave-12 c = search needs
+
+slice-aggregate-pave-13 : tie.Need-slice-aggregate-pave-13
+slice-aggregate-pave-13 c = search needs
+
 pave-requires : tie.Need-pave-requires
 pave-requires c κs = search needs
 
@@ -69,7 +75,7 @@ returns : tie.Need-returns
 unfolding programLent
 returns c =
     let at-heading = c .before .before .before .before .before .before .before .before in
-    let at-pave = at-heading .before .before .before .before .before .before .before .before .before .before .before .before .before in
+    let at-pave = at-heading .before .before .before .before .before .before .before .before .before .before .before .before .before .before .before in
     let kept = at-pave .pave .kept .1 .1 .1 .1 .1 .1 .1 .1 in
     run-listed _ _ _ _ (at-pave .pave .ensures) (at-heading .heading .ensures)
     (record { xs = kept .0; quads = kept .1 .1 .1 .1 .1 .0; loops = kept .1 .1 .1 .1 .1 .1 .1 .0; lengths = kept .1 .1 .1 .1 .1 .1 .1 .1 .0 })
@@ -90,6 +96,8 @@ list-outline-spec =
     slice-aggregate-pave-9
     slice-aggregate-pave-10
     slice-aggregate-pave-11
+    slice-aggregate-pave-12
+    slice-aggregate-pave-13
     pave-requires
     heading-requires
     slice-aggregate-write-listing

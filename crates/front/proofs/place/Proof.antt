@@ -14,7 +14,7 @@ use Rattle.front.proofs.place.Tie as tie
 -- ---- the places of the code that the answers speak of, each by a later one
 
 abbrev start : tie.After-new-edges → tie.Start
-start c = c .before .before .before .before .before .before .before .before .before .before .before .before .before .before
+start c = c .before .before .before .before .before .before .before .before .before .before .before .before
 
 abbrev counted : tie.After-is-beyond → tie.After-new-edges
 counted c = c .before .before .before .before .before .before .before
@@ -41,27 +41,27 @@ lent c =
 
 abbrev beyond : tie.After-new-edges → Bool
 beyond c =
-    isBeyond (lent c) (c .before .before .before .before .before .before .added .result + c .before .before .before .before .before .added2 .result)
+    isBeyond (lent c) (c .before .before .before .before .added .result + c .before .before .before .added2 .result)
     (c .new-edges .result)
 
 full : (c : tie.After-new-edges) → beyond c ≡ true
     → Places (start c .args .a) (start c .args .b) (start c .args .c) (start c .args .d) (lent c) Full (lent c)
 full c =
-    when-full _ _ _ _ _ (start c .pre) _ _ _ _ _ _ (c .before .before .before .before .before .before .added .ensures .0)
-    (c .before .before .before .before .before .added2 .ensures .0) (c .before .before .before .before .id .ensures) (c .before .before .before .id2 .ensures)
-    (c .before .is-known-across .ensures) (c .new-edges .ensures .0)
+    when-full _ _ _ _ _ (start c .pre .0) _ _ _ _ _ _ (c .before .before .before .before .added .ensures .0)
+    (c .before .before .before .added2 .ensures .0) (c .before .before .id .ensures) (c .before .id2 .ensures)
+    (start c .pre .1) (c .new-edges .ensures .0)
 
 abbrev Fit : tie.After-new-edges → Type 0
 Fit c =
     let v = start c .args in
-    Fitting (lent c) (v .a) (v .b) (v .c) (v .d) (c .before .before .before .before .id .result) (c .before .before .before .id2 .result)
-    (c .before .is-known-across .result) (c .new-edges .result)
+    Fitting (lent c) (v .a) (v .b) (v .c) (v .d) (c .before .before .id .result) (c .before .id2 .result)
+    (v .across) (c .new-edges .result)
 
 fit : (c : tie.After-new-edges) → beyond c ≡ false → Fit c
 fit c =
-    when-fits _ _ _ _ _ (start c .pre) _ _ _ _ _ _ (c .before .before .before .before .before .before .added .ensures .0)
-    (c .before .before .before .before .before .added2 .ensures .0) (c .before .before .before .before .id .ensures) (c .before .before .before .id2 .ensures)
-    (c .before .is-known-across .ensures) (c .new-edges .ensures .0)
+    when-fits _ _ _ _ _ (start c .pre .0) _ _ _ _ _ _ (c .before .before .before .before .added .ensures .0)
+    (c .before .before .before .added2 .ensures .0) (c .before .before .id .ensures) (c .before .id2 .ensures)
+    (start c .pre .1) (c .new-edges .ensures .0)
 
 -- there is room for the quad
 fitting : (c : tie.Else1) → Fit (counted (c .before))
@@ -85,16 +85,10 @@ add-id : tie.Need-add-id
 unfolding nodePlaces
 add-id c =
     let begun = c .before .before .before .before .before .before .before .before .before .before in
-    omega (arith, begun .pre .sound .nodes-fit, c .before .before .added .ensures)
+    omega (arith, begun .pre .0 .sound .nodes-fit, c .before .before .added .ensures)
 
 id-requires-2 : tie.Need-id-requires-2
 id-requires-2 c κs = search needs
-
-is-known-across-requires : tie.Need-is-known-across-requires
-unfolding edgePlaces
-is-known-across-requires c κs =
-    let begun = c .before .before .before .before .before .before .before .before .before .before .before .before in
-    omega (arith, begun .pre .sound .edges-fit)
 
 new-edges-requires : tie.Need-new-edges-requires
 new-edges-requires c κs = search needs
@@ -103,7 +97,7 @@ is-beyond-requires : tie.Need-is-beyond-requires
 unfolding quadPlaces edgePlaces
 is-beyond-requires c κs =
     let n = c .before .before .before .before .before .before in
-    let S = start n .pre .sound in
+    let S = start n .pre .0 .sound in
     (omega (arith, S .quads-fit, start n .good), omega (arith, S .edges-fit, n .new-edges .ensures, start n .good))
 
 same-length : tie.Need-same-length
@@ -145,7 +139,7 @@ after-quad-requires c κs =
     let room = decided (with-corners (with-edges (with-quad (c .before .before .before .before)))) in
     let n = counted (room .before) in
     let F = fitting room in
-    let S = start n .pre .sound in
+    let S = start n .pre .0 .sound in
     let good = start n .good in
     record {
       nodes = F .corners .0;
@@ -192,7 +186,6 @@ place-spec =
     id-requires
     add-id
     id-requires-2
-    is-known-across-requires
     new-edges-requires
     is-beyond-requires
     same-length

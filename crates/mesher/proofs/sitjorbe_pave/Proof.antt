@@ -56,10 +56,16 @@ same-length-10 c = search needs
 same-length-11 : tie.Need-same-length-11
 same-length-11 c = search needs
 
+same-length-12 : tie.Need-same-length-12
+same-length-12 c = search needs
+
+same-length-13 : tie.Need-same-length-13
+same-length-13 c = search needs
+
 returns : tie.Need-returns
 returns c =
-    let at-lengths = c .before .before in
-    let at-pave = at-lengths .before .before .before .before .before .before .before .before .before .before .before .before .before .before .before .before .before .before .before .before .before in
+    let midway = c .before .before .before .before .before .before .before .before .before .before .before .before .before .before in
+    let at-pave = midway .before .before .before .before .before .before .before .before .before .before .before .before .before in
     host-paves (at-pave .pave .ensures) (c .pave-numbers .ensures)
 
 pub sitjorbe-pave-spec : {M : Type 1} → statement M
@@ -79,4 +85,6 @@ sitjorbe-pave-spec =
     same-length-9
     same-length-10
     same-length-11
+    same-length-12
+    same-length-13
     returns)

@@ -24,7 +24,7 @@ given s =
     (s .args .snapshot .now) (s .args .quads .now) (s .args .edges .now) (s .args .loops .now) (s .args .lengths .now)
 
 abbrev start-of : tie.After-lesser2 → tie.Start
-start-of c = c .before .before .before .before .before .before .before .before .before .before .before .before .before .before .before .before
+start-of c = c .before .before .before .before .before .before .before .before .before .before .before .before .before .before .before .before .before .before
 
 places-are : (c : tie.After-lesser2) → c .lesser2 .result ≡ snapshotPlaces (given (start-of c))
 places-are c = c .lesser2 .ensures ∙ ap (min _) (c .before .lesser .ensures)
@@ -58,12 +58,11 @@ refused-requires c κs = search needs
 
 returns : tie.Need-returns
 returns c =
-    let at-if1 = c .before in
-    let at-refusal = at-if1 .before in
-    let midway = at-refusal .before .before .before .before .before .before .before .before in
-    let at-shared-slice-known2 = midway .before .before .before .before .before .before .before .before .before in
-    let start = at-shared-slice-known2 .before .before in
-    paves-refused (around start) (set start) (given start) _ (number-at (at-refusal)) (at-if1 .if1 .taken) _ (c .refused .ensures)
+    let then1 = c .before in
+    let at-refusal = then1 .before in
+    let at-slice-known6 = at-refusal .before .before .before .before .before .before .before .before .before .before .before .before in
+    let start = at-slice-known6 .before .before .before .before .before .before .before .before .before in
+    paves-refused (around start) (set start) (given start) _ (number-at at-refusal) (then1 .if1 .taken) _ (c .refused .ensures)
 
 slice-relend-prefix-pave-in : tie.Need-slice-relend-prefix-pave-in
 slice-relend-prefix-pave-in c = search needs
@@ -75,11 +74,13 @@ slice-aggregate-pave-in c =
 
 pave-in-requires : tie.Need-pave-in-requires
 pave-in-requires c κs =
-    let at-if1 = c .before .before .before .before .before .before .before .before .before .before .before in
-    let at-refusal = at-if1 .before in
+    let at-pave-in-arg = c .before .before .before .before .before .before .before .before .before .before .before .before in
+    let else1 = at-pave-in-arg .before in
+    let at-refusal = else1 .before in
     let at-lesser2 = at-refusal .before .before .before in
-    let start = at-lesser2 .before .before .before .before .before .before .before .before .before .before .before .before .before .before .before .before in
-    can-run (around start) (set start) (given start) _ (places-are (at-lesser2)) (sym (number-at (at-refusal)) ∙ at-if1 .if1 .left)
+    let at-slice-known3 = at-lesser2 .before .before .before .before .before .before .before .before .before .before .before .before in
+    let start = at-slice-known3 .before .before .before .before .before .before in
+    can-run (around start) (set start) (given start) _ (places-are at-lesser2) (sym (number-at at-refusal) ∙ else1 .if1 .left)
 
 same-length : tie.Need-same-length
 same-length c = search needs
@@ -114,17 +115,26 @@ same-length-10 c = search needs
 same-length-11 : tie.Need-same-length-11
 same-length-11 c = search needs
 
+same-length-12 : tie.Need-same-length-12
+same-length-12 c = search needs
+
+same-length-13 : tie.Need-same-length-13
+same-length-13 c = search needs
+
 returns-2 : tie.Need-returns-2
 returns-2 c =
-    let at-xs = c .before .before .before .before .before .before .before .before .before .before .before .before .before .before .before .before .before in
-    let at-pave-in = at-xs .before .before .before .before .before in
-    let at-if1 = at-pave-in .before .before .before .before .before .before .before .before .before .before .before .before in
-    let at-refusal = at-if1 .before in
+    let at-slice-known20 = c .before .before .before .before .before .before .before .before .before .before .before .before in
+    let at-slice-known14 = at-slice-known20 .before .before .before .before .before .before .before .before .before .before .before .before in
+    let at-pave-in = at-slice-known14 .before .before in
+    let at-pave-in-arg2 = at-pave-in .before .before .before .before .before .before .before .before .before .before .before .before in
+    let else1 = at-pave-in-arg2 .before .before in
+    let at-refusal = else1 .before in
     let at-lesser2 = at-refusal .before .before .before in
-    let at-shared-slice-known2 = at-lesser2 .before .before .before .before .before .before .before .before .before .before .before .before .before .before in
+    let at-slice-known3 = at-lesser2 .before .before .before .before .before .before .before .before .before .before .before .before in
+    let at-shared-slice-known2 = at-slice-known3 .before .before .before .before in
     let at-shared-slice-known = at-shared-slice-known2 .before in
     let start = at-shared-slice-known .before in
-    paves-accepted (around start) (set start) (given start) _ (places-are (at-lesser2)) (sym (number-at (at-refusal)) ∙ at-if1 .if1 .left)
+    paves-accepted (around start) (set start) (given start) _ (places-are at-lesser2) (sym (number-at at-refusal) ∙ else1 .if1 .left)
     (record { outer = λ i h. at-shared-slice-known .shared-slice-known .given i; holes = λ i h. at-shared-slice-known2 .shared-slice-known2 .given i })
     _ _ (at-pave-in .pave-in .ensures)
 
@@ -153,4 +163,6 @@ pave-spec =
     same-length-9
     same-length-10
     same-length-11
+    same-length-12
+    same-length-13
     returns-2)

@@ -23,14 +23,16 @@ given s =
 
 make-field-requires : tie.Need-make-field-requires
 make-field-requires c κs =
-    let start = c .before .before .before .before .before .before .before .before .before .before .before .before .before .before .before .before in
+    let at-slice-known3 = c .before .before .before .before .before .before .before .before .before .before .before .before in
+    let start = at-slice-known3 .before .before .before .before .before .before in
     none-field (around start) (set start) (given start) (start .pre)
 
 sample-and-advance-requires : tie.Need-sample-and-advance-requires
 sample-and-advance-requires c κs =
-    let at-make-field = c .before .before .before .before .before .before .before .before .before .before .before .before in
-    let midway = at-make-field .before .before .before .before .before .before .before in
-    let at-shared-slice-known2 = midway .before .before .before .before .before .before .before .before in
+    let at-slice-known14 = c .before .before .before .before .before .before .before .before .before .before .before .before in
+    let at-make-field = at-slice-known14 .before .before in
+    let at-slice-known4 = at-make-field .before .before .before .before .before .before .before .before .before .before .before .before in
+    let at-shared-slice-known2 = at-slice-known4 .before .before .before .before .before in
     let at-shared-slice-known = at-shared-slice-known2 .before in
     let start = at-shared-slice-known .before in
     can-pave (around start) (set start) (given start) (start .pre)
@@ -39,11 +41,12 @@ sample-and-advance-requires c κs =
 
 front-loops-requires : tie.Need-front-loops-requires
 front-loops-requires c κs =
-    let at-xs = c .before .before .before .before .before .before .before .before .before .before .before .before .before .before .before .before .before in
-    let at-sample-and-advance = at-xs .before in
-    let at-make-field = at-sample-and-advance .before .before .before .before .before .before .before .before .before .before .before .before .before in
-    let midway = at-make-field .before .before .before .before .before .before .before in
-    let at-shared-slice-known2 = midway .before .before .before .before .before .before .before .before in
+    let at-slice-known20 = c .before .before .before .before .before .before .before .before .before .before .before .before in
+    let at-sample-and-advance = at-slice-known20 .before .before .before .before .before .before .before .before .before .before in
+    let at-marks = at-sample-and-advance .before .before .before .before .before .before .before .before .before .before .before .before in
+    let at-make-field = at-marks .before .before .before in
+    let at-slice-known4 = at-make-field .before .before .before .before .before .before .before .before .before .before .before .before in
+    let at-shared-slice-known2 = at-slice-known4 .before .before .before .before .before in
     let at-shared-slice-known = at-shared-slice-known2 .before in
     let start = at-shared-slice-known .before in
     can-list (around start) (start .args .size) _ _ (statePart (given start))
@@ -57,70 +60,67 @@ answer-requires c κs = search needs
 
 same-length : tie.Need-same-length
 same-length c =
-    let midway = c .before .before .before .before .before .before .before .before in
-    let at-snapshot = midway .before .before .before .before .before .before .before .before .before in
-    let further = at-snapshot .before .before .before .before .before .before .before .before in
-    let at-sample-and-advance-arg = further .before .before .before .before .before .before .before .before .before in
-    let at-make-field = at-sample-and-advance-arg .before .before .before .before .before in
+    let at-slice-known24 = c .before .before .before .before .before .before .before .before .before .before .before .before in
+    let at-slice-known18 = at-slice-known24 .before .before .before .before .before .before .before .before .before .before .before .before in
+    let at-sample-and-advance-arg5 = at-slice-known18 .before .before .before .before .before .before .before .before .before .before .before .before in
+    let at-make-field = at-sample-and-advance-arg5 .before .before .before .before .before .before .before .before .before in
     at-make-field .make-field .kept .1 .1 .1 .1 .1 .0
 
 same-length-2 : tie.Need-same-length-2
 same-length-2 c =
-    let midway = c .before .before .before .before .before .before .before .before in
-    let at-snapshot = midway .before .before .before .before .before .before .before .before .before in
-    let further = at-snapshot .before .before .before .before .before .before .before .before in
-    let at-sample-and-advance-arg = further .before .before .before .before .before .before .before .before .before in
-    let at-make-field = at-sample-and-advance-arg .before .before .before .before .before in
+    let at-slice-known24 = c .before .before .before .before .before .before .before .before .before .before .before .before in
+    let at-slice-known18 = at-slice-known24 .before .before .before .before .before .before .before .before .before .before .before .before in
+    let at-sample-and-advance-arg5 = at-slice-known18 .before .before .before .before .before .before .before .before .before .before .before .before in
+    let at-make-field = at-sample-and-advance-arg5 .before .before .before .before .before .before .before .before .before in
     at-make-field .make-field .kept .1 .1 .1 .1 .1 .1 .0
 
 same-length-3 : tie.Need-same-length-3
 same-length-3 c =
-    let midway = c .before .before .before .before .before .before .before .before in
-    let at-snapshot = midway .before .before .before .before .before .before .before .before .before in
-    let at-sample-and-advance = at-snapshot .before .before .before .before .before .before .before .before .before in
+    let at-slice-known24 = c .before .before .before .before .before .before .before .before .before .before .before .before in
+    let at-slice-known18 = at-slice-known24 .before .before .before .before .before .before .before .before .before .before .before .before in
+    let at-sample-and-advance = at-slice-known18 .before .before .before .before .before .before in
     at-sample-and-advance .sample-and-advance .kept .1 .1 .1 .1 .1 .1 .0
 
 same-length-4 : tie.Need-same-length-4
 same-length-4 c =
-    let midway = c .before .before .before .before .before .before .before .before in
-    let at-snapshot = midway .before .before .before .before .before .before .before .before .before in
-    let at-sample-and-advance = at-snapshot .before .before .before .before .before .before .before .before .before in
+    let at-slice-known24 = c .before .before .before .before .before .before .before .before .before .before .before .before in
+    let at-slice-known18 = at-slice-known24 .before .before .before .before .before .before .before .before .before .before .before .before in
+    let at-sample-and-advance = at-slice-known18 .before .before .before .before .before .before in
     at-sample-and-advance .sample-and-advance .kept .1 .1 .1 .1 .1 .1 .1 .0
 
 same-length-5 : tie.Need-same-length-5
 same-length-5 c =
-    let midway = c .before .before .before .before .before .before .before .before in
-    let at-snapshot = midway .before .before .before .before .before .before .before .before .before in
-    let at-sample-and-advance = at-snapshot .before .before .before .before .before .before .before .before .before in
+    let at-slice-known24 = c .before .before .before .before .before .before .before .before .before .before .before .before in
+    let at-slice-known18 = at-slice-known24 .before .before .before .before .before .before .before .before .before .before .before .before in
+    let at-sample-and-advance = at-slice-known18 .before .before .before .before .before .before in
     at-sample-and-advance .sample-and-advance .kept .1 .1 .1 .1 .1 .1 .1 .1 .0
 
 same-length-6 : tie.Need-same-length-6
 same-length-6 c =
-    let midway = c .before .before .before .before .before .before .before .before in
-    let at-snapshot = midway .before .before .before .before .before .before .before .before .before in
-    let at-sample-and-advance = at-snapshot .before .before .before .before .before .before .before .before .before in
+    let at-slice-known24 = c .before .before .before .before .before .before .before .before .before .before .before .before in
+    let at-slice-known18 = at-slice-known24 .before .before .before .before .before .before .before .before .before .before .before .before in
+    let at-sample-and-advance = at-slice-known18 .before .before .before .before .before .before in
     at-sample-and-advance .sample-and-advance .kept .1 .1 .1 .1 .1 .1 .1 .1 .1 .0
 
 same-length-7 : tie.Need-same-length-7
 same-length-7 c =
     let at-front-loops = c .before .before .before .before .before .before .before in
-    let midway = at-front-loops .before .before .before .before .before .before .before .before in
-    let at-slice-known14 = midway .before .before .before .before .before .before .before .before .before in
-    let at-sample-and-advance = at-slice-known14 .before .before in
+    let at-quads = at-front-loops .before .before .before .before .before .before .before .before .before .before .before .before in
+    let at-sample-and-advance = at-quads .before .before .before .before .before .before .before .before .before .before .before in
     at-front-loops .front-loops .kept .1 .1 .0 ∙ at-sample-and-advance .sample-and-advance .kept .1 .1 .1 .1 .1 .1 .1 .1 .1 .1 .0
 
 same-length-8 : tie.Need-same-length-8
 same-length-8 c =
-    let midway = c .before .before .before .before .before .before .before .before in
-    let at-snapshot = midway .before .before .before .before .before .before .before .before .before in
-    let at-sample-and-advance = at-snapshot .before .before .before .before .before .before .before .before .before in
+    let at-slice-known24 = c .before .before .before .before .before .before .before .before .before .before .before .before in
+    let at-slice-known18 = at-slice-known24 .before .before .before .before .before .before .before .before .before .before .before .before in
+    let at-sample-and-advance = at-slice-known18 .before .before .before .before .before .before in
     at-sample-and-advance .sample-and-advance .kept .1 .1 .1 .1 .1 .1 .1 .1 .1 .1 .1 .0
 
 same-length-9 : tie.Need-same-length-9
 same-length-9 c =
-    let midway = c .before .before .before .before .before .before .before .before in
-    let at-snapshot = midway .before .before .before .before .before .before .before .before .before in
-    let at-sample-and-advance = at-snapshot .before .before .before .before .before .before .before .before .before in
+    let at-slice-known24 = c .before .before .before .before .before .before .before .before .before .before .before .before in
+    let at-slice-known18 = at-slice-known24 .before .before .before .before .before .before .before .before .before .before .before .before in
+    let at-sample-and-advance = at-slice-known18 .before .before .before .before .before .before in
     at-sample-and-advance .sample-and-advance .kept .1 .1 .1 .1 .1 .1 .1 .1 .1 .1 .1 .1 .0
 
 same-length-10 : tie.Need-same-length-10
@@ -133,15 +133,29 @@ same-length-11 c =
     let at-front-loops = c .before .before .before .before .before .before .before in
     at-front-loops .front-loops .kept .1 .1 .1 .1 .0
 
+same-length-12 : tie.Need-same-length-12
+same-length-12 c =
+    let at-slice-known24 = c .before .before .before .before .before .before .before .before .before .before .before .before in
+    let at-slice-known18 = at-slice-known24 .before .before .before .before .before .before .before .before .before .before .before .before in
+    let at-sample-and-advance = at-slice-known18 .before .before .before .before .before .before in
+    at-sample-and-advance .sample-and-advance .kept .1 .1 .1 .1 .1 .1 .1 .1 .1 .1 .1 .1 .1 .0
+
+same-length-13 : tie.Need-same-length-13
+same-length-13 c =
+    let at-slice-known24 = c .before .before .before .before .before .before .before .before .before .before .before .before in
+    let at-slice-known18 = at-slice-known24 .before .before .before .before .before .before .before .before .before .before .before .before in
+    let at-sample-and-advance = at-slice-known18 .before .before .before .before .before .before in
+    at-sample-and-advance .sample-and-advance .kept .1 .1 .1 .1 .1 .1 .1 .1 .1 .1 .1 .1 .1 .1 .0
+
 returns : tie.Need-returns
 returns c =
     let at-front-loops = c .before .before .before .before .before .before .before in
-    let midway = at-front-loops .before .before .before .before .before .before .before .before in
-    let at-slice-known14 = midway .before .before .before .before .before .before .before .before .before in
-    let at-sample-and-advance = at-slice-known14 .before .before in
-    let at-make-field = at-sample-and-advance .before .before .before .before .before .before .before .before .before .before .before .before .before in
-    let further = at-make-field .before .before .before .before .before .before .before .before in
-    let start = further .before .before .before .before .before .before .before .before .before in
+    let at-quads = at-front-loops .before .before .before .before .before .before .before .before .before .before .before .before in
+    let at-sample-and-advance = at-quads .before .before .before .before .before .before .before .before .before .before .before in
+    let at-marks = at-sample-and-advance .before .before .before .before .before .before .before .before .before .before .before .before in
+    let at-make-field = at-marks .before .before .before in
+    let at-slice-known4 = at-make-field .before .before .before .before .before .before .before .before .before .before .before .before in
+    let start = at-slice-known4 .before .before .before .before .before .before .before in
     run-whole (around start) (set start) (given start) _ _ _ (at-make-field .make-field .ensures) _
     (at-sample-and-advance .sample-and-advance .ensures) _ (at-front-loops .front-loops .ensures) _ (c .answer .ensures)
 
@@ -164,4 +178,6 @@ pave-in-spec =
     same-length-9
     same-length-10
     same-length-11
+    same-length-12
+    same-length-13
     returns)

@@ -23,48 +23,49 @@ given s =
 
 from-boundary-requires : tie.Need-from-boundary-requires
 from-boundary-requires c κs =
-    let start = c .before .before .before .before .before .before .before .before .before .before .before .before .before .before .before .before in
+    let at-slice-known2 = c .before .before .before .before .before .before .before .before .before .before .before .before in
+    let start = at-slice-known2 .before .before .before .before .before .before in
     can-sample (around start) (start .args .size) (given start) (start .pre .outline) (start .pre .front)
 
 advance-requires : tie.Need-advance-requires
 advance-requires c κs =
-    let midway = c .before .before .before .before .before .before .before .before in
-    let at-from-boundary = midway .before .before .before .before .before .before .before .before .before in
-    let further = at-from-boundary .before .before .before .before .before .before .before .before in
-    let start = further .before .before .before .before .before .before .before .before .before in
+    let at-prev = c .before .before .before .before .before .before .before .before .before .before .before .before in
+    let at-from-boundary = at-prev .before .before .before .before .before .before .before in
+    let at-slice-known3 = at-from-boundary .before .before .before .before .before .before .before .before .before .before .before .before in
+    let start = at-slice-known3 .before .before .before .before .before .before .before in
     paveable-at (around start) (start .args .size) _ _ (given start) (start .pre) _
     (at-from-boundary .from-boundary .ensures (start .args .snapshot .now) (start .args .quads .now) unused (start .pre .front))
 
 same-length : tie.Need-same-length
 same-length c =
-    let at-advance = c .before .before .before .before .before .before .before .before .before .before .before .before .before .before in
-    let midway = at-advance .before .before .before .before .before .before .before .before in
-    let at-xs = midway .before .before .before .before .before .before .before .before .before in
-    let at-from-boundary = at-xs .before in
+    let at-slice-known17 = c .before .before .before .before .before .before .before .before .before .before .before .before in
+    let at-advance = at-slice-known17 .before .before .before .before .before .before in
+    let at-slice-known13 = at-advance .before .before .before .before .before .before .before .before .before .before .before .before in
+    let at-from-boundary = at-slice-known13 .before .before .before .before .before .before .before .before in
     at-advance .advance .kept .1 .1 .1 .1 .1 .1 .0 ∙ at-from-boundary .from-boundary .kept .1 .1 .1 .1 .0
 
 same-length-2 : tie.Need-same-length-2
 same-length-2 c =
-    let at-advance = c .before .before .before .before .before .before .before .before .before .before .before .before .before .before in
-    let midway = at-advance .before .before .before .before .before .before .before .before in
-    let at-xs = midway .before .before .before .before .before .before .before .before .before in
-    let at-from-boundary = at-xs .before in
+    let at-slice-known17 = c .before .before .before .before .before .before .before .before .before .before .before .before in
+    let at-advance = at-slice-known17 .before .before .before .before .before .before in
+    let at-slice-known13 = at-advance .before .before .before .before .before .before .before .before .before .before .before .before in
+    let at-from-boundary = at-slice-known13 .before .before .before .before .before .before .before .before in
     at-advance .advance .kept .1 .1 .1 .1 .1 .1 .1 .0 ∙ at-from-boundary .from-boundary .kept .1 .1 .1 .1 .1 .0
 
 same-length-3 : tie.Need-same-length-3
 same-length-3 c =
-    let at-advance = c .before .before .before .before .before .before .before .before .before .before .before .before .before .before in
-    let midway = at-advance .before .before .before .before .before .before .before .before in
-    let at-xs = midway .before .before .before .before .before .before .before .before .before in
-    let at-from-boundary = at-xs .before in
+    let at-slice-known17 = c .before .before .before .before .before .before .before .before .before .before .before .before in
+    let at-advance = at-slice-known17 .before .before .before .before .before .before in
+    let at-slice-known13 = at-advance .before .before .before .before .before .before .before .before .before .before .before .before in
+    let at-from-boundary = at-slice-known13 .before .before .before .before .before .before .before .before in
     at-advance .advance .kept .1 .1 .1 .1 .1 .1 .1 .1 .0 ∙ at-from-boundary .from-boundary .kept .1 .1 .1 .1 .1 .1 .0
 
 same-length-4 : tie.Need-same-length-4
 same-length-4 c =
-    let at-advance = c .before .before .before .before .before .before .before .before .before .before .before .before .before .before in
-    let midway = at-advance .before .before .before .before .before .before .before .before in
-    let at-xs = midway .before .before .before .before .before .before .before .before .before in
-    let at-from-boundary = at-xs .before in
+    let at-slice-known17 = c .before .before .before .before .before .before .before .before .before .before .before .before in
+    let at-advance = at-slice-known17 .before .before .before .before .before .before in
+    let at-slice-known13 = at-advance .before .before .before .before .before .before .before .before .before .before .before .before in
+    let at-from-boundary = at-slice-known13 .before .before .before .before .before .before .before .before in
     at-advance .advance .kept .1 .1 .1 .1 .1 .1 .1 .1 .1 .0 ∙ at-from-boundary .from-boundary .kept .1 .1 .1 .1 .1 .1 .1 .0
 
 same-length-5 : tie.Need-same-length-5
@@ -75,20 +76,26 @@ same-length-6 c = search needs
 
 same-length-7 : tie.Need-same-length-7
 same-length-7 c =
-    let at-advance = c .before .before .before .before .before .before .before .before .before .before .before .before .before .before in
-    let midway = at-advance .before .before .before .before .before .before .before .before in
-    let at-xs = midway .before .before .before .before .before .before .before .before .before in
-    let at-from-boundary = at-xs .before in
+    let at-slice-known17 = c .before .before .before .before .before .before .before .before .before .before .before .before in
+    let at-advance = at-slice-known17 .before .before .before .before .before .before in
+    let at-slice-known13 = at-advance .before .before .before .before .before .before .before .before .before .before .before .before in
+    let at-from-boundary = at-slice-known13 .before .before .before .before .before .before .before .before in
     at-advance .advance .kept .1 .1 .1 .1 .1 .1 .1 .1 .1 .1 .1 .1 .0 ∙ at-from-boundary .from-boundary .kept .1 .1 .1 .1 .1 .1 .1 .1 .0
+
+same-length-8 : tie.Need-same-length-8
+same-length-8 c = search needs
+
+same-length-9 : tie.Need-same-length-9
+same-length-9 c = search needs
 
 returns : tie.Need-returns
 returns c =
-    let at-advance = c .before .before .before .before .before .before .before .before .before .before .before .before .before .before in
-    let midway = at-advance .before .before .before .before .before .before .before .before in
-    let at-xs = midway .before .before .before .before .before .before .before .before .before in
-    let at-from-boundary = at-xs .before in
-    let further = at-from-boundary .before .before .before .before .before .before .before .before in
-    let start = further .before .before .before .before .before .before .before .before .before in
+    let at-slice-known17 = c .before .before .before .before .before .before .before .before .before .before .before .before in
+    let at-advance = at-slice-known17 .before .before .before .before .before .before in
+    let at-slice-known13 = at-advance .before .before .before .before .before .before .before .before .before .before .before .before in
+    let at-from-boundary = at-slice-known13 .before .before .before .before .before .before .before .before in
+    let at-slice-known3 = at-from-boundary .before .before .before .before .before .before .before .before .before .before .before .before in
+    let start = at-slice-known3 .before .before .before .before .before .before .before in
     at-advance .advance .ensures
     ∙ ap (advance (around start) (start .args .size) (fieldRecord (start .args .grid) (start .args .values .now) []) (start .args .passes))
     (at-from-boundary .from-boundary .ensures (start .args .snapshot .now) (start .args .quads .now) unused (start .pre .front))
@@ -106,4 +113,6 @@ sample-and-advance-spec =
     same-length-5
     same-length-6
     same-length-7
+    same-length-8
+    same-length-9
     returns)

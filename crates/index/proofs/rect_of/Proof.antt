@@ -1,0 +1,67 @@
+-- `index::rect_of` meets its contract, by that of `shifted`.
+use Rattle.geometry.specs.KeyLaws.{back-of}
+use Rattle.index.specs.Rects.{rectOf}
+use borrow.Author.Needs.{needs}
+use Rattle.index.proofs.rect_of.Statement.{statement}
+use Rattle.index.proofs.rect_of.Tie as tie
+
+shifted-requires : tie.Need-shifted-requires
+shifted-requires c κs = search needs
+
+shifted-requires-2 : tie.Need-shifted-requires-2
+shifted-requires-2 c κs = search needs
+
+shifted-requires-3 : tie.Need-shifted-requires-3
+shifted-requires-3 c κs = search needs
+
+shifted-requires-4 : tie.Need-shifted-requires-4
+shifted-requires-4 c κs = search needs
+
+lesser-requires : tie.Need-lesser-requires
+lesser-requires c κs = search needs
+
+greater-requires : tie.Need-greater-requires
+greater-requires c κs = search needs
+
+lesser-requires-2 : tie.Need-lesser-requires-2
+lesser-requires-2 c κs = search needs
+
+greater-requires-2 : tie.Need-greater-requires-2
+greater-requires-2 c κs = search needs
+
+returns : tie.Need-returns
+unfolding rectOf
+returns c =
+    let lj = c .before .before .before .before in
+    let kj = lj .before .before in
+    let li = kj .before .before in
+    let ki = li .before .before in
+    let args = ki .before .before .args in
+    let first = rw (back-of (args .k .i) (ki .before .struct-told .given .0 .1)) at (ki .shifted .ensures) in
+    let second = rw (back-of (args .l .i) (li .before .struct-told2 .given .0 .1)) at (li .shifted2 .ensures) in
+    let third = rw (back-of (args .k .j) (kj .before .struct-told3 .given .1 .0 .1)) at (kj .shifted3 .ensures) in
+    let fourth = rw (back-of (args .l .j) (lj .before .struct-told4 .given .1 .0 .1)) at (lj .shifted4 .ensures) in
+    rw (
+      c .before .before .before .lesser .ensures,
+      c .before .before .greater .ensures,
+      c .before .lesser2 .ensures,
+      c .greater2 .ensures,
+      first,
+      second,
+      third,
+      fourth,
+    )
+
+pub rect-of-spec : {M : Type 1} → statement M
+rect-of-spec =
+    tie.close
+    (tie.spec
+    shifted-requires
+    shifted-requires-2
+    shifted-requires-3
+    shifted-requires-4
+    lesser-requires
+    greater-requires
+    lesser-requires-2
+    greater-requires-2
+    returns)

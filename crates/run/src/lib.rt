@@ -9,7 +9,7 @@ ghost use Rattle.crossfield.specs.Field.{fieldRecord, refusalFor, fieldRefusal,
 ghost use Rattle.front.specs.State.{State, stateOf, nodePlaces, edgePlaces};
 ghost use Rattle.front.specs.Sampling.{frontRefusal, fromBoundary};
 ghost use Rattle.paving.specs.Advance.{paved, advance};
-ghost use Rattle.run.specs.Run.{settings, lent, ran, fewest, endNumber, refusedAnswer, pavedAnswer, unused, acceptedIn, Paves};
+ghost use Rattle.run.specs.Run.{settings, lent, ran, fewest, endNumber, refusedAnswer, pavedAnswer, unused, acceptedIn, Paves, Spares};
 ghost use Rattle.run.specs.Asked.{CanPave, CanRun};
 use advance::Advanced;
 use crossfield::FieldAnswer;
@@ -280,7 +280,8 @@ pub fn pave<'a>(
         (now (snapshot .entry)) (now (quads .entry)) (now (edges .entry)) (now (loops .entry)) (now (lengths .entry)))
         r
         (lent (now (values .exit)) (now (marks .exit)) (now (xs .exit)) (now (ys .exit)) (now (next .exit)) (now (prev .exit)) (now (snapshot .exit))
-        (now (quads .exit)) (now (edges .exit)) (now (loops .exit)) (now (lengths .exit))) ⌝ }
+        (now (quads .exit)) (now (edges .exit)) (now (loops .exit)) (now (lengths .exit)))
+        × (Spares (r .refusal) (now («node_pool» .entry)) (now («node_pool» .exit)) × Spares (r .refusal) (now («edge_pool» .entry)) (now («edge_pool» .exit))) ⌝ }
 {
     let m = crossfield::lesser(
         snapshot.len(),

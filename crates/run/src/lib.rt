@@ -253,7 +253,7 @@ fn pave_in<'a>(
 
 // Paves an outline, in the lists that the caller lends; on a refusal nothing is written. Of the lists of nodes the shortest counts, those of
 // the loops among them: so the run gets no more of `snapshot` than they have places. The pools may have any length: searches go by them as long
-// as they have room. The answer doesn't depend on what they hold, and nothing is said of what they hold afterwards.
+// as they have room. The answer doesn't depend on what they hold, and what a run leaves in them is free.
 pub fn pave<'a>(
     outer: &'a [f64],
     holes: &'a [f64],

@@ -6,7 +6,7 @@ ghost use Rattle.domain.specs.Queries.{containsAnswer, nearestAnswer, distanceA
 ghost use Rattle.crossfield.specs.Seeds.{fieldLists};
 ghost use Rattle.crossfield.specs.Field.{fieldRecord, fieldAnswer};
 ghost use Rattle.crossfield.specs.Direction.{directionAnswer};
-ghost use Rattle.run.specs.Run.{settings, lent};
+ghost use Rattle.run.specs.Run.{settings, lent, Spares};
 ghost use Rattle.mesher.specs.Answers.{containsNumbers, nearestNumbers, distanceNumbers, gridLent, fieldExit, fieldNumbers, directionNumbers};
 ghost use Rattle.mesher.specs.Answers.{isWhole, paveNumbers, HostPaves};
 use crossfield::Direction;
@@ -297,7 +297,8 @@ pub extern "C" fn sitjorbe_pave<'a>(
         (now (snapshot .entry)) (now (quads .entry)) (now (edges .entry)) (now (loops .entry)) (now (lengths .entry)))
         r
         (lent (now (values .exit)) (now (marks .exit)) (now (xs .exit)) (now (ys .exit)) (now (next .exit)) (now (prev .exit)) (now (snapshot .exit))
-        (now (quads .exit)) (now (edges .exit)) (now (loops .exit)) (now (lengths .exit))) ⌝ }
+        (now (quads .exit)) (now (edges .exit)) (now (loops .exit)) (now (lengths .exit)))
+        × (Spares (r .refusal) (now («node_pool» .entry)) (now («node_pool» .exit)) × Spares (r .refusal) (now («edge_pool» .entry)) (now («edge_pool» .exit))) ⌝ }
 {
     let paved = run::pave(
         outer,

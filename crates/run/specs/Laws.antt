@@ -234,6 +234,11 @@ module _ (o : Outline) (set : Settings) (l : Lent) (m : ℕ) (e : m ≡ snapshot
             (books-hold o set (fieldPart l) (statePart (narrowed l)) doubles z));
       }
 
+-- a run that is made refuses nothing
+pub accepted-number : (o : Outline) (set : Settings) (l : Lent) (r : Paved) (after : Lent) → ran r after ≡ acceptedIn o set l → r .refusal ≡ 0
+unfolding acceptedIn
+accepted-number o set l r after e = ap (λ (w : Ran). w .answer .refusal) e
+
 pub paves-refused : (o : Outline) (set : Settings) (l : Lent) (number : ℕ) → number ≡ refusalOf o set l → (number ≡ 0 → ⊥)
     → (r : Paved) → r ≡ refusedAnswer number → Paves o set l r l
 unfolding runAnswer refusedAnswer

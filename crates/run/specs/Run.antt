@@ -154,3 +154,7 @@ pub record Paves (o : Outline) (set : Settings) (before : Lent) (r : Paved) (aft
   pub refused : (r .refusal ≡ 0 → ⊥) → after ≡ before
   -- the exact books of the outline, the size and the quads and coordinates answered hold: demand 3
   pub books : r .refusal ≡ 0 → BooksHold o (set .size) (answered r after)
+
+-- of a pool, before and after: a refusal leaves it as it was, and what a run leaves in it is free
+abbrev pub Spares : ℕ → List ℕ → List ℕ → Type 0
+Spares refusal before after = (refusal ≡ 0 → ⊥) → after ≡ before

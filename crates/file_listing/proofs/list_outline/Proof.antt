@@ -77,7 +77,7 @@ returns c =
     let at-heading = c .before .before .before .before .before .before .before .before in
     let at-pave = at-heading .before .before .before .before .before .before .before .before .before .before .before .before .before .before .before in
     let kept = at-pave .pave .kept .1 .1 .1 .1 .1 .1 .1 .1 in
-    run-listed _ _ _ _ (at-pave .pave .ensures) (at-heading .heading .ensures)
+    run-listed _ _ _ _ (at-pave .pave .ensures .0) (at-heading .heading .ensures)
     (record { xs = kept .0; quads = kept .1 .1 .1 .1 .1 .0; loops = kept .1 .1 .1 .1 .1 .1 .1 .0; lengths = kept .1 .1 .1 .1 .1 .1 .1 .1 .0 })
     (c .before .before .write-listing .ensures)
 

@@ -1,12 +1,12 @@
 -- `run::pave` meets its contract: refused, with nothing written; or run, in the part of the snapshot that counts. Assumes nothing.
-use mathlib.Core.Path.{_≡_, _∙_, sym, ap}
+use mathlib.Core.Path.{_≡_, _∙_, refl, sym, ap}
 use Prim.Native.Nat.{min}
 use native.Mathlib.Omega.{arith}
 use lib.Seq.{length-take-le}
 use Rattle.domain.specs.Outline.{Outline, outline}
 use Rattle.domain.specs.declared.Settings.{Settings}
 use Rattle.run.specs.Run.{settings, Lent, lent, snapshotPlaces, refusalOf}
-use Rattle.run.specs.Laws.{number-is, can-run, paves-accepted, paves-refused}
+use Rattle.run.specs.Laws.{number-is, can-run, accepted-number, paves-accepted, paves-refused}
 use borrow.Author.Needs.{needs}
 use Rattle.run.proofs.pave.Statement.{statement}
 use Rattle.run.proofs.pave.Tie as tie
@@ -61,8 +61,10 @@ returns c =
     let then1 = c .before in
     let at-refusal = then1 .before in
     let at-slice-known6 = at-refusal .before .before .before .before .before .before .before .before .before .before .before .before in
-    let start = at-slice-known6 .before .before .before .before .before .before .before .before .before in
-    paves-refused (around start) (set start) (given start) _ (number-at at-refusal) (then1 .if1 .taken) _ (c .refused .ensures)
+    let start = at-slice-known6 .before .before .before .before .before .before .before .before .before in (
+      paves-refused (around start) (set start) (given start) _ (number-at at-refusal) (then1 .if1 .taken) _ (c .refused .ensures),
+      ((λ refused. refl), (λ refused. refl)),
+    )
 
 slice-relend-prefix-pave-in : tie.Need-slice-relend-prefix-pave-in
 slice-relend-prefix-pave-in c = search needs
@@ -134,9 +136,12 @@ returns-2 c =
     let at-shared-slice-known2 = at-slice-known3 .before .before .before .before in
     let at-shared-slice-known = at-shared-slice-known2 .before in
     let start = at-shared-slice-known .before in
-    paves-accepted (around start) (set start) (given start) _ (places-are at-lesser2) (sym (number-at at-refusal) ∙ else1 .if1 .left)
-    (record { outer = λ i h. at-shared-slice-known .shared-slice-known .given i; holes = λ i h. at-shared-slice-known2 .shared-slice-known2 .given i })
-    _ _ (at-pave-in .pave-in .ensures)
+    let none = accepted-number _ _ _ _ _ (at-pave-in .pave-in .ensures) in (
+      paves-accepted (around start) (set start) (given start) _ (places-are at-lesser2) (sym (number-at at-refusal) ∙ else1 .if1 .left)
+          (record { outer = λ i h. at-shared-slice-known .shared-slice-known .given i; holes = λ i h. at-shared-slice-known2 .shared-slice-known2 .given i })
+          _ _ (at-pave-in .pave-in .ensures),
+      ((λ refused. absurd (refused none)), (λ refused. absurd (refused none))),
+    )
 
 pub pave-spec : {M : Type 1} → statement M
 pave-spec =

@@ -31,22 +31,8 @@ fn listing(mesh: &Mesh<'_>) -> String {
 fn the_worked_square_is_document_01s() {
     let mut memory = Memory::new(PROGRAM);
     let mesh = memory.pave(&Drawing::square(2.0).outline(), &USUAL).unwrap();
-    let expected = "\
-mesh 9 4 2 still whole
-n 0000000000000000 0000000000000000
-n 3ff0000000000000 0000000000000000
-n 4000000000000000 0000000000000000
-n 4000000000000000 3ff0000000000000
-n 4000000000000000 4000000000000000
-n 3ff0000000000000 4000000000000000
-n 0000000000000000 4000000000000000
-n 0000000000000000 3ff0000000000000
-n 3ff0000000000000 3ff0000000000000
-q 0 1 8 7
-q 1 2 3 8
-q 3 4 5 8
-q 5 6 7 8
-";
+    // What the program must print for it.
+    let expected = include_str!("../../crates/pave/stdout");
     assert_eq!(listing(&mesh), expected);
     // Twelve distinct edges: eight of the outline, and four to the node in the middle.
     assert!(mesh.edges().skip(8).eq([[1, 8], [7, 8], [3, 8], [5, 8]]));

@@ -2,6 +2,7 @@
 
 import os
 import pathlib
+import shutil
 import subprocess
 import tempfile
 import unittest
@@ -10,6 +11,7 @@ import common
 from common import ORACLE, ROOT, SQUARE, SQUARE_LISTING, TOOLS, ask, run
 
 PROGRAM = ROOT / "target/bin/pave"
+REPLAY = ROOT / "target/bin/replay"
 LONGEST = 4_608
 
 
@@ -60,6 +62,33 @@ class Program(unittest.TestCase):
             status, said, wrong = run(TOOLS / "pave", points, picture, "--size", "0.001")
             self.assertEqual((status, said, picture.exists()), (1, b"", False))
             self.assertIn("refused (6)", wrong)
+
+
+@unittest.skipUnless(os.access(REPLAY, os.X_OK), "the program isn't built")
+class Replay(unittest.TestCase):
+    def test_differences_show(self):
+        """A byte changed, one too many, and a file that isn't there, among four files of the fixed list."""
+        data = ROOT / "crates/replay/data"
+        names = (data / "list").read_text().splitlines()[:8]
+        with tempfile.TemporaryDirectory() as folder:
+            for name in names:
+                shutil.copy(data / name, folder)
+            pathlib.Path(folder, "list").write_text("".join(f"{name}\n" for name in names))
+            changed, longer, missing = (pathlib.Path(folder, names[k]) for k in (1, 3, 5))
+            length = longer.stat().st_size
+            changed.write_bytes(b"M" + changed.read_bytes()[1:])
+            longer.write_bytes(longer.read_bytes() + b"\n")
+            missing.unlink()
+            said = subprocess.run([REPLAY], cwd=folder, capture_output=True, text=True).stdout
+        self.assertEqual(
+            said.splitlines(),
+            [
+                f"{names[1]} differs at byte 0",
+                f"{names[3]} differs at byte {length}",
+                f"{names[5]} can't be read",
+                "4 files, 3 differences",
+            ],
+        )
 
 
 if __name__ == "__main__":

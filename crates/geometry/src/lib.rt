@@ -4,6 +4,7 @@ ghost use mathlib.Core.Bool.{_&&_};
 ghost use Rattle.geometry.specs.Plane.{norm, distance, tangent, areaTerm, cross2, doubledArea, leftOf, pointInConvex, onSegment, opposite};
 ghost use Rattle.geometry.specs.Plane.{touches, segmentsCross, centroid, convexCcw};
 ghost use Rattle.geometry.specs.Sides.{sideOf, turnOk};
+ghost use Rattle.geometry.specs.LeftTurns.{noLeftTurn, lacksLeftTurn, cornersTurn};
 ghost use Rattle.geometry.specs.Keys.{keyOf, gap, atMost, lesser, greater, spansOf, spansKept, rangesMeet, rectanglesMeet, candidateAt};
 ghost use Rattle.geometry.specs.Keys.{isCandidate, nearKeys, tooCloseAt, isTooClose, leastOf, greatestOf, lowest, highest, between, inBoxAt};
 ghost use Rattle.geometry.specs.Keys.{isInBox};
@@ -124,13 +125,42 @@ fn turns(u: Side, v: Side) -> bool
     !(sine <= Settings::LEAST_SINE)
 }
 
-// Whether the quad turns left by more than 20° at each corner. A side's length is taken once, for both its corners.
-pub fn convex_ccw(p: Corners) -> bool
-    ensures { λ r. ⌜ r ≡ convexCcw p ⌝ }
+// Whether the corner b, from a to c, is seen to fail without a length: the cross product of its steps is finite and not above 0.
+fn no_left_turn(a: Point, b: Point, c: Point) -> bool
+    ensures { λ r. ⌜ r ≡ noLeftTurn a b c ⌝ }
 {
-    if doubled_area(p) <= 1.0e-12 {
-        return false;
+    let cross = (b.x - a.x) * (c.y - b.y) - (b.y - a.y) * (c.x - b.x);
+    if cross <= 0.0 {
+        numbers::is_finite_f64(cross)
+    } else {
+        false
     }
+}
+
+// Whether a corner of the quad is seen to fail without a length.
+fn lacks_left_turn(p: Corners) -> bool
+    ensures { λ r. ⌜ r ≡ lacksLeftTurn p ⌝ }
+{
+    let a = p.a;
+    let b = p.b;
+    let d = p.d;
+    let c = p.c;
+    if no_left_turn(c, a, b) {
+        return true;
+    }
+    if no_left_turn(a, b, d) {
+        return true;
+    }
+    if no_left_turn(b, d, c) {
+        return true;
+    }
+    no_left_turn(d, c, a)
+}
+
+// Whether each corner turns left by more than 20°. A side's length is taken once, for both its corners.
+fn corners_turn(p: Corners) -> bool
+    ensures { λ r. ⌜ r ≡ cornersTurn p ⌝ }
+{
     let a = p.a;
     let b = p.b;
     let d = p.d;
@@ -149,6 +179,19 @@ pub fn convex_ccw(p: Corners) -> bool
         return false;
     }
     turns(dc, ca)
+}
+
+// Whether the quad turns left by more than 20° at each corner. One that lacks a left turn fails without a root.
+pub fn convex_ccw(p: Corners) -> bool
+    ensures { λ r. ⌜ r ≡ convexCcw p ⌝ }
+{
+    if doubled_area(p) <= 1.0e-12 {
+        return false;
+    }
+    if lacks_left_turn(p) {
+        return false;
+    }
+    corners_turn(p)
 }
 
 pub fn centroid(p: Corners) -> Point

@@ -1,2 +1,4 @@
 pub mod BetweenLaws
+pub mod BlockLaws
 pub mod Blocks
+pub mod OrderLaws

@@ -105,6 +105,10 @@ first-few o e k h =
     (omega arith, omega arith)
 
 -- the number as the code has it
+pub first-later : (outer : List Float) (k start : ℕ) → (k ≡ 0 → ⊥) → (points outer + start) / blockSize + k ≡ firstBlockAt outer k start
+first-later outer zero start h = absurd (h refl)
+first-later outer (suc k) start h = refl
+
 pub first-at : {o : Outline} {start : ℕ} (k : ℕ) → LoopPlace o k start → firstBlockAt (o .outer) k start ≡ firstBlock o k
 unfolding firstBlock
 first-at {o} zero p = refl

@@ -3,3 +3,4 @@ pub mod BlockLaws
 pub mod Blocks
 pub mod FilingLaws
 pub mod OrderLaws
+pub mod RayLaws

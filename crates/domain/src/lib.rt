@@ -277,7 +277,7 @@ pub fn point_after(s: &[f64], i: usize) -> Point
     }
 }
 
-fn ray_crosses(p: Point, a: Point, b: Point) -> bool
+pub fn ray_crosses(p: Point, a: Point, b: Point) -> bool
     ensures { λ r. ⌜ r ≡ rayCrosses p a b ⌝ }
 {
     if (a.y > p.y) != (b.y > p.y) {
@@ -332,7 +332,7 @@ pub fn contains_point<'a>(outer: &'a [f64], holes: &'a [f64], lens: &[usize], p:
 
 // ---- `nearest_segment`, `distance_to_boundary`
 
-fn squared_distance(p: Point, q: Point) -> f64
+pub fn squared_distance(p: Point, q: Point) -> f64
     ensures { λ r. ⌜ r ≡ squaredDistance p q ⌝ }
 {
     let dx = p.x - q.x;
@@ -341,7 +341,7 @@ fn squared_distance(p: Point, q: Point) -> f64
 }
 
 // The point of the segment a to b that is next to p.
-fn foot_of(p: Point, a: Point, b: Point) -> Point
+pub fn foot_of(p: Point, a: Point, b: Point) -> Point
     ensures { λ r. ⌜ r ≡ footOf p a b ⌝ }
 {
     let abx = b.x - a.x;
@@ -358,7 +358,7 @@ fn foot_of(p: Point, a: Point, b: Point) -> Point
 }
 
 // One segment of the search: the root is taken only where the square beats the best one's.
-fn search_segment(p: Point, a: Point, b: Point, best: Search) -> Search
+pub fn search_segment(p: Point, a: Point, b: Point, best: Search) -> Search
     ensures { λ r. ⌜ r ≡ searched p a b best ⌝ }
 {
     let squared = squared_distance(p, foot_of(p, a, b));
@@ -388,7 +388,7 @@ fn search_loop(p: Point, s: &[f64], best: Search) -> Search
     found
 }
 
-fn search_start() -> Search
+pub fn search_start() -> Search
     ensures { λ r. ⌜ r ≡ searchStart ⌝ }
 {
     let origin = Point { x: 0.0, y: 0.0 };

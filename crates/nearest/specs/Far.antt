@@ -1,0 +1,36 @@
+-- Boxes that are farther from a point than the best so far, and the search from any start. Definitions only.
+use mathlib.Core.Bool.{Bool, not, cond}
+use Prim.Native.Nat.{ℕ}
+use lib.ListN.{length}
+use lib.Ieee.{Float, lt}
+use Rattle.laws.specs.Loop.{forUp}
+use Rattle.numbers.specs.Float.{_⊕_, _⊖_, _⊗_, zeroF}
+use Rattle.domain.specs.declared.Point.{Point}
+use Rattle.domain.specs.declared.Search.{Search}
+use Rattle.domain.specs.Outline.{Outline}
+use Rattle.domain.specs.Accepted.{PointWithin}
+use Rattle.domain.specs.Search.{searchLoop, searchHole}
+use Rattle.blocks.specs.declared.Extent.{Extent}
+
+-- far within what squares can hold: 2^20 either way
+abbrev pub Moderate : Point → Type 0
+Moderate p = PointWithin 1048576 1048576 p
+
+-- how far x is outside of least to most, with a sign; 0 within
+unfoldable pub gap : Float → Float → Float → Float
+gap x least most = cond (lt x least) (x ⊖ least) (cond (lt most x) (x ⊖ most) zeroF)
+
+-- the squared distance of p from the box
+unfoldable pub extentSquared : Point → Extent → Float
+extentSquared p e =
+    let dx = gap (p .x) (e .xmin) (e .xmax) in
+    let dy = gap (p .y) (e .ymin) (e .ymax) in
+    dx ⊗ dx ⊕ dy ⊗ dy
+
+-- no segment in the box is nearer to p than the best so far
+unfoldable pub isFar : Point → Extent → Float → Bool
+isFar p e squared = not (lt (extentSquared p e) squared)
+
+-- the search over all loops, from the best so far
+unfoldable pub searchFrom : Outline → Point → Search → Search
+searchFrom o p best = forUp (length (o .lens)) (searchHole o p) (searchLoop p (o .outer) best)

@@ -1,0 +1,170 @@
+// `nearest_segment` of the outline by blocks (crate blocks): those farther from the point than the best so far are passed over. The answer is proved to be
+// that of the plain search (crate domain).
+ghost use mathlib.Core.Path.{_≡_};
+ghost use Prim.Native.Nat.{_+_, _*_, _≤_, _<_};
+ghost use lib.ListN.{length};
+ghost use Rattle.domain.specs.Outline.{outline, points};
+ghost use Rattle.domain.specs.Accepted.{LoopWithin};
+ghost use Rattle.domain.specs.Queries.{nearestSegment};
+ghost use Rattle.domain.specs.Search.{searchTurn, searchLoop};
+ghost use Rattle.blocks.specs.Blocks.{forBetween, BlockThere, LoopDrawn, Drawn, segmentExtent, blockExtent};
+ghost use Rattle.nearest.specs.Far.{Moderate, gap, isFar, searchFrom};
+use blocks::BLOCK;
+use blocks::Extent;
+use domain::Near;
+use domain::Point;
+use domain::Search;
+
+fn gap(x: f64, least: f64, most: f64) -> f64
+    ensures { λ r. ⌜ r ≡ gap x least most ⌝ }
+{
+    if x < least {
+        return x - least;
+    }
+    if most < x { x - most } else { 0.0 }
+}
+
+// Whether no segment in the box is nearer to p than the best so far.
+fn is_far(p: Point, e: Extent, squared: f64) -> bool
+    ensures { λ r. ⌜ r ≡ isFar p e squared ⌝ }
+{
+    let dx = gap(p.x, e.xmin, e.xmax);
+    let dy = gap(p.y, e.ymin, e.ymax);
+    !(dx * dx + dy * dy < squared)
+}
+
+fn segment_extent(s: &[f64], i: usize) -> Extent
+    requires { ⌜ 2 * i + 1 < length (now s) ⌝ }
+    ensures { λ r. ⌜ r ≡ segmentExtent (now (s .entry)) i ⌝ }
+{
+    Extent {
+        xmin: blocks::reach(0, s, i),
+        xmax: blocks::reach(1, s, i),
+        ymin: blocks::reach(2, s, i),
+        ymax: blocks::reach(3, s, i),
+    }
+}
+
+fn block_extent(s: &[f64], blocks: &[u32], b: usize) -> Extent
+    requires { ⌜ BlockThere (now s) (now blocks) b ⌝ }
+    ensures { λ r. ⌜ r ≡ blockExtent (now (s .entry)) (now (blocks .entry)) b ⌝ }
+{
+    let at = 4 * b;
+    Extent {
+        xmin: blocks::reach(0, s, blocks[at] as usize),
+        xmax: blocks::reach(1, s, blocks[at + 1] as usize),
+        ymin: blocks::reach(2, s, blocks[at + 2] as usize),
+        ymax: blocks::reach(3, s, blocks[at + 3] as usize),
+    }
+}
+
+// The search over the segments `from` up to `to`: a box is asked first, for it takes no division.
+fn search_part(p: Point, s: &[f64], from: usize, to: usize, best: Search) -> Search
+    requires { ⌜ (from ≤ to) × (to ≤ points (now s)) × Moderate p × LoopWithin (now s) ⌝ }
+    ensures { λ r. ⌜ r ≡ forBetween from to (searchTurn p (now (s .entry))) best ⌝ }
+{
+    let mut found = best;
+    let mut i = from;
+    while i < to {
+        if !is_far(p, segment_extent(s, i), found.squared) {
+            found = domain::search_segment(
+                p,
+                domain::point_at(s, i),
+                domain::point_after(s, i),
+                found,
+            );
+        }
+        i += 1;
+    }
+    found
+}
+
+fn search_loop(p: Point, s: &[f64], blocks: &[u32], first: usize, best: Search) -> Search
+    requires { ⌜ LoopDrawn (now s) (now blocks) first × (first ≤ 1152921504606846976) × Moderate p ⌝ }
+    ensures { λ r. ⌜ r ≡ searchLoop p (now (s .entry)) best ⌝ }
+{
+    let n = s.len() / 2;
+    let mut found = best;
+    let mut from = 0;
+    let mut b = first;
+    while from < n {
+        if !(blocks::is_listed(blocks, b) && is_far(p, block_extent(s, blocks, b), found.squared)) {
+            found = search_part(p, s, from, blocks::block_end(n, from), found);
+        }
+        from += BLOCK;
+        b += 1;
+    }
+    found
+}
+
+fn search_all<'a>(
+    outer: &'a [f64],
+    holes: &'a [f64],
+    lens: &[usize],
+    blocks: &[u32],
+    p: Point,
+    best: Search,
+) -> Search
+    requires { ⌜ Drawn (outline (now outer) (now holes) (now lens)) (now blocks) × Moderate p ⌝ }
+    ensures { λ r. ⌜ r ≡ searchFrom (outline (now (outer .entry)) (now (holes .entry)) (now (lens .entry))) p best ⌝ }
+{
+    let mut found = search_loop(
+        p,
+        domain::loop_points(outer, holes, lens, 0, 0),
+        blocks,
+        0,
+        best,
+    );
+    let mut k = 0;
+    let mut start = 0;
+    while k < lens.len() {
+        let first = blocks::first_block(outer, k + 1, start);
+        let s = domain::loop_points(outer, holes, lens, k + 1, start);
+        found = search_loop(p, s, blocks, first, found);
+        start += lens[k];
+        k += 1;
+    }
+    found
+}
+
+// Slightly more than the squared distance of p from the segment guessed.
+fn limit(p: Point, guess: Near) -> f64 {
+    domain::squared_distance(p, domain::foot_of(p, guess.a, guess.b)) * 1.000001 + 1.0e-12
+}
+
+// `nearest_segment` of the outline. With a guess of a segment near p the search begins at its distance, so that most blocks are passed over. The guess may
+// be anything: where nothing nearer than a little beyond it is found, the search begins anew without it.
+pub fn nearest_segment<'a>(
+    outer: &'a [f64],
+    holes: &'a [f64],
+    lens: &[usize],
+    blocks: &[u32],
+    p: Point,
+    guess: Near,
+) -> Near
+    requires { ⌜ Drawn (outline (now outer) (now holes) (now lens)) (now blocks) ⌝ }
+    ensures { λ r. ⌜ r ≡ nearestSegment (outline (now (outer .entry)) (now (holes .entry)) (now (lens .entry))) p ⌝ }
+{
+    if !is_near(p) {
+        return domain::nearest_segment(outer, holes, lens, p);
+    }
+    let start = domain::search_start();
+    let squared = limit(p, guess);
+    let first = search_all(
+        outer,
+        holes,
+        lens,
+        blocks,
+        p,
+        Search {
+            near: start.near,
+            squared,
+        },
+    );
+    let near = first.near;
+    if near.distance < numbers::sqrt_f64(squared) {
+        return near;
+    }
+    let whole = search_all(outer, holes, lens, blocks, p, start);
+    whole.near
+}

@@ -16,7 +16,7 @@ use Rattle.laws.specs.Ring.{Expr, var, num, _+ᵉ_, _*ᵉ_, _-ᵉ_, neg, ring}
 use Rattle.laws.specs.Certificate.{Nonneg, nonneg, not-nonneg, of-le, to-le, of-≤ℤ, of-<ℤ, hyp, nat, eqn, _⊞_, _⊠_, Hyps, Eqns, prove, zero-of}
 use Rattle.numbers.specs.Float.{_⊕_, _⊖_, _⊗_, _⊘_}
 use Rattle.exact.specs.Rounding.{Close}
-use Rattle.exact.specs.Units.{W, W-pos, W-big, Val, signed, units, Within, within-units}
+use Rattle.exact.specs.Units.{W, W-pos, W-big, Val, signed, signed-not, units, Within, within-units}
 use Rattle.exact.specs.Order.{lt-val, not-lt-val}
 use Rattle.exact.specs.Operations.{mul-law, product-within, Sum, add-law, sub-law, sum-within, div-law}
 use Rattle.exact.specs.SineBounds.{mul-le}
@@ -95,10 +95,6 @@ part-down P A B u v n d e f h k l =
     (prove (A ∷ B ∷ []) ((var 0 -ᵉ var 1 -ᵉ num 1) ∷ []) (l, tt) [] tt 0 (neg (var 1) -ᵉ neg (var 0) -ᵉ num 1) (hyp 0) tt) in
     record { less = p .less; some = p .some; same = elim (p .same) [ inl s ↦ inl (sym (unlike-not u v) ∙ s) | inr z ↦ inr z ] }
   where
-    signed-not : (t : Bool) (b : ℕ) → signed (not t) b ≡ negℤ (signed t b)
-    signed-not false b = refl
-    signed-not true b = sym (negℤ-negℤ (pos b))
-
     unlike-not : (u v : Bool) → unlike (not u) (not v) ≡ unlike u v
     unlike-not true true = refl
     unlike-not true false = refl

@@ -1,6 +1,7 @@
 pub mod Blend
 pub mod Corner
 pub mod Examples
+pub mod Keeps
 pub mod Monotone
 pub mod Operations
 pub mod Order

@@ -5,15 +5,16 @@
 use mathlib.Core.Path.{_≡_, refl, sym, ap, ap₂, _∙_, subst, subst₂}
 use mathlib.Core.Logic.{_⊎_, inl, inr, _↔_}
 use mathlib.Core.List.{[], _∷_}
-use mathlib.Core.Bool.{Bool, true, false, not, cond}
+use mathlib.Core.Bool.{Bool, true, false, not, cond, true≢false}
 use Prim.Native.Nat.{ℕ, zero, suc, _+_, _-_, _*_, _/_, _^_, _≤_, _<_, zero-le}
-use native.Mathlib.Nat.{le-trans, le-of-eq, zero-mul, one-mul, mul-comm, mul-assoc, mul-mul-mul-comm, mul-pos, mul-le-mul, mul-div-cancel, lt-irrefl, zero-lt-suc}
+use native.Mathlib.Nat.{le-trans, le-of-eq, zero-mul, one-mul, mul-comm, mul-assoc, mul-mul-mul-comm, mul-pos, mul-le-mul, mul-div-cancel}
+use native.Mathlib.Nat.{add-mul, add-le-add, lt-irrefl, zero-lt-suc}
 use native.Mathlib.Omega.{arith}
 use lib.IntN.{ℤ, pos, negℤ, _+ℤ_, _-ℤ_, _*ℤ_}
 use lib.Signed.{_≤ℤ_, ≤ℤ-refl}
 use lib.Dec.{T, leb→le, le→leb, ltb}
 use lib.Pow.{pow-pos}
-use lib.Ieee.{Float, nan, inf, fin, binary64, down, unlike, fits, le, lt, eq, neg, sub, odd, size, round, top, hid, ofBits, toBits}
+use lib.Ieee.{Float, nan, inf, fin, binary64, down, unlike, fits, le, lt, eq, neg, sub, odd, size, round, top, hid, ofBits, toBits, isNan}
 use lib.Ieee.Bits.{ofBits-toBits, ofBits-fits}
 use lib.Ieee.Exact.{odd-sign, round-exact}
 use lib.Ieee.Fits.{down-pos, round-is, round-fits}
@@ -25,8 +26,8 @@ use Rattle.laws.specs.Certificate.{Nonneg, nonneg, of-≤ℤ, to-≤ℤ, hyp, _
 use Rattle.numbers.specs.Float.{_⊕_, _⊖_, _⊗_, _⊘_, isFinite, zeroF, oneF}
 use Rattle.numbers.specs.Nearest.{Digits, digits-of}
 use Rattle.exact.specs.Units.{W, W-pos, Val, signed, signed-not, units, sizeOf, val-of, neg-val, unlike-self, Within, within-units}
-use Rattle.exact.specs.Order.{le-val}
-use Rattle.exact.specs.Operations.{mul-is, add-is, div-is, exact-sum, Moderate, mul-law, product-within}
+use Rattle.exact.specs.Order.{le-val, le-units, not-lt-val}
+use Rattle.exact.specs.Operations.{mul-is, add-is, div-is, exact-sum, Moderate, mul-law, product-within, add-law, sub-law, sum-within}
 
 -- ---- integers with a sign and a size
 
@@ -156,6 +157,23 @@ round-keeps false true a c b d C D h =
     none zero k K e = refl
     none (suc n) k K e = absurd (lt-irrefl 0 (subst (λ (z : ℕ). 0 < z) e (mul-pos (zero-lt-suc n) K)))
 
+neg-val-back : (x : Float) (n : ℕ) → Val (neg x) true n → Val x false n
+unfolding neg
+neg-val-back nan n v = v
+neg-val-back (inf s) n v = v
+neg-val-back (fin true m e) n v = absurd (true≢false (sym (v .0)))
+neg-val-back (fin false m e) n v = (refl, v .1)
+
+-- of sizes, whatever the signs
+pub sizes-keep : (s t : Bool) (a c b d n m : ℕ) → 0 < c → 0 < d → Val (round binary64 s a c) s n → Val (round binary64 t b d) t m → a * d ≤ b * c → n ≤ m
+sizes-keep s t a c b d n m C D v w h =
+    leb→le n m
+    (le-val (round binary64 false a c) (round binary64 false b d) false false n m (plus s a c n v) (plus t b d m w) .0 (round-mono binary64 a c b d C D h) .le)
+  where
+    plus : (s : Bool) (a c n : ℕ) → Val (round binary64 s a c) s n → Val (round binary64 false a c) false n
+    plus false a c n v = v
+    plus true a c n v = neg-val-back (round binary64 false a c) n (subst (λ (x : Float). Val x true n) (round-neg a c) v)
+
 -- ---- exact fractions, rounded
 
 -- x is what `round` makes of z / c
@@ -222,6 +240,18 @@ quotient-rounds {x = x} {y = y} p q h = record {
   is = refl;
   same = div-is x y (p .sign) (q .sign) (p .size) (q .size) (p .val) (q .val) h;
 }
+
+-- ---- bounds of their results, crudely
+
+pub add-within : {K L : ℕ} {x y : Float} → Moderate K → Moderate L → Within K x → Within L y → Within (2 * (K + L)) (x ⊕ y)
+add-within {K} {L} k l p q = sum-within (K + L) (add-law p q k l) (le-trans (add-le-add (p .small) (q .small)) (le-of-eq (sym (add-mul K L W))))
+
+pub sub-within : {K L : ℕ} {x y : Float} → Moderate K → Moderate L → Within K x → Within L y → Within (2 * (K + L)) (x ⊖ y)
+sub-within {K} {L} k l p q = sum-within (K + L) (sub-law p q k l) (le-trans (add-le-add (p .small) (q .small)) (le-of-eq (sym (add-mul K L W))))
+
+pub mul-within : {K L : ℕ} {x y : Float} → Moderate K → Moderate L → Within K x → Within L y → Within (2 * (K * L) + 1) (x ⊗ y)
+mul-within {K} {L} k l p q =
+    product-within (K * L) (mul-law p q k l) (le-trans (mul-le-mul (p .small) (q .small)) (le-of-eq (mul-mul-mul-comm K W L W)))
 
 -- ---- a double is itself, rounded
 
@@ -290,9 +320,10 @@ one-units = within-units one-within
 -- 0 times w is a zero, and 1 times w is w
 pub zero-times : {K : ℕ} {w : Float} (p : Within K w) → Val (zeroF ⊗ w) (unlike false (p .sign)) 0
 zero-times {w = w} p =
-    subst (λ (x : Float). Val x (unlike false (p .sign)) 0)
-    (sym (mul-is zeroF w false (p .sign) 0 (p .size) zero-val (p .val) ∙ ap (λ (n : ℕ). round binary64 (unlike false (p .sign)) n (W * W)) (zero-mul (p .size))))
-    (round-zero (unlike false (p .sign)) (W * W) (mul-pos W-pos W-pos))
+    let s = unlike false (p .sign) in
+    subst (λ (x : Float). Val x s 0)
+    (sym (mul-is zeroF w false (p .sign) 0 (p .size) zero-val (p .val) ∙ ap (λ (n : ℕ). round binary64 s n (W * W)) (zero-mul (p .size))))
+    (round-zero s (W * W) (mul-pos W-pos W-pos))
 
 pub one-times : {K : ℕ} {w : Float} → T (fits binary64 w) → Within K w → oneF ⊗ w ≡ w
 one-times {w = w} f p =
@@ -330,6 +361,59 @@ pub nonpos-units : {K : ℕ} {x : Float} → Within K x → T (le x zeroF) → N
 nonpos-units {x = x} p h =
     let k : units x ≤ℤ pos 0 = subst (λ (a : ℤ). units x ≤ℤ a) zero-units (le-within p zero-within .0 h) in
     prove (units x ∷ []) ((num 0 -ᵉ var 0) ∷ []) (of-≤ℤ k, tt) [] tt 0 (R.neg (var 0)) (hyp 0) tt
+
+-- ---- and of all doubles, infinities too
+
+not-le-nan : (x : Float) → T (le x nan) → ⊥
+unfolding le lt eq
+not-le-nan nan h = h
+not-le-nan (inf s) h = h
+not-le-nan (fin s m e) h = h
+
+pub le-chain : (x y z : Float) → T (fits binary64 x) → T (fits binary64 y) → T (fits binary64 z) → T (le x y) → T (le y z) → T (le x z)
+unfolding le lt eq isFinite
+le-chain nan y z f g i h k = absurd h
+le-chain (inf true) y nan f g i h k = absurd (not-le-nan y k)
+le-chain (inf true) y (inf true) f g i h k = tt
+le-chain (inf true) y (inf false) f g i h k = tt
+le-chain (inf true) y (fin u l c) f g i h k = tt
+le-chain (inf false) nan z f g i h k = absurd h
+le-chain (inf false) (inf true) z f g i h k = absurd h
+le-chain (inf false) (inf false) z f g i h k = k
+le-chain (inf false) (fin t n d) z f g i h k = absurd h
+le-chain (fin s m e) nan z f g i h k = absurd h
+le-chain (fin s m e) (inf true) z f g i h k = absurd h
+le-chain (fin s m e) (inf false) nan f g i h k = absurd k
+le-chain (fin s m e) (inf false) (inf true) f g i h k = absurd k
+le-chain (fin s m e) (inf false) (inf false) f g i h k = tt
+le-chain (fin s m e) (inf false) (fin u l c) f g i h k = absurd k
+le-chain (fin s m e) (fin t n d) nan f g i h k = absurd k
+le-chain (fin s m e) (fin t n d) (inf true) f g i h k = absurd k
+le-chain (fin s m e) (fin t n d) (inf false) f g i h k = tt
+le-chain (fin s m e) (fin t n d) (fin u l c) f g i h k =
+    let x = fin s m e in
+    let y = fin t n d in
+    let z = fin u l c in
+    le-units x z tt f tt i .1 (≤ℤ-trans (le-units x y tt f tt g .0 h) (le-units y z tt g tt i .0 k))
+
+-- what is no NaN and not below
+pub le-of-not-lt : (x y : Float) → T (fits binary64 x) → T (fits binary64 y) → T (not (isNan x)) → T (not (isNan y)) → T (not (lt x y)) → T (le y x)
+unfolding le lt eq isNan isFinite
+le-of-not-lt nan y f g n m h = absurd n
+le-of-not-lt (inf s) nan f g n m h = absurd m
+le-of-not-lt (inf true) (inf true) f g n m h = tt
+le-of-not-lt (inf true) (inf false) f g n m h = absurd h
+le-of-not-lt (inf true) (fin t k d) f g n m h = absurd h
+le-of-not-lt (inf false) (inf true) f g n m h = tt
+le-of-not-lt (inf false) (inf false) f g n m h = tt
+le-of-not-lt (inf false) (fin t k d) f g n m h = tt
+le-of-not-lt (fin s j e) nan f g n m h = absurd m
+le-of-not-lt (fin s j e) (inf true) f g n m h = tt
+le-of-not-lt (fin s j e) (inf false) f g n m h = absurd h
+le-of-not-lt (fin s j e) (fin t k d) f g n m h =
+    let x = fin s j e in
+    let y = fin t k d in
+    le-units y x tt g tt f .1 (not-lt-val x y s t (sizeOf x) (sizeOf y) (val-of x tt f) (val-of y tt g) .0 h)
 
 -- ---- the laws
 
@@ -397,8 +481,7 @@ square-keeps p q h =
     (record { le = le→leb (p .size * p .size) (q .size * q .size) (mul-le-mul h h) })
 
 pub square-within : {K : ℕ} {x : Float} → Moderate K → Within K x → Within (2 * (K * K) + 1) (x ⊗ x)
-square-within {K} m p =
-    product-within (K * K) (mul-law p p m m) (le-trans (mul-le-mul (p .small) (p .small)) (le-of-eq (mul-mul-mul-comm K W K W)))
+square-within m p = mul-within m m p p
 
 -- x² + y², where neither size shrinks
 pub squares-keep : {K L M N : ℕ} {x y x' y' : Float} (p : Within K x) (q : Within L y) (p' : Within M x') (q' : Within N y')

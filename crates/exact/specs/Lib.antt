@@ -5,6 +5,7 @@ pub mod Keeps
 pub mod Monotone
 pub mod Operations
 pub mod Order
+pub mod Part
 pub mod Root
 pub mod Rounding
 pub mod Sine

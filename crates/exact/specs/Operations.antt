@@ -183,6 +183,7 @@ pub record Sum (z : ℤ) (m : ℕ) (x : Float) : Type 0 where
   pub near : Close size exact exact
   pub small : exact ≤ m
   pub rounds : size ≡ rounded (exact * W) W
+  pub same : x ≡ round binary64 sign exact W
 
 -- x is what `round` makes of the exact number z of units, which is at most m either way
 pub record Exact (z : ℤ) (m : ℕ) (x : Float) : Type 0 where
@@ -242,15 +243,17 @@ add-units : (x y : Float) (s t : Bool) (a b : ℕ) → Val x s a → Val y t b �
 add-units x y s t a b p q ha hb =
     let e = exact-sum s a t b in
     let g = rounded (e .size * W) W in
+    let same = add-is x y s t a b p q ∙ e .same in
     record {
       sign = e .sign;
       exact = e .size;
       size = g;
       is = e .is;
-      val = subst (λ (z : Float). Val z (e .sign) g) (sym (add-is x y s t a b p q ∙ e .same)) (sum-val (e .sign) (e .size) a b (e .small) ha hb);
+      val = subst (λ (z : Float). Val z (e .sign) g) (sym same) (sum-val (e .sign) (e .size) a b (e .small) ha hb);
       near = sum-close (e .size);
       small = e .small;
       rounds = refl;
+      same = same;
     }
 
 pub add-law : {K L : ℕ} {x y : Float} (p : Within K x) (q : Within L y) → Moderate K → Moderate L → Sum (units x +ℤ units y) (p .size + q .size) (x ⊕ y)

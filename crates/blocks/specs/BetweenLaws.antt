@@ -71,18 +71,27 @@ module _ {A : Type 0} (turn : ℕ → A → A) (a : A) where
 
 -- ---- a loop by blocks
 
--- The turns before `from`, of n, have been taken from a, and left s. The block that begins there is number b, and the loop's first one is number `first`.
-pub record ByBlocks {A : Type 0} (turn : ℕ → A → A) (a : A) (n first from b : ℕ) (s : A) : Type 0 where
+-- a loop of n turns stands at turn `from`, with which block b begins; the loop's first block is number `first`
+pub record BlockPlace (n first from b : ℕ) : Type 0 where
   pub begun : first ≤ b
   pub at : from ≡ blockSize * (b - first)
   pub within : from ≤ n + 15
+
+pub place-start : (n first : ℕ) → BlockPlace n first 0 first
+place-start n first = record { begun = omega arith; at = omega arith; within = omega arith }
+
+pub place-next : {n first from b : ℕ} → BlockPlace n first from b → from < n → BlockPlace n first (from + blockSize) (b + 1)
+place-next {n} {first} {from} {b} p h = record { begun = omega arith; at = omega arith; within = omega arith }
+
+-- the turns before `from` have been taken from a, and left s
+pub record ByBlocks {A : Type 0} (turn : ℕ → A → A) (a : A) (n first from b : ℕ) (s : A) : Type 0 where
+  pub place : BlockPlace n first from b
   pub same : s ≡ forUp (min from n) turn a
 
 module _ {A : Type 0} (turn : ℕ → A → A) (a : A) where
   pub blocks-start : (n first : ℕ) → ByBlocks turn a n first 0 first a
   unfolding forUp
-  blocks-start n first =
-      record { begun = omega arith; at = omega arith; within = omega arith; same = ap (λ (k : ℕ). forUp k turn a) (none n) }
+  blocks-start n first = record { place = place-start n first; same = ap (λ (k : ℕ). forUp k turn a) (none n) }
     where
       none : (n : ℕ) → 0 ≡ min 0 n
       none n = omega arith
@@ -93,9 +102,7 @@ module _ {A : Type 0} (turn : ℕ → A → A) (a : A) where
   blocks-look {n} {first} {from} {b} {s} {t} l h e =
       let start = l .same ∙ ap (λ (k : ℕ). forUp k turn a) (before from n h) in
       record {
-        begun = omega arith;
-        at = omega arith;
-        within = omega arith;
+        place = place-next (l .place) h;
         same = e ∙ ap (forBetween from (blockEnd n from) turn) start ∙ between-up turn from (blockEnd n from) a (omega arith);
       }
     where

@@ -3,9 +3,9 @@ use mathlib.Core.Bool.{Bool, not, _&&_, cond}
 use mathlib.Core.List.{List}
 use Prim.Native.Nat.{ℕ}
 use lib.ListN.{length}
-use lib.Ieee.{Float, lt, le}
+use lib.Ieee.{Float, lt}
 use Rattle.laws.specs.Loop.{forUp}
-use Rattle.numbers.specs.Float.{_⊕_, _⊖_, _⊗_, bits, zeroF, absF}
+use Rattle.numbers.specs.Float.{_⊕_, _⊖_, _⊗_, zeroF}
 use Rattle.domain.specs.declared.Point.{Point}
 use Rattle.domain.specs.declared.Search.{Search}
 use Rattle.domain.specs.Outline.{Outline}
@@ -36,14 +36,6 @@ isFar p e squared = not (lt (extentSquared p e) squared)
 -- block b is listed and its box is so
 unfoldable pub isPassed : Point → List Float → List ℕ → ℕ → Float → Bool
 isPassed p s blocks b squared = isListed blocks b && isFar p (blockExtent s blocks b) squared
-
--- 2^20
-abbrev pub moderateF : Float
-moderateF = bits 0x4130_0000_0000_0000
-
--- the code's test of `Moderate`
-unfoldable pub isNear : Point → Bool
-isNear p = le (absF (p .x)) moderateF && le (absF (p .y)) moderateF
 
 -- the search over all loops, from the best so far
 unfoldable pub searchFrom : Outline → Point → Search → Search

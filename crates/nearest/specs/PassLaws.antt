@@ -1,30 +1,36 @@
--- What the code's tests tell: p is moderate (`near-moderate`), and a block that is passed over has no segment that the search would take (`passed-same`).
+-- What the code's tests tell: a coordinate is moderate (`moderate`), and a block that is passed over has no segment that the search would take (`passed-same`).
 -- Assumes nothing.
 use mathlib.Core.Bool.{Bool, true, false, not, _&&_, cond}
 use mathlib.Core.List.{List}
 use mathlib.Core.Path.{_≡_, refl, sym, ap, _∙_, subst}
-use Prim.Native.Nat.{ℕ, _+_, _*_, _≤_, _<_}
+use Prim.Native.Nat.{ℕ, _+_, _*_, _≤_, _<_, zero-le}
 use native.Mathlib.Omega.{arith}
 use borrow.Author.Tests.{ltb-true, ltb-false}
 use lib.Dec.{T, ltb, leb→le}
 use lib.ListN.{length, getD}
 use lib.Ieee.{Float, nan, inf, fin, binary64, fits, lt, le, eq, ofBits}
+use Rattle.laws.specs.Loop.{forUp}
 use Rattle.laws.specs.Tests.{both}
-use Rattle.numbers.specs.Float.{isFinite, absF}
+use Rattle.numbers.specs.Float.{bits, isFinite, absF}
 use Rattle.exact.specs.Units.{W, Val, signOf, sizeOf, val-of, abs-val, Within, within}
 use Rattle.exact.specs.Order.{le-val}
 use Rattle.domain.specs.declared.Point.{Point}
 use Rattle.domain.specs.declared.Search.{Search}
-use Rattle.domain.specs.Outline.{points, pointAt, pointAfter}
+use Rattle.domain.specs.Outline.{Outline, loopAt, points, pointAt, pointAfter, LoopPlace}
+use Rattle.domain.specs.OutlineLaws.{outer-points, Passed, passed-few}
 use Rattle.domain.specs.Accepted.{AllFit, PointFits, LoopWithin, after-within}
-use Rattle.domain.specs.Search.{searchTurn}
-use Rattle.blocks.specs.Blocks.{reach, blockEnd, isListed, sideAt, BlockThere, BlockFiled, LoopDrawn, blockExtent}
+use Rattle.domain.specs.Search.{searchTurn, searchLoop, searchHole}
+use Rattle.blocks.specs.Blocks.{reach, blockEnd, isListed, sideAt, BlockThere, BlockFiled, LoopDrawn, firstBlockAt, Drawn, blockExtent}
 use Rattle.blocks.specs.BetweenLaws.{BlockPlace}
-use Rattle.blocks.specs.BlockLaws.{block-there, block-covers, block-filed}
-use Rattle.nearest.specs.Far.{Moderate, isFar, isPassed, moderateF, isNear}
+use Rattle.blocks.specs.BlockLaws.{block-there, block-covers, block-filed, first-at, first-few, drawn-loop}
+use Rattle.nearest.specs.Far.{Moderate, isFar, isPassed, searchFrom}
 use Rattle.nearest.specs.FarLaws.{Ends, ExtentWithin, reach-within, far-same}
 
--- ---- the point
+-- ---- a coordinate of the point
+
+-- 2^20
+abbrev moderateF : Float
+moderateF = bits 0x4130_0000_0000_0000
 
 moderate-val : Val moderateF false (1048576 * W)
 unfolding ofBits W
@@ -36,17 +42,12 @@ finite-abs nan h = h
 finite-abs (inf s) h = h
 finite-abs (fin s m e) h = tt
 
-coordinate-moderate : (x : Float) → T (fits binary64 x) → T (le (absF x) moderateF) → Within 1048576 x
-coordinate-moderate x f h =
+pub moderate : (x : Float) → T (fits binary64 x) → {y : Float} → y ≡ absF x → le y moderateF ≡ true → Within 1048576 x
+moderate x f e t =
+    let h : T (le (absF x) moderateF) = rw (← e, t) tt in
     let i = finite-abs x h in
     let v = abs-val x (signOf x) (sizeOf x) (val-of x i f) in
     within 1048576 x f i (leb→le (sizeOf x) (1048576 * W) (le-val (absF x) moderateF false false (sizeOf x) (1048576 * W) v moderate-val .0 h .le))
-
-pub near-moderate : (p : Point) → PointFits p → isNear p ≡ true → Moderate p
-unfolding isNear
-near-moderate p f e =
-    let h = both (le (absF (p .x)) moderateF) (le (absF (p .y)) moderateF) e in
-    record { x = coordinate-moderate (p .x) (f .x) (subst T (sym (h .0)) tt); y = coordinate-moderate (p .y) (f .y) (subst T (sym (h .1)) tt) }
 
 -- ---- blocks
 
@@ -95,3 +96,26 @@ module _ {s : List Float} {blocks : List ℕ} {first from b : ℕ} (d : LoopDraw
   passed-same f q best m e =
       let t = both (isListed blocks b) (isFar q (blockExtent s blocks b) (best .squared)) e in
       far-block s f (d .within) (block-filed (d .filed) p h (ltb-true (4 * b + 3) (length blocks) (t .0))) q best m (t .1)
+
+-- ---- the loops of an outline
+
+module _ {o : Outline} {blocks : List ℕ} (d : Drawn o blocks) where
+  -- loop k with its first block, as the code has them
+  pub loop-here : {start : ℕ} (k : ℕ) → LoopPlace o k start → {s : List Float} → s ≡ loopAt o k → {first : ℕ} → first ≡ firstBlockAt (o .outer) k start
+      → LoopDrawn s blocks first × (first ≤ 1152921504606846976)
+  loop-here k p e {first} f =
+      let same = f ∙ first-at k p in
+      let few = first-few o (d .taken) k (p .within) .1 in
+      (rw (e, same) (drawn-loop d k (p .within)), omega (arith, same, few))
+
+  -- what `first_block` asks
+  pub first-asked : {k start : ℕ} → Passed o k start → k < length (o .lens) → (points (o .outer) ≤ 65535) × (start ≤ 65535) × (k + 1 ≤ 65535)
+  unfolding loopAt
+  first-asked {k} {start} p h =
+      (drawn-loop d 0 zero-le .few, omega (arith, passed-few p h), first-few o (d .taken) (k + 1) (omega arith) .0)
+
+-- the search over the outer loop, and then over the holes
+pub searched-all : (o : Outline) (p : Point) (best : Search) {s : List Float} {first found : Search} → s ≡ loopAt o 0 → first ≡ searchLoop p s best
+    → found ≡ forUp (length (o .lens)) (searchHole o p) first → found ≡ searchFrom o p best
+unfolding searchFrom
+searched-all o p best e f g = g ∙ ap (forUp (length (o .lens)) (searchHole o p)) (f ∙ ap (λ (s : List Float). searchLoop p s best) (outer-points o e))

@@ -1,13 +1,15 @@
 // `nearest_segment` of the outline by blocks (crate blocks): those farther from the point than the best so far are passed over. The answer is proved to be
 // that of the plain search (crate domain).
 ghost use mathlib.Core.Path.{_≡_};
+ghost use mathlib.Core.Bool.{true};
 ghost use Prim.Native.Nat.{_+_, _*_, _≤_, _<_};
 ghost use lib.ListN.{length};
+ghost use Rattle.exact.specs.Units.{Within};
 ghost use Rattle.domain.specs.Outline.{outline, points};
 ghost use Rattle.domain.specs.Queries.{nearestSegment};
 ghost use Rattle.domain.specs.Search.{searchTurn, searchLoop};
 ghost use Rattle.blocks.specs.Blocks.{forBetween, reach, sideAt, BlockThere, LoopDrawn, Drawn, blockExtent};
-ghost use Rattle.nearest.specs.Far.{Moderate, gap, isFar, isPassed, isNear, searchFrom};
+ghost use Rattle.nearest.specs.Far.{Moderate, gap, isFar, isPassed, searchFrom};
 use blocks::BLOCK;
 use blocks::Extent;
 use domain::Near;
@@ -128,12 +130,18 @@ fn search_all<'a>(
     found
 }
 
-// Whether p is moderate.
-fn is_near(p: Point) -> bool
-    ensures { λ r. ⌜ r ≡ isNear p ⌝ }
+fn is_moderate(x: f64) -> bool
+    ensures { λ r. ⌜ (r ≡ true → Within 1048576 x) ⌝ }
 {
-    if numbers::abs_f64(p.x) <= 1048576.0 {
-        numbers::abs_f64(p.y) <= 1048576.0
+    numbers::abs_f64(x) <= 1048576.0
+}
+
+// Whether p is near enough for the search by blocks.
+fn is_near(p: Point) -> bool
+    ensures { λ r. ⌜ (r ≡ true → Moderate p) ⌝ }
+{
+    if is_moderate(p.x) {
+        is_moderate(p.y)
     } else {
         false
     }

@@ -1,23 +1,21 @@
--- `nearest::is_near` meets its contract: the tests are the definition's.
-use mathlib.Core.Path.{refl}
+-- `nearest::is_near` meets its contract: both coordinates are moderate.
+use mathlib.Core.Bool.{true≢false}
+use mathlib.Core.Path.{sym}
 use borrow.Author.Needs.{needs}
-use Rattle.nearest.specs.Far.{isNear}
 use Rattle.nearest.proofs.is_near.Statement.{statement}
 use Rattle.nearest.proofs.is_near.Tie as tie
 
-abs-f64-requires : tie.Need-abs-f64-requires
-abs-f64-requires c κs = search needs
+is-moderate-requires : tie.Need-is-moderate-requires
+is-moderate-requires c κs = search needs
 
-abs-f64-requires-2 : tie.Need-abs-f64-requires-2
-abs-f64-requires-2 c κs = search needs
+is-moderate-requires-2 : tie.Need-is-moderate-requires-2
+is-moderate-requires-2 c κs = search needs
 
 returns : tie.Need-returns
-unfolding isNear
-returns c = rw (← c .before .before .abs-f64 .ensures, ← c .abs-f642 .ensures, c .before .if1 .taken) refl
+returns c = λ e. record { x = c .before .before .is-moderate .ensures (c .before .if1 .taken); y = c .is-moderate2 .ensures e }
 
 returns-2 : tie.Need-returns-2
-unfolding isNear
-returns-2 c = rw (← c .before .abs-f64 .ensures, c .if1 .left) refl
+returns-2 c = λ e. absurd (true≢false (sym e))
 
 pub is-near-spec : {M : Type 1} → statement M
-is-near-spec = tie.close (tie.spec abs-f64-requires abs-f64-requires-2 returns returns-2)
+is-near-spec = tie.close (tie.spec is-moderate-requires is-moderate-requires-2 returns returns-2)

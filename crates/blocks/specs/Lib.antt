@@ -1,1 +1,5 @@
+pub mod BetweenLaws
+pub mod BlockLaws
 pub mod Blocks
+pub mod FilingLaws
+pub mod OrderLaws

@@ -7,7 +7,7 @@ ghost use lib.ListN.{length};
 ghost use Rattle.laws.specs.Loop.{anyUp};
 ghost use Rattle.domain.specs.Outline.{outline, points, LoopPlace, outlineRefusal};
 ghost use Rattle.domain.specs.Queries.{polygonTurn, pointInPolygon, inHole, contains};
-ghost use Rattle.blocks.specs.Blocks.{forBetween, reach, isBeyond, Farthest, blockEnd, isListed, BlockThere, BlockFiles, LoopFiles, LoopDrawn, firstBlock};
+ghost use Rattle.blocks.specs.Blocks.{forBetween, reach, isBeyond, Farthest, blockEnd, isListed, BlockThere, BlockFiles, LoopFiles, LoopDrawn, firstBlockAt};
 ghost use Rattle.blocks.specs.Blocks.{Drawn, blockExtent, rayMisses};
 use domain::Point;
 
@@ -76,6 +76,7 @@ fn farthest(d: usize, s: &[f64], from: usize, to: usize) -> u32
 // The number of the first block of loop k, before which `start` hole points stand.
 pub fn first_block(outer: &[f64], k: usize, start: usize) -> usize
     requires { ⌜ (points (now outer) ≤ 65535) × (start ≤ 65535) × (k ≤ 65535) ⌝ }
+    ensures { λ r. ⌜ r ≡ firstBlockAt (now (outer .entry)) k start ⌝ }
 {
     if k == 0 {
         return 0;

@@ -18,15 +18,15 @@ use Rattle.advance.proofs.advance.Statement.{statement}
 use Rattle.advance.proofs.advance.Tie as tie
 
 abbrev Inv-loop : tie.InvT-loop
-Inv-loop outer holes lens blocks size grid values xs₀ ys₀ next₀ prev₀ snapshot₀ quads₀ edges₀ nodePool₀ edgePool₀ passes most counts₀ i₀ xs ys next prev snapshot quads
-    edges nodePool edgePool counts i =
+Inv-loop outer holes lens blocks size grid values xs₀ ys₀ next₀ prev₀ snapshot₀ quads₀ edges₀ nodePool₀ edgePool₀ passes most counts₀ i₀ xs ys next prev
+    snapshot quads edges nodePool edgePool counts i =
     Run (passesTurn (outline outer holes lens) size (fieldRecord grid values [])) allUsed
     (stateOf xs₀ ys₀ next₀ prev₀ snapshot₀ quads₀ edges₀ counts₀) most i (stateOf xs ys next prev snapshot quads edges counts)
     × Pools size xs ys edges counts nodePool₀ edgePool₀ nodePool edgePool
 
 abbrev μ-loop : tie.MeasureT-loop
-μ-loop outer holes lens blocks size grid values xs₀ ys₀ next₀ prev₀ snapshot₀ quads₀ edges₀ nodePool₀ edgePool₀ passes most counts₀ i₀ xs ys next prev snapshot quads
-    edges nodePool edgePool counts i =
+μ-loop outer holes lens blocks size grid values xs₀ ys₀ next₀ prev₀ snapshot₀ quads₀ edges₀ nodePool₀ edgePool₀ passes most counts₀ i₀ xs ys next prev
+    snapshot quads edges nodePool edgePool counts i =
     most - i
 
 -- the outline, the field and the state as they are lent
@@ -47,7 +47,8 @@ start c =
     let at-most-passes = c .before .before .before .before .before .before .before .before .before .before .before .before in
     at-most-passes .before .before .before .before .before .before .before .before .before .before .before .before .before .before
 
-later : (c : tie.At-loop Inv-loop μ-loop) → Later (around (start c)) (start c .args .blocks .now) (start c .args .grid) (start c .args .values .now) (lent (start c))
+later : (c : tie.At-loop Inv-loop μ-loop) → Later (around (start c)) (start c .args .blocks .now) (start c .args .grid) (start c .args .values .now)
+    (lent (start c))
     (stateOf (c .loop .xs) (c .loop .ys) (c .loop .next) (c .loop .prev) (c .loop .snapshot) (c .loop .quads) (c .loop .edges) (c .loop .counts))
 later c = in-advance (around (start c)) _ (start c .args .size) _ _ (field (start c)) (lent (start c)) (start c .pre) (c .loop .inv .0)
 

@@ -19,15 +19,15 @@ use Rattle.advance.proofs.sweep.Statement.{statement}
 use Rattle.advance.proofs.sweep.Tie as tie
 
 abbrev Inv-loop : tie.InvT-loop
-Inv-loop outer holes lens blocks size grid values xs₀ ys₀ next₀ prev₀ snapshot quads₀ edges₀ nodePool₀ edgePool₀ n j₀ some₀ a₀ xs ys next prev quads edges nodePool
-    edgePool j some a =
+Inv-loop outer holes lens blocks size grid values xs₀ ys₀ next₀ prev₀ snapshot quads₀ edges₀ nodePool₀ edgePool₀ n j₀ some₀ a₀ xs ys next prev quads edges
+    nodePool edgePool j some a =
     Run (passTurn (outline outer holes lens) size (fieldRecord grid values [])) afterPass
     (passing (stateOf xs₀ ys₀ next₀ prev₀ snapshot quads₀ edges₀ j₀) false) n a (passing (stateOf xs ys next prev snapshot quads edges j) some)
     × Pools size xs ys edges j nodePool₀ edgePool₀ nodePool edgePool
 
 abbrev μ-loop : tie.MeasureT-loop
-μ-loop outer holes lens blocks size grid values xs₀ ys₀ next₀ prev₀ snapshot quads₀ edges₀ nodePool₀ edgePool₀ n j₀ some₀ a₀ xs ys next prev quads edges nodePool
-    edgePool j some a =
+μ-loop outer holes lens blocks size grid values xs₀ ys₀ next₀ prev₀ snapshot quads₀ edges₀ nodePool₀ edgePool₀ n j₀ some₀ a₀ xs ys next prev quads edges
+    nodePool edgePool j some a =
     n - a
 
 -- the outline, the field and the state as they are lent
@@ -46,7 +46,8 @@ lent s =
 abbrev start : tie.At-loop Inv-loop μ-loop → tie.Start Inv-loop μ-loop
 start c = c .before .before .before .before .before .before .before .before .before .before .before .before .before .before .before
 
-later : (c : tie.At-loop Inv-loop μ-loop) → Later (around (start c)) (start c .args .blocks .now) (start c .args .grid) (start c .args .values .now) (lent (start c))
+later : (c : tie.At-loop Inv-loop μ-loop) → Later (around (start c)) (start c .args .blocks .now) (start c .args .grid) (start c .args .values .now)
+    (lent (start c))
     (stateOf (c .loop .xs) (c .loop .ys) (c .loop .next) (c .loop .prev) (start c .args .snapshot .now) (c .loop .quads) (c .loop .edges) (c .loop .j))
 later c = in-pass (around (start c)) _ (start c .args .size) _ _ (field (start c)) (lent (start c)) (start c .pre .0) (c .loop .inv .0)
 

@@ -4,7 +4,7 @@ use mathlib.Core.List.{List}
 use mathlib.Core.Logic.{_⊎_, inl, inr}
 use mathlib.Core.Path.{_≡_, refl, sym, ap, _∙_, subst}
 use Prim.Native.Nat.{ℕ, zero, suc, _+_, _-_, _*_, _≤_, _<_}
-use native.Mathlib.Nat.{eq-or-lt-of-le, le-of-suc-le-suc}
+use native.Mathlib.Nat.{le-antisymm, eq-or-lt-of-le}
 use native.Mathlib.Omega.{arith}
 use lib.ListN.{length, getD, set, length-set}
 use lib.Seq.{getD-set-same, getD-set-other}
@@ -54,6 +54,9 @@ module _ {s : List Float} {d from : ℕ} where
         | inr less ↦ beyond-through d (reach d s i) (reach d s far) (reach d s j) e (f .most j g less)
       ];
     }
+
+    pub far-end : {to : ℕ} → i ≤ to → to ≤ i → Farthest s d from to far
+    far-end h g = subst (λ (n : ℕ). Farthest s d from n far) (le-antisymm h g) f
 
 -- ---- a block
 

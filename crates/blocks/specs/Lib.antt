@@ -3,3 +3,5 @@ pub mod BlockLaws
 pub mod Blocks
 pub mod FilingLaws
 pub mod OrderLaws
+pub mod RayLaws
+pub mod ReachLaws

@@ -1,10 +1,9 @@
 -- What a query has of an outline's blocks: each loop's are filed (`drawn-loop`), a block that is listed is there (`block-there`), and its box covers its
 -- segments (`block-covers`). Assumes nothing.
-use mathlib.Core.Bool.{Bool, true, false}
+use mathlib.Core.Bool.{false}
 use mathlib.Core.List.{List}
 use mathlib.Core.Path.{_≡_, refl, sym, ap, _∙_, subst}
 use Prim.Native.Nat.{ℕ, zero, suc, _+_, _-_, _*_, _/_, _≤_, _<_, min, zero-le}
-use native.Mathlib.Numerals.{add-one}
 use native.Mathlib.Omega.{arith}
 use lib.Dec.{T}
 use lib.ListN.{length, drop, length-take, length-drop}
@@ -12,7 +11,7 @@ use lib.Ieee.{Float, binary64, fits}
 use Rattle.domain.specs.Outline.{Outline, holeLength, holeStart, holeAt, loopAt, points, pointAt, pointAfter, misshapen, outlineRefusal, LoopPlace}
 use Rattle.domain.specs.OutlineLaws.{start-over, shaped, Passed, passed-place, passed-few}
 use Rattle.domain.specs.Accepted.{Accepted, accepted, each, loop-within}
-use Rattle.blocks.specs.Blocks.{reach, blockSize, blockEnd, sideAt, BlockThere, BlockFiled, LoopFiled, LoopDrawn, pointsBefore, firstBlock, firstBlockAt}
+use Rattle.blocks.specs.Blocks.{reach, blockSize, blockEnd, BlockThere, BlockFiled, LoopFiled, LoopDrawn, pointsBefore, firstBlock, firstBlockAt}
 use Rattle.blocks.specs.Blocks.{Drawn, segmentExtent, blockExtent, Covers}
 use Rattle.blocks.specs.BetweenLaws.{BlockPlace}
 use Rattle.blocks.specs.OrderLaws.{beyond-self}

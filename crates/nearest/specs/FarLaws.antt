@@ -22,7 +22,6 @@ use Rattle.exact.specs.Keeps.{le-within, le-through, sub-turns, add-within, sub
 use Rattle.exact.specs.Part.{ZeroToOne, part-within, part-most, part-least, foot-part}
 use Rattle.domain.specs.declared.Point.{Point}
 use Rattle.domain.specs.declared.Search.{Search}
-use Rattle.domain.specs.Outline.{point}
 use Rattle.domain.specs.Accepted.{PointFits, PointWithin}
 use Rattle.domain.specs.Queries.{squaredDistance, footOf}
 use Rattle.domain.specs.Search.{searched}

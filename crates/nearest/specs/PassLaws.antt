@@ -3,7 +3,7 @@
 use mathlib.Core.Bool.{true, false}
 use mathlib.Core.List.{List}
 use mathlib.Core.Path.{_≡_, refl, ap, _∙_}
-use Prim.Native.Nat.{ℕ, _+_, _*_, _≤_, _<_, zero-le}
+use Prim.Native.Nat.{ℕ, _+_, _*_, _≤_, _<_}
 use native.Mathlib.Omega.{arith}
 use borrow.Author.Tests.{ltb-true}
 use lib.Dec.{T, leb→le}
@@ -16,13 +16,13 @@ use Rattle.exact.specs.Units.{W, Val, signOf, sizeOf, val-of, abs-val, Within, 
 use Rattle.exact.specs.Order.{le-val}
 use Rattle.domain.specs.declared.Point.{Point}
 use Rattle.domain.specs.declared.Search.{Search}
-use Rattle.domain.specs.Outline.{Outline, loopAt, points, pointAt, pointAfter, LoopPlace}
-use Rattle.domain.specs.OutlineLaws.{outer-points, Passed, passed-few}
+use Rattle.domain.specs.Outline.{Outline, loopAt, points, pointAt, pointAfter}
+use Rattle.domain.specs.OutlineLaws.{outer-points}
 use Rattle.domain.specs.Accepted.{after-within}
 use Rattle.domain.specs.Search.{searchTurn, searchLoop, searchHole}
-use Rattle.blocks.specs.Blocks.{blockEnd, isListed, BlockThere, LoopDrawn, firstBlockAt, Drawn, blockExtent}
+use Rattle.blocks.specs.Blocks.{blockEnd, isListed, BlockThere, LoopDrawn, blockExtent}
 use Rattle.blocks.specs.BetweenLaws.{BlockPlace}
-use Rattle.blocks.specs.BlockLaws.{block-there, block-covers, block-filed, first-at, first-few, drawn-loop}
+use Rattle.blocks.specs.BlockLaws.{block-there, block-covers, block-filed}
 use Rattle.blocks.specs.ReachLaws.{point-fits, after-fits, block-within}
 use Rattle.nearest.specs.Far.{Moderate, isFar, isPassed, searchFrom}
 use Rattle.nearest.specs.FarLaws.{Ends, far-same}
@@ -77,21 +77,6 @@ module _ {s : List Float} {blocks : List ℕ} {first from b : ℕ} (d : LoopDraw
       (block-covers filed i g l) best (t .1)
 
 -- ---- the loops of an outline
-
-module _ {o : Outline} {blocks : List ℕ} (d : Drawn o blocks) where
-  -- loop k with its first block, as the code has them
-  pub loop-here : {start : ℕ} (k : ℕ) → LoopPlace o k start → {s : List Float} → s ≡ loopAt o k → {first : ℕ} → first ≡ firstBlockAt (o .outer) k start
-      → LoopDrawn s blocks first × (first ≤ 1152921504606846976)
-  loop-here k p e {first} f =
-      let same = f ∙ first-at k p in
-      let few = first-few o (d .taken) k (p .within) .1 in
-      (rw (e, same) (drawn-loop d k (p .within)), omega (arith, same, few))
-
-  -- what `first_block` asks
-  pub first-asked : {k start : ℕ} → Passed o k start → k < length (o .lens) → (points (o .outer) ≤ 65535) × (start ≤ 65535) × (k + 1 ≤ 65535)
-  unfolding loopAt
-  first-asked {k} {start} p h =
-      (drawn-loop d 0 zero-le .few, omega (arith, passed-few p h), first-few o (d .taken) (k + 1) (omega arith) .0)
 
 -- the search over the outer loop, and then over the holes
 pub searched-all : (o : Outline) (p : Point) (best : Search) {s : List Float} {first found : Search} → s ≡ loopAt o 0 → first ≡ searchLoop p s best

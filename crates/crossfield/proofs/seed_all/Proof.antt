@@ -11,27 +11,22 @@ use Rattle.crossfield.proofs.seed_all.Statement.{statement}
 use Rattle.crossfield.proofs.seed_all.Tie as tie
 
 abbrev Inv-loop : tie.InvT-loop
-Inv-loop outer holes lens g values₀ marks₀ nx ny base₀ j₀ values marks base j =
+Inv-loop outer holes lens blocks g values₀ marks₀ nx ny base₀ j₀ values marks base j =
     (length values ≡ length values₀) × (length marks ≡ length marks₀) × (base ≡ j * nx) × Loop (seedRow (outline outer holes lens) g)
     (fieldLists values₀ marks₀) ny j (fieldLists values marks)
 
 abbrev μ-loop : tie.MeasureT-loop
-μ-loop outer holes lens g values₀ marks₀ nx ny base₀ j₀ values marks base j = ny - j
+μ-loop outer holes lens blocks g values₀ marks₀ nx ny base₀ j₀ values marks base j = ny - j
 
 loop-holds : tie.Need-loop-holds Inv-loop μ-loop
 loop-holds c = (refl, refl, omega arith, loop-start _ _ _)
 
 seed-row-requires : tie.Need-seed-row-requires Inv-loop μ-loop
 seed-row-requires c κs = (
-  c .before .before .before .before .before .before .before .before .before .pre .0,
+  c .before .before .before .before .before .before .before .before .before .before .pre .0,
   (
-    row-of (c .before .before .before .loop .j) (c .before .before .before .loop .inv .2) (c .before .before .loop-test .taken)
-        (c .before .before .before .before .before .before .before .before .before .pre .1 .0 .values)
-        (c .before .before .before .loop .inv .0),
-    row-marks (c .before .before .before .loop .j) (c .before .before .before .before .before .before .before .before .before .pre .1 .0)
-        (c .before .before .before .before .before .before .before .before .before .pre .1 .1 .0)
-        (c .before .before .before .before .before .before .before .before .before .pre .1 .1 .1) (c .before .before .before .loop .inv .2)
-        (c .before .before .loop-test .taken) (c .before .before .before .loop .inv .1),
+    row-of (c .before .before .before .loop .j) (c .before .before .before .loop .inv .2) (c .before .before .loop-test .taken) (c .before .before .before .before .before .before .before .before .before .before .pre .1 .0 .values) (c .before .before .before .loop .inv .0),
+    row-marks (c .before .before .before .loop .j) (c .before .before .before .before .before .before .before .before .before .before .pre .1 .0) (c .before .before .before .before .before .before .before .before .before .before .pre .1 .1 .0) (c .before .before .before .before .before .before .before .before .before .before .pre .1 .1 .1) (c .before .before .before .loop .inv .2) (c .before .before .loop-test .taken) (c .before .before .before .loop .inv .1),
   ),
 )
 
@@ -39,11 +34,8 @@ add-base : tie.Need-add-base Inv-loop μ-loop
 add-base c = omega (
   arith,
   c .before .before .before .before .before .before .before .before .loop .inv .2,
-  c .before .before .before .before .before .before .before .before .before .before .before .before .before .before .pre .1 .0 .marks,
-  row-in (c .before .before .before .before .before .before .before .before .loop .j)
-      (c .before .before .before .before .before .before .before .before .before .before .before .before .before .before .args .g .ny)
-      (c .before .before .before .before .before .before .before .before .before .before .before .before .before .before .args .g .nx)
-      (c .before .before .before .before .before .before .before .loop-test .taken),
+  c .before .before .before .before .before .before .before .before .before .before .before .before .before .before .before .pre .1 .0 .marks,
+  row-in (c .before .before .before .before .before .before .before .before .loop .j) (c .before .before .before .before .before .before .before .before .before .before .before .before .before .before .before .args .g .ny) (c .before .before .before .before .before .before .before .before .before .before .before .before .before .before .before .args .g .nx) (c .before .before .before .before .before .before .before .loop-test .taken),
 )
 
 add-j : tie.Need-add-j Inv-loop μ-loop
@@ -54,14 +46,10 @@ loop-less c = omega arith
 
 loop-again : tie.Need-loop-again Inv-loop μ-loop
 loop-again c = (
-  c .before .before .before .before .seed-row .kept .1 .1 .1 .1 .0
-      ∙ c .before .before .before .before .before .before .before .before .loop .inv .0,
-  c .before .before .before .before .seed-row .kept .1 .1 .1 .1 .1 .0
-      ∙ c .before .before .before .before .before .before .before .before .loop .inv .1,
+  c .before .before .before .before .seed-row .kept .1 .1 .1 .1 .1 .0 ∙ c .before .before .before .before .before .before .before .before .loop .inv .0,
+  c .before .before .before .before .seed-row .kept .1 .1 .1 .1 .1 .1 .0 ∙ c .before .before .before .before .before .before .before .before .loop .inv .1,
   omega (arith, c .before .before .before .before .before .before .before .before .loop .inv .2),
-  rw (c .before .before .before .before .seed-row .ensures)
-      (loop-next _ _ (c .before .before .before .before .before .before .before .before .loop .inv .3)
-      (c .before .before .before .before .before .before .before .loop-test .taken)),
+  rw (c .before .before .before .before .seed-row .ensures) (loop-next _ _ (c .before .before .before .before .before .before .before .before .loop .inv .3) (c .before .before .before .before .before .before .before .loop-test .taken)),
 )
 
 same-length : tie.Need-same-length Inv-loop μ-loop

@@ -10,18 +10,15 @@ neighbour-sum-requires c κs = search needs
 neighbour-count-requires : tie.Need-neighbour-count-requires
 neighbour-count-requires c κs = search needs
 
-int-to-float-count : tie.Need-int-to-float-count
-int-to-float-count c = search needs
+divided-requires : tie.Need-divided-requires
+divided-requires c κs = search needs
 
 normalised-requires : tie.Need-normalised-requires
 normalised-requires c κs = search needs
 
 returns : tie.Need-returns
 unfolding average
-returns c = rw (
-  ← c .before .before .before .before .before .neighbour-sum .ensures,
-  ← c .before .before .before .before .neighbour-count .ensures,
-) (c .normalised .ensures)
+returns c = rw (← c .before .before .before .neighbour-sum .ensures, ← c .before .before .neighbour-count .ensures, ← c .before .divided .ensures) (c .normalised .ensures)
 
 pub average-spec : {M : Type 1} → statement M
 average-spec =
@@ -29,6 +26,6 @@ average-spec =
     (tie.spec
     neighbour-sum-requires
     neighbour-count-requires
-    int-to-float-count
+    divided-requires
     normalised-requires
     returns)

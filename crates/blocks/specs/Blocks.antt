@@ -108,6 +108,11 @@ pointsBefore o (suc k) = points (o .outer) + holeStart (o .lens) k
 unfoldable pub firstBlock : Outline → ℕ → ℕ
 firstBlock o k = pointsBefore o k / blockSize + k
 
+-- the same from the outer loop's points and how many hole points stand before loop k
+abbrev pub firstBlockAt : List Float → ℕ → ℕ → ℕ
+firstBlockAt outer zero start = 0
+firstBlockAt outer (suc k) start = (points outer + start) / blockSize + suc k
+
 -- none of 1 to 4 refuses the outline, and its blocks are in the list as far as that goes
 pub record Drawn (o : Outline) (blocks : List ℕ) : Type 0 where
   pub taken : outlineRefusal o ≡ 0

@@ -1,1 +1,3 @@
 pub mod Far
+pub mod FarLaws
+pub mod GuessLaws

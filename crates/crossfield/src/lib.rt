@@ -544,7 +544,8 @@ fn sweep_two_rows(
 ) -> bool
     requires { ⌜ Row (g .nx) (g .ny) j base (length (now values)) ⌝ }
     requires { ⌜ (j + 1 < g .ny) × (base + g .nx + g .nx ≤ length (now marks)) ⌝ }
-    ensures { λ r. ⌜ swept (now (values .exit)) r ≡ sweepRow g (now (marks .entry)) (j + 1) (sweepRow g (now (marks .entry)) j (swept (now (values .entry)) quiet)) ⌝ }
+    ensures { λ r. ⌜ swept (now (values .exit)) r
+        ≡ sweepRow g (now (marks .entry)) (j + 1) (sweepRow g (now (marks .entry)) j (swept (now (values .entry)) quiet)) ⌝ }
 {
     let nx = g.nx;
     if nx == 0 {

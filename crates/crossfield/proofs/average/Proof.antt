@@ -18,7 +18,11 @@ normalised-requires c κs = search needs
 
 returns : tie.Need-returns
 unfolding average
-returns c = rw (← c .before .before .before .neighbour-sum .ensures, ← c .before .before .neighbour-count .ensures, ← c .before .divided .ensures) (c .normalised .ensures)
+returns c = rw (
+  ← c .before .before .before .neighbour-sum .ensures,
+  ← c .before .before .neighbour-count .ensures,
+  ← c .before .divided .ensures,
+) (c .normalised .ensures)
 
 pub average-spec : {M : Type 1} → statement M
 average-spec =

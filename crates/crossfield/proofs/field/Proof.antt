@@ -24,23 +24,33 @@ bounds-of-requires : tie.Need-bounds-of-requires
 bounds-of-requires c κs = accepted _ (unrefused _ _ _ _ (sym (c .before .field-refusal .ensures) ∙ c .if1 .left) .outline) .shape
 
 grid-of-requires : tie.Need-grid-of-requires
-grid-of-requires c κs = few-made _ _ _ _ (record { outer = λ i h. c .before .before .before .before .before .before .before .before .before .shared-slice-known .given i; holes = λ i h. c .before .before .before .before .before .before .before .before .shared-slice-known2 .given i })
-    (subst T (sym (c .before .before .before .before .before .before .before .before .before .before .good .1 .1 .1 .0 .1)) tt) (sym (c .before .before .field-refusal .ensures) ∙ c .before .if1 .left) (c .bounds-of .ensures)
+grid-of-requires c κs =
+    let known = c .before .before .before .before .before .before .before .before in
+    few-made _ _ _ _ (record { outer = λ i h. known .before .shared-slice-known .given i; holes = λ i h. known .shared-slice-known2 .given i })
+    (subst T (sym (known .before .before .good .1 .1 .1 .0 .1)) tt) (sym (c .before .before .field-refusal .ensures) ∙ c .before .if1 .left)
+    (c .bounds-of .ensures)
 
 file-requires : tie.Need-file-requires
 file-requires c κs = unrefused _ _ _ _ (sym (c .before .before .before .before .field-refusal .ensures) ∙ c .before .before .before .if1 .left) .outline
 
 seed-all-requires : tie.Need-seed-all-requires
-seed-all-requires c κs = (
-  c .before .before .before .before .before .file .ensures,
-  seeds-ask _ _ _ _ _ _ (record { outer = λ i h. c .before .before .before .before .before .before .before .before .before .before .before .before .before .before .before .before .before .shared-slice-known .given i; holes = λ i h. c .before .before .before .before .before .before .before .before .before .before .before .before .before .before .before .before .shared-slice-known2 .given i })
-      (subst T (sym (c .before .before .before .before .before .before .before .before .before .before .before .before .before .before .before .before .before .before .good .1 .1 .1 .0 .1)) tt) (sym (c .before .before .before .before .before .before .before .before .before .before .field-refusal .ensures) ∙ c .before .before .before .before .before .before .before .before .before .if1 .left) (c .before .before .before .before .before .before .before .before .before .before .before .lesser .ensures) (c .before .before .before .before .before .before .before .before .bounds-of .ensures)
-      (c .before .before .before .before .before .before .before .grid-of .ensures),
-)
+seed-all-requires c κs =
+    let made = c .before .before .before .before .before .before .before in
+    let asked = made .before .before .before in
+    let known = asked .before .before .before .before .before .before in (
+      c .before .before .before .before .before .file .ensures,
+      seeds-ask _ _ _ _ _ _ (record { outer = λ i h. known .before .shared-slice-known .given i; holes = λ i h. known .shared-slice-known2 .given i })
+          (subst T (sym (known .before .before .good .1 .1 .1 .0 .1)) tt) (sym (asked .field-refusal .ensures) ∙ made .before .before .if1 .left)
+          (asked .before .lesser .ensures) (made .before .bounds-of .ensures) (made .grid-of .ensures),
+    )
 
 sweeps-requires : tie.Need-sweeps-requires
-sweeps-requires c κs = room-of (room-made _ _ _ _ _ _ (sym (c .before .before .before .before .before .before .before .before .before .before .before .before .before .before .before .before .before .field-refusal .ensures) ∙ c .before .before .before .before .before .before .before .before .before .before .before .before .before .before .before .before .if1 .left) (c .before .before .before .before .before .before .before .before .before .before .before .before .before .before .before .before .before .before .lesser .ensures) (c .before .before .before .before .before .before .before .before .before .before .before .before .before .before .before .bounds-of .ensures)
-    (c .before .before .before .before .before .before .before .before .before .before .before .before .before .before .grid-of .ensures)) (c .before .before .before .before .before .before .seed-all .kept .1 .1 .1 .1 .1 .0) (c .before .before .before .before .before .before .seed-all .kept .1 .1 .1 .1 .1 .1 .0)
+sweeps-requires c κs =
+    let made = c .before .before .before .before .before .before .before .before .before .before .before .before .before .before in
+    let asked = made .before .before .before in
+    let seeds = c .before .before .before .before .before .before .seed-all in
+    room-of (room-made _ _ _ _ _ _ (sym (asked .field-refusal .ensures) ∙ made .before .before .if1 .left) (asked .before .lesser .ensures)
+    (made .before .bounds-of .ensures) (made .grid-of .ensures)) (seeds .kept .1 .1 .1 .1 .1 .0) (seeds .kept .1 .1 .1 .1 .1 .1 .0)
 
 same-length : tie.Need-same-length
 same-length c = search needs
@@ -53,17 +63,19 @@ same-length-3 c = search needs
 
 returns-2 : tie.Need-returns-2
 unfolding fieldAnswer fieldRefusal fieldOf
-returns-2 c = (
-  rw (
-    ← c .before .before .before .before .before .before .before .before .before .before .before .before .before .before .before .before .before .before .before .before .before .lesser .ensures,
-    sym (c .before .before .before .before .before .before .before .before .before .before .before .before .before .before .before .before .before .before .before .before .field-refusal .ensures) ∙ c .before .before .before .before .before .before .before .before .before .before .before .before .before .before .before .before .before .before .before .if1 .left,
-    ← c .before .before .before .before .before .before .before .before .before .before .before .before .before .before .before .before .before .before .bounds-of .ensures,
-    ← c .before .before .before .before .before .before .before .before .before .before .before .before .before .before .before .before .before .grid-of .ensures,
-    ← c .before .before .before .before .before .before .before .before .before .seed-all .ensures,
-    ← c .before .before .sweeps .ensures,
-  ),
-  c .before .before .before .before .before .before .before .before .before .before .before .before .before .before .before .file .ensures,
-)
+returns-2 c =
+    let made = c .before .before .before .before .before .before .before .before .before .before .before .before .before .before .before .before .before in
+    let asked = made .before .before .before in (
+      rw (
+        ← asked .before .lesser .ensures,
+        sym (asked .field-refusal .ensures) ∙ made .before .before .if1 .left,
+        ← made .before .bounds-of .ensures,
+        ← made .grid-of .ensures,
+        ← c .before .before .before .before .before .before .before .before .before .seed-all .ensures,
+        ← c .before .before .sweeps .ensures,
+      ),
+      c .before .before .before .before .before .before .before .before .before .before .before .before .before .before .before .file .ensures,
+    )
 
 pub field-spec : {M : Type 1} → statement M
 field-spec =

@@ -28,27 +28,39 @@ mark-of-requires : tie.Need-mark-of-requires
 mark-of-requires c κs = search needs
 
 mul-k : tie.Need-mul-k
-mul-k c = omega (arith, c .before .before .before .before .before .before .before .before .before .before .before .before .good .1 .1 .1 .1 .1 .0, here-in (c .before .before .before .before .before .before .before .before .before .before .before .before .pre .1 .0))
+mul-k c =
+    let start = c .before .before .before .before .before .before .before .before .before .before .before .before in
+    omega (arith, start .good .1 .1 .1 .1 .1 .0, here-in (start .pre .1 .0))
 
 mul-values : tie.Need-mul-values
-mul-values c = omega (arith, c .before .before .before .before .before .before .before .before .before .before .before .before .good .1 .1 .1 .1 .1 .0, here-in (c .before .before .before .before .before .before .before .before .before .before .before .before .pre .1 .0))
+mul-values c =
+    let start = c .before .before .before .before .before .before .before .before .before .before .before .before in
+    omega (arith, start .good .1 .1 .1 .1 .1 .0, here-in (start .pre .1 .0))
 
 slice-write-values : tie.Need-slice-write-values
-slice-write-values c = omega (arith, c .before .before .before .before .before .before .before .before .before .before .before .before .good .1 .1 .1 .1 .1 .0, here-in (c .before .before .before .before .before .before .before .before .before .before .before .before .pre .1 .0))
+slice-write-values c =
+    let start = c .before .before .before .before .before .before .before .before .before .before .before .before in
+    omega (arith, start .good .1 .1 .1 .1 .1 .0, here-in (start .pre .1 .0))
 
 add-values : tie.Need-add-values
-add-values c = omega (arith, c .before .before .before .before .before .before .before .before .before .before .before .before .good .1 .1 .1 .1 .1 .0, here-in (c .before .before .before .before .before .before .before .before .before .before .before .before .pre .1 .0))
+add-values c =
+    let start = c .before .before .before .before .before .before .before .before .before .before .before .before in
+    omega (arith, start .good .1 .1 .1 .1 .1 .0, here-in (start .pre .1 .0))
 
 mul-values-2 : tie.Need-mul-values-2
-mul-values-2 c = omega (arith, c .before .before .before .before .before .before .before .before .before .before .before .before .good .1 .1 .1 .1 .1 .0, here-in (c .before .before .before .before .before .before .before .before .before .before .before .before .pre .1 .0))
+mul-values-2 c =
+    let start = c .before .before .before .before .before .before .before .before .before .before .before .before in
+    omega (arith, start .good .1 .1 .1 .1 .1 .0, here-in (start .pre .1 .0))
 
 slice-write-values-2 : tie.Need-slice-write-values-2
-slice-write-values-2 c = omega (
-  arith,
-  c .before .before .before .before .before .before .before .before .before .before .before .before .good .1 .1 .1 .1 .1 .0,
-  here-in (c .before .before .before .before .before .before .before .before .before .before .before .before .pre .1 .0),
-  length-set (c .before .before .before .before .before .before .before .before .before .before .before .before .args .values .now) (2 * c .before .before .before .before .before .before .before .before .before .before .before .before .args .id) (c .before .before .seed .result .x),
-)
+slice-write-values-2 c =
+    let start = c .before .before .before .before .before .before .before .before .before .before .before .before in
+    omega (
+      arith,
+      start .good .1 .1 .1 .1 .1 .0,
+      here-in (start .pre .1 .0),
+      length-set (start .args .values .now) (2 * start .args .id) (c .before .before .seed .result .x),
+    )
 
 slice-write-marks : tie.Need-slice-write-marks
 slice-write-marks c = omega (arith, c .before .before .before .before .before .before .before .before .before .before .before .before .pre .1 .1 .mark)

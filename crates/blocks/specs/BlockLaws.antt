@@ -6,11 +6,12 @@ use mathlib.Core.Path.{_≡_, refl, sym, ap, _∙_, subst}
 use Prim.Native.Nat.{ℕ, zero, suc, _+_, _-_, _*_, _/_, _≤_, _<_, min}
 use native.Mathlib.Numerals.{add-one}
 use native.Mathlib.Omega.{arith}
+use lib.Dec.{T}
 use lib.ListN.{length, drop, length-take, length-drop}
-use lib.Ieee.{Float}
+use lib.Ieee.{Float, binary64, fits}
 use Rattle.domain.specs.Outline.{Outline, holeLength, holeStart, holeAt, loopAt, points, pointAt, pointAfter, misshapen, outlineRefusal, LoopPlace}
 use Rattle.domain.specs.OutlineLaws.{start-first, start-next, start-over, Shaped, shaped}
-use Rattle.domain.specs.Accepted.{Accepted, accepted, loop-within}
+use Rattle.domain.specs.Accepted.{Accepted, accepted, each, loop-within}
 use Rattle.blocks.specs.Blocks.{reach, blockSize, blockEnd, sideAt, BlockThere, BlockFiled, LoopFiled, LoopDrawn, pointsBefore, firstBlock, firstBlockAt}
 use Rattle.blocks.specs.Blocks.{Drawn, segmentExtent, blockExtent, Covers}
 use Rattle.blocks.specs.BetweenLaws.{BlockPlace}
@@ -124,4 +125,10 @@ module _ {o : Outline} {blocks : List ℕ} (d : Drawn o blocks) where
       let l = loop-long o (a .shape) k h in
       let long = l .long in
       let few = l .few in
-      record { within = loop-within o (d .fits) a k h; even = omega arith; few = omega arith; filed = d .filed k h }
+      record {
+        fits = each o (λ x. T (fits binary64 x)) (d .fits .outer) (d .fits .holes) k;
+        within = loop-within o (d .fits) a k h;
+        even = omega arith;
+        few = omega arith;
+        filed = d .filed k h;
+      }

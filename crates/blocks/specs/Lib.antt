@@ -4,3 +4,4 @@ pub mod Blocks
 pub mod FilingLaws
 pub mod OrderLaws
 pub mod RayLaws
+pub mod ReachLaws

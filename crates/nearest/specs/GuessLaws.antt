@@ -195,3 +195,15 @@ guess-same o p limit f e = end (guess-all r (root-fits limit f) o p start (inr (
 pub whole-same : (o : Outline) (p : Point) → searchFrom o p searchStart .near ≡ nearestSegment o p
 unfolding searchFrom searchAll
 whole-same o p = search-same o p
+
+-- ---- as the code has them
+
+module _ (o : Outline) (p : Point) {start : Search} (e : start ≡ searchStart) where
+  pub guess-taken : (limit : Float) {found : Search} {r : Float} → T (fits binary64 limit) → found ≡ searchFrom o p (search (start .near) limit) → r ≡ sqrt limit
+      → lt (found .near .distance) r ≡ true → found .near ≡ nearestSegment o p
+  guess-taken limit f g i h =
+      let same = g ∙ ap (λ (s : Search). searchFrom o p (search (s .near) limit)) e in
+      ap (λ (s : Search). s .near) same ∙ guess-same o p limit f (rw (← same, ← i) h)
+
+  pub whole-taken : {found : Search} → found ≡ searchFrom o p start → found .near ≡ nearestSegment o p
+  whole-taken g = ap (λ (s : Search). s .near) (g ∙ ap (searchFrom o p) e) ∙ whole-same o p

@@ -21,7 +21,7 @@ use Rattle.crossfield.specs.declared.FieldAnswer.{FieldAnswer}
 use Rattle.crossfield.specs.declared.FieldAnswer.the-variants as answer-is
 use Rattle.crossfield.specs.Seeds.{FieldLists}
 use Rattle.crossfield.specs.Field.{FieldRecord, fieldRecord, fieldPlaces, refusalFor, fieldRefusal, fieldOf}
-use Rattle.crossfield.specs.Field.{FieldResult, fieldResult, madeOf, fieldAnswer}
+use Rattle.crossfield.specs.Field.{FieldResult, fieldResult, madeOf, fieldAnswer, FieldDraws}
 use Rattle.crossfield.specs.FieldLaws.{unrefused, few-made, sides}
 use Rattle.crossfield.specs.Places as field-places
 use Rattle.crossfield.specs.Direction.{nearestDirection}
@@ -69,13 +69,18 @@ unfoldable pub gridIn : FieldAnswer → Grid
 gridIn (answer-is.Refused n) = record { xmin = zeroF; ymin = zeroF; h = zeroF; nx = 0; ny = 0 }
 gridIn (answer-is.Made g) = g
 
-pub field-made : (o : Outline) (size : Float) (n : ℕ) (f : FieldLists) → fieldRefusal o size n f ≡ 0
-    → (r : FieldAnswer) (values : List Float) (marks : List ℕ) → fieldResult r values marks ≡ fieldAnswer o size n f
-    → (g : Grid) → g ≡ gridIn r → fieldRecord g values marks ≡ fieldOf o size n f
-unfolding fieldAnswer fieldOf gridIn
-field-made o size n f none r values marks e g same =
-    let made : fieldResult r values marks ≡ madeOf (fieldOf o size n f) = rw none at e in
-    rw same (ap (λ (w : FieldResult). fieldRecord (gridIn (w .answer)) (w .lists .values) (w .lists .marks)) made)
+module _ (o : Outline) (size : Float) (n : ℕ) (f : FieldLists) (none : fieldRefusal o size n f ≡ 0) (r : FieldAnswer) (values : List Float)
+    (marks : List ℕ) (e : fieldResult r values marks ≡ fieldAnswer o size n f) where
+  made : fieldResult r values marks ≡ madeOf (fieldOf o size n f)
+  unfolding fieldAnswer
+  made = rw none at e
+
+  pub field-made : (g : Grid) → g ≡ gridIn r → fieldRecord g values marks ≡ fieldOf o size n f
+  unfolding fieldOf gridIn
+  field-made g same = rw same (ap (λ (w : FieldResult). fieldRecord (gridIn (w .answer)) (w .lists .values) (w .lists .marks)) made)
+
+  pub field-drawn : (before after : List ℕ) → FieldDraws o r before after → Drawn o after
+  field-drawn before after D = subst (λ (a : FieldAnswer). FieldDraws o a before after) (ap (λ (w : FieldResult). w .answer) made) D
 
 -- ---- what sampling and paving ask
 
@@ -106,12 +111,12 @@ module _ (o : Outline) (set : Settings) (l : Lent) (C : CanRun o set l) where
         room = halves (gridNodes (gridOf (bounds o) (set .size))) (length (l .values)) (length (l .marks)) (u .room);
       }
 
-  pub can-pave : OutlineFits o → T (fits binary64 (set .size)) → (g : Grid) (values : List Float) (marks : List ℕ)
+  pub can-pave : T (fits binary64 (set .size)) → (g : Grid) (values : List Float) (marks : List ℕ)
       → fieldRecord g values marks ≡ fieldOf o (set .size) (set .sweeps) (fieldPart l) → length values ≡ length (l .values)
       → (blocks : List ℕ) → Drawn o blocks → CanPave o blocks (set .size) g values (statePart l)
   unfolding fieldOf
-  can-pave doubles held g values marks e long blocks D =
-      let L = lent-made doubles held in
+  can-pave held g values marks e long blocks D =
+      let L = lent-made (D .fits) held in
       let same : g ≡ gridOf (bounds o) (set .size) = ap (λ (r : FieldRecord). r .grid) e in
       record {
         drawn = D;

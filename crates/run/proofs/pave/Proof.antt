@@ -4,6 +4,7 @@ use Prim.Native.Nat.{min}
 use native.Mathlib.Omega.{arith}
 use lib.Seq.{length-take-le}
 use Rattle.domain.specs.Outline.{Outline, outline}
+use Rattle.domain.specs.Accepted.{OutlineFits}
 use Rattle.domain.specs.declared.Settings.{Settings}
 use Rattle.run.specs.Run.{settings, Lent, lent, snapshotPlaces, refusalOf}
 use Rattle.run.specs.Laws.{number-is, can-run, accepted-number, paves-accepted, paves-refused}
@@ -32,6 +33,12 @@ abbrev paved : tie.After-slice-known28 → tie.After-pave-in
 paved c =
     let at-slice-known21 = c .before .before .before .before .before .before .before .before .before .before .before .before .before .before in
     at-slice-known21 .before .before .before .before .before .before .before .before .before .before .before .before .before .before
+
+-- the coordinates lent are doubles
+doubles : (c : tie.After-lesser2) → OutlineFits (around (start-of c))
+doubles c =
+    let at-holes = c .before .before .before .before .before .before .before .before .before .before .before .before .before .before .before .before .before in
+    record { outer = λ i h. at-holes .before .shared-slice-known .given i; holes = λ i h. at-holes .shared-slice-known2 .given i }
 
 places-are : (c : tie.After-lesser2) → c .lesser2 .result ≡ snapshotPlaces (given (start-of c))
 places-are c = c .lesser2 .ensures ∙ ap (min _) (c .before .lesser .ensures)
@@ -136,13 +143,10 @@ returns-2 c =
     let else1 = at-pave-in .before .before .before .before .before .before .before .before .before .before .before .before .before .before .before in
     let at-refusal = else1 .before in
     let at-lesser2 = at-refusal .before .before .before in
-    let at-shared-slice-known2 = at-lesser2 .before .before .before .before .before .before .before .before .before .before .before .before .before .before .before .before .before in
-    let at-shared-slice-known = at-shared-slice-known2 .before in
-    let start = at-shared-slice-known .before in
+    let start = start-of at-lesser2 in
     let none = accepted-number _ _ _ _ _ (at-pave-in .pave-in .ensures) in (
       paves-accepted (around start) (set start) (given start) _ (places-are at-lesser2) (sym (number-at at-refusal) ∙ else1 .if1 .left)
-          (record { outer = λ i h. at-shared-slice-known .shared-slice-known .given i; holes = λ i h. at-shared-slice-known2 .shared-slice-known2 .given i })
-          _ _ (at-pave-in .pave-in .ensures),
+          (doubles at-lesser2) _ _ (at-pave-in .pave-in .ensures),
       (λ refused. absurd (refused none)),
     )
 

@@ -1,4 +1,5 @@
--- `sitjorbe_field` meets its contract: the answer is that of `field`, and each arm is a line of `recordNumbers`. Assumes nothing.
+-- `sitjorbe_field` meets its contract: the answer is that of `field`, each arm is a line of `recordNumbers`, and a refusal spares the blocks. Assumes nothing.
+use mathlib.Core.Path.{refl}
 use borrow.Author.Needs.{needs}
 use Rattle.mesher.specs.Answers.{fieldNumbers, recordNumbers}
 use Rattle.mesher.proofs.sitjorbe_field.Statement.{statement}
@@ -19,21 +20,33 @@ same-length c = search needs
 same-length-2 : tie.Need-same-length-2
 same-length-2 c = search needs
 
+same-length-3 : tie.Need-same-length-3
+same-length-3 c = search needs
+
 -- refused
 returns : tie.Need-returns
 unfolding fieldNumbers recordNumbers
-returns c = rw (← c .before .before .before .before .before .before .before .field .ensures, c .before .answer .given .1)
-
-same-length-3 : tie.Need-same-length-3
-same-length-3 c = search needs
+returns c =
+    let at-answer = c .before in
+    let both = at-answer .before .before .before .before .before .before .before .before .field .ensures in
+    (rw (← both .0, at-answer .answer .given .1), λ refused. rw (at-answer .answer .given .1) at (both .1))
 
 same-length-4 : tie.Need-same-length-4
 same-length-4 c = search needs
 
+same-length-5 : tie.Need-same-length-5
+same-length-5 c = search needs
+
+same-length-6 : tie.Need-same-length-6
+same-length-6 c = search needs
+
 -- answered
 returns-2 : tie.Need-returns-2
 unfolding fieldNumbers recordNumbers
-returns-2 c = rw (← c .before .before .before .before .before .before .before .field .ensures, c .before .answer2 .given .1)
+returns-2 c =
+    let at-answer = c .before in
+    let both = at-answer .before .before .before .before .before .before .before .before .field .ensures in
+    (rw (← both .0, at-answer .answer2 .given .1), λ refused. absurd (refused refl))
 
 pub sitjorbe-field-spec : {M : Type 1} → statement M
 sitjorbe-field-spec =
@@ -44,7 +57,9 @@ sitjorbe-field-spec =
     enum-known-answer-2
     same-length
     same-length-2
-    returns
     same-length-3
+    returns
     same-length-4
+    same-length-5
+    same-length-6
     returns-2)

@@ -1,11 +1,9 @@
 -- `sitjorbe_pave` meets its contract: what the run promises of its answer holds of the answer's numbers. Assumes nothing.
-use mathlib.Core.List.{List}
 use mathlib.Core.Path.{_≡_, ap, subst⁻¹}
-use Prim.Native.Nat.{ℕ}
 use Rattle.domain.specs.Outline.{Outline}
 use Rattle.domain.specs.declared.Settings.{Settings}
 use Rattle.run.specs.declared.Paved.{Paved}
-use Rattle.run.specs.Run.{Lent, Paves, Spares}
+use Rattle.run.specs.Run.{Lent, Scratch, Paves, Spares}
 use borrow.Author.Needs.{needs}
 use Rattle.mesher.specs.declared.PaveAnswer.{PaveAnswer}
 use Rattle.mesher.specs.Answers.{paveNumbers, ranNumbers, HostPaves}
@@ -19,7 +17,7 @@ host-paves {o} {set} {before} {after} P e =
     subst⁻¹ (λ (v : PaveAnswer). HostPaves o set before v after) e
     (record { equal = ap ranNumbers (P .equal); refused = P .refused; books = P .books })
 
-host-spares : {before after : List ℕ} (p : Paved) {r : PaveAnswer} → Spares (p .refusal) before after → r ≡ paveNumbers p
+host-spares : {before after : Scratch} (p : Paved) {r : PaveAnswer} → Spares (p .refusal) before after → r ≡ paveNumbers p
     → Spares (r .refusal) before after
 unfolding paveNumbers
 host-spares {before} {after} p k e = subst⁻¹ (λ (v : PaveAnswer). Spares (v .refusal) before after) e k
@@ -69,13 +67,16 @@ same-length-12 c = search needs
 same-length-13 : tie.Need-same-length-13
 same-length-13 c = search needs
 
+same-length-14 : tie.Need-same-length-14
+same-length-14 c = search needs
+
 returns : tie.Need-returns
 returns c =
     let midway = c .before .before .before .before .before .before .before .before .before .before .before .before .before .before in
-    let at-pave = midway .before .before .before .before .before .before .before .before .before .before .before .before .before in
+    let at-pave = midway .before .before .before .before .before .before .before .before .before .before .before .before .before .before .before in
     let same = c .pave-numbers .ensures in
     let promised = at-pave .pave .ensures in
-    (host-paves (promised .0) same, (host-spares _ (promised .1 .0) same, host-spares _ (promised .1 .1) same))
+    (host-paves (promised .0) same, host-spares _ (promised .1) same)
 
 pub sitjorbe-pave-spec : {M : Type 1} → statement M
 sitjorbe-pave-spec =
@@ -96,4 +97,5 @@ sitjorbe-pave-spec =
     same-length-11
     same-length-12
     same-length-13
+    same-length-14
     returns)

@@ -49,7 +49,7 @@ impl Covered {
     const ALL: [Covered; 3] = [Covered::None, Covered::Part, Covered::All];
 }
 
-/// What makes an outline's blocks matter.
+/// What makes an outline's blocks matter. The field's lowest row but one is level with the outline's lowest point; that doesn't count.
 const MATTER: [&str; 3] = ["several in the outer loop", "several in a hole", "ends level with nodes"];
 
 /// Which of these an outline has, with a field on this grid.
@@ -58,7 +58,7 @@ fn matter(drawing: &Drawing, record: &FieldRecord) -> [bool; 3] {
     let (loops, blocks) = (drawing.loops(), Block::all(drawing));
     let row = |j: usize| record.ymin + j as f64 * record.h;
     let ends = |y: f64| blocks.iter().any(|block| [2, 3].iter().any(|&side| block.reach(side) == y));
-    [several(&loops[0]), loops[1..].iter().any(several), (0..record.ny).any(|j| ends(row(j)))]
+    [several(&loops[0]), loops[1..].iter().any(several), (2..record.ny - 2).any(|j| ends(row(j)))]
 }
 
 /// The fields and runs that weren't refused, by their lists; and those with outlines whose blocks matter.

@@ -316,7 +316,7 @@ impl Places {
         [4 * self.nodes, 16 * self.edges]
     }
 
-    /// A length of `blocks` that is always enough: a loop takes four numbers for every 16 points, and has at least three.
+    /// A length of `blocks` that is always enough: 16 points take four numbers, and each loop, which has at least three points, four more.
     pub fn blocks(&self) -> usize {
         2 * self.points
     }

@@ -116,8 +116,8 @@ module _ (o : Outline) (size : Float) (field : FieldRecord) (s : State) (a : ℕ
   settle-same q some = rw q at (turned some)
 
   module _ (c d : Corner) (q : t ≡ Quad c d) where
-    pub settle-ready : (g : Grid) (values : List Float) → Paveable o g values s → Ready s a to c d
-    settle-ready g values P = ready o g values s P a to c d (attempt-quad o size field s a c d (is-attempt ∙ q))
+    pub settle-ready : (blocks : List ℕ) (g : Grid) (values : List Float) → Paveable o blocks g values s → Ready s a to c d
+    settle-ready blocks g values P = ready o blocks g values s P a to c d (attempt-quad o size field s a c d (is-attempt ∙ q))
 
     quad-turned : (some : Bool) → settle a to (Quad c d) (passing s some) ≡ passTurn o size field a (passing s some)
     quad-turned some = rw q at (turned some)
@@ -180,11 +180,11 @@ pass-ends turn {p} {n} {i} {xs} {ys} {next} {prev} {snapshot} {quads} {edges} {k
     by false = refl
 
 -- the snapshot is taken
-pub pass-begun : (o : Outline) (g : Grid) (values : List Float) (s : State) → Paveable o g values s
+pub pass-begun : (o : Outline) (blocks : List ℕ) (g : Grid) (values : List Float) (s : State) → Paveable o blocks g values s
     → {snapshot : List ℕ} → snapshot ≡ copied (s .counts .nodes) (s .next) (s .snapshot)
-    → Paveable o g values (stateOf (s .xs) (s .ys) (s .next) (s .prev) snapshot (s .quads) (s .edges) (s .counts))
+    → Paveable o blocks g values (stateOf (s .xs) (s .ys) (s .next) (s .prev) snapshot (s .quads) (s .edges) (s .counts))
 unfolding withSnapshot
-pass-begun o g values s P e = rw e (snapshot-paveable o g values s P)
+pass-begun o blocks g values s P e = rw e (snapshot-paveable o blocks g values s P)
 
 -- and its edges are tried
 pub pass-whole : (o : Outline) (size : Float) (field : FieldRecord) (s : State) (snapshot : List ℕ) (w : Passed)
@@ -222,16 +222,17 @@ run-has {S} {R} P Q turn {a} {n} {i} {s} start keeps L =
     next j (go t) p = keeps j t p
     next j (out r) q = q
 
-module _ (o : Outline) (size : Float) (g : Grid) (values : List Float) (field : FieldRecord) (s : State) (P : Paveable o g values s) where
-  later : {t : State} → Reached o size s t → Later o g values s t
-  later {t} r = reached-later o g values size s t (r .quads) P (r .by)
+module _ (o : Outline) (blocks : List ℕ) (size : Float) (g : Grid) (values : List Float) (field : FieldRecord) (s : State)
+    (P : Paveable o blocks g values s) where
+  later : {t : State} → Reached o size s t → Later o blocks g values s t
+  later {t} r = reached-later o blocks g values size s t (r .quads) P (r .by)
 
   pub in-pass : {n i : ℕ} {t : State} {some : Bool} → Run (passTurn o size field) afterPass (passing s false) n i (passing t some)
-      → Later o g values s t
+      → Later o blocks g values s t
   in-pass L =
       later (run-has (AtPassing o size s) (AtPassed o size s) (passTurn o size field) (record { quads = 0; by = begin }) (turn-kept o size s field) L)
 
-  pub in-advance : {n i : ℕ} {t : State} → Run (passesTurn o size field) allUsed s n i t → Later o g values s t
+  pub in-advance : {n i : ℕ} {t : State} → Run (passesTurn o size field) allUsed s n i t → Later o blocks g values s t
   in-advance L =
       later (run-has (Reached o size s) (AtEnd o size s) (passesTurn o size field) (record { quads = 0; by = begin })
       (λ j t r. pass-kept o size s field t r) L)

@@ -6,7 +6,8 @@ use Prim.Native.Nat.{ℕ, _*_, _≤_}
 use native.Mathlib.Omega.{arith}
 use lib.ListN.{length}
 use lib.Ieee.{Float}
-use Rattle.domain.specs.Outline.{Outline, misshapen}
+use Rattle.domain.specs.Outline.{Outline}
+use Rattle.blocks.specs.Blocks.{Drawn}
 use Rattle.crossfield.specs.declared.Grid.{Grid}
 use Rattle.crossfield.specs.Places.{Lent}
 use Rattle.front.specs.declared.Corner.{Corner}
@@ -27,9 +28,9 @@ use Rattle.attempts.specs.Seen.{TryLent}
 
 -- ---- definitions
 
--- the outline has its shape, the field is lent, and the state is one that a run can be in
-pub record Paveable (o : Outline) (g : Grid) (values : List Float) (s : State) : Type 0 where
-  pub shape : misshapen o ≡ false
+-- the outline isn't refused and its blocks are filed, the field is lent, and the state is one that a run can be in
+pub record Paveable (o : Outline) (blocks : List ℕ) (g : Grid) (values : List Float) (s : State) : Type 0 where
+  pub drawn : Drawn o blocks
   pub field : Lent g values
   pub sampled : ℕ
   pub loops : List (List ℕ)
@@ -37,21 +38,21 @@ pub record Paveable (o : Outline) (g : Grid) (values : List Float) (s : State) :
   pub known : Known s
 
 -- t comes after s in one run
-pub record Later (o : Outline) (g : Grid) (values : List Float) (s t : State) : Type 0 where
-  pub paveable : Paveable o g values t
+pub record Later (o : Outline) (blocks : List ℕ) (g : Grid) (values : List Float) (s t : State) : Type 0 where
+  pub paveable : Paveable o blocks g values t
   pub frame : Frame s t
 
 -- ---- what a placing and a snapshot keep
 
-module _ (o : Outline) (g : Grid) (values : List Float) where
+module _ (o : Outline) (blocks : List ℕ) (g : Grid) (values : List Float) where
   known-snapshot : (s : State) → Known s → Known (withSnapshot s)
   unfolding withSnapshot hasEdge
   known-snapshot s K = record { fronts = K .fronts; joined = K .joined }
 
-  pub snapshot-paveable : (s : State) → Paveable o g values s → Paveable o g values (withSnapshot s)
+  pub snapshot-paveable : (s : State) → Paveable o blocks g values s → Paveable o blocks g values (withSnapshot s)
   snapshot-paveable s P =
       record {
-        shape = P .shape;
+        drawn = P .drawn;
         field = P .field;
         sampled = P .sampled;
         loops = P .loops;
@@ -59,14 +60,14 @@ module _ (o : Outline) (g : Grid) (values : List Float) where
         known = known-snapshot s (P .known);
       }
 
-  place-later : (s t : State) (a b : ℕ) (c d : Corner) → Later o g values s t → Choice t a b c d → isFull t a b c d ≡ false
-      → Later o g values s (place a b c d t)
+  place-later : (s t : State) (a b : ℕ) (c d : Corner) → Later o blocks g values s t → Choice t a b c d → isFull t a b c d ≡ false
+      → Later o blocks g values s (place a b c d t)
   place-later s t a b c d L H full =
       let P = L .paveable in
       let S = step (P .sampled) t (P .loops) a b c d (P .sound) H full in
       record {
         paveable = record {
-          shape = P .shape;
+          drawn = P .drawn;
           field = P .field;
           sampled = P .sampled;
           loops = S .loops;
@@ -77,12 +78,12 @@ module _ (o : Outline) (g : Grid) (values : List Float) where
       }
 
   -- the state after a quad
-  pub later-placed : (s : State) → Paveable o g values s → (a b : ℕ) (c d : Corner) → Choice s a b c d → isFull s a b c d ≡ false
-      → Later o g values s (place a b c d s)
+  pub later-placed : (s : State) → Paveable o blocks g values s → (a b : ℕ) (c d : Corner) → Choice s a b c d → isFull s a b c d ≡ false
+      → Later o blocks g values s (place a b c d s)
   later-placed s P a b c d H full = place-later s s a b c d (record { paveable = P; frame = frame-same s }) H full
 
   -- a state that is reached
-  pub reached-later : (size : Float) (s t : State) (k : ℕ) → Paveable o g values s → Reaches o size s k t → Later o g values s t
+  pub reached-later : (size : Float) (s t : State) (k : ℕ) → Paveable o blocks g values s → Reaches o size s k t → Later o blocks g values s t
   reached-later size s t k P begin = record { paveable = P; frame = frame-same s }
   reached-later size s t k P (snapshot {k = j} {t = u} r) =
       let L = reached-later size s u j P r in
@@ -100,7 +101,7 @@ pub record Held (s : State) : Type 0 where
   pub snapshot : s .counts .nodes ≤ length (s .snapshot)
   pub edges : 2 * s .counts .edges ≤ length (s .edges)
 
-module _ (o : Outline) (g : Grid) (values : List Float) (s : State) (P : Paveable o g values s) where
+module _ (o : Outline) (blocks : List ℕ) (g : Grid) (values : List Float) (s : State) (P : Paveable o blocks g values s) where
   pub held : Held s
   unfolding nodePlaces edgePlaces
   held =
@@ -115,13 +116,13 @@ module _ (o : Outline) (g : Grid) (values : List Float) (s : State) (P : Paveabl
 
   pub try-lent : (size : Float) {node-pool edge-pool : List ℕ} → Indexed node-pool (nodeRects size (s .xs) (s .ys)) (s .counts .nodes)
       → Indexed edge-pool (edgeRects size (s .xs) (s .ys) (s .edges)) (s .counts .edges)
-      → TryLent o g values size (s .xs) (s .ys) (s .next) (s .prev) (s .edges) node-pool edge-pool (s .counts)
+      → TryLent o blocks g values size (s .xs) (s .ys) (s .next) (s .prev) (s .edges) node-pool edge-pool (s .counts)
   try-lent size nodes edges =
       let L = held in
       record {
         attempt = record {
           quad = record {
-            nodes = record { shape = P .shape; filed = nodes };
+            nodes = record { drawn = P .drawn; filed = nodes };
             within = record { nodes-few = L .few; indexed = record { edges-fit = L .edges; filed = edges } };
           };
           next-fit = L .next;

@@ -79,14 +79,14 @@ module _ (size : Float) (s t : State) (F : Frame s t) where
 
 -- ---- a placing
 
-module _ (o : Outline) (g : Grid) (values : List Float) (size : Float) (s : State) (P : Paveable o g values s) (a b : ℕ) (c d : Corner)
-    (R : Ready s a b c d) {node-pool edge-pool : List ℕ} (S : SearchableIn size s node-pool edge-pool) where
+module _ (o : Outline) (blocks : List ℕ) (g : Grid) (values : List Float) (size : Float) (s : State) (P : Paveable o blocks g values s)
+    (a b : ℕ) (c d : Corner) (R : Ready s a b c d) {node-pool edge-pool : List ℕ} (S : SearchableIn size s node-pool edge-pool) where
   done-adds : (m : Counts) (t : State) → Places a b c d s (placed-is.Done m) t → Addable size s t node-pool edge-pool
   done-adds m t D =
       let f = placed-done a b c d s t m D in
-      let L = later-placed o g values s P a b c d (R .choice) (f .0) in
+      let L = later-placed o blocks g values s P a b c d (R .choice) (f .0) in
       subst (λ (t : State). Addable size s t node-pool edge-pool) (sym (f .1))
-      (addable size s (place a b c d s) (L .frame) (P .known .joined) (held o g values (place a b c d s) (L .paveable) .edges) S)
+      (addable size s (place a b c d s) (L .frame) (P .known .joined) (held o blocks g values (place a b c d s) (L .paveable) .edges) S)
 
   module _ {xs ys : List Float} {next prev snapshot quads edges : List ℕ} {r : Placed}
       (Q : Places a b c d s r (stateOf xs ys next prev snapshot quads edges (countsAfter (s .counts) r))) where

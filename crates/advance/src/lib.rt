@@ -63,6 +63,7 @@ fn edge_attempt<'a>(
     outer: &'a [f64],
     holes: &'a [f64],
     lens: &[usize],
+    blocks: &[u32],
     size: f64,
     grid: Grid,
     values: &[f64],
@@ -77,7 +78,7 @@ fn edge_attempt<'a>(
     k: Counts,
     a: u32,
 ) -> Attempt
-    requires { ⌜ TryLent (outline (now outer) (now holes) (now lens)) grid (now values) size (now xs) (now ys) (now next) (now prev) (now edges)
+    requires { ⌜ TryLent (outline (now outer) (now holes) (now lens)) (now blocks) grid (now values) size (now xs) (now ys) (now next) (now prev) (now edges)
         (now «node_pool») (now «edge_pool») k × (a < length (now snapshot)) ⌝ }
     ensures { λ r. ⌜ r ≡ edgeAttempt (outline (now (outer .entry)) (now (holes .entry)) (now (lens .entry))) size (fieldRecord grid (now (values .entry)) [])
         (stateOf (now (xs .entry)) (now (ys .entry)) (now (next .entry)) (now (prev .entry)) (now (snapshot .entry)) [] (now (edges .entry)) k) a ⌝ }
@@ -93,6 +94,7 @@ fn edge_attempt<'a>(
         outer,
         holes,
         lens,
+        blocks,
         size,
         grid,
         values,
@@ -144,6 +146,7 @@ fn settle<'a>(
     outer: &'a [f64],
     holes: &'a [f64],
     lens: &[usize],
+    blocks: &[u32],
     size: f64,
     grid: Grid,
     values: &[f64],
@@ -159,7 +162,7 @@ fn settle<'a>(
     k: Counts,
     a: u32,
 ) -> Settled
-    requires { ⌜ Paveable (outline (now outer) (now holes) (now lens)) grid (now values)
+    requires { ⌜ Paveable (outline (now outer) (now holes) (now lens)) (now blocks) grid (now values)
         (stateOf (now xs) (now ys) (now next) (now prev) (now snapshot) (now quads) (now edges) k) × (a < k .nodes)
         × Searchable size (now xs) (now ys) (now edges) k (now «node_pool») (now «edge_pool») ⌝ }
     ensures { λ r. ⌜ Settles (outline (now (outer .entry)) (now (holes .entry)) (now (lens .entry))) size (fieldRecord grid (now (values .entry)) [])
@@ -173,6 +176,7 @@ fn settle<'a>(
         outer,
         holes,
         lens,
+        blocks,
         size,
         grid,
         values,
@@ -236,6 +240,7 @@ fn sweep<'a>(
     outer: &'a [f64],
     holes: &'a [f64],
     lens: &[usize],
+    blocks: &[u32],
     size: f64,
     grid: Grid,
     values: &[f64],
@@ -250,7 +255,7 @@ fn sweep<'a>(
     edge_pool: &mut [u32],
     k: Counts,
 ) -> Swept
-    requires { ⌜ Paveable (outline (now outer) (now holes) (now lens)) grid (now values)
+    requires { ⌜ Paveable (outline (now outer) (now holes) (now lens)) (now blocks) grid (now values)
         (stateOf (now xs) (now ys) (now next) (now prev) (now snapshot) (now quads) (now edges) k)
         × Searchable size (now xs) (now ys) (now edges) k (now «node_pool») (now «edge_pool») ⌝ }
     ensures { λ r. ⌜
@@ -276,6 +281,7 @@ fn sweep<'a>(
             outer,
             holes,
             lens,
+            blocks,
             size,
             grid,
             values,
@@ -310,6 +316,7 @@ fn pass<'a>(
     outer: &'a [f64],
     holes: &'a [f64],
     lens: &[usize],
+    blocks: &[u32],
     size: f64,
     grid: Grid,
     values: &[f64],
@@ -324,7 +331,7 @@ fn pass<'a>(
     edge_pool: &mut [u32],
     k: Counts,
 ) -> Swept
-    requires { ⌜ Paveable (outline (now outer) (now holes) (now lens)) grid (now values)
+    requires { ⌜ Paveable (outline (now outer) (now holes) (now lens)) (now blocks) grid (now values)
         (stateOf (now xs) (now ys) (now next) (now prev) (now snapshot) (now quads) (now edges) k)
         × Searchable size (now xs) (now ys) (now edges) k (now «node_pool») (now «edge_pool») ⌝ }
     ensures { λ r. ⌜
@@ -341,6 +348,7 @@ fn pass<'a>(
         outer,
         holes,
         lens,
+        blocks,
         size,
         grid,
         values,
@@ -399,6 +407,7 @@ pub fn advance<'a>(
     outer: &'a [f64],
     holes: &'a [f64],
     lens: &[usize],
+    blocks: &[u32],
     size: f64,
     grid: Grid,
     values: &[f64],
@@ -414,7 +423,7 @@ pub fn advance<'a>(
     k: Counts,
     passes: usize,
 ) -> Advanced
-    requires { ⌜ Paveable (outline (now outer) (now holes) (now lens)) grid (now values)
+    requires { ⌜ Paveable (outline (now outer) (now holes) (now lens)) (now blocks) grid (now values)
         (stateOf (now xs) (now ys) (now next) (now prev) (now snapshot) (now quads) (now edges) k) ⌝ }
     ensures { λ r. ⌜
         paved
@@ -434,6 +443,7 @@ pub fn advance<'a>(
             outer,
             holes,
             lens,
+            blocks,
             size,
             grid,
             values,

@@ -1,11 +1,10 @@
 -- The part of a state that an attempt reads, as it is lent to the code, and what the code asks of it. Definitions only.
-use mathlib.Core.Path.{_≡_}
-use mathlib.Core.Bool.{false}
 use mathlib.Core.List.{List, []}
 use Prim.Native.Nat.{ℕ, _*_, _≤_}
 use lib.ListN.{length}
 use lib.Ieee.{Float}
-use Rattle.domain.specs.Outline.{Outline, misshapen}
+use Rattle.domain.specs.Outline.{Outline}
+use Rattle.blocks.specs.Blocks.{Drawn}
 use Rattle.crossfield.specs.declared.Grid.{Grid}
 use Rattle.crossfield.specs.Places.{Lent}
 use Rattle.index.specs.Pool.{Indexed}
@@ -37,9 +36,9 @@ seenEdges xs ys edges counts = seen xs ys [] [] edges counts
 
 -- ---- what the code asks
 
--- the outline has its shape, and the nodes counted are filed
-pub record NodesLent (o : Outline) (size : Float) (xs ys : List Float) (node-pool : List ℕ) (counts : Counts) : Type 0 where
-  pub shape : misshapen o ≡ false
+-- the outline isn't refused and its blocks are filed, and so are the nodes counted
+pub record NodesLent (o : Outline) (blocks : List ℕ) (size : Float) (xs ys : List Float) (node-pool : List ℕ) (counts : Counts) : Type 0 where
+  pub drawn : Drawn o blocks
   pub filed : Indexed node-pool (nodeRects size xs ys) (counts .nodes)
 
 -- the first n edges are lent and filed
@@ -53,18 +52,19 @@ pub record EdgesLent (size : Float) (xs ys : List Float) (edges edge-pool : List
   pub indexed : EdgesIndexed size xs ys edges edge-pool (counts .edges)
 
 -- and so are the nodes
-pub record QuadLent (o : Outline) (size : Float) (xs ys : List Float) (edges node-pool edge-pool : List ℕ) (counts : Counts) : Type 0 where
-  pub nodes : NodesLent o size xs ys node-pool counts
+pub record QuadLent (o : Outline) (blocks : List ℕ) (size : Float) (xs ys : List Float) (edges node-pool edge-pool : List ℕ) (counts : Counts) : Type 0 where
+  pub nodes : NodesLent o blocks size xs ys node-pool counts
   pub within : EdgesLent size xs ys edges edge-pool counts
 
 -- and the links of the nodes counted are lent
-pub record AttemptLent (o : Outline) (size : Float) (xs ys : List Float) (next prev edges node-pool edge-pool : List ℕ) (counts : Counts) : Type 0 where
-  pub quad : QuadLent o size xs ys edges node-pool edge-pool counts
+pub record AttemptLent (o : Outline) (blocks : List ℕ) (size : Float) (xs ys : List Float) (next prev edges node-pool edge-pool : List ℕ)
+    (counts : Counts) : Type 0 where
+  pub quad : QuadLent o blocks size xs ys edges node-pool edge-pool counts
   pub next-fit : counts .nodes ≤ length next
   pub prev-fit : counts .nodes ≤ length prev
 
 -- and so is the field
-pub record TryLent (o : Outline) (g : Grid) (values : List Float) (size : Float) (xs ys : List Float) (next prev edges node-pool edge-pool : List ℕ)
-    (counts : Counts) : Type 0 where
-  pub attempt : AttemptLent o size xs ys next prev edges node-pool edge-pool counts
+pub record TryLent (o : Outline) (blocks : List ℕ) (g : Grid) (values : List Float) (size : Float) (xs ys : List Float)
+    (next prev edges node-pool edge-pool : List ℕ) (counts : Counts) : Type 0 where
+  pub attempt : AttemptLent o blocks size xs ys next prev edges node-pool edge-pool counts
   pub field : Lent g values

@@ -85,10 +85,12 @@ pub fn too_close(
     false
 }
 
+// The nodes are asked before the outline: that is the cheaper test.
 pub fn node_ok<'a>(
     outer: &'a [f64],
     holes: &'a [f64],
     lens: &[usize],
+    blocks: &[u32],
     size: f64,
     xs: &[f64],
     ys: &[f64],
@@ -96,7 +98,7 @@ pub fn node_ok<'a>(
     counts: Counts,
     p: Point,
 ) -> bool
-    requires { ⌜ NodesLent (outline (now outer) (now holes) (now lens)) size (now xs) (now ys) (now «node_pool») counts ⌝ }
+    requires { ⌜ NodesLent (outline (now outer) (now holes) (now lens)) (now blocks) size (now xs) (now ys) (now «node_pool») counts ⌝ }
     ensures { λ r. ⌜ r ≡ nodeOk (outline (now (outer .entry)) (now (holes .entry)) (now (lens .entry))) size
         (seenNodes (now (xs .entry)) (now (ys .entry)) counts) p ⌝ }
 {
@@ -106,10 +108,10 @@ pub fn node_ok<'a>(
     if !numbers::is_finite_f64(p.y) {
         return false;
     }
-    if !domain::contains_point(outer, holes, lens, p) {
+    if too_close(size, xs, ys, node_pool, counts, p) {
         return false;
     }
-    !too_close(size, xs, ys, node_pool, counts, p)
+    blocks::contains_point(outer, holes, lens, blocks, p)
 }
 
 // Whether a new corner is inside and not too close to a node; nothing is asked of a reused one.
@@ -117,6 +119,7 @@ pub fn corner_free<'a>(
     outer: &'a [f64],
     holes: &'a [f64],
     lens: &[usize],
+    blocks: &[u32],
     size: f64,
     xs: &[f64],
     ys: &[f64],
@@ -124,7 +127,7 @@ pub fn corner_free<'a>(
     counts: Counts,
     c: Corner,
 ) -> bool
-    requires { ⌜ NodesLent (outline (now outer) (now holes) (now lens)) size (now xs) (now ys) (now «node_pool») counts ⌝ }
+    requires { ⌜ NodesLent (outline (now outer) (now holes) (now lens)) (now blocks) size (now xs) (now ys) (now «node_pool») counts ⌝ }
     ensures { λ r. ⌜ r ≡ cornerFree (outline (now (outer .entry)) (now (holes .entry)) (now (lens .entry))) size
         (seenNodes (now (xs .entry)) (now (ys .entry)) counts) c ⌝ }
 {
@@ -132,7 +135,18 @@ pub fn corner_free<'a>(
         return true;
     };
     let p = Point { x, y };
-    node_ok(outer, holes, lens, size, xs, ys, node_pool, counts, p)
+    node_ok(
+        outer,
+        holes,
+        lens,
+        blocks,
+        size,
+        xs,
+        ys,
+        node_pool,
+        counts,
+        p,
+    )
 }
 
 // Whether two new corners are more than 0.45 × size apart.
@@ -295,6 +309,7 @@ pub fn quad_ok<'a>(
     outer: &'a [f64],
     holes: &'a [f64],
     lens: &[usize],
+    blocks: &[u32],
     size: f64,
     xs: &[f64],
     ys: &[f64],
@@ -307,7 +322,7 @@ pub fn quad_ok<'a>(
     c: Corner,
     d: Corner,
 ) -> bool
-    requires { ⌜ QuadLent (outline (now outer) (now holes) (now lens)) size (now xs) (now ys)
+    requires { ⌜ QuadLent (outline (now outer) (now holes) (now lens)) (now blocks) size (now xs) (now ys)
         (now edges) (now «node_pool») (now «edge_pool») counts ⌝ }
     ensures { λ r. ⌜ r ≡ quadOk (outline (now (outer .entry)) (now (holes .entry)) (now (lens .entry))) size
         (seenEdges (now (xs .entry)) (now (ys .entry)) (now (edges .entry)) counts) a b c d ⌝ }
@@ -316,7 +331,7 @@ pub fn quad_ok<'a>(
     if !geometry::convex_ccw(p) {
         return false;
     }
-    if !domain::contains_point(outer, holes, lens, geometry::centroid(p)) {
+    if !blocks::contains_point(outer, holes, lens, blocks, geometry::centroid(p)) {
         return false;
     }
     let id_c = c.id(counts.nodes);
@@ -327,11 +342,12 @@ pub fn quad_ok<'a>(
     edges_free(size, xs, ys, edges, edge_pool, counts, a, b, c, d)
 }
 
-// Every check of `attempt_quad`, in its order; the first that fails refuses the quad.
+// Every check of `attempt_quad`; the first that fails refuses the quad. Those that read no lists but the links come first.
 pub fn quad_fits<'a>(
     outer: &'a [f64],
     holes: &'a [f64],
     lens: &[usize],
+    blocks: &[u32],
     size: f64,
     xs: &[f64],
     ys: &[f64],
@@ -345,7 +361,7 @@ pub fn quad_fits<'a>(
     c: Corner,
     d: Corner,
 ) -> bool
-    requires { ⌜ QuadLent (outline (now outer) (now holes) (now lens)) size (now xs) (now ys)
+    requires { ⌜ QuadLent (outline (now outer) (now holes) (now lens)) (now blocks) size (now xs) (now ys)
         (now edges) (now «node_pool») (now «edge_pool») counts × (counts .nodes ≤ length (now next)) ⌝ }
     ensures { λ r. ⌜ r ≡ quadFits (outline (now (outer .entry)) (now (holes .entry)) (now (lens .entry))) size
         (seen (now (xs .entry)) (now (ys .entry)) (now (next .entry)) [] (now (edges .entry)) counts) a b c d ⌝ }
@@ -355,22 +371,45 @@ pub fn quad_fits<'a>(
     if id_c == id_d {
         return false;
     }
-    if !corner_free(outer, holes, lens, size, xs, ys, node_pool, counts, c) {
-        return false;
-    }
-    if !corner_free(outer, holes, lens, size, xs, ys, node_pool, counts, d) {
-        return false;
-    }
     if !corners_apart(size, c, d) {
         return false;
     }
     if link_at(next, counts.nodes, id_c) == id_d {
         return false;
     }
+    if !corner_free(
+        outer,
+        holes,
+        lens,
+        blocks,
+        size,
+        xs,
+        ys,
+        node_pool,
+        counts,
+        c,
+    ) {
+        return false;
+    }
+    if !corner_free(
+        outer,
+        holes,
+        lens,
+        blocks,
+        size,
+        xs,
+        ys,
+        node_pool,
+        counts,
+        d,
+    ) {
+        return false;
+    }
     quad_ok(
         outer,
         holes,
         lens,
+        blocks,
         size,
         xs,
         ys,
@@ -427,6 +466,7 @@ pub fn attempt_quad<'a>(
     outer: &'a [f64],
     holes: &'a [f64],
     lens: &[usize],
+    blocks: &[u32],
     size: f64,
     xs: &[f64],
     ys: &[f64],
@@ -441,7 +481,7 @@ pub fn attempt_quad<'a>(
     da: Point,
     db: Point,
 ) -> Attempt
-    requires { ⌜ AttemptLent (outline (now outer) (now holes) (now lens)) size (now xs) (now ys) (now next) (now prev)
+    requires { ⌜ AttemptLent (outline (now outer) (now holes) (now lens)) (now blocks) size (now xs) (now ys) (now next) (now prev)
         (now edges) (now «node_pool») (now «edge_pool») counts ⌝ }
     ensures { λ r. ⌜ r ≡ attemptQuad (outline (now (outer .entry)) (now (holes .entry)) (now (lens .entry))) size
         (seen (now (xs .entry)) (now (ys .entry)) (now (next .entry)) (now (prev .entry)) (now (edges .entry)) counts) a b da db ⌝ }
@@ -454,6 +494,7 @@ pub fn attempt_quad<'a>(
         outer,
         holes,
         lens,
+        blocks,
         size,
         xs,
         ys,
@@ -488,6 +529,7 @@ fn try_toward<'a>(
     outer: &'a [f64],
     holes: &'a [f64],
     lens: &[usize],
+    blocks: &[u32],
     size: f64,
     grid: Grid,
     values: &[f64],
@@ -503,7 +545,7 @@ fn try_toward<'a>(
     b: u32,
     normal: Point,
 ) -> Attempt
-    requires { ⌜ TryLent (outline (now outer) (now holes) (now lens)) grid (now values) size (now xs) (now ys) (now next) (now prev)
+    requires { ⌜ TryLent (outline (now outer) (now holes) (now lens)) (now blocks) grid (now values) size (now xs) (now ys) (now next) (now prev)
         (now edges) (now «node_pool») (now «edge_pool») counts ⌝ }
     ensures { λ r. ⌜ r ≡ tryToward (outline (now (outer .entry)) (now (holes .entry)) (now (lens .entry))) size
         (fieldRecord grid (now (values .entry)) [])
@@ -515,6 +557,7 @@ fn try_toward<'a>(
         outer,
         holes,
         lens,
+        blocks,
         size,
         xs,
         ys,
@@ -534,6 +577,7 @@ fn try_toward<'a>(
             outer,
             holes,
             lens,
+            blocks,
             size,
             xs,
             ys,
@@ -557,6 +601,7 @@ pub fn try_edge<'a>(
     outer: &'a [f64],
     holes: &'a [f64],
     lens: &[usize],
+    blocks: &[u32],
     size: f64,
     grid: Grid,
     values: &[f64],
@@ -571,7 +616,7 @@ pub fn try_edge<'a>(
     a: u32,
     b: u32,
 ) -> Attempt
-    requires { ⌜ TryLent (outline (now outer) (now holes) (now lens)) grid (now values) size (now xs) (now ys) (now next) (now prev)
+    requires { ⌜ TryLent (outline (now outer) (now holes) (now lens)) (now blocks) grid (now values) size (now xs) (now ys) (now next) (now prev)
         (now edges) (now «node_pool») (now «edge_pool») counts ⌝ }
     ensures { λ r. ⌜ r ≡ tryEdge (outline (now (outer .entry)) (now (holes .entry)) (now (lens .entry))) size
         (fieldRecord grid (now (values .entry)) [])
@@ -590,6 +635,7 @@ pub fn try_edge<'a>(
         outer,
         holes,
         lens,
+        blocks,
         size,
         grid,
         values,

@@ -1,12 +1,14 @@
 -- The field of an outline, a size and a number of sweeps, in the lists lent, with the refusals 1 to 9. Definitions only.
 use mathlib.Core.Bool.{cond}
 use mathlib.Core.List.{List}
+use mathlib.Core.Path.{_≡_}
 use Prim.Native.Nat.{ℕ, _/_, min}
 use lib.Dec.{ltb}
 use lib.ListN.{length}
 use lib.Ieee.{Float}
 use Rattle.domain.specs.Outline.{Outline, firstOf, outlineRefusal}
 use Rattle.domain.specs.Queries.{answerBy}
+use Rattle.blocks.specs.Blocks.{Drawn}
 use Rattle.crossfield.specs.declared.Grid.{Grid}
 use Rattle.crossfield.specs.declared.FieldAnswer.{FieldAnswer}
 use Rattle.crossfield.specs.declared.FieldAnswer.the-variants as answer-is
@@ -61,3 +63,8 @@ madeOf r = record { answer = answer-is.Made (r .grid); lists = r .lists }
 unfoldable pub fieldAnswer : Outline → Float → ℕ → FieldLists → FieldResult
 fieldAnswer o size n f =
     answerBy (λ r. record { answer = answer-is.Refused r; lists = f }) (madeOf (fieldOf o size n f)) (fieldRefusal o size n f)
+
+-- of the list of blocks, before and after: a refusal leaves it as it was, and where a field is made it has the outline's blocks
+abbrev pub FieldDraws : Outline → FieldAnswer → List ℕ → List ℕ → Type 0
+FieldDraws o (answer-is.Refused number) before after = after ≡ before
+FieldDraws o (answer-is.Made grid) before after = Drawn o after

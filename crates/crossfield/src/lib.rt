@@ -6,12 +6,14 @@ ghost use lib.ListN.{length};
 ghost use Rattle.numbers.specs.Float.{_⊘_};
 ghost use Rattle.numbers.specs.Whole.{floorQuotient, ceilCount};
 ghost use Rattle.domain.specs.Outline.{outline, misshapen, pointAt, anyFloat};
+ghost use Rattle.domain.specs.Queries.{nearestSegment};
+ghost use Rattle.blocks.specs.Blocks.{Drawn};
 ghost use Rattle.crossfield.specs.Grid.{noBounds, widened, loopBounds, bounds, gridCount, tooManyNodes, spacing, gridOf, sizeRefusal};
 ghost use Rattle.crossfield.specs.Grid.{boundsRefusal, sweepsRefusal, mostFieldNodes, gridNodes};
 ghost use Rattle.crossfield.specs.Seeds.{fieldLists, gridPoint, seed, isFixed, markOf, seedNode, seedRow, seeded};
 ghost use Rattle.crossfield.specs.Sweeps.{plusIf, oneIf, neighbourSum, neighbourCount, normalised, average, swept, change, relaxed};
 ghost use Rattle.crossfield.specs.Sweeps.{sweepNode, sweepRow, sweep, sweeps};
-ghost use Rattle.crossfield.specs.Field.{fieldRecord, placesRefusal, refusalFor, fieldResult, fieldAnswer};
+ghost use Rattle.crossfield.specs.Field.{fieldRecord, placesRefusal, refusalFor, fieldResult, fieldAnswer, FieldDraws};
 ghost use Rattle.crossfield.specs.Direction.{within, valueUnsound, countsSound, gridSound, recordRefusal, cellOf, weighed, rawAt};
 ghost use Rattle.crossfield.specs.Direction.{scaled, half, directionOf, dot, closerOf, nearestOf, directionAt, directionRefusal};
 ghost use Rattle.crossfield.specs.Direction.{directionAnswer};
@@ -240,14 +242,15 @@ fn is_fixed<'a>(
     outer: &'a [f64],
     holes: &'a [f64],
     lens: &[usize],
+    blocks: &[u32],
     h: f64,
     p: Point,
     found: Near,
 ) -> bool
-    requires { ⌜ misshapen (outline (now outer) (now holes) (now lens)) ≡ false ⌝ }
+    requires { ⌜ Drawn (outline (now outer) (now holes) (now lens)) (now blocks) ⌝ }
     ensures { λ r. ⌜ r ≡ isFixed (outline (now (outer .entry)) (now (holes .entry)) (now (lens .entry))) h p found ⌝ }
 {
-    if domain::contains_point(outer, holes, lens, p) {
+    if blocks::contains_point(outer, holes, lens, blocks, p) {
         found.distance <= Settings::BAND * h
     } else {
         false
@@ -260,47 +263,52 @@ fn mark_of(fixed: bool) -> u8
     if fixed { 1 } else { 0 }
 }
 
-// Node (i, j), whose number is id: one search serves its value and its mark.
+// Node (i, j), whose number is id: one search serves its value and its mark. The answer is the nearest segment, which is a guess of the next node's.
 fn seed_node<'a>(
     outer: &'a [f64],
     holes: &'a [f64],
     lens: &[usize],
+    blocks: &[u32],
     g: Grid,
     values: &mut [f64],
     marks: &mut [u8],
     j: usize,
     i: usize,
     id: usize,
-)
-    requires { ⌜ misshapen (outline (now outer) (now holes) (now lens)) ≡ false ⌝ }
+    guess: Near,
+) -> Near
+    requires { ⌜ Drawn (outline (now outer) (now holes) (now lens)) (now blocks) ⌝ }
     requires { ⌜ Node (g .nx) (g .ny) j i id (length (now values)) ⌝ }
     requires { ⌜ Counts (g .nx) (g .ny) id (length (now marks)) ⌝ }
     ensures { λ r. ⌜ fieldLists (now (values .exit)) (now (marks .exit))
         ≡ seedNode (outline (now (outer .entry)) (now (holes .entry)) (now (lens .entry))) g j i
         (fieldLists (now (values .entry)) (now (marks .entry))) ⌝ }
+    ensures { λ r. ⌜ r ≡ nearestSegment (outline (now (outer .entry)) (now (holes .entry)) (now (lens .entry))) (gridPoint g i j) ⌝ }
 {
     let p = grid_point(g, i, j);
-    let found = domain::nearest_segment(outer, holes, lens, p);
+    let found = nearest::nearest_segment(outer, holes, lens, blocks, p, guess);
     let v = seed(geometry::tangent(found.a, found.b));
-    let mark = mark_of(is_fixed(outer, holes, lens, g.h, p, found));
+    let mark = mark_of(is_fixed(outer, holes, lens, blocks, g.h, p, found));
     let k = 2 * id;
     values[k] = v.x;
     values[k + 1] = v.y;
     marks[id] = mark;
+    found
 }
 
-// Row j, whose first node's number is base.
+// Row j, whose first node's number is base. The first node's guess is the outer loop's first segment, for want of a better.
 fn seed_row<'a>(
     outer: &'a [f64],
     holes: &'a [f64],
     lens: &[usize],
+    blocks: &[u32],
     g: Grid,
     values: &mut [f64],
     marks: &mut [u8],
     j: usize,
     base: usize,
 )
-    requires { ⌜ misshapen (outline (now outer) (now holes) (now lens)) ≡ false ⌝ }
+    requires { ⌜ Drawn (outline (now outer) (now holes) (now lens)) (now blocks) ⌝ }
     requires { ⌜ Row (g .nx) (g .ny) j base (length (now values)) ⌝ }
     requires { ⌜ RowMarks (g .nx) (g .ny) base (length (now marks)) ⌝ }
     ensures { λ r. ⌜ fieldLists (now (values .exit)) (now (marks .exit))
@@ -308,9 +316,26 @@ fn seed_row<'a>(
         (fieldLists (now (values .entry)) (now (marks .entry))) ⌝ }
 {
     let nx = g.nx;
+    let mut near = Near {
+        a: domain::point_at(outer, 0),
+        b: domain::point_at(outer, 1),
+        distance: 0.0,
+    };
     let mut i = 0;
     while i < nx {
-        seed_node(outer, holes, lens, g, values, marks, j, i, base + i);
+        near = seed_node(
+            outer,
+            holes,
+            lens,
+            blocks,
+            g,
+            values,
+            marks,
+            j,
+            i,
+            base + i,
+            near,
+        );
         i += 1;
     }
 }
@@ -320,11 +345,12 @@ fn seed_all<'a>(
     outer: &'a [f64],
     holes: &'a [f64],
     lens: &[usize],
+    blocks: &[u32],
     g: Grid,
     values: &mut [f64],
     marks: &mut [u8],
 )
-    requires { ⌜ misshapen (outline (now outer) (now holes) (now lens)) ≡ false ⌝ }
+    requires { ⌜ Drawn (outline (now outer) (now holes) (now lens)) (now blocks) ⌝ }
     requires { ⌜ Room (g .nx) (g .ny) (length (now values)) (length (now marks)) ⌝ }
     requires { ⌜ (g .nx ≤ mostFieldNodes) × (g .ny ≤ mostFieldNodes) ⌝ }
     ensures { λ r. ⌜ fieldLists (now (values .exit)) (now (marks .exit))
@@ -336,7 +362,7 @@ fn seed_all<'a>(
     let mut base = 0;
     let mut j = 0;
     while j < ny {
-        seed_row(outer, holes, lens, g, values, marks, j, base);
+        seed_row(outer, holes, lens, blocks, g, values, marks, j, base);
         base += nx;
         j += 1;
     }
@@ -599,7 +625,7 @@ pub fn lesser(a: usize, b: usize) -> usize
     if a < b { a } else { b }
 }
 
-// The field of an outline, in the lists lent; on a refusal nothing is written.
+// The field of an outline, in the lists lent; on a refusal nothing is written. The list of blocks may have any length, and has the outline's blocks after.
 pub fn field<'a>(
     outer: &'a [f64],
     holes: &'a [f64],
@@ -608,10 +634,12 @@ pub fn field<'a>(
     limit: usize,
     values: &mut [f64],
     marks: &mut [u8],
+    blocks: &mut [u32],
 ) -> FieldAnswer
     ensures { λ r. ⌜ fieldResult r (now (values .exit)) (now (marks .exit))
         ≡ fieldAnswer (outline (now (outer .entry)) (now (holes .entry)) (now (lens .entry))) size limit
         (fieldLists (now (values .entry)) (now (marks .entry))) ⌝ }
+    ensures { λ r. ⌜ FieldDraws (outline (now (outer .entry)) (now (holes .entry)) (now (lens .entry))) r (now (blocks .entry)) (now (blocks .exit)) ⌝ }
 {
     let places = lesser(values.len() / 2, marks.len());
     let refusal = field_refusal(outer, holes, lens, size, limit, places);
@@ -619,7 +647,8 @@ pub fn field<'a>(
         return FieldAnswer::Refused(refusal);
     }
     let g = grid_of(bounds_of(outer, holes, lens), size);
-    seed_all(outer, holes, lens, g, values, marks);
+    blocks::file(outer, holes, lens, blocks);
+    seed_all(outer, holes, lens, blocks, g, values, marks);
     sweeps(limit, g, marks, values);
     FieldAnswer::Made(g)
 }

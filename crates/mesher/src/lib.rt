@@ -6,7 +6,7 @@ ghost use Rattle.domain.specs.Queries.{containsAnswer, nearestAnswer, distanceA
 ghost use Rattle.crossfield.specs.Seeds.{fieldLists};
 ghost use Rattle.crossfield.specs.Field.{fieldRecord, fieldAnswer};
 ghost use Rattle.crossfield.specs.Direction.{directionAnswer};
-ghost use Rattle.run.specs.Run.{settings, lent, Spares};
+ghost use Rattle.run.specs.Run.{settings, lent, scratch, Spares};
 ghost use Rattle.mesher.specs.Answers.{containsNumbers, nearestNumbers, distanceNumbers, gridLent, fieldExit, fieldNumbers, directionNumbers};
 ghost use Rattle.mesher.specs.Answers.{isWhole, paveNumbers, HostPaves};
 use crossfield::Direction;
@@ -157,7 +157,8 @@ pub extern "C" fn sitjorbe_distance_to_boundary<'a>(
     }
 }
 
-// The field of the outline, in the lists lent: two floats and a mark a node. Nothing is written on a refusal.
+// The field of the outline, in the lists lent: two floats and a mark a node. Nothing is written on a refusal. The list of blocks is scratch of any
+// length, which searches go by as far as it has room; the answer doesn't depend on it.
 #[no_mangle]
 pub extern "C" fn sitjorbe_field<'a>(
     outer: &'a [f64],
@@ -167,10 +168,14 @@ pub extern "C" fn sitjorbe_field<'a>(
     sweeps: usize,
     values: &mut [f64],
     marks: &mut [u8],
+    blocks: &mut [u32],
 ) -> FieldRecordAnswer
-    ensures { λ r. ⌜ fieldExit r (now (values .exit)) (now (marks .exit)) ≡ fieldNumbers (fieldAnswer (outline (now (outer .entry)) (now (holes .entry)) (now (lens .entry))) size sweeps (fieldLists (now (values .entry)) (now (marks .entry)))) ⌝ }
+    ensures { λ r. ⌜ fieldExit r (now (values .exit)) (now (marks .exit))
+        ≡ fieldNumbers (fieldAnswer (outline (now (outer .entry)) (now (holes .entry)) (now (lens .entry))) size sweeps
+        (fieldLists (now (values .entry)) (now (marks .entry))))
+        × Spares (r .refusal) (now (blocks .entry)) (now (blocks .exit)) ⌝ }
 {
-    let answer = crossfield::field(outer, holes, lens, size, sweeps, values, marks);
+    let answer = crossfield::field(outer, holes, lens, size, sweeps, values, marks, blocks);
     match answer {
         FieldAnswer::Refused(refusal) => FieldRecordAnswer {
             refusal,
@@ -206,7 +211,9 @@ pub extern "C" fn sitjorbe_direction(
     tx: f64,
     ty: f64,
 ) -> DirectionAnswer
-    ensures { λ r. ⌜ r ≡ directionNumbers (directionAnswer (fieldRecord (gridLent xmin ymin h nx ny) (now (values .entry)) (now (marks .entry))) (point x y) (point tx ty)) ⌝ }
+    ensures { λ r. ⌜ r
+        ≡ directionNumbers (directionAnswer (fieldRecord (gridLent xmin ymin h nx ny) (now (values .entry)) (now (marks .entry))) (point x y)
+        (point tx ty)) ⌝ }
 {
     let grid = Grid {
         xmin,
@@ -268,8 +275,8 @@ fn pave_numbers(paved: Paved) -> PaveAnswer
     }
 }
 
-// The run whole, from the field to the loops of the front, in the lists lent. Nothing is written on a refusal. The pools are scratch of any length,
-// which searches go by as long as they have room; the answer doesn't depend on them.
+// The run whole, from the field to the loops of the front, in the lists lent. Nothing is written on a refusal. The pools and the list of blocks are
+// scratch of any length, which searches go by as far as they have room; the answer doesn't depend on them.
 #[no_mangle]
 pub extern "C" fn sitjorbe_pave<'a>(
     outer: &'a [f64],
@@ -291,6 +298,7 @@ pub extern "C" fn sitjorbe_pave<'a>(
     lengths: &mut [u32],
     node_pool: &mut [u32],
     edge_pool: &mut [u32],
+    blocks: &mut [u32],
 ) -> PaveAnswer
     ensures { λ r. ⌜ HostPaves (outline (now (outer .entry)) (now (holes .entry)) (now (lens .entry))) (settings size sweeps passes)
         (lent (now (values .entry)) (now (marks .entry)) (now (xs .entry)) (now (ys .entry)) (now (next .entry)) (now (prev .entry))
@@ -298,7 +306,8 @@ pub extern "C" fn sitjorbe_pave<'a>(
         r
         (lent (now (values .exit)) (now (marks .exit)) (now (xs .exit)) (now (ys .exit)) (now (next .exit)) (now (prev .exit)) (now (snapshot .exit))
         (now (quads .exit)) (now (edges .exit)) (now (loops .exit)) (now (lengths .exit)))
-        × (Spares (r .refusal) (now («node_pool» .entry)) (now («node_pool» .exit)) × Spares (r .refusal) (now («edge_pool» .entry)) (now («edge_pool» .exit))) ⌝ }
+        × Spares (r .refusal) (scratch (now («node_pool» .entry)) (now («edge_pool» .entry)) (now (blocks .entry)))
+        (scratch (now («node_pool» .exit)) (now («edge_pool» .exit)) (now (blocks .exit))) ⌝ }
 {
     let paved = run::pave(
         outer,
@@ -320,6 +329,7 @@ pub extern "C" fn sitjorbe_pave<'a>(
         lengths,
         node_pool,
         edge_pool,
+        blocks,
     );
     pave_numbers(paved)
 }

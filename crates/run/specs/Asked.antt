@@ -1,11 +1,12 @@
 -- What the stages of a run ask. Definitions only.
 use mathlib.Core.List.{List}
 use mathlib.Core.Path.{_≡_}
-use Prim.Native.Nat.{_≤_}
+use Prim.Native.Nat.{ℕ, _≤_}
 use lib.ListN.{length}
 use lib.Ieee.{Float}
 use Rattle.domain.specs.declared.Settings.{Settings}
-use Rattle.domain.specs.Outline.{Outline, outlineRefusal}
+use Rattle.domain.specs.Outline.{Outline}
+use Rattle.blocks.specs.Blocks.{Drawn}
 use Rattle.crossfield.specs.declared.Grid.{Grid}
 use Rattle.crossfield.specs.Places.{Lent}
 use Rattle.front.specs.State.{State}
@@ -13,9 +14,9 @@ use Rattle.front.specs.Sampling.{frontRefusal}
 use Rattle.paving.specs.Run.{runRefusal}
 use Rattle.run.specs.Run as run
 
--- of sampling and paving: neither the outline nor the places lent are refused, and the field is lent
-pub record CanPave (o : Outline) (size : Float) (g : Grid) (values : List Float) (lent : State) : Type 0 where
-  pub outline : outlineRefusal o ≡ 0
+-- of sampling and paving: neither the outline nor the places lent are refused, the outline's blocks are filed, and the field is lent
+pub record CanPave (o : Outline) (blocks : List ℕ) (size : Float) (g : Grid) (values : List Float) (lent : State) : Type 0 where
+  pub drawn : Drawn o blocks
   pub front : frontRefusal o size lent ≡ 0
   pub field : Lent g values
 

@@ -12,15 +12,16 @@ use Rattle.laws.specs.Loop.{run}
 use Rattle.numbers.specs.Float.{zeroF}
 use Rattle.domain.specs.declared.Settings.{Settings}
 use Rattle.domain.specs.Outline.{Outline, firstOf}
-use Rattle.domain.specs.Accepted.{OutlineFits, accepted, first-zero}
+use Rattle.domain.specs.Accepted.{OutlineFits, first-zero}
 use Rattle.domain.specs.RefusalLaws.{answer-refused}
+use Rattle.blocks.specs.Blocks.{Drawn}
 use Rattle.crossfield.specs.declared.Grid.{Grid}
 use Rattle.crossfield.specs.Grid.{bounds, gridOf, gridNodes}
 use Rattle.crossfield.specs.declared.FieldAnswer.{FieldAnswer}
 use Rattle.crossfield.specs.declared.FieldAnswer.the-variants as answer-is
 use Rattle.crossfield.specs.Seeds.{FieldLists}
 use Rattle.crossfield.specs.Field.{FieldRecord, fieldRecord, fieldPlaces, refusalFor, fieldRefusal, fieldOf}
-use Rattle.crossfield.specs.Field.{FieldResult, fieldResult, madeOf, fieldAnswer}
+use Rattle.crossfield.specs.Field.{FieldResult, fieldResult, madeOf, fieldAnswer, FieldDraws}
 use Rattle.crossfield.specs.FieldLaws.{unrefused, few-made, sides}
 use Rattle.crossfield.specs.Places as field-places
 use Rattle.crossfield.specs.Direction.{nearestDirection}
@@ -68,13 +69,18 @@ unfoldable pub gridIn : FieldAnswer → Grid
 gridIn (answer-is.Refused n) = record { xmin = zeroF; ymin = zeroF; h = zeroF; nx = 0; ny = 0 }
 gridIn (answer-is.Made g) = g
 
-pub field-made : (o : Outline) (size : Float) (n : ℕ) (f : FieldLists) → fieldRefusal o size n f ≡ 0
-    → (r : FieldAnswer) (values : List Float) (marks : List ℕ) → fieldResult r values marks ≡ fieldAnswer o size n f
-    → (g : Grid) → g ≡ gridIn r → fieldRecord g values marks ≡ fieldOf o size n f
-unfolding fieldAnswer fieldOf gridIn
-field-made o size n f none r values marks e g same =
-    let made : fieldResult r values marks ≡ madeOf (fieldOf o size n f) = rw none at e in
-    rw same (ap (λ (w : FieldResult). fieldRecord (gridIn (w .answer)) (w .lists .values) (w .lists .marks)) made)
+module _ (o : Outline) (size : Float) (n : ℕ) (f : FieldLists) (none : fieldRefusal o size n f ≡ 0) (r : FieldAnswer) (values : List Float)
+    (marks : List ℕ) (e : fieldResult r values marks ≡ fieldAnswer o size n f) where
+  made : fieldResult r values marks ≡ madeOf (fieldOf o size n f)
+  unfolding fieldAnswer
+  made = rw none at e
+
+  pub field-made : (g : Grid) → g ≡ gridIn r → fieldRecord g values marks ≡ fieldOf o size n f
+  unfolding fieldOf gridIn
+  field-made g same = rw same (ap (λ (w : FieldResult). fieldRecord (gridIn (w .answer)) (w .lists .values) (w .lists .marks)) made)
+
+  pub field-drawn : (before after : List ℕ) → FieldDraws o r before after → Drawn o after
+  field-drawn before after D = subst (λ (a : FieldAnswer). FieldDraws o a before after) (ap (λ (w : FieldResult). w .answer) made) D
 
 -- ---- what sampling and paving ask
 
@@ -105,27 +111,27 @@ module _ (o : Outline) (set : Settings) (l : Lent) (C : CanRun o set l) where
         room = halves (gridNodes (gridOf (bounds o) (set .size))) (length (l .values)) (length (l .marks)) (u .room);
       }
 
-  pub can-pave : OutlineFits o → T (fits binary64 (set .size)) → (g : Grid) (values : List Float) (marks : List ℕ)
+  pub can-pave : T (fits binary64 (set .size)) → (g : Grid) (values : List Float) (marks : List ℕ)
       → fieldRecord g values marks ≡ fieldOf o (set .size) (set .sweeps) (fieldPart l) → length values ≡ length (l .values)
-      → CanPave o (set .size) g values (statePart l)
+      → (blocks : List ℕ) → Drawn o blocks → CanPave o blocks (set .size) g values (statePart l)
   unfolding fieldOf
-  can-pave doubles held g values marks e long =
-      let L = lent-made doubles held in
+  can-pave held g values marks e long blocks D =
+      let L = lent-made (D .fits) held in
       let same : g ≡ gridOf (bounds o) (set .size) = ap (λ (r : FieldRecord). r .grid) e in
       record {
-        outline = unrefused o (set .size) (set .sweeps) (fieldPlaces (fieldPart l)) none-for .outline;
+        drawn = D;
         front = none-front;
         field = rw same (record { columns = L .columns; rows = L .rows; few = L .few; room = rw long (L .room) });
       }
 
-module _ (o : Outline) (size : Float) (g : Grid) (values : List Float) (s : State) (C : CanPave o size g values s) where
+module _ (o : Outline) (blocks : List ℕ) (size : Float) (g : Grid) (values : List Float) (s : State) (C : CanPave o blocks size g values s) where
   begins : Begun o (sampledCount o size) s (fromBoundary o size s) (boundaryLoops o size s)
-  begins = begun o size s (outline-three o (C .outline)) (C .front)
+  begins = begun o size s (outline-three o (C .drawn .taken)) (C .front)
 
-  pub paveable : Paveable o g values (fromBoundary o size s)
+  pub paveable : Paveable o blocks g values (fromBoundary o size s)
   paveable =
       record {
-        shape = accepted o (C .outline) .shape;
+        drawn = C .drawn;
         field = C .field;
         sampled = sampledCount o size;
         loops = boundaryLoops o size s;
@@ -133,8 +139,8 @@ module _ (o : Outline) (size : Float) (g : Grid) (values : List Float) (s : Stat
         known = begins .known;
       }
 
-  pub paveable-at : (t : State) → t ≡ fromBoundary o size s → Paveable o g values t
-  paveable-at t e = subst (Paveable o g values) (sym e) paveable
+  pub paveable-at : (t : State) → t ≡ fromBoundary o size s → Paveable o blocks g values t
+  paveable-at t e = subst (Paveable o blocks g values) (sym e) paveable
 
   -- ---- what the loops ask
 
@@ -147,9 +153,9 @@ module _ (o : Outline) (size : Float) (g : Grid) (values : List Float) (s : Stat
       t : State
       t = advance o size field passes (fromBoundary o size s) .state
 
-      L : Later o g values (fromBoundary o size s) t
+      L : Later o blocks g values (fromBoundary o size s) t
       L = let r = advance-reaches o size (fromBoundary o size s) field passes in
-          reached-later o g values size (fromBoundary o size s) t (r .quads) paveable (r .by)
+          reached-later o blocks g values size (fromBoundary o size s) t (r .quads) paveable (r .by)
 
       long : length (t .snapshot) ≡ length (s .snapshot)
       long = L .frame .snapshot .long ∙ ap length (begins .snapshot)

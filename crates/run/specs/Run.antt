@@ -55,6 +55,15 @@ lent values marks xs ys next prev snapshot quads edges loops lengths =
       lengths = lengths;
     }
 
+-- scratch, of which no answer is made: the pools, and the outline's blocks
+pub record Scratch : Type 0 where
+  pub node-pool : List ℕ
+  pub edge-pool : List ℕ
+  pub blocks : List ℕ
+
+abbrev pub scratch : List ℕ → List ℕ → List ℕ → Scratch
+scratch node-pool edge-pool blocks = record { node-pool = node-pool; edge-pool = edge-pool; blocks = blocks }
+
 -- the same lists with another snapshot
 abbrev pub withSnapshot : Lent → List ℕ → Lent
 withSnapshot l snapshot =
@@ -155,6 +164,6 @@ pub record Paves (o : Outline) (set : Settings) (before : Lent) (r : Paved) (aft
   -- the exact books of the outline, the size and the quads and coordinates answered hold: demand 3
   pub books : r .refusal ≡ 0 → BooksHold o (set .size) (answered r after)
 
--- of a pool, before and after: a refusal leaves it as it was, and what a run leaves in it is free
-abbrev pub Spares : ℕ → List ℕ → List ℕ → Type 0
+-- of scratch, before and after: a refusal leaves it as it was, and what a run leaves in it is free
+abbrev pub Spares : {A : Type 0} → ℕ → A → A → Type 0
 Spares refusal before after = (refusal ≡ 0 → ⊥) → after ≡ before

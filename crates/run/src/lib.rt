@@ -4,12 +4,13 @@ ghost use mathlib.Core.List.{[]};
 ghost use Prim.Native.Nat.{_≤_, min};
 ghost use lib.ListN.{length};
 ghost use Rattle.domain.specs.Outline.{outline, firstOf};
+ghost use Rattle.blocks.specs.Blocks.{Drawn};
 ghost use Rattle.crossfield.specs.Seeds.{fieldLists};
 ghost use Rattle.crossfield.specs.Field.{fieldRecord, refusalFor, fieldRefusal, fieldOf};
 ghost use Rattle.front.specs.State.{State, stateOf, nodePlaces, edgePlaces};
 ghost use Rattle.front.specs.Sampling.{frontRefusal, fromBoundary};
 ghost use Rattle.paving.specs.Advance.{paved, advance};
-ghost use Rattle.run.specs.Run.{settings, lent, ran, fewest, endNumber, refusedAnswer, pavedAnswer, unused, acceptedIn, Paves, Spares};
+ghost use Rattle.run.specs.Run.{settings, lent, scratch, ran, fewest, endNumber, refusedAnswer, pavedAnswer, unused, acceptedIn, Paves, Spares};
 ghost use Rattle.run.specs.Asked.{CanPave, CanRun};
 use advance::Advanced;
 use crossfield::FieldAnswer;
@@ -114,7 +115,7 @@ fn refusal<'a>(
 
 // ---- the stages
 
-// The field, where none of 1 to 9 refuses it.
+// The field, where none of 1 to 9 refuses it, and the outline's blocks.
 fn make_field<'a>(
     outer: &'a [f64],
     holes: &'a [f64],
@@ -123,13 +124,15 @@ fn make_field<'a>(
     sweeps: usize,
     values: &mut [f64],
     marks: &mut [u8],
+    blocks: &mut [u32],
 ) -> Grid
     requires { ⌜ fieldRefusal (outline (now outer) (now holes) (now lens)) size sweeps (fieldLists (now values) (now marks)) ≡ 0 ⌝ }
     ensures { λ r. ⌜ fieldRecord r (now (values .exit)) (now (marks .exit))
         ≡ fieldOf (outline (now (outer .entry)) (now (holes .entry)) (now (lens .entry))) size sweeps
-        (fieldLists (now (values .entry)) (now (marks .entry))) ⌝ }
+        (fieldLists (now (values .entry)) (now (marks .entry)))
+        × Drawn (outline (now (outer .entry)) (now (holes .entry)) (now (lens .entry))) (now (blocks .exit)) ⌝ }
 {
-    let made = crossfield::field(outer, holes, lens, size, sweeps, values, marks);
+    let made = crossfield::field(outer, holes, lens, size, sweeps, values, marks, blocks);
     match made {
         FieldAnswer::Refused(_) => Grid {
             xmin: 0.0,
@@ -147,6 +150,7 @@ fn sample_and_advance<'a>(
     outer: &'a [f64],
     holes: &'a [f64],
     lens: &[usize],
+    blocks: &[u32],
     size: f64,
     grid: Grid,
     values: &[f64],
@@ -161,7 +165,7 @@ fn sample_and_advance<'a>(
     edge_pool: &mut [u32],
     passes: usize,
 ) -> Advanced
-    requires { ⌜ CanPave (outline (now outer) (now holes) (now lens)) size grid (now values)
+    requires { ⌜ CanPave (outline (now outer) (now holes) (now lens)) (now blocks) size grid (now values)
         (stateOf (now xs) (now ys) (now next) (now prev) (now snapshot) (now quads) (now edges) unused) ⌝ }
     ensures { λ r. ⌜
         paved
@@ -177,6 +181,7 @@ fn sample_and_advance<'a>(
         outer,
         holes,
         lens,
+        blocks,
         size,
         grid,
         values,
@@ -215,6 +220,7 @@ fn pave_in<'a>(
     lengths: &mut [u32],
     node_pool: &mut [u32],
     edge_pool: &mut [u32],
+    blocks: &mut [u32],
 ) -> Paved
     requires { ⌜ CanRun (outline (now outer) (now holes) (now lens)) (settings size sweeps passes)
         (lent (now values) (now marks) (now xs) (now ys) (now next) (now prev) (now snapshot) (now quads) (now edges) (now loops) (now lengths)) ⌝ }
@@ -226,11 +232,12 @@ fn pave_in<'a>(
         (lent (now (values .entry)) (now (marks .entry)) (now (xs .entry)) (now (ys .entry)) (now (next .entry)) (now (prev .entry))
         (now (snapshot .entry)) (now (quads .entry)) (now (edges .entry)) (now (loops .entry)) (now (lengths .entry))) ⌝ }
 {
-    let grid = make_field(outer, holes, lens, size, sweeps, values, marks);
+    let grid = make_field(outer, holes, lens, size, sweeps, values, marks, blocks);
     let a = sample_and_advance(
         outer,
         holes,
         lens,
+        blocks,
         size,
         grid,
         values,
@@ -252,8 +259,8 @@ fn pave_in<'a>(
 // ---- the run
 
 // Paves an outline, in the lists that the caller lends; on a refusal nothing is written. Of the lists of nodes the shortest counts, those of
-// the loops among them: so the run gets no more of `snapshot` than they have places. The pools may have any length: searches go by them as long
-// as they have room. The answer doesn't depend on what they hold, and what a run leaves in them is free.
+// the loops among them: so the run gets no more of `snapshot` than they have places. The pools and the list of blocks are scratch of any length:
+// searches go by them as far as they have room. The answer doesn't depend on what they hold, and what a run leaves in them is free.
 pub fn pave<'a>(
     outer: &'a [f64],
     holes: &'a [f64],
@@ -274,6 +281,7 @@ pub fn pave<'a>(
     lengths: &mut [u32],
     node_pool: &mut [u32],
     edge_pool: &mut [u32],
+    blocks: &mut [u32],
 ) -> Paved
     ensures { λ r. ⌜ Paves (outline (now (outer .entry)) (now (holes .entry)) (now (lens .entry))) (settings size sweeps passes)
         (lent (now (values .entry)) (now (marks .entry)) (now (xs .entry)) (now (ys .entry)) (now (next .entry)) (now (prev .entry))
@@ -281,7 +289,8 @@ pub fn pave<'a>(
         r
         (lent (now (values .exit)) (now (marks .exit)) (now (xs .exit)) (now (ys .exit)) (now (next .exit)) (now (prev .exit)) (now (snapshot .exit))
         (now (quads .exit)) (now (edges .exit)) (now (loops .exit)) (now (lengths .exit)))
-        × (Spares (r .refusal) (now («node_pool» .entry)) (now («node_pool» .exit)) × Spares (r .refusal) (now («edge_pool» .entry)) (now («edge_pool» .exit))) ⌝ }
+        × Spares (r .refusal) (scratch (now («node_pool» .entry)) (now («edge_pool» .entry)) (now (blocks .entry)))
+        (scratch (now («node_pool» .exit)) (now («edge_pool» .exit)) (now (blocks .exit))) ⌝ }
 {
     let m = crossfield::lesser(
         snapshot.len(),
@@ -322,5 +331,6 @@ pub fn pave<'a>(
         lengths,
         node_pool,
         edge_pool,
+        blocks,
     )
 }

@@ -24,7 +24,14 @@ given s =
     (s .args .snapshot .now) (s .args .quads .now) (s .args .edges .now) (s .args .loops .now) (s .args .lengths .now)
 
 abbrev start-of : tie.After-lesser2 → tie.Start
-start-of c = c .before .before .before .before .before .before .before .before .before .before .before .before .before .before .before .before .before .before
+start-of c =
+    c .before .before .before .before .before .before .before .before .before .before .before .before .before .before .before .before .before .before .before
+
+-- the run, as it stands at the end
+abbrev paved : tie.After-slice-known28 → tie.After-pave-in
+paved c =
+    let at-slice-known21 = c .before .before .before .before .before .before .before .before .before .before .before .before .before .before in
+    at-slice-known21 .before .before .before .before .before .before .before .before .before .before .before .before .before .before
 
 places-are : (c : tie.After-lesser2) → c .lesser2 .result ≡ snapshotPlaces (given (start-of c))
 places-are c = c .lesser2 .ensures ∙ ap (min _) (c .before .lesser .ensures)
@@ -60,10 +67,9 @@ returns : tie.Need-returns
 returns c =
     let then1 = c .before in
     let at-refusal = then1 .before in
-    let at-slice-known6 = at-refusal .before .before .before .before .before .before .before .before .before .before .before .before in
-    let start = at-slice-known6 .before .before .before .before .before .before .before .before .before in (
+    let start = start-of (at-refusal .before .before .before) in (
       paves-refused (around start) (set start) (given start) _ (number-at at-refusal) (then1 .if1 .taken) _ (c .refused .ensures),
-      ((λ refused. refl), (λ refused. refl)),
+      (λ refused. refl),
     )
 
 slice-relend-prefix-pave-in : tie.Need-slice-relend-prefix-pave-in
@@ -76,12 +82,10 @@ slice-aggregate-pave-in c =
 
 pave-in-requires : tie.Need-pave-in-requires
 pave-in-requires c κs =
-    let at-pave-in-arg = c .before .before .before .before .before .before .before .before .before .before .before .before in
-    let else1 = at-pave-in-arg .before in
+    let else1 = c .before .before .before .before .before .before .before .before .before .before .before .before .before .before in
     let at-refusal = else1 .before in
     let at-lesser2 = at-refusal .before .before .before in
-    let at-slice-known3 = at-lesser2 .before .before .before .before .before .before .before .before .before .before .before .before in
-    let start = at-slice-known3 .before .before .before .before .before .before in
+    let start = start-of at-lesser2 in
     can-run (around start) (set start) (given start) _ (places-are at-lesser2) (sym (number-at at-refusal) ∙ else1 .if1 .left)
 
 same-length : tie.Need-same-length
@@ -103,7 +107,7 @@ same-length-6 : tie.Need-same-length-6
 same-length-6 c = search needs
 
 same-length-7 : tie.Need-same-length-7
-same-length-7 c = search needs
+same-length-7 c = omega (arith, paved c .pave-in .kept .1 .1 .1 .1 .1 .1 .1 .1 .1 .1 .1 .1 .0)
 
 same-length-8 : tie.Need-same-length-8
 same-length-8 c = search needs
@@ -123,24 +127,23 @@ same-length-12 c = search needs
 same-length-13 : tie.Need-same-length-13
 same-length-13 c = search needs
 
+same-length-14 : tie.Need-same-length-14
+same-length-14 c = search needs
+
 returns-2 : tie.Need-returns-2
 returns-2 c =
-    let at-slice-known20 = c .before .before .before .before .before .before .before .before .before .before .before .before in
-    let at-slice-known14 = at-slice-known20 .before .before .before .before .before .before .before .before .before .before .before .before in
-    let at-pave-in = at-slice-known14 .before .before in
-    let at-pave-in-arg2 = at-pave-in .before .before .before .before .before .before .before .before .before .before .before .before in
-    let else1 = at-pave-in-arg2 .before .before in
+    let at-pave-in = paved c in
+    let else1 = at-pave-in .before .before .before .before .before .before .before .before .before .before .before .before .before .before .before in
     let at-refusal = else1 .before in
     let at-lesser2 = at-refusal .before .before .before in
-    let at-slice-known3 = at-lesser2 .before .before .before .before .before .before .before .before .before .before .before .before in
-    let at-shared-slice-known2 = at-slice-known3 .before .before .before .before in
+    let at-shared-slice-known2 = at-lesser2 .before .before .before .before .before .before .before .before .before .before .before .before .before .before .before .before .before in
     let at-shared-slice-known = at-shared-slice-known2 .before in
     let start = at-shared-slice-known .before in
     let none = accepted-number _ _ _ _ _ (at-pave-in .pave-in .ensures) in (
       paves-accepted (around start) (set start) (given start) _ (places-are at-lesser2) (sym (number-at at-refusal) ∙ else1 .if1 .left)
           (record { outer = λ i h. at-shared-slice-known .shared-slice-known .given i; holes = λ i h. at-shared-slice-known2 .shared-slice-known2 .given i })
           _ _ (at-pave-in .pave-in .ensures),
-      ((λ refused. absurd (refused none)), (λ refused. absurd (refused none))),
+      (λ refused. absurd (refused none)),
     )
 
 pub pave-spec : {M : Type 1} → statement M
@@ -170,4 +173,5 @@ pave-spec =
     same-length-11
     same-length-12
     same-length-13
+    same-length-14
     returns-2)

@@ -21,142 +21,95 @@ given s =
     lent (s .args .values .now) (s .args .marks .now) (s .args .xs .now) (s .args .ys .now) (s .args .next .now) (s .args .prev .now)
     (s .args .snapshot .now) (s .args .quads .now) (s .args .edges .now) (s .args .loops .now) (s .args .lengths .now)
 
+-- the start and the stages, as they stand later
+abbrev start-of : tie.After-make-field-arg3 → tie.Start
+start-of c =
+    let at-slice-known4 = c .before .before .before .before .before .before .before .before .before .before .before .before .before in
+    at-slice-known4 .before .before .before .before .before .before .before
+
+abbrev made : tie.After-sample-and-advance-arg11 → tie.After-make-field
+made c = c .before .before .before .before .before .before .before .before .before .before .before .before .before .before .before .before .before
+
+abbrev advanced : tie.After-front-loops-arg4 → tie.After-sample-and-advance
+advanced c =
+    let at-snapshot = c .before .before .before .before .before .before .before .before .before .before .before .before .before in
+    at-snapshot .before .before .before .before .before .before .before .before .before
+
+abbrev listed : tie.After-answer → tie.After-front-loops
+listed c = c .before .before .before .before .before .before .before
+
 make-field-requires : tie.Need-make-field-requires
 make-field-requires c κs =
-    let at-slice-known3 = c .before .before .before .before .before .before .before .before .before .before .before .before in
-    let start = at-slice-known3 .before .before .before .before .before .before in
+    let start = start-of c in
     none-field (around start) (set start) (given start) (start .pre)
 
 sample-and-advance-requires : tie.Need-sample-and-advance-requires
 sample-and-advance-requires c κs =
-    let at-slice-known14 = c .before .before .before .before .before .before .before .before .before .before .before .before in
-    let at-make-field = at-slice-known14 .before .before in
-    let at-slice-known4 = at-make-field .before .before .before .before .before .before .before .before .before .before .before .before in
-    let at-shared-slice-known2 = at-slice-known4 .before .before .before .before .before in
-    let at-shared-slice-known = at-shared-slice-known2 .before in
-    let start = at-shared-slice-known .before in
-    can-pave (around start) (set start) (given start) (start .pre)
-    (record { outer = λ i h. at-shared-slice-known .shared-slice-known .given i; holes = λ i h. at-shared-slice-known2 .shared-slice-known2 .given i })
-    (subst T (sym (start .good .1 .1 .1 .0 .1)) tt) _ _ _ (at-make-field .make-field .ensures) (at-make-field .make-field .kept .1 .1 .1 .1 .1 .0)
+    let at-make-field = made c in
+    let start = start-of (at-make-field .before) in
+    can-pave (around start) (set start) (given start) (start .pre) (subst T (sym (start .good .1 .1 .1 .0 .1)) tt) _ _ _
+    (at-make-field .make-field .ensures .0) (at-make-field .make-field .kept .1 .1 .1 .1 .1 .0) _ (at-make-field .make-field .ensures .1)
 
 front-loops-requires : tie.Need-front-loops-requires
 front-loops-requires c κs =
-    let at-slice-known20 = c .before .before .before .before .before .before .before .before .before .before .before .before in
-    let at-sample-and-advance = at-slice-known20 .before .before .before .before .before .before .before .before .before .before in
-    let at-marks = at-sample-and-advance .before .before .before .before .before .before .before .before .before .before .before .before in
-    let at-make-field = at-marks .before .before .before in
-    let at-slice-known4 = at-make-field .before .before .before .before .before .before .before .before .before .before .before .before in
-    let at-shared-slice-known2 = at-slice-known4 .before .before .before .before .before in
-    let at-shared-slice-known = at-shared-slice-known2 .before in
-    let start = at-shared-slice-known .before in
-    can-list (around start) (start .args .size) _ _ (statePart (given start))
-    (can-pave (around start) (set start) (given start) (start .pre)
-    (record { outer = λ i h. at-shared-slice-known .shared-slice-known .given i; holes = λ i h. at-shared-slice-known2 .shared-slice-known2 .given i })
-    (subst T (sym (start .good .1 .1 .1 .0 .1)) tt) _ _ _ (at-make-field .make-field .ensures) (at-make-field .make-field .kept .1 .1 .1 .1 .1 .0))
+    let at-sample-and-advance = advanced c in
+    let start = start-of (made (at-sample-and-advance .before) .before) in
+    can-list (around start) _ (start .args .size) _ _ (statePart (given start))
+    (sample-and-advance-requires (at-sample-and-advance .before) (at-sample-and-advance .sample-and-advance .lifetimes))
     _ (start .args .passes) _ (at-sample-and-advance .sample-and-advance .ensures) _ _ (start .pre .loops) (start .pre .lengths)
 
 answer-requires : tie.Need-answer-requires
 answer-requires c κs = search needs
 
 same-length : tie.Need-same-length
-same-length c =
-    let at-slice-known24 = c .before .before .before .before .before .before .before .before .before .before .before .before in
-    let at-slice-known18 = at-slice-known24 .before .before .before .before .before .before .before .before .before .before .before .before in
-    let at-sample-and-advance-arg5 = at-slice-known18 .before .before .before .before .before .before .before .before .before .before .before .before in
-    let at-make-field = at-sample-and-advance-arg5 .before .before .before .before .before .before .before .before .before in
-    at-make-field .make-field .kept .1 .1 .1 .1 .1 .0
+same-length c = made (advanced (listed c .before) .before) .make-field .kept .1 .1 .1 .1 .1 .0
 
 same-length-2 : tie.Need-same-length-2
-same-length-2 c =
-    let at-slice-known24 = c .before .before .before .before .before .before .before .before .before .before .before .before in
-    let at-slice-known18 = at-slice-known24 .before .before .before .before .before .before .before .before .before .before .before .before in
-    let at-sample-and-advance-arg5 = at-slice-known18 .before .before .before .before .before .before .before .before .before .before .before .before in
-    let at-make-field = at-sample-and-advance-arg5 .before .before .before .before .before .before .before .before .before in
-    at-make-field .make-field .kept .1 .1 .1 .1 .1 .1 .0
+same-length-2 c = made (advanced (listed c .before) .before) .make-field .kept .1 .1 .1 .1 .1 .1 .0
 
 same-length-3 : tie.Need-same-length-3
-same-length-3 c =
-    let at-slice-known24 = c .before .before .before .before .before .before .before .before .before .before .before .before in
-    let at-slice-known18 = at-slice-known24 .before .before .before .before .before .before .before .before .before .before .before .before in
-    let at-sample-and-advance = at-slice-known18 .before .before .before .before .before .before in
-    at-sample-and-advance .sample-and-advance .kept .1 .1 .1 .1 .1 .1 .0
+same-length-3 c = advanced (listed c .before) .sample-and-advance .kept .1 .1 .1 .1 .1 .1 .1 .0
 
 same-length-4 : tie.Need-same-length-4
-same-length-4 c =
-    let at-slice-known24 = c .before .before .before .before .before .before .before .before .before .before .before .before in
-    let at-slice-known18 = at-slice-known24 .before .before .before .before .before .before .before .before .before .before .before .before in
-    let at-sample-and-advance = at-slice-known18 .before .before .before .before .before .before in
-    at-sample-and-advance .sample-and-advance .kept .1 .1 .1 .1 .1 .1 .1 .0
+same-length-4 c = advanced (listed c .before) .sample-and-advance .kept .1 .1 .1 .1 .1 .1 .1 .1 .0
 
 same-length-5 : tie.Need-same-length-5
-same-length-5 c =
-    let at-slice-known24 = c .before .before .before .before .before .before .before .before .before .before .before .before in
-    let at-slice-known18 = at-slice-known24 .before .before .before .before .before .before .before .before .before .before .before .before in
-    let at-sample-and-advance = at-slice-known18 .before .before .before .before .before .before in
-    at-sample-and-advance .sample-and-advance .kept .1 .1 .1 .1 .1 .1 .1 .1 .0
+same-length-5 c = advanced (listed c .before) .sample-and-advance .kept .1 .1 .1 .1 .1 .1 .1 .1 .1 .0
 
 same-length-6 : tie.Need-same-length-6
-same-length-6 c =
-    let at-slice-known24 = c .before .before .before .before .before .before .before .before .before .before .before .before in
-    let at-slice-known18 = at-slice-known24 .before .before .before .before .before .before .before .before .before .before .before .before in
-    let at-sample-and-advance = at-slice-known18 .before .before .before .before .before .before in
-    at-sample-and-advance .sample-and-advance .kept .1 .1 .1 .1 .1 .1 .1 .1 .1 .0
+same-length-6 c = advanced (listed c .before) .sample-and-advance .kept .1 .1 .1 .1 .1 .1 .1 .1 .1 .1 .0
 
 same-length-7 : tie.Need-same-length-7
-same-length-7 c =
-    let at-front-loops = c .before .before .before .before .before .before .before in
-    let at-quads = at-front-loops .before .before .before .before .before .before .before .before .before .before .before .before in
-    let at-sample-and-advance = at-quads .before .before .before .before .before .before .before .before .before .before .before in
-    at-front-loops .front-loops .kept .1 .1 .0 ∙ at-sample-and-advance .sample-and-advance .kept .1 .1 .1 .1 .1 .1 .1 .1 .1 .1 .0
+same-length-7 c = listed c .front-loops .kept .1 .1 .0 ∙ advanced (listed c .before) .sample-and-advance .kept .1 .1 .1 .1 .1 .1 .1 .1 .1 .1 .1 .0
 
 same-length-8 : tie.Need-same-length-8
-same-length-8 c =
-    let at-slice-known24 = c .before .before .before .before .before .before .before .before .before .before .before .before in
-    let at-slice-known18 = at-slice-known24 .before .before .before .before .before .before .before .before .before .before .before .before in
-    let at-sample-and-advance = at-slice-known18 .before .before .before .before .before .before in
-    at-sample-and-advance .sample-and-advance .kept .1 .1 .1 .1 .1 .1 .1 .1 .1 .1 .1 .0
+same-length-8 c = advanced (listed c .before) .sample-and-advance .kept .1 .1 .1 .1 .1 .1 .1 .1 .1 .1 .1 .1 .0
 
 same-length-9 : tie.Need-same-length-9
-same-length-9 c =
-    let at-slice-known24 = c .before .before .before .before .before .before .before .before .before .before .before .before in
-    let at-slice-known18 = at-slice-known24 .before .before .before .before .before .before .before .before .before .before .before .before in
-    let at-sample-and-advance = at-slice-known18 .before .before .before .before .before .before in
-    at-sample-and-advance .sample-and-advance .kept .1 .1 .1 .1 .1 .1 .1 .1 .1 .1 .1 .1 .0
+same-length-9 c = advanced (listed c .before) .sample-and-advance .kept .1 .1 .1 .1 .1 .1 .1 .1 .1 .1 .1 .1 .1 .0
 
 same-length-10 : tie.Need-same-length-10
-same-length-10 c =
-    let at-front-loops = c .before .before .before .before .before .before .before in
-    at-front-loops .front-loops .kept .1 .1 .1 .0
+same-length-10 c = listed c .front-loops .kept .1 .1 .1 .0
 
 same-length-11 : tie.Need-same-length-11
-same-length-11 c =
-    let at-front-loops = c .before .before .before .before .before .before .before in
-    at-front-loops .front-loops .kept .1 .1 .1 .1 .0
+same-length-11 c = listed c .front-loops .kept .1 .1 .1 .1 .0
 
 same-length-12 : tie.Need-same-length-12
-same-length-12 c =
-    let at-slice-known24 = c .before .before .before .before .before .before .before .before .before .before .before .before in
-    let at-slice-known18 = at-slice-known24 .before .before .before .before .before .before .before .before .before .before .before .before in
-    let at-sample-and-advance = at-slice-known18 .before .before .before .before .before .before in
-    at-sample-and-advance .sample-and-advance .kept .1 .1 .1 .1 .1 .1 .1 .1 .1 .1 .1 .1 .1 .0
+same-length-12 c = advanced (listed c .before) .sample-and-advance .kept .1 .1 .1 .1 .1 .1 .1 .1 .1 .1 .1 .1 .1 .1 .0
 
 same-length-13 : tie.Need-same-length-13
-same-length-13 c =
-    let at-slice-known24 = c .before .before .before .before .before .before .before .before .before .before .before .before in
-    let at-slice-known18 = at-slice-known24 .before .before .before .before .before .before .before .before .before .before .before .before in
-    let at-sample-and-advance = at-slice-known18 .before .before .before .before .before .before in
-    at-sample-and-advance .sample-and-advance .kept .1 .1 .1 .1 .1 .1 .1 .1 .1 .1 .1 .1 .1 .1 .0
+same-length-13 c = advanced (listed c .before) .sample-and-advance .kept .1 .1 .1 .1 .1 .1 .1 .1 .1 .1 .1 .1 .1 .1 .1 .0
+
+same-length-14 : tie.Need-same-length-14
+same-length-14 c = made (advanced (listed c .before) .before) .make-field .kept .1 .1 .1 .1 .1 .1 .1 .0
 
 returns : tie.Need-returns
 returns c =
-    let at-front-loops = c .before .before .before .before .before .before .before in
-    let at-quads = at-front-loops .before .before .before .before .before .before .before .before .before .before .before .before in
-    let at-sample-and-advance = at-quads .before .before .before .before .before .before .before .before .before .before .before in
-    let at-marks = at-sample-and-advance .before .before .before .before .before .before .before .before .before .before .before .before in
-    let at-make-field = at-marks .before .before .before in
-    let at-slice-known4 = at-make-field .before .before .before .before .before .before .before .before .before .before .before .before in
-    let start = at-slice-known4 .before .before .before .before .before .before .before in
-    run-whole (around start) (set start) (given start) _ _ _ (at-make-field .make-field .ensures) _
+    let at-front-loops = listed c in
+    let at-sample-and-advance = advanced (at-front-loops .before) in
+    let at-make-field = made (at-sample-and-advance .before) in
+    let start = start-of (at-make-field .before) in
+    run-whole (around start) (set start) (given start) _ _ _ (at-make-field .make-field .ensures .0) _
     (at-sample-and-advance .sample-and-advance .ensures) _ (at-front-loops .front-loops .ensures) _ (c .answer .ensures)
 
 pub pave-in-spec : {M : Type 1} → statement M
@@ -180,4 +133,5 @@ pave-in-spec =
     same-length-11
     same-length-12
     same-length-13
+    same-length-14
     returns)

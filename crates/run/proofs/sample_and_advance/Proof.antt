@@ -21,52 +21,49 @@ given s =
     stateOf (s .args .xs .now) (s .args .ys .now) (s .args .next .now) (s .args .prev .now) (s .args .snapshot .now) (s .args .quads .now)
     (s .args .edges .now) unused
 
+-- the start and the two calls, as they stand later
+abbrev start-of : tie.After-from-boundary-arg5 → tie.Start
+start-of c =
+    c .before .before .before .before .before .before .before .before .before .before .before .before .before .before .before .before .before .before .before
+
+abbrev laid : tie.After-advance-arg9 → tie.After-from-boundary
+laid c =
+    c .before .before .before .before .before .before .before .before .before .before .before .before .before .before .before .before .before .before .before
+
+abbrev advanced : tie.After-slice-known23 → tie.After-advance
+advanced c = c .before .before .before .before .before .before .before .before .before .before .before .before .before .before .before .before .before .before
+
 from-boundary-requires : tie.Need-from-boundary-requires
 from-boundary-requires c κs =
-    let at-slice-known2 = c .before .before .before .before .before .before .before .before .before .before .before .before in
-    let start = at-slice-known2 .before .before .before .before .before .before in
-    can-sample (around start) (start .args .size) (given start) (start .pre .outline) (start .pre .front)
+    let start = start-of c in
+    can-sample (around start) (start .args .size) (given start) (start .pre .drawn .taken) (start .pre .front)
 
 advance-requires : tie.Need-advance-requires
 advance-requires c κs =
-    let at-prev = c .before .before .before .before .before .before .before .before .before .before .before .before in
-    let at-from-boundary = at-prev .before .before .before .before .before .before .before in
-    let at-slice-known3 = at-from-boundary .before .before .before .before .before .before .before .before .before .before .before .before in
-    let start = at-slice-known3 .before .before .before .before .before .before .before in
-    paveable-at (around start) (start .args .size) _ _ (given start) (start .pre) _
+    let at-from-boundary = laid c in
+    let start = start-of (at-from-boundary .before) in
+    paveable-at (around start) _ (start .args .size) _ _ (given start) (start .pre) _
     (at-from-boundary .from-boundary .ensures (start .args .snapshot .now) (start .args .quads .now) unused (start .pre .front))
 
 same-length : tie.Need-same-length
 same-length c =
-    let at-slice-known17 = c .before .before .before .before .before .before .before .before .before .before .before .before in
-    let at-advance = at-slice-known17 .before .before .before .before .before .before in
-    let at-slice-known13 = at-advance .before .before .before .before .before .before .before .before .before .before .before .before in
-    let at-from-boundary = at-slice-known13 .before .before .before .before .before .before .before .before in
-    at-advance .advance .kept .1 .1 .1 .1 .1 .1 .0 ∙ at-from-boundary .from-boundary .kept .1 .1 .1 .1 .0
+    let at-advance = advanced c in
+    at-advance .advance .kept .1 .1 .1 .1 .1 .1 .1 .0 ∙ laid (at-advance .before) .from-boundary .kept .1 .1 .1 .1 .0
 
 same-length-2 : tie.Need-same-length-2
 same-length-2 c =
-    let at-slice-known17 = c .before .before .before .before .before .before .before .before .before .before .before .before in
-    let at-advance = at-slice-known17 .before .before .before .before .before .before in
-    let at-slice-known13 = at-advance .before .before .before .before .before .before .before .before .before .before .before .before in
-    let at-from-boundary = at-slice-known13 .before .before .before .before .before .before .before .before in
-    at-advance .advance .kept .1 .1 .1 .1 .1 .1 .1 .0 ∙ at-from-boundary .from-boundary .kept .1 .1 .1 .1 .1 .0
+    let at-advance = advanced c in
+    at-advance .advance .kept .1 .1 .1 .1 .1 .1 .1 .1 .0 ∙ laid (at-advance .before) .from-boundary .kept .1 .1 .1 .1 .1 .0
 
 same-length-3 : tie.Need-same-length-3
 same-length-3 c =
-    let at-slice-known17 = c .before .before .before .before .before .before .before .before .before .before .before .before in
-    let at-advance = at-slice-known17 .before .before .before .before .before .before in
-    let at-slice-known13 = at-advance .before .before .before .before .before .before .before .before .before .before .before .before in
-    let at-from-boundary = at-slice-known13 .before .before .before .before .before .before .before .before in
-    at-advance .advance .kept .1 .1 .1 .1 .1 .1 .1 .1 .0 ∙ at-from-boundary .from-boundary .kept .1 .1 .1 .1 .1 .1 .0
+    let at-advance = advanced c in
+    at-advance .advance .kept .1 .1 .1 .1 .1 .1 .1 .1 .1 .0 ∙ laid (at-advance .before) .from-boundary .kept .1 .1 .1 .1 .1 .1 .0
 
 same-length-4 : tie.Need-same-length-4
 same-length-4 c =
-    let at-slice-known17 = c .before .before .before .before .before .before .before .before .before .before .before .before in
-    let at-advance = at-slice-known17 .before .before .before .before .before .before in
-    let at-slice-known13 = at-advance .before .before .before .before .before .before .before .before .before .before .before .before in
-    let at-from-boundary = at-slice-known13 .before .before .before .before .before .before .before .before in
-    at-advance .advance .kept .1 .1 .1 .1 .1 .1 .1 .1 .1 .0 ∙ at-from-boundary .from-boundary .kept .1 .1 .1 .1 .1 .1 .1 .0
+    let at-advance = advanced c in
+    at-advance .advance .kept .1 .1 .1 .1 .1 .1 .1 .1 .1 .1 .0 ∙ laid (at-advance .before) .from-boundary .kept .1 .1 .1 .1 .1 .1 .1 .0
 
 same-length-5 : tie.Need-same-length-5
 same-length-5 c = search needs
@@ -76,11 +73,8 @@ same-length-6 c = search needs
 
 same-length-7 : tie.Need-same-length-7
 same-length-7 c =
-    let at-slice-known17 = c .before .before .before .before .before .before .before .before .before .before .before .before in
-    let at-advance = at-slice-known17 .before .before .before .before .before .before in
-    let at-slice-known13 = at-advance .before .before .before .before .before .before .before .before .before .before .before .before in
-    let at-from-boundary = at-slice-known13 .before .before .before .before .before .before .before .before in
-    at-advance .advance .kept .1 .1 .1 .1 .1 .1 .1 .1 .1 .1 .1 .1 .0 ∙ at-from-boundary .from-boundary .kept .1 .1 .1 .1 .1 .1 .1 .1 .0
+    let at-advance = advanced c in
+    at-advance .advance .kept .1 .1 .1 .1 .1 .1 .1 .1 .1 .1 .1 .1 .1 .0 ∙ laid (at-advance .before) .from-boundary .kept .1 .1 .1 .1 .1 .1 .1 .1 .0
 
 same-length-8 : tie.Need-same-length-8
 same-length-8 c = search needs
@@ -90,12 +84,9 @@ same-length-9 c = search needs
 
 returns : tie.Need-returns
 returns c =
-    let at-slice-known17 = c .before .before .before .before .before .before .before .before .before .before .before .before in
-    let at-advance = at-slice-known17 .before .before .before .before .before .before in
-    let at-slice-known13 = at-advance .before .before .before .before .before .before .before .before .before .before .before .before in
-    let at-from-boundary = at-slice-known13 .before .before .before .before .before .before .before .before in
-    let at-slice-known3 = at-from-boundary .before .before .before .before .before .before .before .before .before .before .before .before in
-    let start = at-slice-known3 .before .before .before .before .before .before .before in
+    let at-advance = advanced c in
+    let at-from-boundary = laid (at-advance .before) in
+    let start = start-of (at-from-boundary .before) in
     at-advance .advance .ensures
     ∙ ap (advance (around start) (start .args .size) (fieldRecord (start .args .grid) (start .args .values .now) []) (start .args .passes))
     (at-from-boundary .from-boundary .ensures (start .args .snapshot .now) (start .args .quads .now) unused (start .pre .front))

@@ -1,5 +1,5 @@
 //! Fields of a circle of 90 degrees, beside the patched reference in the same run: the time of seeds and marks, which is that
-//! of a field without sweeps, and what the sweeps add. Exits with 1 if any bit differs.
+//! of a field without sweeps, also where no list is lent for blocks, and what the sweeps add. Exits with 1 if any bit differs.
 //!
 //! Times are the processor's, so that waiting for it isn't counted; other work still shares its caches.
 
@@ -38,11 +38,12 @@ fn timed<T>(run: impl FnOnce() -> T) -> (f64, T) {
 struct Places {
     values: Vec<f64>,
     marks: Vec<u8>,
+    blocks: Vec<u32>,
 }
 
 impl Places {
     fn field(&mut self, outer: &[f64], size: f64, sweeps: usize) -> ffi::FieldRecordAnswer {
-        let Places { values, marks } = self;
+        let Places { values, marks, blocks } = self;
         let (to, to_len, bytes, bytes_len) = (values.as_mut_ptr(), values.len(), marks.as_mut_ptr(), marks.len());
         let (holes, lens): (&[f64], &[usize]) = (&[], &[]);
         // SAFETY: each pointer comes with the length of its slice.
@@ -60,6 +61,8 @@ impl Places {
                 to_len,
                 bytes,
                 bytes_len,
+                blocks.as_mut_ptr(),
+                blocks.len(),
             )
         }
     }
@@ -98,11 +101,14 @@ fn least(places: &mut Places, outer: &[f64], size: f64, sweeps: usize, rounds: u
 fn main() {
     let mut words = std::env::args().skip(1).map(|word| word.parse().expect("SWEEPS and ROUNDS are numbers"));
     let (sweeps, rounds) = (words.next().unwrap_or(400), words.next().unwrap_or(5));
-    let mut places = Places { values: vec![0.0; 2 * MOST_NODES], marks: vec![0; MOST_NODES] };
+    let mut places = Places { values: vec![0.0; 2 * MOST_NODES], marks: vec![0; MOST_NODES], blocks: vec![] };
     println!("milliseconds of processor time, the least of {rounds}: library, reference, ratio");
     for points in [120, 1_000] {
         let outer = circle(points);
         for size in [2.0, 1.0, 0.5] {
+            places.blocks = vec![];
+            let without = least(&mut places, &outer, size, 0, rounds);
+            places.blocks = vec![0; 2 * points];
             let seeds = least(&mut places, &outer, size, 0, rounds);
             let all = least(&mut places, &outer, size, sweeps, rounds);
             let record = places.field(&outer, size, 0);
@@ -111,6 +117,7 @@ fn main() {
             };
             println!("{points} points, size {size}, {} x {} nodes", record.nx, record.ny);
             line("seeds and marks", seeds.library, seeds.reference);
+            line("seeds and marks without blocks", without.library, without.reference);
             line(&format!("{sweeps} sweeps"), all.library - seeds.library, all.reference - seeds.reference);
             line("all", all.library, all.reference);
         }

@@ -107,13 +107,14 @@ impl Bench {
 
     /// With a tenth more places than the run uses, where 250,000 quads are enough.
     fn fitting(outer: Vec<f64>, settings: Settings, rounds: usize) -> Bench {
-        let most = Places { field_nodes: 250_000, nodes: 500_000, quads: 250_000, edges: 1_000_000 };
+        let points = outer.len() / 2;
+        let most = Places { field_nodes: 250_000, nodes: 500_000, quads: 250_000, edges: 1_000_000, points };
         let mut bench = Bench::new(outer, most, rounds);
         let drawn = Outline { outer: &bench.outer, holes: &[], hole_lengths: &[] };
         let Ok(mesh) = bench.memory.pave(&drawn, &settings) else { refused(settings) };
         let [nodes, quads, edges] =
             [mesh.node_count(), mesh.quad_count(), mesh.edge_count()].map(|count| count + count / 10);
-        Bench::new(bench.outer, Places { field_nodes: mesh.record().nodes(), nodes, quads, edges }, rounds)
+        Bench::new(bench.outer, Places { field_nodes: mesh.record().nodes(), nodes, quads, edges, points }, rounds)
     }
 
     fn lent(&self) -> terms::Lent {
@@ -144,11 +145,11 @@ impl Bench {
         (least, counts.0, counts.1)
     }
 
-    /// The least milliseconds of the library's runs without pools.
-    fn without_pools(&mut self, settings: Settings) -> f64 {
+    /// The least milliseconds of the library's runs without pools and blocks.
+    fn without_scratch(&mut self, settings: Settings) -> f64 {
         let drawn = Outline { outer: &self.outer, holes: &[], hole_lengths: &[] };
         let run = |memory: &mut Memory| {
-            let lists = Lists { node_pool: &mut [], edge_pool: &mut [], ..memory.lists() };
+            let lists = Lists { node_pool: &mut [], edge_pool: &mut [], blocks: &mut [], ..memory.lists() };
             timed(|| paved(&drawn, &settings, lists).is_ok()).0
         };
         (0..self.rounds).map(|_| run(&mut self.memory)).fold(f64::INFINITY, f64::min)
@@ -162,7 +163,7 @@ impl Bench {
         let mut least = Least::NONE;
         for _ in 0..self.rounds {
             let lists = self.memory.lists();
-            let (library, _) = timed(|| field(&drawn, size, sweeps, lists.values, lists.marks));
+            let (library, _) = timed(|| field(&drawn, size, sweeps, lists.values, lists.marks, lists.blocks));
             let (reference, _) = timed(|| Field::new(outline, size, sweeps as u64, nodes as u64));
             least.note(library, reference);
         }
@@ -178,22 +179,30 @@ fn paving(what: &str, outer: Vec<f64>, size: f64, sweeps: usize, rounds: usize) 
     let (none, ..) = bench.runs(Settings { passes: 0, ..few });
     let Least { library, reference } = some.beyond(none);
     let each = |time: f64| 1e3 * time / quads as f64;
-    let [node_pool, edge_pool] = bench.places.pools().map(|length| 4e-6 * length as f64);
-    println!("{what}, size {size}: {nodes} nodes, {quads} quads; pools of {node_pool:.2} and {edge_pool:.2} MB");
+    let megabytes = |length: usize| 4e-6 * length as f64;
+    let ([node_pool, edge_pool], blocks) = (bench.places.pools().map(megabytes), megabytes(bench.places.blocks()));
+    println!(
+        "{what}, size {size}: {nodes} nodes, {quads} quads; pools of {node_pool:.2} and {edge_pool:.2} MB, blocks of {blocks:.4} MB"
+    );
     bench.fields(size, sweeps).print(&format!("field, {sweeps} sweeps"));
     some.beyond(none).print("paving");
     if quads > 0 {
         println!("  microseconds a quad: {:.1}, {:.1}", each(library), each(reference));
     }
     if quads < 10_000 {
-        println!("  paving without pools: {:.1}", bench.without_pools(few) - none.library);
+        let without = |bench: &mut Bench, passes| bench.without_scratch(Settings { passes, ..few });
+        let (all, start) = (without(&mut bench, few.passes), without(&mut bench, 0));
+        println!("  paving without pools and blocks: {:.1}", all - start);
+        println!("  a whole run without pools and blocks, {} sweeps: {all:.1}, with them {:.1}", few.sweeps, some.library);
     }
 }
 
 /// Outlines sampled to many nodes, without sweeps and passes.
 fn sampling(rounds: usize) {
-    let places = Places { field_nodes: 250_000, nodes: 1_100_000, quads: 0, edges: 1_100_000 };
-    let mut bench = Bench::new(comb(10_400.0), places, rounds);
+    let outer = comb(10_400.0);
+    let points = outer.len() / 2;
+    let places = Places { field_nodes: 250_000, nodes: 1_100_000, quads: 0, edges: 1_100_000, points };
+    let mut bench = Bench::new(outer, places, rounds);
     for size in [0.08, 0.04, 0.02, 0.01] {
         let (all, nodes, _) = bench.runs(Settings { size, sweeps: 0, passes: 0 });
         println!("comb, size {size}: {nodes} nodes sampled");

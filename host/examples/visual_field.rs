@@ -21,8 +21,8 @@ const FIELD: Outline = Outline {
 
 const EXAM: Settings = Settings { size: 6.0, sweeps: 400, passes: 600 };
 
-/// A quad and three edges a node, so that only nodes can run out.
-const PLACES: Places = Places { field_nodes: 4_000, nodes: 1_000, quads: 1_000, edges: 3_000 };
+/// A quad and three edges a node, so that only nodes can run out; and the outline's points.
+const PLACES: Places = Places { field_nodes: 4_000, nodes: 1_000, quads: 1_000, edges: 3_000, points: 14 + 8 };
 
 const POINTS: [(&str, [f64; 2]); 5] = [
     ("where the eye looks", [0.0, 0.0]),

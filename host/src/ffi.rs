@@ -118,6 +118,8 @@ extern "C" {
         values_len: usize,
         marks: *mut u8,
         marks_len: usize,
+        blocks: *mut u32,
+        blocks_len: usize,
     ) -> FieldRecordAnswer;
 
     pub fn sitjorbe_direction(
@@ -172,5 +174,7 @@ extern "C" {
         node_pool_len: usize,
         edge_pool: *mut u32,
         edge_pool_len: usize,
+        blocks: *mut u32,
+        blocks_len: usize,
     ) -> PaveAnswer;
 }

@@ -36,11 +36,16 @@ impl FieldRecord {
 /// Node (i, j) of the grid has number `j * nx + i`. Its value is written to places `2 * n` and `2 * n + 1` of `values`, its
 /// mark to place `n` of `marks`: 1 if the outline fixes its value, else 0. Places past the nodes keep their contents.
 ///
+/// `blocks` is for the field's own use: it files the outline there, 16 segments to a block, so that a node looks only at those
+/// that can matter to it. Two numbers for each point of the outline are always enough, and any slice may be lent: segments
+/// whose block has no place are looked at one by one, which takes longer, and the field is the same. What is left in it means
+/// nothing.
+///
 /// # Errors
 ///
 /// [`Refusal::Lists`], [`Refusal::ShortLoop`], [`Refusal::NotFinite`] and [`Refusal::TooFar`] of the outline, then
 /// [`Refusal::NoSize`], [`Refusal::SizeOutOfRange`], [`Refusal::Flat`], [`Refusal::TooManySweeps`], and
-/// [`Refusal::FieldNeedsSpace`] if one of the two lists has too few places; 250,000 nodes are always enough. Nothing is
+/// [`Refusal::FieldNeedsSpace`] if `values` or `marks` has too few places; 250,000 nodes are always enough. Nothing is
 /// written then.
 pub fn field(
     outline: &Outline<'_>,
@@ -48,9 +53,10 @@ pub fn field(
     sweeps: usize,
     values: &mut [f64],
     marks: &mut [u8],
+    blocks: &mut [u32],
 ) -> Result<FieldRecord, Refusal> {
     let Outline { outer, holes, hole_lengths: lens } = outline;
-    // SAFETY: each pointer comes with the length of its slice, and the slices live until the call returns; the two that may
+    // SAFETY: each pointer comes with the length of its slice, and the slices live until the call returns; the three that may
     // be written are borrowed for that. The entry is proved to read and write nothing else.
     let answer = unsafe {
         ffi::sitjorbe_field(
@@ -66,6 +72,8 @@ pub fn field(
             values.len(),
             marks.as_mut_ptr(),
             marks.len(),
+            blocks.as_mut_ptr(),
+            blocks.len(),
         )
     };
     let ffi::FieldRecordAnswer { refusal, xmin, ymin, h, nx, ny } = answer;

@@ -21,9 +21,10 @@
 //! let nearest = nearest_segment(&outline, [7.0, 5.0])?;
 //! assert_eq!((nearest.a, nearest.b, nearest.distance), ([8.0, 0.0], [8.0, 8.0], 1.0));
 //!
-//! // The cross field for elements of size 2, after at most 400 sweeps: two floats and a mark a node, in memory lent for it.
-//! let (mut values, mut marks) = (vec![0.0; 2 * 200], vec![0; 200]);
-//! let record = field(&outline, 2.0, 400, &mut values, &mut marks)?;
+//! // The cross field for elements of size 2, after at most 400 sweeps: two floats and a mark a node, in memory lent for it,
+//! // and two numbers for each of the outline's eight points, which save it time.
+//! let (mut values, mut marks, mut blocks) = (vec![0.0; 2 * 200], vec![0; 200], vec![0; 2 * 8]);
+//! let record = field(&outline, 2.0, 400, &mut values, &mut marks, &mut blocks)?;
 //! assert_eq!((record.nx, record.ny, record.h), (11, 11, 1.0));
 //!
 //! // Of its four directions at a point, the one nearest to a target; near the left side they are along it and across it.
@@ -32,7 +33,7 @@
 //! assert_eq!(toward, [0.0, -1.0]);
 //!
 //! // The whole run, in memory that is kept for one run after the other: the outline paved with quads of size 1.
-//! let mut memory = Memory::new(Places { field_nodes: 1_600, nodes: 800, quads: 800, edges: 2_400 });
+//! let mut memory = Memory::new(Places { field_nodes: 1_600, nodes: 800, quads: 800, edges: 2_400, points: 8 });
 //! let mesh = memory.pave(&outline, &Settings { size: 1.0, sweeps: 400, passes: 600 })?;
 //! assert_eq!((mesh.node_count(), mesh.quad_count(), mesh.end()), (80, 44, End::Still));
 //! assert_eq!(mesh.quads().next(), Some([0, 1, 40, 31]));

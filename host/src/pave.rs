@@ -45,6 +45,32 @@ pub struct Lists<'a> {
     pub node_pool: &'a mut [u32],
     /// As `node_pool`, for edges.
     pub edge_pool: &'a mut [u32],
+    /// As `node_pool`, for the outline's segments, 16 to a block; [`crate::field`] says more.
+    pub blocks: &'a mut [u32],
+}
+
+impl<'a> Lists<'a> {
+    /// The lists by kind, each kind in the order of the fields: `values`, `xs`, `ys`; `marks`; `next` to `blocks`.
+    pub fn new(floats: [&'a mut [f64]; 3], marks: &'a mut [u8], numbers: [&'a mut [u32]; 10]) -> Lists<'a> {
+        let [values, xs, ys] = floats;
+        let [next, prev, snapshot, quads, edges, loops, lengths, node_pool, edge_pool, blocks] = numbers;
+        Lists {
+            values,
+            marks,
+            xs,
+            ys,
+            next,
+            prev,
+            snapshot,
+            quads,
+            edges,
+            loops,
+            lengths,
+            node_pool,
+            edge_pool,
+            blocks,
+        }
+    }
 }
 
 /// What `next` and `prev` hold for a node off the front.
@@ -190,7 +216,7 @@ impl<'a> Mesh<'a> {
 
 /// Paves an outline with quads, in the lists lent.
 ///
-/// Places past those that the mesh counts keep their contents, but in the pools.
+/// Places past those that the mesh counts keep their contents, but in the pools and the blocks.
 ///
 /// # Errors
 ///
@@ -261,6 +287,8 @@ pub fn pave_numbers(outline: &Outline<'_>, settings: &Settings, lists: &mut List
             lists.node_pool.len(),
             lists.edge_pool.as_mut_ptr(),
             lists.edge_pool.len(),
+            lists.blocks.as_mut_ptr(),
+            lists.blocks.len(),
         )
     }
 }
@@ -276,6 +304,9 @@ pub struct Places {
     pub quads: usize,
     /// The places for distinct edges.
     pub edges: usize,
+    /// The points that an outline has, those of its holes too. One with more is paved as well, but `blocks` doesn't hold all its segments
+    /// then: the others are looked at one by one for every node of the field and every quad that is tried. With 0 none is held.
+    pub points: usize,
 }
 
 impl Places {
@@ -284,58 +315,39 @@ impl Places {
     pub fn pools(&self) -> [usize; 2] {
         [4 * self.nodes, 16 * self.edges]
     }
+
+    /// A length of `blocks` that is always enough: 16 points take four numbers, and each loop, which has at least three points, four more.
+    pub fn blocks(&self) -> usize {
+        2 * self.points
+    }
 }
 
 /// The lists of a run, owned, for one run after the other.
 #[derive(Clone, Debug)]
 pub struct Memory {
-    values: Vec<f64>,
+    /// By kind, as [`Lists::new`] takes them.
+    floats: [Vec<f64>; 3],
     marks: Vec<u8>,
-    xs: Vec<f64>,
-    ys: Vec<f64>,
-    /// `next`, `prev`, `snapshot`, `loops` and `lengths`: a number a node in each.
-    by_node: [Vec<u32>; 5],
-    quads: Vec<u32>,
-    edges: Vec<u32>,
-    /// `node_pool` and `edge_pool`.
-    pools: [Vec<u32>; 2],
+    numbers: [Vec<u32>; 10],
 }
 
 impl Memory {
     /// Lists with so many places. Nothing is allocated later.
     pub fn new(places: Places) -> Memory {
-        let Places { field_nodes, nodes, quads, edges } = places;
+        let Places { field_nodes, nodes: n, quads, edges, .. } = places;
+        let [node_pool, edge_pool] = places.pools();
+        let numbers = [n, n, n, 4 * quads, 2 * edges, n, n, node_pool, edge_pool, places.blocks()];
         Memory {
-            values: vec![0.0; 2 * field_nodes],
+            floats: [2 * field_nodes, n, n].map(|length| vec![0.0; length]),
             marks: vec![0; field_nodes],
-            xs: vec![0.0; nodes],
-            ys: vec![0.0; nodes],
-            by_node: [(); 5].map(|()| vec![0; nodes]),
-            quads: vec![0; 4 * quads],
-            edges: vec![0; 2 * edges],
-            pools: places.pools().map(|length| vec![0; length]),
+            numbers: numbers.map(|length| vec![0; length]),
         }
     }
 
     /// The lists, to lend them.
     pub fn lists(&mut self) -> Lists<'_> {
-        let [next, prev, snapshot, loops, lengths] = &mut self.by_node;
-        let [node_pool, edge_pool] = &mut self.pools;
-        Lists {
-            values: &mut self.values,
-            marks: &mut self.marks,
-            xs: &mut self.xs,
-            ys: &mut self.ys,
-            next,
-            prev,
-            snapshot,
-            quads: &mut self.quads,
-            edges: &mut self.edges,
-            loops,
-            lengths,
-            node_pool,
-            edge_pool,
-        }
+        let Memory { floats, marks, numbers } = self;
+        Lists::new(floats.each_mut().map(Vec::as_mut_slice), marks, numbers.each_mut().map(Vec::as_mut_slice))
     }
 
     /// Paves an outline with quads. The mesh is read out of this memory, and lasts until the next run in it.

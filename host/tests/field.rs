@@ -2,7 +2,8 @@
 
 mod common;
 
-use common::{refused, Drawing, FieldPlaces, Guarded, Lent};
+use common::blocks::{listed, Block};
+use common::{bits, refused, Drawing, FieldPlaces, Guarded, Lent};
 use sitjorbe::{contains, direction, ffi, FieldRecord, Refusal};
 
 /// The field of a square of side 2 for size 1: nodes half a unit apart, from one column and row outside on.
@@ -12,7 +13,7 @@ const SQUARE: FieldRecord = FieldRecord { xmin: -0.5, ymin: -0.5, h: 0.5, nx: 7,
 fn a_square_has_level_and_upright_directions() {
     let square = Drawing::square(2.0);
     for sweeps in [0, 1, 400, 1_000] {
-        let mut places = FieldPlaces::new(98, 49);
+        let mut places = FieldPlaces::new(98, 49, 8);
         assert_eq!(places.field(&square.outline(), 1.0, sweeps), Ok(SQUARE));
         // Four times any side's angle is a whole number of turns.
         assert!(places.values.list().chunks(2).all(|value| value == [1.0, 0.0]));
@@ -26,7 +27,7 @@ fn a_square_has_level_and_upright_directions() {
 #[test]
 fn a_square_on_its_corner_has_diagonal_directions() {
     let diamond = Drawing::of_loops(&[vec![[2.0, 0.0], [0.0, 2.0], [-2.0, 0.0], [0.0, -2.0]]]);
-    let mut places = FieldPlaces::new(2 * 121, 121);
+    let mut places = FieldPlaces::new(2 * 121, 121, 8);
     let record = places.field(&diamond.outline(), 1.0, 400).unwrap();
     assert_eq!(record, FieldRecord { xmin: -2.5, ymin: -2.5, h: 0.5, nx: 11, ny: 11 });
     let toward = |target| direction(&record, places.values.list(), places.marks.list(), [0.3, -0.2], target).unwrap();
@@ -78,9 +79,9 @@ fn refused_fields() -> Vec<RefusedField> {
 fn refused_fields_write_nothing() {
     for (what, drawing, size, sweeps, values, marks, number) in refused_fields() {
         let lent = Lent::new(&drawing);
-        let mut places = FieldPlaces::new(values, marks);
+        let mut places = FieldPlaces::new(values, marks, 64);
         assert_eq!(places.field(&lent.outline(), size, sweeps), Err(Refusal::of_number(number).unwrap()), "{what}");
-        assert!(places.kept_past(0) && lent.kept(), "{what}: written");
+        assert!(places.kept() && lent.kept(), "{what}: written");
     }
 }
 
@@ -88,14 +89,15 @@ fn refused_fields_write_nothing() {
 fn a_refused_fields_numbers_are_zero() {
     for (what, drawing, size, sweeps, values, marks, number) in refused_fields() {
         let mut lent = Lent::new(&drawing);
-        let mut places = FieldPlaces::new(values, marks);
+        let mut places = FieldPlaces::new(values, marks, 64);
         let ((outer, outer_len), (holes, holes_len)) = (lent.outer.parts(), lent.holes.parts());
         let (lens, lens_len) = lent.hole_lengths.parts();
         let (to, bytes) = (places.values.list_mut().as_mut_ptr(), places.marks.list_mut().as_mut_ptr());
+        let blocks = places.blocks.list_mut().as_mut_ptr();
         // SAFETY: each pointer comes with its list's length.
         let answer = unsafe {
             ffi::sitjorbe_field(
-                outer, outer_len, holes, holes_len, lens, lens_len, size, sweeps, to, values, bytes, marks,
+                outer, outer_len, holes, holes_len, lens, lens_len, size, sweeps, to, values, bytes, marks, blocks, 64,
             )
         };
         let ffi::FieldRecordAnswer { refusal, xmin, ymin, h, nx, ny } = answer;
@@ -106,11 +108,11 @@ fn a_refused_fields_numbers_are_zero() {
 #[test]
 fn places_past_the_nodes_keep_their_contents() {
     let square = Drawing::square(2.0);
-    let mut exact = FieldPlaces::new(98, 49);
+    let mut exact = FieldPlaces::new(98, 49, 8);
     exact.field(&square.outline(), 1.0, 400).unwrap();
     for (values, marks) in [(98, 49), (99, 49), (100, 49), (98, 50), (300, 200), (99, 1_000)] {
         let lent = Lent::new(&square);
-        let mut places = FieldPlaces::new(values, marks);
+        let mut places = FieldPlaces::new(values, marks, 8);
         assert_eq!(places.field(&lent.outline(), 1.0, 400), Ok(SQUARE));
         assert!(places.kept_past(49) && lent.kept());
         assert_eq!(&places.values.list()[..98], exact.values.list());
@@ -118,11 +120,53 @@ fn places_past_the_nodes_keep_their_contents() {
     }
 }
 
+/// Loops of one block and of several; some points are level with nodes of the field.
+fn of_blocks() -> [Drawing; 3] {
+    let hole = |x: f64, y: f64| vec![[x, y], [x + 1.0, y + 2.0], [x + 2.0, y], [x + 1.0, y - 1.0]];
+    let outer = vec![[0.0, 0.0], [12.0, -1.0], [14.0, 5.0], [9.0, 9.5], [2.0, 8.0]];
+    let drawing = Drawing::of_loops(&[outer, hole(2.0, 3.0), hole(7.0, 2.0), hole(12.0, 4.0)]);
+    [drawing.cut(1), drawing.cut(4), drawing.cut(13)]
+}
+
+/// Lists without a block, with some of them, with all, and longer ones.
+#[test]
+fn a_field_does_not_depend_on_the_blocks() {
+    for drawing in of_blocks() {
+        let (needed, all) = (Block::needed(&drawing), Block::all(&drawing).len());
+        let mut found = vec![];
+        for length in [0, 3, 4, 7, 8, needed / 2, needed - 4, needed - 1, needed, 2 * drawing.points(), 1_000] {
+            let (lent, mut places) = (Lent::new(&drawing), FieldPlaces::new(2_000, 1_000, length));
+            let record = places.field(&lent.outline(), 1.0, 10).unwrap();
+            assert!(lent.kept() && places.kept_past(record.nodes()), "{length} numbers: written");
+            let [count, wrong] = listed(&drawing, places.blocks.list());
+            assert_eq!((count > 0, count == all, wrong), (length >= 4, length >= needed, 0), "{length} numbers");
+            found.push((format!("{record:?}"), bits(places.values.list()), bits(places.marks.list())));
+        }
+        assert!(found.iter().all(|field| *field == found[0]), "{} points", drawing.points());
+        let ones = found[0].2.iter().filter(|&&mark| mark == 1).count();
+        assert!(ones > 100 && found[0].2.contains(&0), "{ones} marks");
+    }
+}
+
+#[test]
+fn two_numbers_a_point_hold_every_block() {
+    let loops = |lengths: &[usize]| Drawing::of_loops(&lengths.iter().map(|&n| vec![[0.0; 2]; n]).collect::<Vec<_>>());
+    let mut lengths: Vec<Vec<usize>> = (3..100).map(|n| vec![n]).collect();
+    lengths.extend((1..40).flat_map(|count| [3, 4, 15, 16, 17, 33].map(|n| vec![n; count])));
+    lengths.extend((3..40).flat_map(|n| (3..40).map(move |m| vec![n, m, 3])));
+    for lengths in lengths {
+        let drawing = loops(&lengths);
+        let (points, needed, all) = (drawing.points(), Block::needed(&drawing), Block::all(&drawing));
+        assert!(needed <= 4 * (points / 16 + lengths.len()) && needed <= 2 * points, "{lengths:?}");
+        assert!(all.windows(2).all(|pair| pair[0].number < pair[1].number), "{lengths:?}");
+    }
+}
+
 #[test]
 fn the_bounds_themselves_are_accepted() {
     let small = Drawing::square(0.02);
     let large = Drawing::square(1e3);
-    let mut places = FieldPlaces::new(500_000, 250_000);
+    let mut places = FieldPlaces::new(500_000, 250_000, 8);
     assert_eq!(places.field(&small.outline(), 0.01, 1_000).map(|record| (record.nx, record.ny)), Ok((7, 7)));
     assert_eq!(places.field(&large.outline(), 100.0, 1_000).map(|record| (record.nx, record.ny)), Ok((23, 23)));
     let most = places.field(&large.outline(), 0.01, 0).unwrap();

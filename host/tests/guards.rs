@@ -2,7 +2,8 @@
 
 mod common;
 
-use common::{list_lengths, refused, said, used, Drawing, FieldPlaces, Lent, Raw, RunPlaces};
+use common::blocks::Block;
+use common::{by_kind, list_lengths, refused, said, used, Drawing, FieldPlaces, Lengths, Lent, Raw, RunPlaces};
 use sitjorbe::{direction, ffi, pave, Lists, Memory, Outline, Places, Refusal, Settings};
 
 /// Drawings and points that are accepted and refused.
@@ -55,29 +56,39 @@ fn lists_are_read_within_their_bounds() {
     }
 }
 
-/// The outline in read-only memory, and values and marks of just the field's length in memory of their own, each with
+/// Of several blocks: more points a loop.
+fn finer() -> Drawing {
+    queries()[0].0.cut(9)
+}
+
+/// The outline in read-only memory, and values, marks and blocks, of just the length that is needed, in memory of their own, each with
 /// memory beside it that can't be touched; then the direction, of the field in read-only memory.
 #[cfg(target_os = "linux")]
 #[test]
 fn a_field_is_written_and_read_within_its_lists() {
-    let (drawing, _) = queries().swap_remove(0);
-    let mut usual = FieldPlaces::new(2 * 2_500, 2_500);
+    let drawing = finer();
+    let mut usual = FieldPlaces::new(2 * 2_500, 2_500, 0);
     let record = usual.field(&drawing.outline(), 0.3, 400).unwrap();
     let nodes = record.nodes();
     let (values, marks) = (&usual.values.list()[..2 * nodes], &usual.marks.list()[..nodes]);
-    for side in [pages::Side::Start, pages::Side::End] {
+    for (side, numbers) in [pages::Side::Start, pages::Side::End].into_iter().flat_map(|side| {
+        let needed = Block::needed(&drawing);
+        [0, 3, 6, needed / 2, needed - 1, needed].map(|numbers| (side, numbers))
+    }) {
         let outline = [&drawing.outer, &drawing.holes].map(|list| pages::Pages::read_only(list, side));
         let [(outer, outer_len), (holes, holes_len)] = [outline[0].parts(), outline[1].parts()];
         let lengths = pages::Pages::read_only(&drawing.hole_lengths, side);
         let (lens, lens_len) = lengths.parts();
         let mut written = pages::Pages::writable(&vec![0.0; 2 * nodes], side);
         let mut marked = pages::Pages::writable(&vec![7; nodes], side);
-        let (to, bytes) = (written.list_mut(), marked.list_mut());
+        let mut filed = pages::Pages::writable(&vec![7; numbers], side);
+        let (to, bytes, blocks) = (written.list_mut(), marked.list_mut(), filed.list_mut().as_mut_ptr());
         let (to, to_len, bytes, bytes_len) = (to.as_mut_ptr(), to.len(), bytes.as_mut_ptr(), bytes.len());
         // SAFETY: each pointer comes with its list's length.
         let answer = unsafe {
             ffi::sitjorbe_field(
-                outer, outer_len, holes, holes_len, lens, lens_len, 0.3, 400, to, to_len, bytes, bytes_len,
+                outer, outer_len, holes, holes_len, lens, lens_len, 0.3, 400, to, to_len, bytes, bytes_len, blocks,
+                numbers,
             )
         };
         assert_eq!((answer.refusal, answer.nx, answer.ny), (0, record.nx, record.ny));
@@ -93,28 +104,29 @@ fn a_field_is_written_and_read_within_its_lists() {
 
 #[test]
 fn the_guards_of_a_run_show_a_write() {
-    let lengths = list_lengths(Places { field_nodes: 4, nodes: 5, quads: 6, edges: 7 });
+    let lengths = list_lengths(Places { field_nodes: 4, nodes: 5, quads: 6, edges: 7, points: 8 });
     let nothing = RunPlaces::new(lengths);
-    assert_eq!(nothing.written_past([0; 13]), [""; 0]);
+    assert_eq!(nothing.written_past([0; 14]), [""; 0]);
     let mut places = RunPlaces::new(lengths);
-    let Lists { values, marks, lengths: last, .. } = places.lists();
-    (values[7], marks[0], last[4]) = (1.0, 1, 1);
-    assert_eq!(places.written_past([0; 13]), ["values", "marks", "lengths"]);
-    assert_eq!(places.written_past([8, 0, 0, 0, 0, 0, 0, 0, 0, 0, 4, 0, 0]), ["marks", "lengths"]);
-    assert_eq!(places.written_past([7, 1, 0, 0, 0, 0, 0, 0, 0, 0, 5, 0, 0]), ["values"]);
+    let Lists { values, marks, lengths: last, blocks, .. } = places.lists();
+    (values[7], marks[0], last[4], blocks[15]) = (1.0, 1, 1, 1);
+    assert_eq!(places.written_past([0; 14]), ["values", "marks", "lengths", "blocks"]);
+    assert_eq!(places.written_past([8, 0, 0, 0, 0, 0, 0, 0, 0, 0, 4, 0, 0, 16]), ["marks", "lengths"]);
+    assert_eq!(places.written_past([7, 1, 0, 0, 0, 0, 0, 0, 0, 0, 5, 0, 0, 15]), ["values", "blocks"]);
 }
 
-/// The outline in read-only memory, and each of the thirteen lists of a run, just as long as the run needs, in memory of its own
+/// The outline in read-only memory, and each of the fourteen lists of a run, just as long as the run needs, in memory of its own
 /// between pages that can't be touched: a run that ends still, runs that are full where a list is shorter, and refused ones.
 #[cfg(target_os = "linux")]
 #[test]
 fn a_run_is_written_and_read_within_its_lists() {
-    let (drawing, _) = queries().swap_remove(0);
+    let drawing = finer();
     let settings = Settings { size: 0.5, sweeps: 400, passes: 600 };
-    let mut memory = Memory::new(Places { field_nodes: 1_600, nodes: 800, quads: 800, edges: 2_400 });
+    let mut memory = Memory::new(Places { field_nodes: 1_600, nodes: 800, quads: 800, edges: 2_400, points: 0 });
     let mesh = memory.pave(&drawing.outline(), &settings).unwrap();
     let (field_nodes, nodes) = (mesh.record().nodes(), mesh.node_count());
-    let enough = Places { field_nodes, nodes, quads: mesh.quad_count(), edges: mesh.edge_count() };
+    let points = Block::needed(&drawing) / 2;
+    let enough = Places { field_nodes, nodes, quads: mesh.quad_count(), edges: mesh.edge_count(), points };
     assert!(mesh.quad_count() > 10 && !mesh.is_whole(), "{mesh:?}");
 
     for (places, refusal) in [
@@ -122,6 +134,8 @@ fn a_run_is_written_and_read_within_its_lists() {
         (Places { nodes: nodes - 3, ..enough }, None),
         (Places { quads: enough.quads - 3, ..enough }, None),
         (Places { edges: enough.edges - 3, ..enough }, None),
+        (Places { points: points / 2, ..enough }, None),
+        (Places { points: 1, ..enough }, None),
         (Places { field_nodes: field_nodes - 1, ..enough }, Some(Refusal::FieldNeedsSpace)),
         (Places { nodes: 3, ..enough }, Some(Refusal::FrontNeedsSpace)),
         (Places { edges: 0, ..enough }, Some(Refusal::FrontNeedsSpace)),
@@ -145,26 +159,24 @@ fn a_run_is_written_and_read_within_its_lists() {
 struct RunPages {
     floats: [pages::Pages<f64>; 3],
     marks: pages::Pages<u8>,
-    numbers: [pages::Pages<u32>; 9],
+    numbers: [pages::Pages<u32>; 10],
 }
 
 #[cfg(target_os = "linux")]
 impl RunPages {
-    fn new(lengths: [usize; 13], side: pages::Side) -> RunPages {
-        let [values, marks, xs, ys, numbers @ ..] = lengths;
+    fn new(lengths: Lengths, side: pages::Side) -> RunPages {
+        let (floats, marks, numbers) = by_kind(lengths);
         RunPages {
-            floats: [values, xs, ys].map(|length| pages::Pages::writable(&vec![-7.5; length], side)),
+            floats: floats.map(|length| pages::Pages::writable(&vec![-7.5; length], side)),
             marks: pages::Pages::writable(&vec![7; marks], side),
             numbers: numbers.map(|length| pages::Pages::writable(&vec![7; length], side)),
         }
     }
 
     fn lists(&mut self) -> Lists<'_> {
-        let [values, xs, ys] = self.floats.each_mut().map(pages::Pages::list_mut);
-        let [next, prev, snapshot, quads, edges, loops, lengths, node_pool, edge_pool] =
-            self.numbers.each_mut().map(pages::Pages::list_mut);
-        let marks = self.marks.list_mut();
-        Lists { values, marks, xs, ys, next, prev, snapshot, quads, edges, loops, lengths, node_pool, edge_pool }
+        let RunPages { floats, marks, numbers } = self;
+        let numbers = numbers.each_mut().map(pages::Pages::list_mut);
+        Lists::new(floats.each_mut().map(pages::Pages::list_mut), marks.list_mut(), numbers)
     }
 }
 

@@ -4,17 +4,18 @@ mod common;
 
 use std::fmt::Write;
 
-use common::{list_lengths, refused, said, used, Drawing, Lent, RunPlaces, LISTS};
+use common::blocks::{listed, Block};
+use common::{list_lengths, refused, said, used, Drawing, Lengths, Lent, RunPlaces, LISTS};
 use sitjorbe::{contains, ffi, field, pave_numbers, End, Memory, Mesh, Places, Refusal, Settings};
 
-/// The places that document 01's program lends.
-const PROGRAM: Places = Places { field_nodes: 1_600, nodes: 800, quads: 800, edges: 2_400 };
+/// The places that document 01's program lends; a file has at most 248 points.
+const PROGRAM: Places = Places { field_nodes: 1_600, nodes: 800, quads: 800, edges: 2_400, points: 248 };
 
 /// Document 01's settings for its worked square.
 const USUAL: Settings = Settings { size: 1.0, sweeps: 400, passes: 600 };
 
 /// Just what the worked square needs.
-const SQUARE: Places = Places { field_nodes: 49, nodes: 9, quads: 4, edges: 12 };
+const SQUARE: Places = Places { field_nodes: 49, nodes: 9, quads: 4, edges: 12, points: 4 };
 
 /// A mesh as document 01 lists it.
 fn listing(mesh: &Mesh<'_>) -> String {
@@ -103,8 +104,8 @@ fn what_stays_open_is_listed() {
 #[test]
 fn a_runs_field_is_the_fields_own() {
     let (ring, mut memory) = (ring(), Memory::new(PROGRAM));
-    let (mut values, mut marks) = (vec![0.0; 3_200], vec![0; 1_600]);
-    let record = field(&ring.outline(), 1.0, 400, &mut values, &mut marks).unwrap();
+    let (mut values, mut marks, mut blocks) = (vec![0.0; 3_200], vec![0; 1_600], vec![0; 16]);
+    let record = field(&ring.outline(), 1.0, 400, &mut values, &mut marks, &mut blocks).unwrap();
     let mesh = memory.pave(&ring.outline(), &USUAL).unwrap();
     assert_eq!(mesh.record(), record);
     assert_eq!(mesh.field(), (&values[..2 * record.nodes()], &marks[..record.nodes()]));
@@ -129,7 +130,7 @@ fn a_run_ends_where_the_lists_are_full() {
     let square = Drawing::square(2.0);
     let mut memory = Memory::new(PROGRAM);
     let all: Vec<[u32; 4]> = memory.pave(&square.outline(), &USUAL).unwrap().quads().collect();
-    let ends = |lengths: [usize; 13], quads: usize, end: End, what: &str| {
+    let ends = |lengths: Lengths, quads: usize, end: End, what: &str| {
         let mut places = RunPlaces::new(lengths);
         let mesh = places.pave(&square.outline(), &USUAL).unwrap();
         assert_eq!((mesh.end(), mesh.quad_count()), (end, quads), "{what}");
@@ -208,12 +209,34 @@ fn a_mesh_does_not_depend_on_the_pools() {
     }
 }
 
+/// Lists without a block, with some of them, with all, and longer ones.
+#[test]
+fn a_mesh_does_not_depend_on_the_blocks() {
+    let drawing = ring().cut(12);
+    let (needed, all) = (Block::needed(&drawing), Block::all(&drawing).len());
+    let mut memory = Memory::new(Places { points: 0, ..PROGRAM });
+    let mesh = memory.pave(&drawing.outline(), &USUAL).unwrap();
+    assert!(mesh.quad_count() > 20, "{} quads are few", mesh.quad_count());
+    let expected = said(&mesh);
+    for length in [0, 3, 4, 7, 8, needed / 2, needed - 4, needed - 1, needed, 2 * drawing.points(), 1_000] {
+        let mut lengths = list_lengths(PROGRAM);
+        lengths[13] = length;
+        let mut places = RunPlaces::new(lengths);
+        let mesh = places.pave(&drawing.outline(), &USUAL).unwrap();
+        assert_eq!(said(&mesh), expected, "{length} numbers");
+        let used = used(&mesh);
+        assert_eq!(places.written_past(used), [""; 0], "{length} numbers");
+        let [count, wrong] = listed(&drawing, places.blocks());
+        assert_eq!((count > 0, count == all, wrong), (length >= 4, length >= needed, 0), "{length} numbers");
+    }
+}
+
 /// What is asked of a run.
 #[derive(Clone)]
 struct Asked {
     drawing: Drawing,
     settings: Settings,
-    lengths: [usize; 13],
+    lengths: Lengths,
 }
 
 /// A run of the ring that is refused for nothing.
@@ -238,7 +261,7 @@ impl Asked {
         assert_eq!((end, whole, [xmin, ymin, h].map(f64::to_bits), nodes), (0, false, [0; 3], 0), "{what}");
         assert_eq!([nx, ny, quads, edges, front, loops, ids], [0; 7], "{what}");
         assert!(lent.kept(), "{what}: the outline is written");
-        assert_eq!(places.written_past([0; 13]), [""; 0], "{what}");
+        assert_eq!(places.written_past([0; 14]), [""; 0], "{what}");
         let mut places = RunPlaces::new(self.lengths);
         let refusal = places.pave(&self.drawing.outline(), &self.settings).err();
         assert_eq!(refusal, Refusal::of_number(number), "{what}: through the wrapper");
@@ -294,10 +317,10 @@ fn every_cause_is_refused_alone() {
 #[test]
 fn the_shortest_list_counts() {
     let square = || Drawing::square(2.0);
-    let needed = list_lengths(Places { field_nodes: 49, nodes: 8, quads: 0, edges: 8 });
+    let needed = list_lengths(Places { nodes: 8, quads: 0, edges: 8, ..SQUARE });
     let just = Asked { drawing: square(), settings: USUAL, lengths: needed };
     assert_eq!((just.raw().0.refusal, just.raw().0.end), (0, End::Full as u32));
-    let numbers = [9, 9, 10, 10, 10, 10, 10, 0, 10, 10, 10, 0, 0];
+    let numbers = [9, 9, 10, 10, 10, 10, 10, 0, 10, 10, 10, 0, 0, 0];
     for (k, number) in numbers.into_iter().enumerate().filter(|(_, number)| *number != 0) {
         for length in [needed[k] - 1, 0] {
             let mut lengths = list_lengths(PROGRAM);

@@ -1,6 +1,7 @@
 //! What the tests share: outlines that own their lists, lists lent with guards round them, and the raw answers.
 #![allow(dead_code)] // each test uses a part of it
 
+pub mod blocks;
 pub mod book;
 pub mod whole;
 
@@ -30,20 +31,50 @@ impl Drawing {
         Drawing::of_loops(&[vec![[0.0, 0.0], [side, 0.0], [side, side], [0.0, side]]])
     }
 
+    /// Each segment cut into so many.
+    pub fn cut(&self, parts: usize) -> Drawing {
+        let point = |points: &[f64], k: usize| [0, 1].map(|axis| points[(2 * k + axis) % points.len()]);
+        let cut = |points: &[f64], k: usize| {
+            let (a, b, part) =
+                (point(points, k / parts), point(points, k / parts + 1), (k % parts) as f64 / parts as f64);
+            [a[0] + part * (b[0] - a[0]), a[1] + part * (b[1] - a[1])]
+        };
+        let of_loop = |points: &[f64]| (0..parts * points.len() / 2).map(|k| cut(points, k)).collect();
+        Drawing::of_loops(&self.loops().into_iter().map(of_loop).collect::<Vec<_>>())
+    }
+
+    /// The coordinates of each loop, where the lengths fit.
+    pub fn loops(&self) -> Vec<&[f64]> {
+        let (mut loops, mut rest) = (vec![&self.outer[..]], &self.holes[..]);
+        for &length in &self.hole_lengths {
+            let (hole, after) = rest.split_at(2 * length);
+            loops.push(hole);
+            rest = after;
+        }
+        loops
+    }
+
+    /// How many points it has, those of the holes too.
+    pub fn points(&self) -> usize {
+        (self.outer.len() + self.holes.len()) / 2
+    }
+
     pub fn outline(&self) -> Outline<'_> {
         Outline { outer: &self.outer, holes: &self.holes, hole_lengths: &self.hole_lengths }
     }
 }
 
-/// What a list's places hold: a value to guard with, and the bits to compare.
+/// What a list's places hold: a value to guard with, one to fill lists with that nothing writes, and the bits to compare.
 pub trait Place: Copy {
     const GUARD: Self;
+    const FILL: Self;
     fn bits(self) -> u64;
 }
 
 impl Place for f64 {
     // A NaN: were it ever read, an answer would show it.
     const GUARD: f64 = f64::from_bits(0x7ff8_5afe_5afe_5afe);
+    const FILL: f64 = -7.5;
     fn bits(self) -> u64 {
         self.to_bits()
     }
@@ -51,6 +82,7 @@ impl Place for f64 {
 
 impl Place for usize {
     const GUARD: usize = 0x5afe_5afe_5afe_5afe;
+    const FILL: usize = 0xa5a5_a5a5_a5a5_a5a5;
     fn bits(self) -> u64 {
         self as u64
     }
@@ -58,6 +90,7 @@ impl Place for usize {
 
 impl Place for u32 {
     const GUARD: u32 = 0x5afe_5afe;
+    const FILL: u32 = 0xa5a5_a5a5;
     fn bits(self) -> u64 {
         u64::from(self)
     }
@@ -65,6 +98,7 @@ impl Place for u32 {
 
 impl Place for u8 {
     const GUARD: u8 = 0x5a;
+    const FILL: u8 = 0xa5;
     fn bits(self) -> u64 {
         u64::from(self)
     }
@@ -115,6 +149,11 @@ impl<T: Place> Guarded<T> {
     }
 }
 
+/// A list of a length, with its guards, to be written.
+pub fn filled<T: Place>(length: usize) -> Guarded<T> {
+    Guarded::new(&vec![T::FILL; length])
+}
+
 /// A drawing lent list by list, each with its guards.
 pub struct Lent {
     pub outer: Guarded<f64>,
@@ -140,30 +179,36 @@ impl Lent {
     }
 }
 
-/// A field's lists, each with its guards, filled with floats and bytes that no field has.
+/// A field's lists, each with its guards, filled with floats, bytes and numbers that no field has.
 pub struct FieldPlaces {
     pub values: Guarded<f64>,
     pub marks: Guarded<u8>,
+    pub blocks: Guarded<u32>,
 }
 
 impl FieldPlaces {
-    pub fn new(values: usize, marks: usize) -> FieldPlaces {
-        FieldPlaces { values: Guarded::new(&vec![-7.5; values]), marks: Guarded::new(&vec![0xa5; marks]) }
+    pub fn new(values: usize, marks: usize, blocks: usize) -> FieldPlaces {
+        FieldPlaces { values: filled(values), marks: filled(marks), blocks: filled(blocks) }
     }
 
     /// Asks the wrapper for a field in these places.
     pub fn field(&mut self, outline: &Outline<'_>, size: f64, sweeps: usize) -> Result<FieldRecord, Refusal> {
-        field(outline, size, sweeps, self.values.list_mut(), self.marks.list_mut())
+        field(outline, size, sweeps, self.values.list_mut(), self.marks.list_mut(), self.blocks.list_mut())
     }
 
-    /// Whether nothing was written but the first nodes' values and marks.
+    /// Whether nothing was written at all.
+    pub fn kept(&self) -> bool {
+        self.values.kept() && self.marks.kept() && self.blocks.kept()
+    }
+
+    /// Whether nothing was written but the first nodes' values and marks, and the blocks.
     pub fn kept_past(&self, nodes: usize) -> bool {
-        self.values.kept_from(2 * nodes) && self.marks.kept_from(nodes)
+        self.values.kept_from(2 * nodes) && self.marks.kept_from(nodes) && self.blocks.kept_from(usize::MAX)
     }
 }
 
-/// The lists lent to a run, in the entry's order. The arrays of thirteen lengths below have it too.
-pub const LISTS: [&str; 13] = [
+/// The lists lent to a run, in the entry's order.
+pub const LISTS: [&str; 14] = [
     "values",
     "marks",
     "xs",
@@ -177,21 +222,25 @@ pub const LISTS: [&str; 13] = [
     "lengths",
     "node_pool",
     "edge_pool",
+    "blocks",
 ];
 
+/// A length for each of them, in that order.
+pub type Lengths = [usize; LISTS.len()];
+
 /// The lengths of lists with so many places.
-pub fn list_lengths(places: Places) -> [usize; 13] {
-    let Places { field_nodes: f, nodes: n, quads: q, edges: e } = places;
+pub fn list_lengths(places: Places) -> Lengths {
+    let Places { field_nodes: f, nodes: n, quads: q, edges: e, .. } = places;
     let [node_pool, edge_pool] = places.pools();
-    [2 * f, f, n, n, n, n, n, 4 * q, 2 * e, n, n, node_pool, edge_pool]
+    [2 * f, f, n, n, n, n, n, 4 * q, 2 * e, n, n, node_pool, edge_pool, places.blocks()]
 }
 
-/// How many places of each list a mesh has used: of the pools it may use all.
-pub fn used(mesh: &Mesh<'_>) -> [usize; 13] {
+/// How many places of each list a mesh has used: of the pools and the blocks it may use all.
+pub fn used(mesh: &Mesh<'_>) -> Lengths {
     let (f, n) = (mesh.record().nodes(), mesh.node_count());
     let ids = mesh.front_loops().map(<[u32]>::len).sum();
     let (quads, edges, all) = (4 * mesh.quad_count(), 2 * mesh.edge_count(), usize::MAX);
-    [2 * f, f, n, n, n, n, n, quads, edges, ids, mesh.loop_count(), all, all]
+    [2 * f, f, n, n, n, n, n, quads, edges, ids, mesh.loop_count(), all, all, all]
 }
 
 /// All that a mesh says, as bits.
@@ -207,6 +256,11 @@ pub fn said(mesh: &Mesh<'_>) -> Vec<Vec<u64>> {
     all
 }
 
+/// Lengths by kind, as `Lists::new` takes the lists.
+pub fn by_kind([values, marks, xs, ys, numbers @ ..]: Lengths) -> ([usize; 3], usize, [usize; 10]) {
+    ([values, xs, ys], marks, numbers)
+}
+
 /// The bits of each place.
 pub fn bits<T: Place>(list: &[T]) -> Vec<u64> {
     list.iter().map(|place| place.bits()).collect()
@@ -214,44 +268,27 @@ pub fn bits<T: Place>(list: &[T]) -> Vec<u64> {
 
 /// A run's lists, each with its guards, filled with numbers that no run writes there.
 pub struct RunPlaces {
-    pub values: Guarded<f64>,
+    /// By kind, as `Lists::new` takes them.
+    pub floats: [Guarded<f64>; 3],
     pub marks: Guarded<u8>,
-    pub xs: Guarded<f64>,
-    pub ys: Guarded<f64>,
-    /// From `next` to `edge_pool`.
-    pub numbers: [Guarded<u32>; 9],
+    pub numbers: [Guarded<u32>; 10],
 }
 
 impl RunPlaces {
-    pub fn new(lengths: [usize; 13]) -> RunPlaces {
-        let [values, marks, xs, ys, numbers @ ..] = lengths;
-        RunPlaces {
-            values: Guarded::new(&vec![-7.5; values]),
-            marks: Guarded::new(&vec![0xa5; marks]),
-            xs: Guarded::new(&vec![-7.5; xs]),
-            ys: Guarded::new(&vec![-7.5; ys]),
-            numbers: numbers.map(|length| Guarded::new(&vec![0xa5a5_a5a5; length])),
-        }
+    pub fn new(lengths: Lengths) -> RunPlaces {
+        let (floats, marks, numbers) = by_kind(lengths);
+        RunPlaces { floats: floats.map(filled), marks: filled(marks), numbers: numbers.map(filled) }
     }
 
     pub fn lists(&mut self) -> Lists<'_> {
-        let [next, prev, snapshot, quads, edges, loops, lengths, node_pool, edge_pool] =
-            self.numbers.each_mut().map(Guarded::list_mut);
-        Lists {
-            values: self.values.list_mut(),
-            marks: self.marks.list_mut(),
-            xs: self.xs.list_mut(),
-            ys: self.ys.list_mut(),
-            next,
-            prev,
-            snapshot,
-            quads,
-            edges,
-            loops,
-            lengths,
-            node_pool,
-            edge_pool,
-        }
+        let RunPlaces { floats, marks, numbers } = self;
+        let (floats, numbers) = (floats.each_mut().map(Guarded::list_mut), numbers.each_mut().map(Guarded::list_mut));
+        Lists::new(floats, marks.list_mut(), numbers)
+    }
+
+    /// The outline's blocks.
+    pub fn blocks(&self) -> &[u32] {
+        self.numbers[9].list()
     }
 
     /// Asks the wrapper for a run in these places.
@@ -260,11 +297,12 @@ impl RunPlaces {
     }
 
     /// The lists of which something was written past so many places, or beside the list.
-    pub fn written_past(&self, used: [usize; 13]) -> Vec<&'static str> {
-        let [values, marks, xs, ys, numbers @ ..] = used;
-        let mut kept = vec![self.values.kept_from(values), self.marks.kept_from(marks)];
-        kept.extend([self.xs.kept_from(xs), self.ys.kept_from(ys)]);
-        kept.extend(self.numbers.iter().zip(numbers).map(|(list, used)| list.kept_from(used)));
+    pub fn written_past(&self, used: Lengths) -> Vec<&'static str> {
+        let (floats, marks, numbers) = by_kind(used);
+        let [values, xs, ys] = [0, 1, 2].map(|k| self.floats[k].kept_from(floats[k]));
+        let first = [values, self.marks.kept_from(marks), xs, ys];
+        let rest = self.numbers.iter().zip(numbers).map(|(list, used)| list.kept_from(used));
+        let kept = first.into_iter().chain(rest);
         LISTS.into_iter().zip(kept).filter(|(_, kept)| !kept).map(|(name, _)| name).collect()
     }
 }

@@ -2,7 +2,8 @@
 
 use sitjorbe::{FieldRecord, Places};
 
-use crate::common::{list_lengths, Drawing};
+use crate::blocks::Blocks;
+use crate::common::{list_lengths, Drawing, Lengths};
 
 /// SplitMix64.
 pub struct Rng(pub u64);
@@ -23,8 +24,13 @@ impl Rng {
         self.below(n) == 0
     }
 
-    fn pick<T: Copy>(&mut self, list: &[T]) -> T {
+    pub fn pick<T: Copy>(&mut self, list: &[T]) -> T {
         list[self.below(list.len())]
+    }
+
+    /// A number from `low` to `high`; `low` if there is none.
+    pub fn between(&mut self, low: usize, high: usize) -> usize {
+        low + self.below((high + 1).saturating_sub(low).max(1))
     }
 
     /// From -1 up to 1.
@@ -140,6 +146,49 @@ pub fn large(rng: &mut Rng, points: usize) -> Drawing {
     let all: Vec<[f64; 2]> = (0..points).map(step).collect();
     let (outer, hole) = all.split_at(rng.below(points / 2) + 3);
     Drawing::of_loops(&[outer.to_vec(), hole.to_vec()])
+}
+
+/// An outline of several blocks of 16 segments, in the outer loop and in most holes. One in two has its points on quarters of whole numbers, so
+/// that they are level with each other and with nodes of the field.
+pub fn several_blocks(rng: &mut Rng) -> Drawing {
+    let quarters = rng.once_in(2);
+    let n = rng.pick(&[17, 31, 32, 33, 48, 49, 64, 96, 161]);
+    let half = [3 + rng.below(5), 3 + rng.below(5)].map(|x| x as f64);
+    let mut loops = vec![round_box(rng, n, [0.0, 0.0], half)];
+    for _ in 0..rng.pick(&[0, 1, 1, 2, 4]) {
+        let n = rng.pick(&[3, 8, 16, 17, 32, 33, 47, 64]);
+        let (centre, reach) = (half.map(|x| x * rng.unit()), 0.5 + rng.unit().abs());
+        loops.push(round_box(rng, n, centre, [reach, 1.5 * reach]));
+    }
+    for points in &mut loops {
+        if quarters {
+            points.as_flattened_mut().iter_mut().for_each(|x| *x = (4.0 * *x).round() / 4.0);
+        }
+        let start = rng.below(points.len());
+        points.rotate_left(start);
+        if rng.once_in(3) {
+            points.reverse();
+        }
+    }
+    Drawing::of_loops(&loops)
+}
+
+/// A loop of so many points round a centre: along the sides of a box, along an ellipse in it, or with every second point nearer to the centre.
+fn round_box(rng: &mut Rng, n: usize, centre: [f64; 2], half: [f64; 2]) -> Vec<[f64; 2]> {
+    let (round, teeth) = (rng.once_in(2), rng.once_in(3));
+    let point = |k: usize| {
+        let along = 2.0 * (4 * k % n) as f64 / n as f64 - 1.0;
+        let [u, v] = [[1.0, along], [-along, 1.0], [-1.0, -along], [along, -1.0]][4 * k / n];
+        let length = if round { (u * u + v * v).sqrt() } else { 1.0 };
+        let share = if teeth && k % 2 == 1 { 0.7 / length } else { 1.0 / length };
+        [centre[0] + half[0] * share * u, centre[1] + half[1] * share * v]
+    };
+    (0..n).map(point).collect()
+}
+
+/// A size at which an outline of several blocks has a moderate number of elements; most are such that nodes of the field are on quarters.
+pub fn several_blocks_size(rng: &mut Rng) -> f64 {
+    rng.pick(&[1.0, 1.0, 1.0, 2.0, 0.7, 1.3])
 }
 
 /// A point on or near the outline, on a ray through its points, at a bound, or anywhere.
@@ -360,8 +409,8 @@ pub const SPACES: usize = 13;
 /// Exactly enough places, more, or too few of some.
 pub fn places(rng: &mut Rng, needs: &Needs, space: usize) -> Places {
     let Needs { places: exact, sampled } = *needs;
-    let Places { field_nodes, nodes, quads, edges } = exact;
-    let mut between = |low: usize, high: usize| between(rng, low, high);
+    let Places { field_nodes, nodes, quads, edges, .. } = exact;
+    let mut between = |low: usize, high: usize| rng.between(low, high);
     match space {
         0 => exact,
         1 => Places {
@@ -369,6 +418,7 @@ pub fn places(rng: &mut Rng, needs: &Needs, space: usize) -> Places {
             nodes: nodes + between(0, 9),
             quads: quads + between(0, 9),
             edges: edges + between(0, 9),
+            ..exact
         },
         2 => Places { nodes: nodes - 1, ..exact },
         3 => Places { nodes: between(sampled, nodes), ..exact },
@@ -379,12 +429,9 @@ pub fn places(rng: &mut Rng, needs: &Needs, space: usize) -> Places {
         8 => Places { edges: edges - 1, ..exact },
         9 => Places { edges: between(sampled, edges), ..exact },
         10 => Places { edges: between(0, sampled), ..exact },
-        11 => Places {
-            field_nodes,
-            nodes: between(sampled, nodes),
-            quads: between(0, quads),
-            edges: between(sampled, edges),
-        },
+        11 => {
+            Places { nodes: between(sampled, nodes), quads: between(0, quads), edges: between(sampled, edges), ..exact }
+        }
         _ => Places { field_nodes: field_nodes - 1, ..exact },
     }
 }
@@ -394,12 +441,12 @@ pub fn passes(rng: &mut Rng) -> usize {
     rng.pick(&[0, 0, 1, 2, 3, 5, 599, 600, 601, usize::MAX])
 }
 
-/// Lists of which the shortest have these places, and pools of these lengths; of those that hold the same places one is the shortest,
-/// and others may be longer.
-pub fn lengths(rng: &mut Rng, places: &Places, pools: [usize; 2]) -> [usize; 13] {
+/// Lists of which the shortest have these places, and pools and blocks of these lengths; of those that hold the same places one is the
+/// shortest, and others may be longer.
+pub fn lengths(rng: &mut Rng, places: &Places, pools: [usize; 2], blocks: usize) -> Lengths {
     let mut lengths = list_lengths(*places);
-    let [values, marks, xs, ys, next, prev, snapshot, quads, edges, loops, others, node_pool, edge_pool] = &mut lengths;
-    [*node_pool, *edge_pool] = pools;
+    let [values, marks, xs, ys, next, prev, snapshot, quads, edges, loops, others, scratch @ ..] = &mut lengths;
+    *scratch = [pools[0], pools[1], blocks];
     let by_node = [xs, ys, next, prev, snapshot, loops, others];
     let shortest = rng.below(by_node.len());
     for (_, length) in by_node.into_iter().enumerate().filter(|(k, _)| *k != shortest) {
@@ -413,7 +460,29 @@ pub fn lengths(rng: &mut Rng, places: &Places, pools: [usize; 2]) -> [usize; 13]
     lengths
 }
 
-// --- pools ---
+// --- pools and blocks ---
+
+/// How the lists for a run's own use are chosen.
+#[derive(Clone, Copy, Debug)]
+pub struct Scratch {
+    pub pools: Pools,
+    pub blocks: Blocks,
+}
+
+impl Scratch {
+    /// Those that every outline is paved with: all that a run can use, nothing, and less than it can use.
+    pub const EACH: [Scratch; 4] = [
+        Scratch { pools: Pools::Ample, blocks: Blocks::Full },
+        Scratch { pools: Pools::None, blocks: Blocks::None },
+        Scratch { pools: Pools::SevenCells, blocks: Blocks::Part },
+        Scratch { pools: Pools::RunOut, blocks: Blocks::Exact },
+    ];
+
+    /// Pools and blocks of any kind.
+    pub fn pick(rng: &mut Rng) -> [Scratch; 1] {
+        [Scratch { pools: rng.pick(&Pools::ALL), blocks: rng.pick(&Blocks::ALL) }]
+    }
+}
 
 /// How the lengths of a run's pools are chosen.
 #[derive(Clone, Copy, Debug, PartialEq, Eq, PartialOrd, Ord)]
@@ -436,9 +505,6 @@ pub enum Pools {
 }
 
 impl Pools {
-    /// Those that every outline is paved with.
-    pub const EACH: [Pools; 4] = [Pools::Ample, Pools::None, Pools::SevenCells, Pools::RunOut];
-
     pub const ALL: [Pools; 8] = [
         Pools::Ample,
         Pools::None,
@@ -449,11 +515,6 @@ impl Pools {
         Pools::Exact,
         Pools::Crowded,
     ];
-
-    /// One of any kind.
-    pub fn pick(rng: &mut Rng) -> [Pools; 1] {
-        [rng.pick(&Pools::ALL)]
-    }
 
     /// The lengths of `node_pool` and `edge_pool` for a run in these places that files so much.
     pub fn lengths(self, rng: &mut Rng, places: &Places, filed: &Filed) -> [usize; 2] {
@@ -467,18 +528,13 @@ impl Pools {
             Pools::NodesAlone => [nodes, any],
             Pools::EdgesAlone => [any, edges],
             Pools::RunOut => {
-                let [node_pool, edge_pool] = [0, 1].map(|k| with_places(between(rng, first[k], all[k].max(1) - 1)));
+                let [node_pool, edge_pool] = [0, 1].map(|k| with_places(rng.between(first[k], all[k].max(1) - 1)));
                 [[node_pool, edges], [nodes, edge_pool], [node_pool, edge_pool]][rng.below(3)]
             }
             Pools::Exact => [0, 1].map(|k| with_places(all[k].saturating_sub((any + k) % 2))),
             Pools::Crowded => all.map(|places| crowded(places) + any),
         }
     }
-}
-
-/// A number from `low` to `high`; `low` if there is none.
-fn between(rng: &mut Rng, low: usize, high: usize) -> usize {
-    low + rng.below((high + 1).saturating_sub(low).max(1))
 }
 
 /// How many places a run takes in `node_pool` and `edge_pool`.

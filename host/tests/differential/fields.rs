@@ -8,6 +8,7 @@ use oracle::patched::Field;
 use oracle::terms;
 use sitjorbe::{direction, FieldRecord, Refusal};
 
+use crate::blocks::{Blocks, Counts};
 use crate::cases::{self, Record, Rng, Setting};
 use crate::common::{Drawing, FieldPlaces, Guarded, Lent};
 
@@ -59,20 +60,28 @@ struct Fields {
     fields: Tally,
     directions: Tally,
     nodes: usize,
+    blocks: Counts,
 }
 
 impl Fields {
-    /// Puts an outline and a setting to both; then, where there is a field, points and targets.
+    /// Puts an outline and a setting to both, with a list of any kind for the blocks; then, where there is a field, points and targets.
     fn compare(&mut self, rng: &mut Rng, drawing: &Drawing, setting: Setting) {
+        let kind = rng.pick(&Blocks::ALL);
+        self.compare_with(rng, drawing, setting, kind);
+    }
+
+    fn compare_with(&mut self, rng: &mut Rng, drawing: &Drawing, setting: Setting, kind: Blocks) {
         let Setting { size, sweeps, values, marks } = setting;
         let Drawing { outer, holes, hole_lengths } = drawing;
-        let (lent, mut places) = (Lent::new(drawing), FieldPlaces::new(values, marks));
-        let library = places.field(&lent.outline(), size, sweeps).map_err(Refusal::number);
-        let nodes = library.map_or(0, |record| record.nodes());
-        assert!(lent.kept() && places.kept_past(nodes), "written: {drawing:?} {setting:?}");
-
         let outline = terms::Outline { outer, holes, hole_lengths };
         let reference = Field::new(outline, size, sweeps as u64, marks.min(values / 2) as u64).map_err(number);
+        let blocks = kind.length(rng, drawing, reference.is_ok());
+
+        let (lent, mut places) = (Lent::new(drawing), FieldPlaces::new(values, marks, blocks));
+        let library = places.field(&lent.outline(), size, sweeps).map_err(Refusal::number);
+        let nodes = library.map_or(0, |record| record.nodes());
+        let kept = if library.is_ok() { places.kept_past(nodes) } else { places.kept() };
+        assert!(lent.kept() && kept, "written: {drawing:?} {setting:?} {blocks}");
         let same = match (&library, &reference) {
             (Ok(record), Ok(field)) => same_field(record, &places, field),
             (Err(refused), Err(expected)) => refused == expected,
@@ -81,9 +90,11 @@ impl Fields {
         self.nodes += nodes;
         self.fields.note(&library, same, || {
             let reference = reference.as_ref().map(Field::record);
-            format!("{drawing:?} {setting:?}:\n library {library:?}\n oracle  {reference:?}")
+            format!("{drawing:?} {setting:?} {blocks}:\n library {library:?}\n oracle  {reference:?}")
         });
         if let (Ok(record), Ok(field)) = (library, reference) {
+            let wrong = self.blocks.note(kind, drawing, &record, places.blocks.list());
+            assert_eq!(wrong, None, "{drawing:?} {setting:?} {blocks}");
             let (values, marks) = (&places.values.list()[..2 * nodes], &places.marks.list()[..nodes]);
             for _ in 0..4 {
                 let (point, target) = (cases::point(rng, drawing), cases::target(rng));
@@ -95,10 +106,12 @@ impl Fields {
         }
     }
 
-    fn finish(self, what: &str, kinds: &[u32], fewest: usize) {
-        let Fields { fields, directions, nodes } = self;
+    /// Prints the figures; fails as those of the fields, the directions and the blocks do.
+    fn finish(self, what: &str, kinds: &[u32], fewest: usize, [fewest_lists, fewest_matter]: [usize; 2]) {
+        let Fields { fields, directions, nodes, blocks } = self;
         assert_eq!(directions.refused.get(&11), None, "a field that was made is no record");
         fields.finish(&format!("{what}, fields with {nodes} nodes"), kinds, fewest);
+        blocks.finish(what, fewest_lists, fewest_matter);
         directions.finish(&format!("{what}, directions of these fields"), &[0], fewest);
     }
 }
@@ -136,7 +149,7 @@ fn fields_of_hostile_outlines() {
         let setting = cases::setting(&mut rng, &drawing);
         fields.compare(&mut rng, &drawing, setting);
     }
-    fields.finish("hostile outlines", &[0, 1, 2, 3, 4, 5, 6, 7, 8, 9], 20);
+    fields.finish("hostile outlines", &[0, 1, 2, 3, 4, 5, 6, 7, 8, 9], 20, [100, 0]);
 }
 
 /// A generated outline of a kind, and what is lent for its field.
@@ -160,14 +173,28 @@ fn fields_of_drawings() {
         let (drawing, setting) = generated(kind, place);
         fields.compare(&mut rng, &drawing, setting);
     }
-    fields.finish("visual fields and other drawings", &[0, 1, 2, 3, 4, 5, 6, 7, 8, 9], 1);
+    fields.finish("visual fields and other drawings", &[0, 1, 2, 3, 4, 5, 6, 7, 8, 9], 1, [100, 0]);
+}
+
+#[test]
+fn fields_of_several_blocks() {
+    let mut rng = Rng(11);
+    let mut fields = Fields::default();
+    for _ in 0..500 {
+        let (drawing, size) = (cases::several_blocks(&mut rng), cases::several_blocks_size(&mut rng));
+        let setting = Setting { size, sweeps: rng.pick(&[0, 1, 3, 20]), values: 5_000, marks: 2_500 };
+        for kind in Blocks::ALL {
+            fields.compare_with(&mut rng, &drawing, setting, kind);
+        }
+    }
+    fields.finish("outlines of several blocks", &[0], 1_900, [200, 500]);
 }
 
 /// The greatest difference of a value from the plain Rust's; none where both refuse. All but the values must be the same.
 fn from_plain(drawing: &Drawing, setting: Setting) -> Option<f64> {
     let Setting { size, sweeps, values, marks } = setting;
     let Drawing { outer, holes, hole_lengths } = drawing;
-    let mut places = FieldPlaces::new(values, marks);
+    let mut places = FieldPlaces::new(values, marks, 2 * drawing.points());
     let library = places.field(&drawing.outline(), size, sweeps).map_err(Refusal::number);
     let outline = terms::Outline { outer, holes, hole_lengths };
     let plain = oracle::plain::Field::new(outline, size, sweeps as u64, marks as u64).map_err(number);
@@ -217,7 +244,7 @@ fn fields_of_many_nodes() {
     }
     let most = cases::large(&mut rng, 65_535);
     fields.compare(&mut rng, &most, Setting { size: 100.0, sweeps: 1_000, values: 1_000, marks: 500 });
-    fields.finish("many nodes or points", &[0], 5);
+    fields.finish("many nodes or points", &[0], 5, [0, 0]);
 }
 
 /// Puts sixteen points and targets to both, of a record in guarded lists.

@@ -4,6 +4,7 @@
 
 extern crate oracle;
 
+mod blocks;
 mod cases;
 #[path = "../common/mod.rs"]
 mod common;

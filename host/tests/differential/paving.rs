@@ -2,8 +2,8 @@
 //!
 //! Each outline is paved with ample space, and again with space chosen from what that run used: exactly enough, one place short,
 //! any number short; and with other passes. With ample space it is paved four times: with full pools, none, seven cells in each, and
-//! pools that run out; the other runs have pools of any kind. SITJORBE_OUTLINES says how many outlines of each kind, SITJORBE_SEED
-//! which ones.
+//! pools that run out; and with all its blocks, none, some, and about all. The other runs have pools and blocks of any kind.
+//! SITJORBE_OUTLINES says how many outlines of each kind, SITJORBE_SEED which ones.
 
 use std::collections::BTreeMap;
 use std::env;
@@ -11,14 +11,15 @@ use std::env;
 use oracle::generate::Case;
 use oracle::patched::{front, pave_again, Field};
 use oracle::terms::{self, Run};
-use sitjorbe::{End, Mesh, Places, Refusal, Settings, OFF};
+use sitjorbe::{End, FieldRecord, Mesh, Places, Refusal, Settings, OFF};
 
-use crate::cases::{self, Filed, Needs, Pools, Rng, Setting};
+use crate::blocks::{Blocks, Counts};
+use crate::cases::{self, Filed, Needs, Pools, Rng, Scratch, Setting};
 use crate::common::book::{self, Answered, Sampled};
 use crate::common::{bits, used, Drawing, Guarded, Lent, RunPlaces};
 
 /// Enough for most outlines that are generated.
-const AMPLE: Places = Places { field_nodes: 2_500, nodes: 1_500, quads: 1_500, edges: 4_500 };
+const AMPLE: Places = Places { field_nodes: 2_500, nodes: 1_500, quads: 1_500, edges: 4_500, points: 300 };
 
 /// All that a run answers, floats as bits.
 #[derive(Debug, PartialEq)]
@@ -191,7 +192,7 @@ impl Asked {
     fn sampled(&mut self) -> &Sampled {
         let Asked { drawing, settings, sampled, .. } = self;
         sampled.get_or_insert_with(|| {
-            let endless = Places { field_nodes: 0, nodes: usize::MAX, quads: 0, edges: usize::MAX };
+            let endless = Places { field_nodes: 0, nodes: usize::MAX, quads: 0, edges: usize::MAX, points: 0 };
             let run = front(Asked::outline(drawing), settings.size, &lent(&endless)).expect("it was paved");
             Sampled { nodes: run.nodes, edges: run.front, loops: 1 + drawing.hole_lengths.len() }
         })
@@ -222,11 +223,18 @@ impl Asked {
         faults
     }
 
+    /// The grid of the oracle's field, which has been made.
+    fn record(&self) -> FieldRecord {
+        let terms::FieldRecord { xmin, ymin, h, nx, ny } = self.field.as_ref().expect("a run has made it").record();
+        FieldRecord { xmin, ymin, h, nx: nx as usize, ny: ny as usize }
+    }
+
     /// What the run needs where space is ample, if it isn't refused.
     fn needs(&mut self) -> Option<Needs> {
         let run = self.of_oracle(&AMPLE).ok()?;
         let field_nodes = self.field.as_ref().expect("the run has made it").marks().len();
-        let places = Places { field_nodes, nodes: run.nodes.len(), quads: run.quads.len(), edges: run.edges.len() };
+        let [nodes, quads, edges] = [run.nodes.len(), run.quads.len(), run.edges.len()];
+        let places = Places { field_nodes, nodes, quads, edges, points: self.drawing.points() };
         Some(Needs { places, sampled: self.sampled().nodes.len() })
     }
 }
@@ -247,22 +255,25 @@ struct Tally {
     quads: usize,
     /// How far the nodes' and the edges' pools served runs that weren't refused.
     pools: BTreeMap<(Pools, [Served; 2]), usize>,
+    blocks: Counts,
     faults: Vec<String>,
 }
 
 impl Tally {
-    /// Puts a run to both, in lists of which the shortest have these places, with each of these pools; `short` says what the lists are
-    /// short of.
-    fn compare(&mut self, rng: &mut Rng, asked: &mut Asked, places: &Places, short: &str, pools: &[Pools]) {
+    /// Puts a run to both, in lists of which the shortest have these places, with each of these pools and blocks; `short` says what the
+    /// lists are short of.
+    fn compare(&mut self, rng: &mut Rng, asked: &mut Asked, places: &Places, short: &str, scratch: &[Scratch]) {
         let expected = asked.expected(places);
         let filed = expected.as_ref().map_or(Filed::default(), |(_, filed)| *filed);
-        for (k, &kind) in pools.iter().enumerate() {
-            let pools = kind.lengths(rng, places, &filed);
-            let lengths = cases::lengths(rng, places, pools);
+        for (k, kind) in scratch.iter().enumerate() {
+            let pools = kind.pools.lengths(rng, places, &filed);
+            let blocks = kind.blocks.length(rng, &asked.drawing, expected.is_ok());
+            let lengths = cases::lengths(rng, places, pools, blocks);
             let mut lists = RunPlaces::new(lengths);
             let mut faults = self.run(asked, &expected, &mut lists, short, k == 0);
             if expected.is_ok() {
-                faults.extend(self.pools(kind, &lists, &filed));
+                faults.extend(self.pools(kind.pools, &lists, &filed));
+                faults.extend(self.blocks.note(kind.blocks, &asked.drawing, &asked.record(), lists.blocks()));
             }
             let asked = || format!("{:?} {:?} {lengths:?}", asked.drawing, asked.settings);
             self.faults.extend(faults.into_iter().map(|fault| format!("{fault}: {}", asked())));
@@ -292,7 +303,7 @@ impl Tally {
             (library, expected) => {
                 let [library, reference] = [library.err(), expected.as_ref().err().copied()];
                 let fault = (library != reference).then(|| format!("refused {library:?}, not {reference:?}"));
-                (library.unwrap_or(0).to_string(), [0; 13], fault.into_iter().collect())
+                (library.unwrap_or(0).to_string(), [0; 14], fault.into_iter().collect())
             }
         };
         faults.extend(lists.written_past(used).iter().map(|name| format!("{name} written")));
@@ -306,7 +317,7 @@ impl Tally {
     /// Notes how far the pools serve a run that files so much. Names those that are in use at its end and shouldn't be, or the reverse:
     /// a pool without a cell isn't, nor one whose first number stands for no place.
     fn pools(&mut self, kind: Pools, lists: &RunPlaces, filed: &Filed) -> Vec<String> {
-        let [.., node_pool, edge_pool] = lists.numbers.each_ref().map(Guarded::list);
+        let [.., node_pool, edge_pool, _] = lists.numbers.each_ref().map(Guarded::list);
         let pools = [("node_pool", node_pool), ("edge_pool", edge_pool)];
         let served = [0, 1].map(|k| Served::new(pools[k].1.len(), filed.first[k], filed.all[k]));
         *self.pools.entry((kind, served)).or_default() += 1;
@@ -320,21 +331,21 @@ impl Tally {
     fn outline(&mut self, rng: &mut Rng, mut asked: Asked) {
         self.outlines += 1;
         let Some(needs) = asked.needs() else {
-            return self.compare(rng, &mut asked, &AMPLE, "nothing", &Pools::EACH);
+            return self.compare(rng, &mut asked, &AMPLE, "nothing", &Scratch::EACH);
         };
-        for (space, pools) in [
-            (1, &Pools::EACH[..]),
-            (self.outlines % cases::SPACES, &Pools::pick(rng)),
-            (rng.below(cases::SPACES), &Pools::pick(rng)),
+        for (space, scratch) in [
+            (1, &Scratch::EACH[..]),
+            (self.outlines % cases::SPACES, &Scratch::pick(rng)),
+            (rng.below(cases::SPACES), &Scratch::pick(rng)),
         ] {
             let places = cases::places(rng, &needs, space);
-            self.compare(rng, &mut asked, &places, short(&places, &needs), pools);
+            self.compare(rng, &mut asked, &places, short(&places, &needs), scratch);
         }
         if self.outlines % 3 == 0 {
             asked.settings.passes = cases::passes(rng);
             let places = cases::places(rng, &needs, 1);
-            let pools = Pools::pick(rng);
-            self.compare(rng, &mut asked, &places, "other passes", &pools);
+            let scratch = Scratch::pick(rng);
+            self.compare(rng, &mut asked, &places, "other passes", &scratch);
         }
     }
 
@@ -357,8 +368,13 @@ impl Tally {
         assert_eq!(rare, None, "{what}: such pools are rare");
     }
 
-    /// Prints the figures; fails on a fault, or if one of these answers is rare.
+    /// Prints the figures; fails on a fault, or if one of these answers is rare, or a kind of pools or blocks.
     fn finish(self, what: &str, expected: &[&str]) {
+        self.finish_where_blocks_matter(what, expected, 0);
+    }
+
+    /// As `finish`; fails also if there are fewer runs whose blocks matter, for any one reason.
+    fn finish_where_blocks_matter(self, what: &str, expected: &[&str], fewest: usize) {
         let Tally { outlines, answers, whole, nodes, quads, faults, .. } = &self;
         let runs: usize = answers.values().sum();
         let counts: Vec<String> = answers.iter().map(|(answer, count)| format!("{answer}: {count}")).collect();
@@ -372,6 +388,7 @@ impl Tally {
             assert!(answers.get(*answer).is_some_and(|&count| count >= outlines / 200), "{what}: {answer} is rare");
         }
         self.finish_pools(what);
+        self.blocks.finish(what, outlines / 200, fewest);
     }
 }
 
@@ -478,11 +495,26 @@ fn runs_of_hostile_outlines() {
     tally.finish("runs, hostile outlines", &["still", "passes", "1", "2", "3", "4", "5", "6", "7", "8", "9", "10"]);
 }
 
+#[test]
+fn runs_of_several_blocks() {
+    let outlines = number("SITJORBE_OUTLINES", 2_000);
+    let (mut tally, mut rng) = (Tally::default(), Rng(20 + number("SITJORBE_SEED", 1)));
+    for place in 0..outlines {
+        let (drawing, size) = (cases::several_blocks(&mut rng), cases::several_blocks_size(&mut rng));
+        let settings =
+            Settings { size, sweeps: if place % 8 == 0 { 20 } else { 2 }, passes: rng.pick(&[1, 3, 600, 600]) };
+        tally.outline(&mut rng, Asked::new(drawing, settings));
+    }
+    tally.finish_where_blocks_matter("runs of several blocks", &USUAL, outlines as usize);
+}
+
 /// A run with all the space it needs.
 fn roomy(tally: &mut Tally, rng: &mut Rng, drawing: Drawing, settings: Settings) {
-    let places = Places { field_nodes: 250_000, nodes: 70_000, quads: 4_000, edges: 70_000 };
+    let places = Places { field_nodes: 250_000, nodes: 70_000, quads: 4_000, edges: 70_000, points: drawing.points() };
+    let scratch = [(Pools::Ample, Blocks::Full), (Pools::Crowded, Blocks::Part)];
+    let scratch = scratch.map(|(pools, blocks)| Scratch { pools, blocks });
     tally.outlines += 1;
-    tally.compare(rng, &mut Asked::new(drawing, settings), &places, "nothing", &[Pools::Ample, Pools::Crowded]);
+    tally.compare(rng, &mut Asked::new(drawing, settings), &places, "nothing", &scratch);
 }
 
 #[test]
@@ -507,7 +539,7 @@ fn example() -> (Outcome, Outcome, Sampled, Answered) {
     let mut asked = generated("lattice", 1, 5);
     let run = asked.of_oracle(&AMPLE).expect("it is accepted");
     let reference = Outcome::of_oracle(run, asked.field.as_ref().expect("the run has made it"));
-    let mut lists = RunPlaces::new(cases::lengths(&mut Rng(9), &AMPLE, AMPLE.pools()));
+    let mut lists = RunPlaces::new(cases::lengths(&mut Rng(9), &AMPLE, AMPLE.pools(), AMPLE.blocks()));
     let mesh = lists.pave(&asked.drawing.outline(), &asked.settings).expect("it is accepted");
     (Outcome::of_library(&mesh), reference, asked.sampled().clone(), answered(&mesh))
 }

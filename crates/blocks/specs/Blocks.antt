@@ -10,9 +10,10 @@ use lib.ListN.{length, getD}
 use lib.Ieee.{Float, lt}
 use Rattle.laws.specs.Loop.{forUp}
 use Rattle.numbers.specs.Float.{_⊕_, _⊖_, minF, maxF}
+use Rattle.exact.specs.Units.{Within}
 use Rattle.domain.specs.declared.Point.{Point}
 use Rattle.domain.specs.Outline.{Outline, holeStart, loopAt, points, pointAt, pointAfter, outlineRefusal}
-use Rattle.domain.specs.Accepted.{OutlineFits, LoopWithin}
+use Rattle.domain.specs.Accepted.{AllFit, OutlineFits, LoopWithin}
 use Rattle.blocks.specs.declared.Extent.{Extent}
 
 -- ---- a part of a loop
@@ -90,8 +91,9 @@ pub record LoopFiles (s : List Float) (before after : List ℕ) (first : ℕ) : 
   pub long : length after ≡ length before
   pub rest : (i : ℕ) → i < 4 * first → getD after i 0 ≡ getD before i 0
 
--- and every point of the loop is within 1,000
+-- and every point of the loop is within 1,000, of doubles
 pub record LoopDrawn (s : List Float) (blocks : List ℕ) (first : ℕ) : Type 0 where
+  pub fits : AllFit s
   pub within : LoopWithin s
   pub even : 2 * points s ≡ length s
   pub few : points s ≤ 65535
@@ -107,6 +109,11 @@ pointsBefore o (suc k) = points (o .outer) + holeStart (o .lens) k
 -- The number of loop k's first block: one in 16 points, and one more a loop, for its last block may have less.
 unfoldable pub firstBlock : Outline → ℕ → ℕ
 firstBlock o k = pointsBefore o k / blockSize + k
+
+-- the same from the outer loop's points and how many hole points stand before loop k
+abbrev pub firstBlockAt : List Float → ℕ → ℕ → ℕ
+firstBlockAt outer zero start = 0
+firstBlockAt outer (suc k) start = (points outer + start) / blockSize + suc k
 
 -- none of 1 to 4 refuses the outline, and its blocks are in the list as far as that goes
 pub record Drawn (o : Outline) (blocks : List ℕ) : Type 0 where
@@ -128,7 +135,14 @@ abbrev pub blockExtent : List Float → List ℕ → ℕ → Extent
 blockExtent s blocks b =
     extent (reach 0 s (sideAt blocks b 0)) (reach 1 s (sideAt blocks b 1)) (reach 2 s (sideAt blocks b 2)) (reach 3 s (sideAt blocks b 3))
 
--- the segment a to b lies in the box
+-- every side of the box is at most K either way
+pub record ExtentWithin (K : ℕ) (e : Extent) : Type 0 where
+  pub xmin : Within K (e .xmin)
+  pub xmax : Within K (e .xmax)
+  pub ymin : Within K (e .ymin)
+  pub ymax : Within K (e .ymax)
+
+-- The segment a to b lies in the box. (A side that is a NaN bounds nothing: `ExtentWithin` rules it out.)
 pub record Covers (e : Extent) (a b : Point) : Type 0 where
   pub xmin : isBeyond 0 (reachOf 0 a b) (e .xmin) ≡ false
   pub xmax : isBeyond 1 (reachOf 1 a b) (e .xmax) ≡ false

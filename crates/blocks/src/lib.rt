@@ -7,7 +7,7 @@ ghost use lib.ListN.{length};
 ghost use Rattle.laws.specs.Loop.{anyUp};
 ghost use Rattle.domain.specs.Outline.{outline, points, LoopPlace, outlineRefusal};
 ghost use Rattle.domain.specs.Queries.{polygonTurn, pointInPolygon, inHole, contains};
-ghost use Rattle.blocks.specs.Blocks.{forBetween, reach, isBeyond, Farthest, blockEnd, isListed, BlockThere, BlockFiles, LoopFiles, LoopDrawn, firstBlock};
+ghost use Rattle.blocks.specs.Blocks.{forBetween, coordinate, reach, isBeyond, Farthest, blockEnd, isListed, BlockThere, BlockFiles, LoopFiles, LoopDrawn, firstBlockAt};
 ghost use Rattle.blocks.specs.Blocks.{Drawn, blockExtent, rayMisses};
 use domain::Point;
 
@@ -24,15 +24,19 @@ pub const BLOCK: usize = 16;
 
 // ---- how far segments reach
 
+fn coordinate(d: usize, p: Point) -> f64
+    ensures { λ r. ⌜ r ≡ coordinate d p ⌝ }
+{
+    if d < 2 { p.x } else { p.y }
+}
+
 // On the sides 0, least x; 1, greatest x; 2, least y; 3, greatest y.
 pub fn reach(d: usize, s: &[f64], i: usize) -> f64
     requires { ⌜ 2 * i + 1 < length (now s) ⌝ }
     ensures { λ r. ⌜ r ≡ reach d (now (s .entry)) i ⌝ }
 {
-    let a = domain::point_at(s, i);
-    let b = domain::point_after(s, i);
-    let u = if d < 2 { a.x } else { a.y };
-    let v = if d < 2 { b.x } else { b.y };
+    let u = coordinate(d, domain::point_at(s, i));
+    let v = coordinate(d, domain::point_after(s, i));
     let w = u + (v - u);
     if d % 2 == 1 {
         numbers::max_f64(numbers::max_f64(u, v), w)
@@ -76,6 +80,7 @@ fn farthest(d: usize, s: &[f64], from: usize, to: usize) -> u32
 // The number of the first block of loop k, before which `start` hole points stand.
 pub fn first_block(outer: &[f64], k: usize, start: usize) -> usize
     requires { ⌜ (points (now outer) ≤ 65535) × (start ≤ 65535) × (k ≤ 65535) ⌝ }
+    ensures { λ r. ⌜ r ≡ firstBlockAt (now (outer .entry)) k start ⌝ }
 {
     if k == 0 {
         return 0;
@@ -97,11 +102,15 @@ fn file_block(s: &[f64], from: usize, b: usize, blocks: &mut [u32])
     ensures { λ r. ⌜ BlockFiles (now (s .entry)) (now (blocks .entry)) (now (blocks .exit)) b from ⌝ }
 {
     let to = block_end(s.len() / 2, from);
+    let xmin = farthest(0, s, from, to);
+    let xmax = farthest(1, s, from, to);
+    let ymin = farthest(2, s, from, to);
+    let ymax = farthest(3, s, from, to);
     let at = 4 * b;
-    blocks[at] = farthest(0, s, from, to);
-    blocks[at + 1] = farthest(1, s, from, to);
-    blocks[at + 2] = farthest(2, s, from, to);
-    blocks[at + 3] = farthest(3, s, from, to);
+    blocks[at] = xmin;
+    blocks[at + 1] = xmax;
+    blocks[at + 2] = ymin;
+    blocks[at + 3] = ymax;
 }
 
 // The blocks of a loop, the first of which has the number `first`, as far as the list goes.

@@ -96,7 +96,7 @@ in-holes o k i h =
     record { there = omega arith; same = getD-take m (drop d (o .holes)) i nan (omega arith) ∙ getD-drop d (o .holes) i nan }
 
 -- what every coordinate of the lists has, every loop's has
-each : (o : Outline) (P : Float → Type 0)
+pub each : (o : Outline) (P : Float → Type 0)
     → ((i : ℕ) → i < length (o .outer) → P (getD (o .outer) i nan)) → ((i : ℕ) → i < length (o .holes) → P (getD (o .holes) i nan))
     → (k i : ℕ) → i < length (loopAt o k) → P (getD (loopAt o k) i nan)
 unfolding loopAt

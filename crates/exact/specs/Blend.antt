@@ -16,7 +16,7 @@ use Rattle.laws.specs.Ring.{Expr, var, num, _+ᵉ_, _*ᵉ_, _-ᵉ_, neg, ring}
 use Rattle.laws.specs.Certificate.{Nonneg, nonneg, not-nonneg, of-le, to-le, of-≤ℤ, of-<ℤ, hyp, nat, eqn, _⊞_, _⊠_, Hyps, Eqns, prove, zero-of}
 use Rattle.numbers.specs.Float.{_⊕_, _⊖_, _⊗_, _⊘_}
 use Rattle.exact.specs.Rounding.{Close}
-use Rattle.exact.specs.Units.{W, W-pos, W-big, Val, signed, units, Within, within-units}
+use Rattle.exact.specs.Units.{W, W-pos, W-big, Val, signed, signed-not, units, Within, within-units}
 use Rattle.exact.specs.Order.{lt-val, not-lt-val}
 use Rattle.exact.specs.Operations.{mul-law, product-within, Sum, add-law, sub-law, sum-within, div-law}
 use Rattle.exact.specs.SineBounds.{mul-le}
@@ -95,10 +95,6 @@ part-down P A B u v n d e f h k l =
     (prove (A ∷ B ∷ []) ((var 0 -ᵉ var 1 -ᵉ num 1) ∷ []) (l, tt) [] tt 0 (neg (var 1) -ᵉ neg (var 0) -ᵉ num 1) (hyp 0) tt) in
     record { less = p .less; some = p .some; same = elim (p .same) [ inl s ↦ inl (sym (unlike-not u v) ∙ s) | inr z ↦ inr z ] }
   where
-    signed-not : (t : Bool) (b : ℕ) → signed (not t) b ≡ negℤ (signed t b)
-    signed-not false b = refl
-    signed-not true b = sym (negℤ-negℤ (pos b))
-
     unlike-not : (u v : Bool) → unlike (not u) (not v) ≡ unlike u v
     unlike-not true true = refl
     unlike-not true false = refl
@@ -164,14 +160,10 @@ fraction x y u v n d g k p q rn rd b =
         two : g ≤ 2 * k
         two = omega arith
 
--- how far up the edge from height ay to height by the height py is
-pub slope : (py ay by : Float) → Within 1000 py → Within 1000 ay → Within 1000 by → T (unlike (lt py ay) (lt py by))
-    → Fraction ((py ⊖ ay) ⊘ (by ⊖ ay))
-slope py ay by p a b h =
-    let n = sub-law p a tt tt in
-    let d = sub-law b a tt tt in
-    fraction (py ⊖ ay) (by ⊖ ay) (n .sign) (d .sign) (n .exact) (d .exact) (n .size) (d .size) (n .val) (d .val)
-    (millionth (n .size) (n .exact) (n .near)) (millionth (d .size) (d .exact) (d .near)) (part n d (lt py ay) (lt py by) refl refl h)
+-- the edge from height ay to height by straddles the height py, so that lies between them
+pub straddled : {J K L m l : ℕ} {py ay by x y : Float} → Within J py → Within K ay → Within L by → T (unlike (lt py ay) (lt py by))
+    → (n : Sum (units py -ℤ units ay) m x) (d : Sum (units by -ℤ units ay) l y) → Part (n .sign) (d .sign) (n .exact) (d .exact)
+straddled {py = py} {ay = ay} {by = by} p a b h n d = part (lt py ay) (lt py by) refl refl h
   where
     P : ℤ
     P = units py
@@ -182,13 +174,13 @@ slope py ay by p a b h =
     B : ℤ
     B = units by
 
-    below : {x y : Float} (p : Within 1000 x) (q : Within 1000 y) → lt x y ≡ true → Nonneg (units y -ℤ units x -ℤ pos 1)
-    below {x} {y} p q e =
+    below : {K L : ℕ} {x y : Float} (p : Within K x) (q : Within L y) → lt x y ≡ true → Nonneg (units y -ℤ units x -ℤ pos 1)
+    below {x = x} {y = y} p q e =
         rw (within-units p, within-units q)
         (of-<ℤ (lt-val x y (p .sign) (q .sign) (p .size) (q .size) (p .val) (q .val) .0 (subst T (sym e) tt)))
 
-    above : {x y : Float} (p : Within 1000 x) (q : Within 1000 y) → lt x y ≡ false → Nonneg (units x -ℤ units y)
-    above {x} {y} p q e =
+    above : {K L : ℕ} {x y : Float} (p : Within K x) (q : Within L y) → lt x y ≡ false → Nonneg (units x -ℤ units y)
+    above {x = x} {y = y} p q e =
         rw (within-units p, within-units q)
         (of-≤ℤ (not-lt-val x y (p .sign) (q .sign) (p .size) (q .size) (p .val) (q .val) .0 (subst (λ (c : Bool). T (not c)) (sym e) tt)))
 
@@ -198,18 +190,26 @@ slope py ay by p a b h =
         prove (X ∷ Y ∷ Z ∷ []) ((var 1 -ᵉ var 0) ∷ (var 2 -ᵉ var 1 -ᵉ num 1) ∷ []) (h, (k, tt)) [] tt 0 (var 2 -ᵉ var 0 -ᵉ num 1)
         (hyp 0 ⊞ hyp 1) tt
 
-    part : {m l : ℕ} {x y : Float} (n : Sum (P -ℤ A) m x) (d : Sum (B -ℤ A) l y) (f g : Bool) → lt py ay ≡ f → lt py by ≡ g → T (unlike f g)
-        → Part (n .sign) (d .sign) (n .exact) (d .exact)
-    part n d true true e e' h = absurd h
-    part n d false false e e' h = absurd h
-    part n d true false e e' h =
+    part : (f g : Bool) → lt py ay ≡ f → lt py by ≡ g → T (unlike f g) → Part (n .sign) (d .sign) (n .exact) (d .exact)
+    part true true e e' h = absurd h
+    part false false e e' h = absurd h
+    part true false e e' h =
         let less = below p a e in
         let more = above p b e' in
         part-down P A B (n .sign) (d .sign) (n .exact) (d .exact) (n .is) (d .is) (weaken P A less) more (chain B P A more less)
-    part n d false true e e' h =
+    part false true e e' h =
         let less = below p b e' in
         let more = above p a e in
         part-up P A B (n .sign) (d .sign) (n .exact) (d .exact) (n .is) (d .is) more (weaken P B less) (chain A P B more less)
+
+-- how far up the edge from height ay to height by the height py is
+pub slope : (py ay by : Float) → Within 1000 py → Within 1000 ay → Within 1000 by → T (unlike (lt py ay) (lt py by))
+    → Fraction ((py ⊖ ay) ⊘ (by ⊖ ay))
+slope py ay by p a b h =
+    let n = sub-law p a tt tt in
+    let d = sub-law b a tt tt in
+    fraction (py ⊖ ay) (by ⊖ ay) (n .sign) (d .sign) (n .exact) (d .exact) (n .size) (d .size) (n .val) (d .val)
+    (millionth (n .size) (n .exact) (n .near)) (millionth (d .size) (d .exact) (d .near)) (straddled p a b h n d)
 
 -- ---- whole numbers from -c to c
 

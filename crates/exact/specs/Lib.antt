@@ -1,9 +1,11 @@
 pub mod Blend
 pub mod Corner
 pub mod Examples
+pub mod Keeps
 pub mod Monotone
 pub mod Operations
 pub mod Order
+pub mod Part
 pub mod Root
 pub mod Rounding
 pub mod Sine

@@ -19,7 +19,7 @@ use lib.Ieee.Order.{drop, kept}
 use Rattle.laws.specs.Certificate.{sub-pos}
 use Rattle.numbers.specs.Float.{_⊕_, _⊖_, _⊗_, _⊘_}
 use Rattle.exact.specs.Rounding.{Close, rounded, round-close, round-close-whole, close-cancel}
-use Rattle.exact.specs.Units.{W, W-pos, Val, signed, units, neg-val, Within, within-units}
+use Rattle.exact.specs.Units.{W, W-pos, Val, signed, signed-not, units, neg-val, Within, within-units}
 use Rattle.exact.specs.Order.{ltb-same, add-same, widen-left, widen-right}
 
 -- ---- what `round` makes, in units
@@ -32,7 +32,7 @@ round-val s a c h =
 
 -- ---- the operations as `round` of a fraction of units
 
-mul-is : (x y : Float) (s t : Bool) (a b : ℕ) → Val x s a → Val y t b → x ⊗ y ≡ round binary64 (unlike s t) (a * b) (W * W)
+pub mul-is : (x y : Float) (s t : Bool) (a b : ℕ) → Val x s a → Val y t b → x ⊗ y ≡ round binary64 (unlike s t) (a * b) (W * W)
 unfolding mul
 mul-is nan y s t a b p q = absurd p
 mul-is (inf u) y s t a b p q = absurd p
@@ -59,7 +59,7 @@ sum-same s A t B a b w c p q Wp Cp =
     r : (s : Bool) (X x : ℕ) → X * w ≡ x * c → round binary64 s X c ≡ round binary64 s x w
     r s X x e = round-same binary64 s X c x w Cp Wp e
 
-add-is : (x y : Float) (s t : Bool) (a b : ℕ) → Val x s a → Val y t b → x ⊕ y ≡ sum binary64 s a t b W
+pub add-is : (x y : Float) (s t : Bool) (a b : ℕ) → Val x s a → Val y t b → x ⊕ y ≡ sum binary64 s a t b W
 unfolding add
 add-is nan y s t a b p q = absurd p
 add-is (inf u) y s t a b p q = absurd p
@@ -81,7 +81,7 @@ div-same X Y a b De Dd w Wp p q =
     rest : (a De Dd b : ℕ) → a * De * Dd * b ≡ a * (b * Dd * De)
     rest a De Dd b = simp (mul-assoc, mul-comm, mul-left-comm)
 
-div-is : (x y : Float) (s t : Bool) (a b : ℕ) → Val x s a → Val y t b → 0 < b → x ⊘ y ≡ round binary64 (unlike s t) a b
+pub div-is : (x y : Float) (s t : Bool) (a b : ℕ) → Val x s a → Val y t b → 0 < b → x ⊘ y ≡ round binary64 (unlike s t) a b
 unfolding div
 div-is nan y s t a b p q B = absurd p
 div-is (inf u) y s t a b p q B = absurd p
@@ -183,14 +183,15 @@ pub record Sum (z : ℤ) (m : ℕ) (x : Float) : Type 0 where
   pub near : Close size exact exact
   pub small : exact ≤ m
   pub rounds : size ≡ rounded (exact * W) W
+  pub same : x ≡ round binary64 sign exact W
 
 -- x is what `round` makes of the exact number z of units, which is at most m either way
-record Exact (z : ℤ) (m : ℕ) (x : Float) : Type 0 where
-  sign : Bool
-  size : ℕ
-  same : x ≡ round binary64 sign size W
-  is : signed sign size ≡ z
-  small : size ≤ m
+pub record Exact (z : ℤ) (m : ℕ) (x : Float) : Type 0 where
+  pub sign : Bool
+  pub size : ℕ
+  pub same : x ≡ round binary64 sign size W
+  pub is : signed sign size ≡ z
+  pub small : size ≤ m
 
 less : (a b : ℕ) → a ≤ b → pos (b - a) ≡ negℤ (pos a) +ℤ pos b
 less a b h = sym (sub-pos a b h) ∙ +ℤ-comm (pos b) (negℤ (pos a))
@@ -198,7 +199,7 @@ less a b h = sym (sub-pos a b h) ∙ +ℤ-comm (pos b) (negℤ (pos a))
 less-neg : (a b : ℕ) → a ≤ b → negℤ (pos (b - a)) ≡ pos a +ℤ negℤ (pos b)
 less-neg a b h = ap negℤ (less a b h) ∙ negℤ-+ℤ (negℤ (pos a)) (pos b) ∙ ap (λ (z : ℤ). z +ℤ negℤ (pos b)) (negℤ-negℤ (pos a))
 
-exact-sum : (s : Bool) (a : ℕ) (t : Bool) (b : ℕ) → Exact (signed s a +ℤ signed t b) (a + b) (sum binary64 s a t b W)
+pub exact-sum : (s : Bool) (a : ℕ) (t : Bool) (b : ℕ) → Exact (signed s a +ℤ signed t b) (a + b) (sum binary64 s a t b W)
 unfolding sum
 exact-sum false a false b = record { sign = false; size = a + b; same = refl; is = refl; small = le-refl (a + b) }
 exact-sum true a true b = record { sign = true; size = a + b; same = refl; is = negℤ-+ℤ (pos a) (pos b); small = le-refl (a + b) }
@@ -242,15 +243,17 @@ add-units : (x y : Float) (s t : Bool) (a b : ℕ) → Val x s a → Val y t b �
 add-units x y s t a b p q ha hb =
     let e = exact-sum s a t b in
     let g = rounded (e .size * W) W in
+    let same = add-is x y s t a b p q ∙ e .same in
     record {
       sign = e .sign;
       exact = e .size;
       size = g;
       is = e .is;
-      val = subst (λ (z : Float). Val z (e .sign) g) (sym (add-is x y s t a b p q ∙ e .same)) (sum-val (e .sign) (e .size) a b (e .small) ha hb);
+      val = subst (λ (z : Float). Val z (e .sign) g) (sym same) (sum-val (e .sign) (e .size) a b (e .small) ha hb);
       near = sum-close (e .size);
       small = e .small;
       rounds = refl;
+      same = same;
     }
 
 pub add-law : {K L : ℕ} {x y : Float} (p : Within K x) (q : Within L y) → Moderate K → Moderate L → Sum (units x +ℤ units y) (p .size + q .size) (x ⊕ y)
@@ -262,10 +265,6 @@ unfolding sub
 sub-law {K} {L} {x} {y} p q hK hL =
     rw (within-units p, within-units q, ← signed-not (q .sign) (q .size))
     (add-units x (neg y) (p .sign) (not (q .sign)) (p .size) (q .size) (p .val) (neg-val y (q .sign) (q .size) (q .val)) (moderate hK p) (moderate hL q))
-  where
-    signed-not : (t : Bool) (b : ℕ) → signed (not t) b ≡ negℤ (signed t b)
-    signed-not false b = refl
-    signed-not true b = sym (negℤ-negℤ (pos b))
 
 pub sum-small : {z : ℤ} {m : ℕ} {x : Float} (K : ℕ) (p : Sum z m x) → m ≤ K * W → p .size ≤ 2 * K * W
 sum-small {z} {m} K p h = le-trans (twice (p .size) (p .exact) (K * W) (double (p .size) (p .exact) (p .near)) (p .small) h) (le-of-eq (sym (mul-assoc 2 K W)))

@@ -6,7 +6,7 @@ use mathlib.Core.Bool.{Bool, true, false, not, _&&_}
 use Prim.Native.Nat.{ℕ, zero, suc, _-_, _+_, _*_, _/_, _%_, _^_, _≤_, _<_}
 use native.Mathlib.Nat.{le-trans, mul-one, zero-mul, zero-div, mul-assoc, mul-div-cancel, mul-le-mul-right}
 use native.Mathlib.Omega.{arith}
-use lib.IntN.{ℤ, pos, negsuc, negℤ}
+use lib.IntN.{ℤ, pos, negsuc, negℤ, negℤ-negℤ}
 use lib.Dec.{T, lit≤, leb, ltb, eqb, leb→le}
 use lib.Pow.{pow-add, pow-pos}
 use lib.Ieee.{Float, nan, inf, fin, binary64, up, down, unlike, fits, neg}
@@ -50,6 +50,10 @@ Val x s a = HasValue x s a W
 pub unlike-self : (s : Bool) → unlike s s ≡ false
 unlike-self true = refl
 unlike-self false = refl
+
+pub signed-not : (t : Bool) (b : ℕ) → signed (not t) b ≡ negℤ (signed t b)
+signed-not false b = refl
+signed-not true b = sym (negℤ-negℤ (pos b))
 
 -- ---- the number of units in 1
 

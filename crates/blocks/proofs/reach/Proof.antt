@@ -1,0 +1,72 @@
+-- `blocks::reach` meets its contract: each part is what its call ensures, and the test of the side decides.
+use mathlib.Core.Path.{refl}
+use borrow.Author.Needs.{needs}
+use borrow.Author.Tests.{eq-eqb, ne-eqb}
+use Rattle.blocks.specs.Blocks.{reachOf}
+use Rattle.blocks.proofs.reach.Statement.{statement}
+use Rattle.blocks.proofs.reach.Tie as tie
+
+point-at-requires : tie.Need-point-at-requires
+point-at-requires c κs = search needs
+
+coordinate-requires : tie.Need-coordinate-requires
+coordinate-requires c κs = search needs
+
+point-after-requires : tie.Need-point-after-requires
+point-after-requires c κs = search needs
+
+coordinate-requires-2 : tie.Need-coordinate-requires-2
+coordinate-requires-2 c κs = search needs
+
+max-f64-requires : tie.Need-max-f64-requires
+max-f64-requires c κs = search needs
+
+max-f64-requires-2 : tie.Need-max-f64-requires-2
+max-f64-requires-2 c κs = search needs
+
+min-f64-requires : tie.Need-min-f64-requires
+min-f64-requires c κs = search needs
+
+min-f64-requires-2 : tie.Need-min-f64-requires-2
+min-f64-requires-2 c κs = search needs
+
+returns : tie.Need-returns
+unfolding reachOf
+returns c =
+    rw (
+      c .max-f642 .ensures,
+      c .before .max-f64 .ensures,
+      c .before .before .before .coordinate2 .ensures,
+      c .before .before .before .before .before .coordinate .ensures,
+      c .before .before .before .before .point-after .ensures,
+      c .before .before .before .before .before .before .point-at .ensures,
+      eq-eqb _ _ (c .before .before .if1 .taken),
+    ) refl
+
+returns-2 : tie.Need-returns-2
+unfolding reachOf
+returns-2 c =
+    rw (
+      c .min-f642 .ensures,
+      c .before .min-f64 .ensures,
+      c .before .before .before .coordinate2 .ensures,
+      c .before .before .before .before .before .coordinate .ensures,
+      c .before .before .before .before .point-after .ensures,
+      c .before .before .before .before .before .before .point-at .ensures,
+      ne-eqb _ _ (c .before .before .if1 .left),
+    ) refl
+
+pub reach-spec : {M : Type 1} → statement M
+reach-spec =
+    tie.close
+    (tie.spec
+    point-at-requires
+    coordinate-requires
+    point-after-requires
+    coordinate-requires-2
+    max-f64-requires
+    max-f64-requires-2
+    min-f64-requires
+    min-f64-requires-2
+    returns
+    returns-2)

@@ -1,5 +1,6 @@
 -- Boxes that are farther from a point than the best so far, and the search from any start. Definitions only.
-use mathlib.Core.Bool.{Bool, not, cond}
+use mathlib.Core.Bool.{Bool, not, _&&_, cond}
+use mathlib.Core.List.{List}
 use Prim.Native.Nat.{ℕ}
 use lib.ListN.{length}
 use lib.Ieee.{Float, lt}
@@ -11,6 +12,7 @@ use Rattle.domain.specs.Outline.{Outline}
 use Rattle.domain.specs.Accepted.{PointWithin}
 use Rattle.domain.specs.Search.{searchLoop, searchHole}
 use Rattle.blocks.specs.declared.Extent.{Extent}
+use Rattle.blocks.specs.Blocks.{isListed, blockExtent}
 
 -- far within what squares can hold: 2^20 either way
 abbrev pub Moderate : Point → Type 0
@@ -30,6 +32,10 @@ extentSquared p e =
 -- no segment in the box is nearer to p than the best so far
 unfoldable pub isFar : Point → Extent → Float → Bool
 isFar p e squared = not (lt (extentSquared p e) squared)
+
+-- block b is listed and its box is so
+unfoldable pub isPassed : Point → List Float → List ℕ → ℕ → Float → Bool
+isPassed p s blocks b squared = isListed blocks b && isFar p (blockExtent s blocks b) squared
 
 -- the search over all loops, from the best so far
 unfoldable pub searchFrom : Outline → Point → Search → Search

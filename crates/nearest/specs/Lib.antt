@@ -1,1 +1,4 @@
 pub mod Far
+pub mod FarLaws
+pub mod GuessLaws
+pub mod PassLaws

@@ -1,14 +1,15 @@
 // `nearest_segment` of the outline by blocks (crate blocks): those farther from the point than the best so far are passed over. The answer is proved to be
 // that of the plain search (crate domain).
 ghost use mathlib.Core.Path.{_≡_};
+ghost use mathlib.Core.Bool.{true};
 ghost use Prim.Native.Nat.{_+_, _*_, _≤_, _<_};
 ghost use lib.ListN.{length};
+ghost use Rattle.exact.specs.Units.{Within};
 ghost use Rattle.domain.specs.Outline.{outline, points};
-ghost use Rattle.domain.specs.Accepted.{LoopWithin};
 ghost use Rattle.domain.specs.Queries.{nearestSegment};
 ghost use Rattle.domain.specs.Search.{searchTurn, searchLoop};
-ghost use Rattle.blocks.specs.Blocks.{forBetween, BlockThere, LoopDrawn, Drawn, segmentExtent, blockExtent};
-ghost use Rattle.nearest.specs.Far.{Moderate, gap, isFar, searchFrom};
+ghost use Rattle.blocks.specs.Blocks.{forBetween, reach, sideAt, BlockThere, LoopDrawn, Drawn, blockExtent};
+ghost use Rattle.nearest.specs.Far.{Moderate, gap, isFar, isPassed, searchFrom};
 use blocks::BLOCK;
 use blocks::Extent;
 use domain::Near;
@@ -33,47 +34,49 @@ fn is_far(p: Point, e: Extent, squared: f64) -> bool
     !(dx * dx + dy * dy < squared)
 }
 
-fn segment_extent(s: &[f64], i: usize) -> Extent
-    requires { ⌜ 2 * i + 1 < length (now s) ⌝ }
-    ensures { λ r. ⌜ r ≡ segmentExtent (now (s .entry)) i ⌝ }
+// Side d of the box of block b.
+fn side(s: &[f64], blocks: &[u32], b: usize, d: usize) -> f64
+    requires { ⌜ BlockThere (now s) (now blocks) b × (d < 4) ⌝ }
+    ensures { λ r. ⌜ r ≡ reach d (now (s .entry)) (sideAt (now (blocks .entry)) b d) ⌝ }
 {
-    Extent {
-        xmin: blocks::reach(0, s, i),
-        xmax: blocks::reach(1, s, i),
-        ymin: blocks::reach(2, s, i),
-        ymax: blocks::reach(3, s, i),
-    }
+    blocks::reach(d, s, blocks[4 * b + d] as usize)
 }
 
 fn block_extent(s: &[f64], blocks: &[u32], b: usize) -> Extent
     requires { ⌜ BlockThere (now s) (now blocks) b ⌝ }
     ensures { λ r. ⌜ r ≡ blockExtent (now (s .entry)) (now (blocks .entry)) b ⌝ }
 {
-    let at = 4 * b;
     Extent {
-        xmin: blocks::reach(0, s, blocks[at] as usize),
-        xmax: blocks::reach(1, s, blocks[at + 1] as usize),
-        ymin: blocks::reach(2, s, blocks[at + 2] as usize),
-        ymax: blocks::reach(3, s, blocks[at + 3] as usize),
+        xmin: side(s, blocks, b, 0),
+        xmax: side(s, blocks, b, 1),
+        ymin: side(s, blocks, b, 2),
+        ymax: side(s, blocks, b, 3),
     }
 }
 
-// The search over the segments `from` up to `to`: a box is asked first, for it takes no division.
+// Whether block b is listed and no segment of it is nearer to p than the best so far.
+fn is_passed(p: Point, s: &[f64], blocks: &[u32], b: usize, squared: f64) -> bool
+    requires { ⌜ (b ≤ 2305843009213693952) × (4 * b + 3 < length (now blocks) → BlockThere (now s) (now blocks) b) ⌝ }
+    ensures { λ r. ⌜ r ≡ isPassed p (now (s .entry)) (now (blocks .entry)) b squared ⌝ }
+{
+    if blocks::is_listed(blocks, b) {
+        is_far(p, block_extent(s, blocks, b), squared)
+    } else {
+        false
+    }
+}
+
+// The search over the segments `from` up to `to`. To ask each one's box first would take longer than the division that it spares.
 fn search_part(p: Point, s: &[f64], from: usize, to: usize, best: Search) -> Search
-    requires { ⌜ (from ≤ to) × (to ≤ points (now s)) × Moderate p × LoopWithin (now s) ⌝ }
+    requires { ⌜ (from ≤ to) × (to ≤ points (now s)) ⌝ }
     ensures { λ r. ⌜ r ≡ forBetween from to (searchTurn p (now (s .entry))) best ⌝ }
 {
     let mut found = best;
     let mut i = from;
     while i < to {
-        if !is_far(p, segment_extent(s, i), found.squared) {
-            found = domain::search_segment(
-                p,
-                domain::point_at(s, i),
-                domain::point_after(s, i),
-                found,
-            );
-        }
+        let a = domain::point_at(s, i);
+        let b = domain::point_after(s, i);
+        found = domain::search_segment(p, a, b, found);
         i += 1;
     }
     found
@@ -88,7 +91,7 @@ fn search_loop(p: Point, s: &[f64], blocks: &[u32], first: usize, best: Search) 
     let mut from = 0;
     let mut b = first;
     while from < n {
-        if !(blocks::is_listed(blocks, b) && is_far(p, block_extent(s, blocks, b), found.squared)) {
+        if !is_passed(p, s, blocks, b, found.squared) {
             found = search_part(p, s, from, blocks::block_end(n, from), found);
         }
         from += BLOCK;
@@ -127,7 +130,24 @@ fn search_all<'a>(
     found
 }
 
-// Slightly more than the squared distance of p from the segment guessed.
+fn is_moderate(x: f64) -> bool
+    ensures { λ r. ⌜ (r ≡ true → Within 1048576 x) ⌝ }
+{
+    numbers::abs_f64(x) <= 1048576.0
+}
+
+// Whether p is near enough for the search by blocks.
+fn is_near(p: Point) -> bool
+    ensures { λ r. ⌜ (r ≡ true → Moderate p) ⌝ }
+{
+    if is_moderate(p.x) {
+        is_moderate(p.y)
+    } else {
+        false
+    }
+}
+
+// Slightly more than the squared distance of p from the segment guessed. The answer is the same with any other number, so nothing is promised of it.
 fn limit(p: Point, guess: Near) -> f64 {
     domain::squared_distance(p, domain::foot_of(p, guess.a, guess.b)) * 1.000001 + 1.0e-12
 }
@@ -149,18 +169,13 @@ pub fn nearest_segment<'a>(
         return domain::nearest_segment(outer, holes, lens, p);
     }
     let start = domain::search_start();
+    let nowhere = start.near;
     let squared = limit(p, guess);
-    let first = search_all(
-        outer,
-        holes,
-        lens,
-        blocks,
-        p,
-        Search {
-            near: start.near,
-            squared,
-        },
-    );
+    let guessed = Search {
+        near: nowhere,
+        squared,
+    };
+    let first = search_all(outer, holes, lens, blocks, p, guessed);
     let near = first.near;
     if near.distance < numbers::sqrt_f64(squared) {
         return near;

@@ -1,16 +1,18 @@
 -- What refusals 1 to 9 leave of an outline, a size and the places lent: a grid of at most 250,000 nodes, with room for each. Assumes
 -- nothing.
-use mathlib.Core.Bool.{false}
+use mathlib.Core.List.{List}
 use mathlib.Core.Path.{_≡_, sym, ap, _∙_, subst}
-use Prim.Native.Nat.{ℕ, _*_, _/_, _≤_, min}
+use Prim.Native.Nat.{ℕ, _*_, _/_, _≤_, _<_, min, zero-le}
 use native.Mathlib.Nat.{le-trans, le-of-eq, mul-comm, mul-le-mul-left, mul-le-mul-right}
 use native.Mathlib.Omega.{arith}
 use borrow.Author.Tests.{ltb-false}
 use lib.Dec.{T, ltb}
+use lib.ListN.{length}
 use lib.Ieee.{Float, binary64, fits}
 use Rattle.numbers.specs.Float.{_⊖_, _⊗_, halfF}
-use Rattle.domain.specs.Outline.{Outline, firstOf, misshapen, outlineRefusal}
+use Rattle.domain.specs.Outline.{Outline, firstOf, loopAt, outlineRefusal}
 use Rattle.domain.specs.Accepted.{cond-zero, first-zero, OutlineFits, accepted}
+use Rattle.blocks.specs.Blocks.{Drawn}
 use Rattle.crossfield.specs.declared.Bounds.{Bounds}
 use Rattle.crossfield.specs.declared.Grid.{Grid}
 use Rattle.crossfield.specs.Grid.{bounds, spacing, gridOf, gridNodes, mostFieldNodes, sizeRefusal, boundsRefusal, sweepsRefusal}
@@ -94,11 +96,14 @@ room-made o size n places floats bytes {b} {g} none lent same made =
     (le-trans (le-of-eq (ap gridNodes (made ∙ ap (λ (b : Bounds). gridOf b size) same)))
     (le-trans (unrefused o size n places none .room) (le-of-eq lent)))
 
--- what the seeds ask
+-- what the seeds ask besides
 pub seeds-ask : (o : Outline) (size : Float) (n places floats bytes : ℕ) {b : Bounds} {g : Grid} → OutlineFits o → T (fits binary64 size)
     → refusalFor o size n places ≡ 0 → places ≡ min (floats / 2) bytes → b ≡ bounds o → g ≡ gridOf b size
-    → (misshapen o ≡ false) × (Room (g .nx) (g .ny) floats bytes × ((g .nx ≤ mostFieldNodes) × (g .ny ≤ mostFieldNodes)))
-seeds-ask o size n places floats bytes {b} {g} doubles held none lent same made = (
-  accepted o (unrefused o size n places none .outline) .shape,
-  (room-made o size n places floats bytes none lent same made, short-sides b size g made (few-made o size n places doubles held none same)),
-)
+    → Room (g .nx) (g .ny) floats bytes × ((g .nx ≤ mostFieldNodes) × (g .ny ≤ mostFieldNodes))
+seeds-ask o size n places floats bytes {b} {g} doubles held none lent same made =
+    (room-made o size n places floats bytes none lent same made, short-sides b size g made (few-made o size n places doubles held none same))
+
+-- the outer loop has a first segment
+pub two-points : {o : Outline} {blocks : List ℕ} → Drawn o blocks → 3 < length (o .outer)
+unfolding loopAt
+two-points {o} d = let h = accepted o (d .taken) .three 0 zero-le in omega arith

@@ -42,12 +42,13 @@ normalised v =
     let n = norm (v .x) (v .y) in
     cond (lt tolerance n) (point (v .x ⊘ n) (v .y ⊘ n)) (point oneF zeroF)
 
+-- a sum of so many
+abbrev pub divided : Point → ℕ → Point
+divided sum count = point (sum .x ⊘ toFloat count) (sum .y ⊘ toFloat count)
+
 -- the sum, divided by the count and normalised
 unfoldable pub average : Grid → List Float → ℕ → ℕ → Point
-average g values j i =
-    let count = toFloat (neighbourCount g j i) in
-    let sum = neighbourSum g values j i in
-    normalised (point (sum .x ⊘ count) (sum .y ⊘ count))
+average g values j i = normalised (divided (neighbourSum g values j i) (neighbourCount g j i))
 
 -- a sweep's values so far, and whether no node's two values have changed by 1e-7 or more in sum
 pub record Swept : Type 0 where

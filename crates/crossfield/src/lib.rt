@@ -11,7 +11,7 @@ ghost use Rattle.blocks.specs.Blocks.{Drawn};
 ghost use Rattle.crossfield.specs.Grid.{noBounds, widened, loopBounds, bounds, gridCount, tooManyNodes, spacing, gridOf, sizeRefusal};
 ghost use Rattle.crossfield.specs.Grid.{boundsRefusal, sweepsRefusal, mostFieldNodes, gridNodes};
 ghost use Rattle.crossfield.specs.Seeds.{fieldLists, gridPoint, seed, isFixed, markOf, seedNode, seedRow, seeded};
-ghost use Rattle.crossfield.specs.Sweeps.{plusIf, oneIf, neighbourSum, neighbourCount, normalised, average, swept, change, relaxed};
+ghost use Rattle.crossfield.specs.Sweeps.{plusIf, oneIf, neighbourSum, neighbourCount, normalised, divided, average, swept, change, relaxed};
 ghost use Rattle.crossfield.specs.Sweeps.{sweepNode, sweepRow, sweep, sweeps};
 ghost use Rattle.crossfield.specs.Field.{fieldRecord, placesRefusal, refusalFor, fieldResult, fieldAnswer, FieldDraws};
 ghost use Rattle.crossfield.specs.Direction.{within, valueUnsound, countsSound, gridSound, recordRefusal, cellOf, weighed, rawAt};
@@ -447,17 +447,30 @@ fn normalised(v: Point) -> Point
     }
 }
 
+// The sum divided by the count. Most nodes have four neighbours, and a division by the literal is compiled to a multiplication.
+fn divided(sum: Point, count: u32) -> Point
+    ensures { λ r. ⌜ r ≡ divided sum count ⌝ }
+{
+    if count == 4 {
+        return Point {
+            x: sum.x / 4.0,
+            y: sum.y / 4.0,
+        };
+    }
+    let n = count as f64;
+    Point {
+        x: sum.x / n,
+        y: sum.y / n,
+    }
+}
+
 // The neighbours' average, normalised, at node (i, j), whose number is id.
 fn average(g: Grid, values: &[f64], j: usize, i: usize, id: usize) -> Point
     requires { ⌜ Node (g .nx) (g .ny) j i id (length (now values)) ⌝ }
     ensures { λ r. ⌜ r ≡ average g (now (values .entry)) j i ⌝ }
 {
     let sum = neighbour_sum(g, values, j, i, id);
-    let count = neighbour_count(g, j, i) as f64;
-    normalised(Point {
-        x: sum.x / count,
-        y: sum.y / count,
-    })
+    normalised(divided(sum, neighbour_count(g, j, i)))
 }
 
 // How much a value changes, in sum.
@@ -531,7 +544,8 @@ fn sweep_two_rows(
 ) -> bool
     requires { ⌜ Row (g .nx) (g .ny) j base (length (now values)) ⌝ }
     requires { ⌜ (j + 1 < g .ny) × (base + g .nx + g .nx ≤ length (now marks)) ⌝ }
-    ensures { λ r. ⌜ swept (now (values .exit)) r ≡ sweepRow g (now (marks .entry)) (j + 1) (sweepRow g (now (marks .entry)) j (swept (now (values .entry)) quiet)) ⌝ }
+    ensures { λ r. ⌜ swept (now (values .exit)) r
+        ≡ sweepRow g (now (marks .entry)) (j + 1) (sweepRow g (now (marks .entry)) j (swept (now (values .entry)) quiet)) ⌝ }
 {
     let nx = g.nx;
     if nx == 0 {

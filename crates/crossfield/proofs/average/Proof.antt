@@ -10,8 +10,8 @@ neighbour-sum-requires c κs = search needs
 neighbour-count-requires : tie.Need-neighbour-count-requires
 neighbour-count-requires c κs = search needs
 
-int-to-float-count : tie.Need-int-to-float-count
-int-to-float-count c = search needs
+divided-requires : tie.Need-divided-requires
+divided-requires c κs = search needs
 
 normalised-requires : tie.Need-normalised-requires
 normalised-requires c κs = search needs
@@ -19,8 +19,9 @@ normalised-requires c κs = search needs
 returns : tie.Need-returns
 unfolding average
 returns c = rw (
-  ← c .before .before .before .before .before .neighbour-sum .ensures,
-  ← c .before .before .before .before .neighbour-count .ensures,
+  ← c .before .before .before .neighbour-sum .ensures,
+  ← c .before .before .neighbour-count .ensures,
+  ← c .before .divided .ensures,
 ) (c .normalised .ensures)
 
 pub average-spec : {M : Type 1} → statement M
@@ -29,6 +30,6 @@ average-spec =
     (tie.spec
     neighbour-sum-requires
     neighbour-count-requires
-    int-to-float-count
+    divided-requires
     normalised-requires
     returns)

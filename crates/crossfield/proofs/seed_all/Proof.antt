@@ -11,40 +11,34 @@ use Rattle.crossfield.proofs.seed_all.Statement.{statement}
 use Rattle.crossfield.proofs.seed_all.Tie as tie
 
 abbrev Inv-loop : tie.InvT-loop
-Inv-loop outer holes lens g values₀ marks₀ nx ny base₀ j₀ values marks base j =
+Inv-loop outer holes lens blocks g values₀ marks₀ nx ny base₀ j₀ values marks base j =
     (length values ≡ length values₀) × (length marks ≡ length marks₀) × (base ≡ j * nx) × Loop (seedRow (outline outer holes lens) g)
     (fieldLists values₀ marks₀) ny j (fieldLists values marks)
 
 abbrev μ-loop : tie.MeasureT-loop
-μ-loop outer holes lens g values₀ marks₀ nx ny base₀ j₀ values marks base j = ny - j
+μ-loop outer holes lens blocks g values₀ marks₀ nx ny base₀ j₀ values marks base j = ny - j
 
 loop-holds : tie.Need-loop-holds Inv-loop μ-loop
 loop-holds c = (refl, refl, omega arith, loop-start _ _ _)
 
 seed-row-requires : tie.Need-seed-row-requires Inv-loop μ-loop
-seed-row-requires c κs = (
-  c .before .before .before .before .before .before .before .before .before .pre .0,
-  (
-    row-of (c .before .before .before .loop .j) (c .before .before .before .loop .inv .2) (c .before .before .loop-test .taken)
-        (c .before .before .before .before .before .before .before .before .before .pre .1 .0 .values)
-        (c .before .before .before .loop .inv .0),
-    row-marks (c .before .before .before .loop .j) (c .before .before .before .before .before .before .before .before .before .pre .1 .0)
-        (c .before .before .before .before .before .before .before .before .before .pre .1 .1 .0)
-        (c .before .before .before .before .before .before .before .before .before .pre .1 .1 .1) (c .before .before .before .loop .inv .2)
-        (c .before .before .loop-test .taken) (c .before .before .before .loop .inv .1),
-  ),
-)
+seed-row-requires c κs =
+    let asked = c .before .before .before .before .before .before .before .before .before .before .pre in
+    let turn = c .before .before .before .loop in
+    let less = c .before .before .loop-test .taken in (
+      asked .0,
+      (
+        row-of (turn .j) (turn .inv .2) less (asked .1 .0 .values) (turn .inv .0),
+        row-marks (turn .j) (asked .1 .0) (asked .1 .1 .0) (asked .1 .1 .1) (turn .inv .2) less (turn .inv .1),
+      ),
+    )
 
 add-base : tie.Need-add-base Inv-loop μ-loop
-add-base c = omega (
-  arith,
-  c .before .before .before .before .before .before .before .before .loop .inv .2,
-  c .before .before .before .before .before .before .before .before .before .before .before .before .before .before .pre .1 .0 .marks,
-  row-in (c .before .before .before .before .before .before .before .before .loop .j)
-      (c .before .before .before .before .before .before .before .before .before .before .before .before .before .before .args .g .ny)
-      (c .before .before .before .before .before .before .before .before .before .before .before .before .before .before .args .g .nx)
-      (c .before .before .before .before .before .before .before .loop-test .taken),
-)
+add-base c =
+    let start = c .before .before .before .before .before .before .before .before .before .before .before .before .before .before .before in
+    let turn = c .before .before .before .before .before .before .before .before .loop in
+    let less = c .before .before .before .before .before .before .before .loop-test .taken in
+    omega (arith, turn .inv .2, start .pre .1 .0 .marks, row-in (turn .j) (start .args .g .ny) (start .args .g .nx) less)
 
 add-j : tie.Need-add-j Inv-loop μ-loop
 add-j c = omega arith
@@ -53,16 +47,14 @@ loop-less : tie.Need-loop-less Inv-loop μ-loop
 loop-less c = omega arith
 
 loop-again : tie.Need-loop-again Inv-loop μ-loop
-loop-again c = (
-  c .before .before .before .before .seed-row .kept .1 .1 .1 .1 .0
-      ∙ c .before .before .before .before .before .before .before .before .loop .inv .0,
-  c .before .before .before .before .seed-row .kept .1 .1 .1 .1 .1 .0
-      ∙ c .before .before .before .before .before .before .before .before .loop .inv .1,
-  omega (arith, c .before .before .before .before .before .before .before .before .loop .inv .2),
-  rw (c .before .before .before .before .seed-row .ensures)
-      (loop-next _ _ (c .before .before .before .before .before .before .before .before .loop .inv .3)
-      (c .before .before .before .before .before .before .before .loop-test .taken)),
-)
+loop-again c =
+    let call = c .before .before .before .before .seed-row in
+    let turn = c .before .before .before .before .before .before .before .before .loop in (
+      call .kept .1 .1 .1 .1 .1 .0 ∙ turn .inv .0,
+      call .kept .1 .1 .1 .1 .1 .1 .0 ∙ turn .inv .1,
+      omega (arith, turn .inv .2),
+      rw (call .ensures) (loop-next _ _ (turn .inv .3) (c .before .before .before .before .before .before .before .loop-test .taken)),
+    )
 
 same-length : tie.Need-same-length Inv-loop μ-loop
 same-length c = c .before .loop .inv .0

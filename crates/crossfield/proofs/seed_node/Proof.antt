@@ -1,4 +1,5 @@
 -- `crossfield::seed_node` meets its contract. Assumes nothing.
+use mathlib.Core.Path.{refl}
 use Prim.Native.Nat.{_*_}
 use native.Mathlib.Omega.{arith}
 use borrow.Author.Needs.{needs}
@@ -27,52 +28,42 @@ mark-of-requires : tie.Need-mark-of-requires
 mark-of-requires c κs = search needs
 
 mul-k : tie.Need-mul-k
-mul-k c = omega (
-  arith,
-  c .before .before .before .before .before .before .before .before .before .before .before .good .1 .1 .1 .1 .0,
-  here-in (c .before .before .before .before .before .before .before .before .before .before .before .pre .1 .0),
-)
+mul-k c =
+    let start = c .before .before .before .before .before .before .before .before .before .before .before .before in
+    omega (arith, start .good .1 .1 .1 .1 .1 .0, here-in (start .pre .1 .0))
 
 mul-values : tie.Need-mul-values
-mul-values c = omega (
-  arith,
-  c .before .before .before .before .before .before .before .before .before .before .before .good .1 .1 .1 .1 .0,
-  here-in (c .before .before .before .before .before .before .before .before .before .before .before .pre .1 .0),
-)
+mul-values c =
+    let start = c .before .before .before .before .before .before .before .before .before .before .before .before in
+    omega (arith, start .good .1 .1 .1 .1 .1 .0, here-in (start .pre .1 .0))
 
 slice-write-values : tie.Need-slice-write-values
-slice-write-values c = omega (
-  arith,
-  c .before .before .before .before .before .before .before .before .before .before .before .good .1 .1 .1 .1 .0,
-  here-in (c .before .before .before .before .before .before .before .before .before .before .before .pre .1 .0),
-)
+slice-write-values c =
+    let start = c .before .before .before .before .before .before .before .before .before .before .before .before in
+    omega (arith, start .good .1 .1 .1 .1 .1 .0, here-in (start .pre .1 .0))
 
 add-values : tie.Need-add-values
-add-values c = omega (
-  arith,
-  c .before .before .before .before .before .before .before .before .before .before .before .good .1 .1 .1 .1 .0,
-  here-in (c .before .before .before .before .before .before .before .before .before .before .before .pre .1 .0),
-)
+add-values c =
+    let start = c .before .before .before .before .before .before .before .before .before .before .before .before in
+    omega (arith, start .good .1 .1 .1 .1 .1 .0, here-in (start .pre .1 .0))
 
 mul-values-2 : tie.Need-mul-values-2
-mul-values-2 c = omega (
-  arith,
-  c .before .before .before .before .before .before .before .before .before .before .before .good .1 .1 .1 .1 .0,
-  here-in (c .before .before .before .before .before .before .before .before .before .before .before .pre .1 .0),
-)
+mul-values-2 c =
+    let start = c .before .before .before .before .before .before .before .before .before .before .before .before in
+    omega (arith, start .good .1 .1 .1 .1 .1 .0, here-in (start .pre .1 .0))
 
 slice-write-values-2 : tie.Need-slice-write-values-2
-slice-write-values-2 c = omega (
-  arith,
-  c .before .before .before .before .before .before .before .before .before .before .before .good .1 .1 .1 .1 .0,
-  here-in (c .before .before .before .before .before .before .before .before .before .before .before .pre .1 .0),
-  length-set (c .before .before .before .before .before .before .before .before .before .before .before .args .values .now)
-      (2 * c .before .before .before .before .before .before .before .before .before .before .before .args .id)
-      (c .before .before .seed .result .x),
-)
+slice-write-values-2 c =
+    let start = c .before .before .before .before .before .before .before .before .before .before .before .before in
+    omega (
+      arith,
+      start .good .1 .1 .1 .1 .1 .0,
+      here-in (start .pre .1 .0),
+      length-set (start .args .values .now) (2 * start .args .id) (c .before .before .seed .result .x),
+    )
 
 slice-write-marks : tie.Need-slice-write-marks
-slice-write-marks c = omega (arith, c .before .before .before .before .before .before .before .before .before .before .before .pre .1 .1 .mark)
+slice-write-marks c = omega (arith, c .before .before .before .before .before .before .before .before .before .before .before .before .pre .1 .1 .mark)
 
 same-length : tie.Need-same-length
 same-length c = search needs
@@ -83,14 +74,14 @@ same-length-2 c = search needs
 returns : tie.Need-returns
 unfolding seedNode setValue
 returns c = rw (
-  ← c .before .before .before .before .before .before .before .before .before .before .before .pre .1 .0 .at,
+  ← c .before .before .before .before .before .before .before .before .before .before .before .before .pre .1 .0 .at,
   ← c .before .before .before .before .before .grid-point .ensures,
   ← c .before .before .before .before .nearest-segment .ensures,
   ← c .before .before .before .tangent .ensures,
   ← c .before .before .seed .ensures,
   ← c .before .is-fixed .ensures,
   ← c .mark-of .ensures,
-)
+) (refl, refl)
 
 pub seed-node-spec : {M : Type 1} → statement M
 seed-node-spec =

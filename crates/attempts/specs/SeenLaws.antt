@@ -1,5 +1,5 @@
 -- Each check reads only the lists that its function is lent; so an attempt on a state is that on what `seenOf` keeps of it. Assumes nothing.
-use mathlib.Core.Path.{_≡_, refl, sym, _∙_}
+use mathlib.Core.Path.{_≡_, refl, sym, ap, _∙_}
 use mathlib.Core.Bool.{Bool, not, _&&_}
 use mathlib.Core.List.{[]}
 use Prim.Native.Nat.{ℕ}
@@ -23,6 +23,7 @@ use Rattle.indexed.specs.Rects.{blocksAt}
 use Rattle.paving.specs.Checks.{closeNode, tooClose, nodeOk, cornerFree, cornersApart, blocks, nodeInside}
 use Rattle.paving.specs.Checks.{edgeCrosses, edgesFree, cornersOf, quadOk, quadFits}
 use Rattle.paving.specs.Attempt.{isReused, cornerAt, cornerC, cornerD, ideal, quadIf, attemptQuad, normalOf, tryToward, tryEdge}
+use Rattle.attempts.specs.Chain.{exchange}
 use Rattle.attempts.specs.Seen.{seen, seenOf, seenNodes, seenPoints, seenEdges}
 
 -- ---- the tests of the scans, by what the code has at hand: r is the test's answer
@@ -103,15 +104,22 @@ pub quad-ok-is : (s : State) (o : Outline) (size : Float) (a b : ℕ) (c d : Cor
 unfolding quadOk
 quad-ok-is s o size a b c d e = rw (e, corners-seen s a b c d, node-inside-seen s size (cornersOf s a b c d) a b (idD s c d) (idC s c))
 
--- every check, where c and d have or get the numbers u and v
+-- every check in the order of the code, where c and d have or get the numbers u and v
 pub quad-fits-is : (s : State) (o : Outline) (size : Float) (a b : ℕ) (c d : Corner) {u v : ℕ} → u ≡ idC s c → v ≡ idD s c d
     → quadFits o size s a b c d
-    ≡ not (eqb u v) && (cornerFree o size (seenNodes (s .xs) (s .ys) (s .counts)) c
-    && (cornerFree o size (seenNodes (s .xs) (s .ys) (s .counts)) d && (cornersApart size c d
-    && (not (eqb (nextOf s u) v) && quadOk o size (seenEdges (s .xs) (s .ys) (s .edges) (s .counts)) a b c d))))
+    ≡ not (eqb u v) && (cornersApart size c d && (not (eqb (nextOf s u) v)
+    && (cornerFree o size (seenNodes (s .xs) (s .ys) (s .counts)) c && (cornerFree o size (seenNodes (s .xs) (s .ys) (s .counts)) d
+    && quadOk o size (seenEdges (s .xs) (s .ys) (s .edges) (s .counts)) a b c d))))
 unfolding quadFits
 quad-fits-is s o size a b c d eu ev =
+    let free-c = cornerFree o size s c in
+    let free-d = cornerFree o size s d in
+    let apart = cornersApart size c d in
+    let new = not (eqb (nextOf s (idC s c)) (idD s c d)) in
+    let ok = quadOk o size s a b c d in
     rw (eu, ev, corner-free-seen s o size c, corner-free-seen s o size d, quad-ok-seen s o size a b c d)
+    (ap (λ (r : Bool). not (eqb (idC s c) (idD s c d)) && r)
+    (rw (exchange free-d apart (new && ok), exchange free-d new ok, exchange free-c apart (new && (free-d && ok)), exchange free-c new (free-d && ok)) refl))
 
 -- a corner chosen at the node u, towards t
 pub corner-is : (s : State) (size : Float) (other u v : ℕ) (t : Point) {p q : Point} {w : ℕ} {c : Corner}

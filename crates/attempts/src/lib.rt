@@ -1,4 +1,4 @@
-// The read-only part of the paving (src/alt_crossfield.rs): the choice of corners, the checks of `attempt_quad` in their order, and `try_edge`.
+// The read-only part of the paving (src/alt_crossfield.rs): the choice of corners, the checks of `attempt_quad`, and `try_edge`.
 // Lists are lent as a `Paving` holds them. A contract speaks of the state that has just the lists its function is lent (specs/Seen.antt);
 // the laws in specs/SeenLaws.antt carry it to a state with all of them. Each scan is one function.
 ghost use mathlib.Core.Path.{_≡_};

@@ -18,15 +18,15 @@ use Rattle.advance.proofs.advance.Statement.{statement}
 use Rattle.advance.proofs.advance.Tie as tie
 
 abbrev Inv-loop : tie.InvT-loop
-Inv-loop outer holes lens size grid values xs₀ ys₀ next₀ prev₀ snapshot₀ quads₀ edges₀ nodePool₀ edgePool₀ passes most counts₀ i₀ xs ys next prev snapshot quads
-    edges nodePool edgePool counts i =
+Inv-loop outer holes lens blocks size grid values xs₀ ys₀ next₀ prev₀ snapshot₀ quads₀ edges₀ nodePool₀ edgePool₀ passes most counts₀ i₀ xs ys next prev
+    snapshot quads edges nodePool edgePool counts i =
     Run (passesTurn (outline outer holes lens) size (fieldRecord grid values [])) allUsed
     (stateOf xs₀ ys₀ next₀ prev₀ snapshot₀ quads₀ edges₀ counts₀) most i (stateOf xs ys next prev snapshot quads edges counts)
     × Pools size xs ys edges counts nodePool₀ edgePool₀ nodePool edgePool
 
 abbrev μ-loop : tie.MeasureT-loop
-μ-loop outer holes lens size grid values xs₀ ys₀ next₀ prev₀ snapshot₀ quads₀ edges₀ nodePool₀ edgePool₀ passes most counts₀ i₀ xs ys next prev snapshot quads
-    edges nodePool edgePool counts i =
+μ-loop outer holes lens blocks size grid values xs₀ ys₀ next₀ prev₀ snapshot₀ quads₀ edges₀ nodePool₀ edgePool₀ passes most counts₀ i₀ xs ys next prev
+    snapshot quads edges nodePool edgePool counts i =
     most - i
 
 -- the outline, the field and the state as they are lent
@@ -45,11 +45,12 @@ lent s =
 abbrev start : tie.At-loop Inv-loop μ-loop → tie.Start Inv-loop μ-loop
 start c =
     let at-most-passes = c .before .before .before .before .before .before .before .before .before .before .before .before in
-    at-most-passes .before .before .before .before .before .before .before .before .before .before .before .before .before
+    at-most-passes .before .before .before .before .before .before .before .before .before .before .before .before .before .before
 
-later : (c : tie.At-loop Inv-loop μ-loop) → Later (around (start c)) (start c .args .grid) (start c .args .values .now) (lent (start c))
+later : (c : tie.At-loop Inv-loop μ-loop) → Later (around (start c)) (start c .args .blocks .now) (start c .args .grid) (start c .args .values .now)
+    (lent (start c))
     (stateOf (c .loop .xs) (c .loop .ys) (c .loop .next) (c .loop .prev) (c .loop .snapshot) (c .loop .quads) (c .loop .edges) (c .loop .counts))
-later c = in-advance (around (start c)) (start c .args .size) _ _ (field (start c)) (lent (start c)) (start c .pre) (c .loop .inv .0)
+later c = in-advance (around (start c)) _ (start c .args .size) _ _ (field (start c)) (lent (start c)) (start c .pre) (c .loop .inv .0)
 
 most-passes-requires : tie.Need-most-passes-requires Inv-loop μ-loop
 most-passes-requires c κs = search needs
@@ -57,8 +58,8 @@ most-passes-requires c κs = search needs
 file-all-requires : tie.Need-file-all-requires Inv-loop μ-loop
 file-all-requires c κs =
     let at-slice-known3 = c .before .before .before .before .before .before .before .before .before .before .before .before in
-    let start = at-slice-known3 .before .before .before .before .before .before .before in
-    held _ _ _ _ (start .pre) .edges
+    let start = at-slice-known3 .before .before .before .before .before .before .before .before in
+    held _ _ _ _ _ (start .pre) .edges
 
 loop-holds : tie.Need-loop-holds Inv-loop μ-loop
 loop-holds c =
@@ -90,8 +91,8 @@ loop-again c =
           (pass-on (at-pass .pass .result) (at-pass .pass .ensures .0) (at-p .p .given .1)),
       record {
         search = search-at (ap (λ (r : Swept). passedCounts r) (at-p .p .given .1)) (at-pass .pass .ensures .1);
-        node-long = at-pass .pass .kept .1 .1 .1 .1 .1 .1 .1 .1 .1 .1 .1 .1 .1 .0 ∙ at-loop .loop .inv .1 .node-long;
-        edge-long = at-pass .pass .kept .1 .1 .1 .1 .1 .1 .1 .1 .1 .1 .1 .1 .1 .1 .0 ∙ at-loop .loop .inv .1 .edge-long;
+        node-long = at-pass .pass .kept .1 .1 .1 .1 .1 .1 .1 .1 .1 .1 .1 .1 .1 .1 .0 ∙ at-loop .loop .inv .1 .node-long;
+        edge-long = at-pass .pass .kept .1 .1 .1 .1 .1 .1 .1 .1 .1 .1 .1 .1 .1 .1 .1 .0 ∙ at-loop .loop .inv .1 .edge-long;
       },
     )
 
@@ -103,49 +104,49 @@ same-length c =
     let at-snapshot = c .before .before .before .before .before .before .before .before .before .before .before .before in
     let at-pass = at-snapshot .before .before .before .before .before .before .before .before .before in
     let at-loop = at-pass .before .before .before .before .before .before .before .before .before .before .before in
-    at-pass .pass .kept .1 .1 .1 .1 .1 .1 .0 ∙ later at-loop .frame .xs .long
+    at-pass .pass .kept .1 .1 .1 .1 .1 .1 .1 .0 ∙ later at-loop .frame .xs .long
 
 same-length-2 : tie.Need-same-length-2 Inv-loop μ-loop
 same-length-2 c =
     let at-snapshot = c .before .before .before .before .before .before .before .before .before .before .before .before in
     let at-pass = at-snapshot .before .before .before .before .before .before .before .before .before in
     let at-loop = at-pass .before .before .before .before .before .before .before .before .before .before .before in
-    at-pass .pass .kept .1 .1 .1 .1 .1 .1 .1 .0 ∙ later at-loop .frame .ys .long
+    at-pass .pass .kept .1 .1 .1 .1 .1 .1 .1 .1 .0 ∙ later at-loop .frame .ys .long
 
 same-length-3 : tie.Need-same-length-3 Inv-loop μ-loop
 same-length-3 c =
     let at-snapshot = c .before .before .before .before .before .before .before .before .before .before .before .before in
     let at-pass = at-snapshot .before .before .before .before .before .before .before .before .before in
     let at-loop = at-pass .before .before .before .before .before .before .before .before .before .before .before in
-    at-pass .pass .kept .1 .1 .1 .1 .1 .1 .1 .1 .0 ∙ later at-loop .frame .next .long
+    at-pass .pass .kept .1 .1 .1 .1 .1 .1 .1 .1 .1 .0 ∙ later at-loop .frame .next .long
 
 same-length-4 : tie.Need-same-length-4 Inv-loop μ-loop
 same-length-4 c =
     let at-snapshot = c .before .before .before .before .before .before .before .before .before .before .before .before in
     let at-pass = at-snapshot .before .before .before .before .before .before .before .before .before in
     let at-loop = at-pass .before .before .before .before .before .before .before .before .before .before .before in
-    at-pass .pass .kept .1 .1 .1 .1 .1 .1 .1 .1 .1 .0 ∙ later at-loop .frame .prev .long
+    at-pass .pass .kept .1 .1 .1 .1 .1 .1 .1 .1 .1 .1 .0 ∙ later at-loop .frame .prev .long
 
 same-length-5 : tie.Need-same-length-5 Inv-loop μ-loop
 same-length-5 c =
     let at-snapshot = c .before .before .before .before .before .before .before .before .before .before .before .before in
     let at-pass = at-snapshot .before .before .before .before .before .before .before .before .before in
     let at-loop = at-pass .before .before .before .before .before .before .before .before .before .before .before in
-    at-pass .pass .kept .1 .1 .1 .1 .1 .1 .1 .1 .1 .1 .0 ∙ later at-loop .frame .snapshot .long
+    at-pass .pass .kept .1 .1 .1 .1 .1 .1 .1 .1 .1 .1 .1 .0 ∙ later at-loop .frame .snapshot .long
 
 same-length-6 : tie.Need-same-length-6 Inv-loop μ-loop
 same-length-6 c =
     let at-snapshot = c .before .before .before .before .before .before .before .before .before .before .before .before in
     let at-pass = at-snapshot .before .before .before .before .before .before .before .before .before in
     let at-loop = at-pass .before .before .before .before .before .before .before .before .before .before .before in
-    at-pass .pass .kept .1 .1 .1 .1 .1 .1 .1 .1 .1 .1 .1 .0 ∙ later at-loop .frame .quadList .long
+    at-pass .pass .kept .1 .1 .1 .1 .1 .1 .1 .1 .1 .1 .1 .1 .0 ∙ later at-loop .frame .quadList .long
 
 same-length-7 : tie.Need-same-length-7 Inv-loop μ-loop
 same-length-7 c =
     let at-snapshot = c .before .before .before .before .before .before .before .before .before .before .before .before in
     let at-pass = at-snapshot .before .before .before .before .before .before .before .before .before in
     let at-loop = at-pass .before .before .before .before .before .before .before .before .before .before .before in
-    at-pass .pass .kept .1 .1 .1 .1 .1 .1 .1 .1 .1 .1 .1 .1 .0 ∙ later at-loop .frame .edgeList .long
+    at-pass .pass .kept .1 .1 .1 .1 .1 .1 .1 .1 .1 .1 .1 .1 .1 .0 ∙ later at-loop .frame .edgeList .long
 
 same-length-8 : tie.Need-same-length-8 Inv-loop μ-loop
 same-length-8 c =
@@ -153,7 +154,7 @@ same-length-8 c =
     let at-pass = at-snapshot .before .before .before .before .before .before .before .before .before in
     let at-loop = at-pass .before .before .before .before .before .before .before .before .before .before .before in
     let at-file-all = at-loop .before .before .before .before .before in
-    at-pass .pass .kept .1 .1 .1 .1 .1 .1 .1 .1 .1 .1 .1 .1 .1 .0 ∙ at-loop .loop .inv .1 .node-long ∙ at-file-all .file-all .kept .1 .1 .1 .1 .0
+    at-pass .pass .kept .1 .1 .1 .1 .1 .1 .1 .1 .1 .1 .1 .1 .1 .1 .0 ∙ at-loop .loop .inv .1 .node-long ∙ at-file-all .file-all .kept .1 .1 .1 .1 .0
 
 same-length-9 : tie.Need-same-length-9 Inv-loop μ-loop
 same-length-9 c =
@@ -161,7 +162,7 @@ same-length-9 c =
     let at-pass = at-snapshot .before .before .before .before .before .before .before .before .before in
     let at-loop = at-pass .before .before .before .before .before .before .before .before .before .before .before in
     let at-file-all = at-loop .before .before .before .before .before in
-    at-pass .pass .kept .1 .1 .1 .1 .1 .1 .1 .1 .1 .1 .1 .1 .1 .1 .0 ∙ at-loop .loop .inv .1 .edge-long ∙ at-file-all .file-all .kept .1 .1 .1 .1 .1 .0
+    at-pass .pass .kept .1 .1 .1 .1 .1 .1 .1 .1 .1 .1 .1 .1 .1 .1 .1 .0 ∙ at-loop .loop .inv .1 .edge-long ∙ at-file-all .file-all .kept .1 .1 .1 .1 .1 .0
 
 returns : tie.Need-returns Inv-loop μ-loop
 returns c =
@@ -171,8 +172,8 @@ returns c =
     let in-loop = at-pass .before .before .before .before .before .before .before .before .before .before in
     let at-loop = in-loop .before in
     let at-most-passes = at-loop .before .before .before .before .before .before .before .before .before .before .before in
-    let at-shared-slice-known2 = at-most-passes .before .before .before .before .before .before .before .before .before .before .before .before in
-    let start = at-shared-slice-known2 .before .before in
+    let at-shared-slice-known3 = at-most-passes .before .before .before .before .before .before .before .before .before .before .before .before in
+    let start = at-shared-slice-known3 .before .before .before in
     advance-whole (around start) (start .args .size) (field start) (start .args .passes) (lent start) (at-most-passes .most-passes .ensures)
     (run-out _ allUsed _ _ (at-loop .loop .inv .0) (in-loop .loop-test .taken)
     (pass-over (at-pass .pass .result) (at-pass .pass .ensures .0) (at-p2 .p2 .given .1)))
@@ -228,8 +229,8 @@ returns-2 : tie.Need-returns-2 Inv-loop μ-loop
 returns-2 c =
     let at-loop = c .before in
     let at-most-passes = at-loop .before .before .before .before .before .before .before .before .before .before .before in
-    let at-shared-slice-known2 = at-most-passes .before .before .before .before .before .before .before .before .before .before .before .before in
-    let start = at-shared-slice-known2 .before .before in
+    let at-shared-slice-known3 = at-most-passes .before .before .before .before .before .before .before .before .before .before .before .before in
+    let start = at-shared-slice-known3 .before .before .before in
     advance-whole (around start) (start .args .size) (field start) (start .args .passes) (lent start) (at-most-passes .most-passes .ensures)
     (run-end _ allUsed _ (at-loop .loop .inv .0) (c .loop-test .left))
 

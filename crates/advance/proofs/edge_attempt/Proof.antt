@@ -30,7 +30,7 @@ shared-slice-read-b c = search needs
 
 returns : tie.Need-returns
 returns c =
-    let start = c .before .before .before .before .before .before .before .before .before .before .before .before .before .before in
+    let start = c .before .before .before .before .before .before .before .before .before .before .before .before .before .before .before in
     attempt-off (around start) (start .args .size) (field start) (lent start) (start .args .a) (c .if1 .taken)
 
 link-at-requires : tie.Need-link-at-requires
@@ -40,7 +40,7 @@ returns-2 : tie.Need-returns-2
 returns-2 c =
     let at-link-at = c .before in
     let at-if1 = at-link-at .before in
-    let start = at-if1 .before .before .before .before .before .before .before .before .before .before .before .before .before .before in
+    let start = at-if1 .before .before .before .before .before .before .before .before .before .before .before .before .before .before .before in
     attempt-gone (around start) (start .args .size) (field start) (lent start) (start .args .a) _ (at-if1 .if1 .left) (at-link-at .link-at .ensures)
     (c .if2 .taken)
 
@@ -52,7 +52,7 @@ returns-3 c =
     let at-if2 = c .before in
     let at-link-at = at-if2 .before in
     let at-if1 = at-link-at .before in
-    let start = at-if1 .before .before .before .before .before .before .before .before .before .before .before .before .before .before in
+    let start = at-if1 .before .before .before .before .before .before .before .before .before .before .before .before .before .before .before in
     c .try-edge .ensures ∙ (try-seen (lent start) (field start) (around start) (start .args .size) (start .args .a) _
     ∙ attempt-there (around start) (start .args .size) (field start) (lent start) (start .args .a) _ (at-if1 .if1 .left) (at-link-at .link-at .ensures)
     (at-if2 .if2 .left))

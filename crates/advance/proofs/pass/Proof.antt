@@ -23,17 +23,17 @@ lent s =
 
 copy-links-requires : tie.Need-copy-links-requires
 copy-links-requires c κs =
-    let at-shared-slice-known3 = c .before .before .before .before .before .before .before .before .before .before .before .before in
-    let start = at-shared-slice-known3 .before .before .before in
-    let P = held _ _ _ _ (start .pre .0) in
+    let at-shared-slice-known4 = c .before .before .before .before .before .before .before .before .before .before .before .before in
+    let start = at-shared-slice-known4 .before .before .before .before in
+    let P = held _ _ _ _ _ (start .pre .0) in
     (P .next, P .snapshot)
 
 sweep-requires : tie.Need-sweep-requires
 sweep-requires c κs =
     let at-copy-links = c .before .before .before .before .before .before .before .before .before .before .before in
-    let at-shared-slice-known4 = at-copy-links .before .before .before .before .before .before .before .before .before .before .before .before in
-    let start = at-shared-slice-known4 .before .before .before .before in
-    (pass-begun _ _ _ (lent start) (start .pre .0) (at-copy-links .copy-links .ensures), start .pre .1)
+    let at-shared-slice-known5 = at-copy-links .before .before .before .before .before .before .before .before .before .before .before .before in
+    let start = at-shared-slice-known5 .before .before .before .before .before in
+    (pass-begun _ _ _ _ (lent start) (start .pre .0) (at-copy-links .copy-links .ensures), start .pre .1)
 
 same-length : tie.Need-same-length
 same-length c = search needs
@@ -67,8 +67,8 @@ returns c =
     let at-slice-known12 = c .before .before .before .before .before .before .before .before .before .before .before .before in
     let at-sweep = at-slice-known12 .before .before .before .before in
     let at-copy-links = at-sweep .before .before .before .before .before .before .before .before .before .before .before .before in
-    let at-shared-slice-known4 = at-copy-links .before .before .before .before .before .before .before .before .before .before .before .before in
-    let start = at-shared-slice-known4 .before .before .before .before in (
+    let at-shared-slice-known5 = at-copy-links .before .before .before .before .before .before .before .before .before .before .before .before in
+    let start = at-shared-slice-known5 .before .before .before .before .before in (
       pass-whole (around start) (start .args .size) (field start) (lent start) _ _ (at-copy-links .copy-links .ensures) (at-sweep .sweep .ensures .0),
       at-sweep .sweep .ensures .1,
     )

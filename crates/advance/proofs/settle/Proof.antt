@@ -27,9 +27,9 @@ lent s =
 edge-attempt-requires : tie.Need-edge-attempt-requires
 edge-attempt-requires c κs =
     let at-slice-known4 = c .before .before .before .before .before .before .before .before .before .before .before .before in
-    let start = at-slice-known4 .before .before .before .before .before .before .before .before in
+    let start = at-slice-known4 .before .before .before .before .before .before .before .before .before in
     let search = start .pre .2 in
-    (try-lent _ _ _ _ (start .pre .0) _ (search .nodes-filed) (search .edges-filed), omega (arith, held _ _ _ _ (start .pre .0) .snapshot, start .pre .1))
+    (try-lent _ _ _ _ _ (start .pre .0) _ (search .nodes-filed) (search .edges-filed), omega (arith, held _ _ _ _ _ (start .pre .0) .snapshot, start .pre .1))
 
 mul-b : tie.Need-mul-b
 mul-b c = search needs
@@ -37,8 +37,8 @@ mul-b c = search needs
 shared-slice-read-b : tie.Need-shared-slice-read-b
 shared-slice-read-b c =
     let at-slice-known5 = c .before .before .before .before .before .before .before .before .before .before .before .before in
-    let start = at-slice-known5 .before .before .before .before .before .before .before .before .before .before in
-    omega (arith, held _ _ _ _ (start .pre .0) .snapshot, start .pre .1)
+    let start = at-slice-known5 .before .before .before .before .before .before .before .before .before .before .before in
+    omega (arith, held _ _ _ _ _ (start .pre .0) .snapshot, start .pre .1)
 
 enum-told : tie.Need-enum-told
 enum-told c = search needs
@@ -49,19 +49,19 @@ enum-known-attempt c = search needs
 is-known-across-requires : tie.Need-is-known-across-requires
 is-known-across-requires c κs =
     let at-edge-attempt = c .before .before .before .before .before .before .before .before in
-    let at-shared-slice-known5 = at-edge-attempt .before .before .before .before .before .before .before .before .before .before .before .before in
-    let start = at-shared-slice-known5 .before .before .before .before .before .before .before .before .before in
-    (held _ _ _ _ (start .pre .0) .edges, start .pre .2 .edges-filed)
+    let at-shared-slice-known6 = at-edge-attempt .before .before .before .before .before .before .before .before .before .before .before .before in
+    let start = at-shared-slice-known6 .before .before .before .before .before .before .before .before .before .before in
+    (held _ _ _ _ _ (start .pre .0) .edges, start .pre .2 .edges-filed)
 
 place-requires : tie.Need-place-requires
 place-requires c κs =
     let at-across = c .before .before .before .before .before .before in
     let at-attempt = at-across .before .before .before .before .before .before in
     let at-edge-attempt = at-attempt .before .before .before in
-    let at-shared-slice-known5 = at-edge-attempt .before .before .before .before .before .before .before .before .before .before .before .before in
-    let start = at-shared-slice-known5 .before .before .before .before .before .before .before .before .before in
+    let at-shared-slice-known6 = at-edge-attempt .before .before .before .before .before .before .before .before .before .before .before .before in
+    let start = at-shared-slice-known6 .before .before .before .before .before .before .before .before .before .before in
     let ready = settle-ready (around start) (start .args .size) (field start) (lent start) (start .args .a) _
-    (at-edge-attempt .edge-attempt .ensures) _ _ (at-attempt .attempt .given .1) _ _ (start .pre .0) in
+    (at-edge-attempt .edge-attempt .ensures) _ _ (at-attempt .attempt .given .1) _ _ _ (start .pre .0) in
     (ready, at-across .is-known-across .ensures)
 
 enum-told-2 : tie.Need-enum-told-2
@@ -78,11 +78,11 @@ file-added-requires c κs =
     let at-across = at-place .before .before .before .before .before .before .before in
     let at-attempt = at-across .before .before .before .before .before .before in
     let at-edge-attempt = at-attempt .before .before .before in
-    let at-shared-slice-known5 = at-edge-attempt .before .before .before .before .before .before .before .before .before .before .before .before in
-    let start = at-shared-slice-known5 .before .before .before .before .before .before .before .before .before in
+    let at-shared-slice-known6 = at-edge-attempt .before .before .before .before .before .before .before .before .before .before .before .before in
+    let start = at-shared-slice-known6 .before .before .before .before .before .before .before .before .before .before in
     let ready = settle-ready (around start) (start .args .size) (field start) (lent start) (start .args .a) _
-    (at-edge-attempt .edge-attempt .ensures) _ _ (at-attempt .attempt .given .1) _ _ (start .pre .0) in
-    let adds = placed-adds (around start) _ _ (start .args .size) (lent start) (start .pre .0) (start .args .a) _ _ _ ready (start .pre .2)
+    (at-edge-attempt .edge-attempt .ensures) _ _ (at-attempt .attempt .given .1) _ _ _ (start .pre .0) in
+    let adds = placed-adds (around start) _ _ _ (start .args .size) (lent start) (start .pre .0) (start .args .a) _ _ _ ready (start .pre .2)
     (at-place .place .ensures) (at-placed .placed .given .1) in
     (adds .nodes, adds .edges)
 
@@ -113,8 +113,8 @@ same-length-7 c = search needs
 returns : tie.Need-returns
 returns c =
     let at-edge-attempt = c .before .before .before in
-    let at-shared-slice-known5 = at-edge-attempt .before .before .before .before .before .before .before .before .before .before .before .before in
-    let start = at-shared-slice-known5 .before .before .before .before .before .before .before .before .before in (
+    let at-shared-slice-known6 = at-edge-attempt .before .before .before .before .before .before .before .before .before .before .before .before in
+    let start = at-shared-slice-known6 .before .before .before .before .before .before .before .before .before .before in (
       settle-same (around start) (start .args .size) (field start) (lent start) (start .args .a) _
           (at-edge-attempt .edge-attempt .ensures) (c .enum-told .given .1),
       start .pre .2,
@@ -151,14 +151,14 @@ returns-2 c =
     let at-across = at-place .before .before .before .before .before .before .before in
     let at-attempt = at-across .before .before .before .before .before .before in
     let at-edge-attempt = at-attempt .before .before .before in
-    let at-shared-slice-known5 = at-edge-attempt .before .before .before .before .before .before .before .before .before .before .before .before in
-    let start = at-shared-slice-known5 .before .before .before .before .before .before .before .before .before in
+    let at-shared-slice-known6 = at-edge-attempt .before .before .before .before .before .before .before .before .before .before .before .before in
+    let start = at-shared-slice-known6 .before .before .before .before .before .before .before .before .before .before in
     let ready = settle-ready (around start) (start .args .size) (field start) (lent start) (start .args .a) _
-    (at-edge-attempt .edge-attempt .ensures) _ _ (at-attempt .attempt .given .1) _ _ (start .pre .0) in (
+    (at-edge-attempt .edge-attempt .ensures) _ _ (at-attempt .attempt .given .1) _ _ _ (start .pre .0) in (
       settle-full (around start) (start .args .size) (field start) (lent start) (start .args .a) _
           (at-edge-attempt .edge-attempt .ensures) _ _ (at-attempt .attempt .given .1) (start .args .k)
           (at-place .place .ensures) (c .enum-told2 .given .1),
-      full-search (around start) _ _ (start .args .size) (lent start) (start .pre .0) (start .args .a) _ _ _ ready (start .pre .2)
+      full-search (around start) _ _ _ (start .args .size) (lent start) (start .pre .0) (start .args .a) _ _ _ ready (start .pre .2)
           (at-place .place .ensures) (c .enum-told2 .given .1),
     )
 
@@ -195,8 +195,8 @@ returns-3 c =
     let at-across = at-place .before .before .before .before .before .before .before in
     let at-attempt = at-across .before .before .before .before .before .before in
     let at-edge-attempt = at-attempt .before .before .before in
-    let at-shared-slice-known5 = at-edge-attempt .before .before .before .before .before .before .before .before .before .before .before .before in
-    let start = at-shared-slice-known5 .before .before .before .before .before .before .before .before .before in (
+    let at-shared-slice-known6 = at-edge-attempt .before .before .before .before .before .before .before .before .before .before .before .before in
+    let start = at-shared-slice-known6 .before .before .before .before .before .before .before .before .before .before in (
       settle-done (around start) (start .args .size) (field start) (lent start) (start .args .a) _
           (at-edge-attempt .edge-attempt .ensures) _ _ (at-attempt .attempt .given .1) (start .args .k)
           (at-place .place .ensures) (at-placed .placed .given .1) (c .after-quad .ensures),

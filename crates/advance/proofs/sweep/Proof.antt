@@ -19,15 +19,15 @@ use Rattle.advance.proofs.sweep.Statement.{statement}
 use Rattle.advance.proofs.sweep.Tie as tie
 
 abbrev Inv-loop : tie.InvT-loop
-Inv-loop outer holes lens size grid values xs₀ ys₀ next₀ prev₀ snapshot quads₀ edges₀ nodePool₀ edgePool₀ n j₀ some₀ a₀ xs ys next prev quads edges nodePool
-    edgePool j some a =
+Inv-loop outer holes lens blocks size grid values xs₀ ys₀ next₀ prev₀ snapshot quads₀ edges₀ nodePool₀ edgePool₀ n j₀ some₀ a₀ xs ys next prev quads edges
+    nodePool edgePool j some a =
     Run (passTurn (outline outer holes lens) size (fieldRecord grid values [])) afterPass
     (passing (stateOf xs₀ ys₀ next₀ prev₀ snapshot quads₀ edges₀ j₀) false) n a (passing (stateOf xs ys next prev snapshot quads edges j) some)
     × Pools size xs ys edges j nodePool₀ edgePool₀ nodePool edgePool
 
 abbrev μ-loop : tie.MeasureT-loop
-μ-loop outer holes lens size grid values xs₀ ys₀ next₀ prev₀ snapshot quads₀ edges₀ nodePool₀ edgePool₀ n j₀ some₀ a₀ xs ys next prev quads edges nodePool
-    edgePool j some a =
+μ-loop outer holes lens blocks size grid values xs₀ ys₀ next₀ prev₀ snapshot quads₀ edges₀ nodePool₀ edgePool₀ n j₀ some₀ a₀ xs ys next prev quads edges
+    nodePool edgePool j some a =
     n - a
 
 -- the outline, the field and the state as they are lent
@@ -44,16 +44,17 @@ lent s =
 
 -- the state in the loop comes after the one that is lent
 abbrev start : tie.At-loop Inv-loop μ-loop → tie.Start Inv-loop μ-loop
-start c = c .before .before .before .before .before .before .before .before .before .before .before .before .before .before
+start c = c .before .before .before .before .before .before .before .before .before .before .before .before .before .before .before
 
-later : (c : tie.At-loop Inv-loop μ-loop) → Later (around (start c)) (start c .args .grid) (start c .args .values .now) (lent (start c))
+later : (c : tie.At-loop Inv-loop μ-loop) → Later (around (start c)) (start c .args .blocks .now) (start c .args .grid) (start c .args .values .now)
+    (lent (start c))
     (stateOf (c .loop .xs) (c .loop .ys) (c .loop .next) (c .loop .prev) (start c .args .snapshot .now) (c .loop .quads) (c .loop .edges) (c .loop .j))
-later c = in-pass (around (start c)) (start c .args .size) _ _ (field (start c)) (lent (start c)) (start c .pre .0) (c .loop .inv .0)
+later c = in-pass (around (start c)) _ (start c .args .size) _ _ (field (start c)) (lent (start c)) (start c .pre .0) (c .loop .inv .0)
 
 loop-holds : tie.Need-loop-holds Inv-loop μ-loop
 loop-holds c =
-    let at-shared-slice-known = c .before .before .before .before .before .before .before .before .before .before .before .before in
-    let start = at-shared-slice-known .before in
+    let at-shared-slice-known2 = c .before .before .before .before .before .before .before .before .before .before .before .before in
+    let start = at-shared-slice-known2 .before .before in
     (run-start _ afterPass _ _, record { search = start .pre .1; node-long = refl; edge-long = refl })
 
 add-a : tie.Need-add-a Inv-loop μ-loop
@@ -83,8 +84,8 @@ loop-again c =
           (c .enum-told .given .1)),
       record {
         search = search-at (ap (λ (t : Settled). settledCounts (at-loop .loop .j) t) (c .enum-told .given .1)) (at-settle .settle .ensures .1);
-        node-long = at-settle .settle .kept .1 .1 .1 .1 .1 .1 .1 .1 .1 .1 .1 .1 .1 .0 ∙ at-loop .loop .inv .1 .node-long;
-        edge-long = at-settle .settle .kept .1 .1 .1 .1 .1 .1 .1 .1 .1 .1 .1 .1 .1 .1 .0 ∙ at-loop .loop .inv .1 .edge-long;
+        node-long = at-settle .settle .kept .1 .1 .1 .1 .1 .1 .1 .1 .1 .1 .1 .1 .1 .1 .0 ∙ at-loop .loop .inv .1 .node-long;
+        edge-long = at-settle .settle .kept .1 .1 .1 .1 .1 .1 .1 .1 .1 .1 .1 .1 .1 .1 .1 .0 ∙ at-loop .loop .inv .1 .edge-long;
       },
     )
 
@@ -106,8 +107,8 @@ loop-again-2 c =
           (at-t .t .given .1)),
       record {
         search = search-at (ap (λ (t : Settled). settledCounts (at-loop .loop .j) t) (at-t .t .given .1)) (at-settle .settle .ensures .1);
-        node-long = at-settle .settle .kept .1 .1 .1 .1 .1 .1 .1 .1 .1 .1 .1 .1 .1 .0 ∙ at-loop .loop .inv .1 .node-long;
-        edge-long = at-settle .settle .kept .1 .1 .1 .1 .1 .1 .1 .1 .1 .1 .1 .1 .1 .1 .0 ∙ at-loop .loop .inv .1 .edge-long;
+        node-long = at-settle .settle .kept .1 .1 .1 .1 .1 .1 .1 .1 .1 .1 .1 .1 .1 .1 .0 ∙ at-loop .loop .inv .1 .node-long;
+        edge-long = at-settle .settle .kept .1 .1 .1 .1 .1 .1 .1 .1 .1 .1 .1 .1 .1 .1 .1 .0 ∙ at-loop .loop .inv .1 .edge-long;
       },
     )
 
@@ -119,56 +120,56 @@ same-length c =
     let at-prev = c .before .before .before .before .before .before .before .before .before .before .before .before in
     let at-settle = at-prev .before .before .before .before .before .before .before in
     let at-loop = at-settle .before .before .before .before .before .before .before .before .before .before in
-    at-settle .settle .kept .1 .1 .1 .1 .1 .1 .0 ∙ later at-loop .frame .xs .long
+    at-settle .settle .kept .1 .1 .1 .1 .1 .1 .1 .0 ∙ later at-loop .frame .xs .long
 
 same-length-2 : tie.Need-same-length-2 Inv-loop μ-loop
 same-length-2 c =
     let at-prev = c .before .before .before .before .before .before .before .before .before .before .before .before in
     let at-settle = at-prev .before .before .before .before .before .before .before in
     let at-loop = at-settle .before .before .before .before .before .before .before .before .before .before in
-    at-settle .settle .kept .1 .1 .1 .1 .1 .1 .1 .0 ∙ later at-loop .frame .ys .long
+    at-settle .settle .kept .1 .1 .1 .1 .1 .1 .1 .1 .0 ∙ later at-loop .frame .ys .long
 
 same-length-3 : tie.Need-same-length-3 Inv-loop μ-loop
 same-length-3 c =
     let at-prev = c .before .before .before .before .before .before .before .before .before .before .before .before in
     let at-settle = at-prev .before .before .before .before .before .before .before in
     let at-loop = at-settle .before .before .before .before .before .before .before .before .before .before in
-    at-settle .settle .kept .1 .1 .1 .1 .1 .1 .1 .1 .0 ∙ later at-loop .frame .next .long
+    at-settle .settle .kept .1 .1 .1 .1 .1 .1 .1 .1 .1 .0 ∙ later at-loop .frame .next .long
 
 same-length-4 : tie.Need-same-length-4 Inv-loop μ-loop
 same-length-4 c =
     let at-prev = c .before .before .before .before .before .before .before .before .before .before .before .before in
     let at-settle = at-prev .before .before .before .before .before .before .before in
     let at-loop = at-settle .before .before .before .before .before .before .before .before .before .before in
-    at-settle .settle .kept .1 .1 .1 .1 .1 .1 .1 .1 .1 .0 ∙ later at-loop .frame .prev .long
+    at-settle .settle .kept .1 .1 .1 .1 .1 .1 .1 .1 .1 .1 .0 ∙ later at-loop .frame .prev .long
 
 same-length-5 : tie.Need-same-length-5 Inv-loop μ-loop
 same-length-5 c =
     let at-prev = c .before .before .before .before .before .before .before .before .before .before .before .before in
     let at-settle = at-prev .before .before .before .before .before .before .before in
     let at-loop = at-settle .before .before .before .before .before .before .before .before .before .before in
-    at-settle .settle .kept .1 .1 .1 .1 .1 .1 .1 .1 .1 .1 .1 .0 ∙ later at-loop .frame .quadList .long
+    at-settle .settle .kept .1 .1 .1 .1 .1 .1 .1 .1 .1 .1 .1 .1 .0 ∙ later at-loop .frame .quadList .long
 
 same-length-6 : tie.Need-same-length-6 Inv-loop μ-loop
 same-length-6 c =
     let at-prev = c .before .before .before .before .before .before .before .before .before .before .before .before in
     let at-settle = at-prev .before .before .before .before .before .before .before in
     let at-loop = at-settle .before .before .before .before .before .before .before .before .before .before in
-    at-settle .settle .kept .1 .1 .1 .1 .1 .1 .1 .1 .1 .1 .1 .1 .0 ∙ later at-loop .frame .edgeList .long
+    at-settle .settle .kept .1 .1 .1 .1 .1 .1 .1 .1 .1 .1 .1 .1 .1 .0 ∙ later at-loop .frame .edgeList .long
 
 same-length-7 : tie.Need-same-length-7 Inv-loop μ-loop
 same-length-7 c =
     let at-prev = c .before .before .before .before .before .before .before .before .before .before .before .before in
     let at-settle = at-prev .before .before .before .before .before .before .before in
     let at-loop = at-settle .before .before .before .before .before .before .before .before .before .before in
-    at-settle .settle .kept .1 .1 .1 .1 .1 .1 .1 .1 .1 .1 .1 .1 .1 .0 ∙ at-loop .loop .inv .1 .node-long
+    at-settle .settle .kept .1 .1 .1 .1 .1 .1 .1 .1 .1 .1 .1 .1 .1 .1 .0 ∙ at-loop .loop .inv .1 .node-long
 
 same-length-8 : tie.Need-same-length-8 Inv-loop μ-loop
 same-length-8 c =
     let at-prev = c .before .before .before .before .before .before .before .before .before .before .before .before in
     let at-settle = at-prev .before .before .before .before .before .before .before in
     let at-loop = at-settle .before .before .before .before .before .before .before .before .before .before in
-    at-settle .settle .kept .1 .1 .1 .1 .1 .1 .1 .1 .1 .1 .1 .1 .1 .1 .0 ∙ at-loop .loop .inv .1 .edge-long
+    at-settle .settle .kept .1 .1 .1 .1 .1 .1 .1 .1 .1 .1 .1 .1 .1 .1 .1 .0 ∙ at-loop .loop .inv .1 .edge-long
 
 returns : tie.Need-returns Inv-loop μ-loop
 returns c =

@@ -21,14 +21,14 @@ ideal-requires-2 : tie.Need-ideal-requires-2
 ideal-requires-2 c κs = search needs
 
 link-at-requires : tie.Need-link-at-requires
-link-at-requires c κs = c .before .before .before .before .before .before .before .before .before .before .before .before .before .before .pre .prev-fit
+link-at-requires c κs = c .before .before .before .before .before .before .before .before .before .before .before .before .before .before .before .pre .prev-fit
 
 corner-at-requires : tie.Need-corner-at-requires
 corner-at-requires c κs = search needs
 
 link-at-requires-2 : tie.Need-link-at-requires-2
 link-at-requires-2 c κs =
-    c .before .before .before .before .before .before .before .before .before .before .before .before .before .before .before .before .pre .next-fit
+    c .before .before .before .before .before .before .before .before .before .before .before .before .before .before .before .before .before .pre .next-fit
 
 corner-at-requires-2 : tie.Need-corner-at-requires-2
 corner-at-requires-2 c κs = search needs
@@ -36,7 +36,7 @@ corner-at-requires-2 c κs = search needs
 quad-fits-requires : tie.Need-quad-fits-requires
 quad-fits-requires c κs =
     let after-node-at = c .before .before .before .before .before .before .before in
-    let start = after-node-at .before .before .before .before .before .before .before .before .before .before .before in
+    let start = after-node-at .before .before .before .before .before .before .before .before .before .before .before .before in
     (start .pre .quad, start .pre .next-fit)
 
 returns : tie.Need-returns
@@ -45,7 +45,7 @@ returns c =
     let after-link-at2 = c .before .before .before in
     let after-ideal2 = after-link-at2 .before .before .before in
     let after-node-at = after-ideal2 .before .before .before in
-    let start = after-node-at .before .before .before .before .before .before .before .before .before .before .before in
+    let start = after-node-at .before .before .before .before .before .before .before .before .before .before .before .before in
     let args = start .args in
     let o = outline (args .outer .now) (args .holes .now) (args .lens .now) in
     let s = seen (args .xs .now) (args .ys .now) (args .next .now) (args .prev .now) (args .edges .now) (args .counts) in
@@ -64,7 +64,7 @@ returns-2 c =
     let after-link-at2 = c .before .before .before in
     let after-ideal2 = after-link-at2 .before .before .before in
     let after-node-at = after-ideal2 .before .before .before in
-    let start = after-node-at .before .before .before .before .before .before .before .before .before .before .before in
+    let start = after-node-at .before .before .before .before .before .before .before .before .before .before .before .before in
     let args = start .args in
     let o = outline (args .outer .now) (args .holes .now) (args .lens .now) in
     let s = seen (args .xs .now) (args .ys .now) (args .next .now) (args .prev .now) (args .edges .now) (args .counts) in

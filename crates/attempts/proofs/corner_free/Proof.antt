@@ -16,7 +16,7 @@ unfolding cornerFree
 returns c = rw (c .enum-told .given .1) refl
 
 node-ok-requires : tie.Need-node-ok-requires
-node-ok-requires c κs = c .before .before .before .before .before .before .before .before .before .pre
+node-ok-requires c κs = c .before .before .before .before .before .before .before .before .before .before .pre
 
 returns-2 : tie.Need-returns-2
 unfolding cornerFree

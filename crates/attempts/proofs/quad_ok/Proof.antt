@@ -18,7 +18,7 @@ convex-ccw-requires c κs = search needs
 
 returns : tie.Need-returns
 returns c =
-    let start = c .before .before .before .before .before .before .before .before .before .before .before in
+    let start = c .before .before .before .before .before .before .before .before .before .before .before .before in
     let args = start .args in
     let s = seenEdges (args .xs .now) (args .ys .now) (args .edges .now) (args .counts) in
     let o = outline (args .outer .now) (args .holes .now) (args .lens .now) in
@@ -29,12 +29,12 @@ centroid-requires : tie.Need-centroid-requires
 centroid-requires c κs = search needs
 
 contains-point-requires : tie.Need-contains-point-requires
-contains-point-requires c κs = c .before .before .before .before .before .before .before .before .before .before .before .before .pre .nodes .shape
+contains-point-requires c κs = c .before .before .before .before .before .before .before .before .before .before .before .before .before .pre .nodes .drawn
 
 returns-2 : tie.Need-returns-2
 returns-2 c =
     let else1 = c .before .before .before in
-    let start = else1 .before .before .before .before .before .before .before .before .before .before .before in
+    let start = else1 .before .before .before .before .before .before .before .before .before .before .before .before in
     let args = start .args in
     let s = seenEdges (args .xs .now) (args .ys .now) (args .edges .now) (args .counts) in
     let o = outline (args .outer .now) (args .holes .now) (args .lens .now) in
@@ -47,19 +47,19 @@ id-requires c κs = search needs
 
 second-id-requires : tie.Need-second-id-requires
 second-id-requires c κs =
-    c .before .before .before .before .before .before .before .before .before .before .before .before .before .before .before .pre .within .nodes-few
+    c .before .before .before .before .before .before .before .before .before .before .before .before .before .before .before .before .pre .within .nodes-few
 
 node-in-quad-requires : tie.Need-node-in-quad-requires
 node-in-quad-requires c κs =
     let after-corners-of = c .before .before .before .before .before .before .before in
-    after-corners-of .before .before .before .before .before .before .before .before .before .pre .nodes .filed
+    after-corners-of .before .before .before .before .before .before .before .before .before .before .pre .nodes .filed
 
 returns-3 : tie.Need-returns-3
 returns-3 c =
     let after-id = c .before .before .before in
     let else2 = after-id .before in
     let else1 = else2 .before .before .before in
-    let start = else1 .before .before .before .before .before .before .before .before .before .before .before in
+    let start = else1 .before .before .before .before .before .before .before .before .before .before .before .before in
     let args = start .args in
     let s = seenEdges (args .xs .now) (args .ys .now) (args .edges .now) (args .counts) in
     let o = outline (args .outer .now) (args .holes .now) (args .lens .now) in
@@ -72,7 +72,7 @@ returns-3 c =
 edges-free-requires : tie.Need-edges-free-requires
 edges-free-requires c κs =
     let after-corners-of = c .before .before .before .before .before .before .before .before .before in
-    after-corners-of .before .before .before .before .before .before .before .before .before .pre .within
+    after-corners-of .before .before .before .before .before .before .before .before .before .before .pre .within
 
 returns-4 : tie.Need-returns-4
 returns-4 c =
@@ -80,7 +80,7 @@ returns-4 c =
     let after-id = else3 .before .before .before in
     let else2 = after-id .before in
     let else1 = else2 .before .before .before in
-    let start = else1 .before .before .before .before .before .before .before .before .before .before .before in
+    let start = else1 .before .before .before .before .before .before .before .before .before .before .before .before in
     let args = start .args in
     let s = seenEdges (args .xs .now) (args .ys .now) (args .edges .now) (args .counts) in
     let o = outline (args .outer .now) (args .holes .now) (args .lens .now) in

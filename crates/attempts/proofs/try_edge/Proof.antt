@@ -27,7 +27,7 @@ normal-of-requires c κs = search needs
 try-toward-requires : tie.Need-try-toward-requires
 try-toward-requires c κs =
     let after-node-at = c .before .before .before .before .before .before .before .before in
-    after-node-at .before .before .before .before .before .before .before .before .before .before .before .before .pre
+    after-node-at .before .before .before .before .before .before .before .before .before .before .before .before .before .pre
 
 returns-2 : tie.Need-returns-2
 unfolding tryEdge

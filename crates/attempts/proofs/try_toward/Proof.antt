@@ -10,18 +10,18 @@ node-at-requires : tie.Need-node-at-requires
 node-at-requires c κs = search needs
 
 nearest-direction-requires : tie.Need-nearest-direction-requires
-nearest-direction-requires c κs = c .before .before .before .before .before .before .before .before .before .before .before .before .pre .field
+nearest-direction-requires c κs = c .before .before .before .before .before .before .before .before .before .before .before .before .before .pre .field
 
 node-at-requires-2 : tie.Need-node-at-requires-2
 node-at-requires-2 c κs = search needs
 
 nearest-direction-requires-2 : tie.Need-nearest-direction-requires-2
 nearest-direction-requires-2 c κs =
-    c .before .before .before .before .before .before .before .before .before .before .before .before .before .before .pre .field
+    c .before .before .before .before .before .before .before .before .before .before .before .before .before .before .before .pre .field
 
 attempt-quad-requires : tie.Need-attempt-quad-requires
 attempt-quad-requires c κs =
-    c .before .before .before .before .before .before .before .before .before .before .before .before .before .before .before .pre .attempt
+    c .before .before .before .before .before .before .before .before .before .before .before .before .before .before .before .before .pre .attempt
 
 enum-known-first : tie.Need-enum-known-first
 enum-known-first c = search needs
@@ -32,7 +32,7 @@ enum-told c = search needs
 attempt-quad-requires-2 : tie.Need-attempt-quad-requires-2
 attempt-quad-requires-2 c κs =
     let after-node-at = c .before .before .before .before .before .before in
-    after-node-at .before .before .before .before .before .before .before .before .before .before .before .before .pre .attempt
+    after-node-at .before .before .before .before .before .before .before .before .before .before .before .before .before .pre .attempt
 
 returns : tie.Need-returns
 unfolding tryToward nearestDirection

@@ -94,7 +94,13 @@ first-over o e j k c h l m =
 before-most : (o : Outline) → Accepted o → (k : ℕ) → k ≤ length (o .lens) → 3 * k ≤ pointsBefore o k
 before-most o a zero h = omega arith
 before-most o a (suc k) h =
-    omega (arith, before-most o a k (omega arith), a .three k (omega arith), loop-long o (a .shape) k (omega arith) .long, before-over o k (suc k) (omega arith))
+    omega (
+      arith,
+      before-most o a k (omega arith),
+      a .three k (omega arith),
+      loop-long o (a .shape) k (omega arith) .long,
+      before-over o k (suc k) (omega arith),
+    )
 
 pub first-few : (o : Outline) → outlineRefusal o ≡ 0 → (k : ℕ) → k ≤ length (o .lens) → (k ≤ 65535) × (firstBlock o k ≤ 131070)
 unfolding firstBlock

@@ -12,8 +12,8 @@ use lib.Ieee.{Float}
 use Rattle.domain.specs.Outline.{Outline, loopAt, points, misshapen, outlineRefusal}
 use Rattle.domain.specs.OutlineLaws.{Passed}
 use Rattle.domain.specs.Accepted.{OutlineFits}
-use Rattle.blocks.specs.Blocks.{reach, isBeyond, Farthest, blockSize, blockEnd, sideAt, BlockFiled, LoopFiled, BlockFiles, LoopFiles, firstBlock, firstBlockAt}
-use Rattle.blocks.specs.Blocks.{Drawn}
+use Rattle.blocks.specs.Blocks.{reach, isBeyond, Farthest, blockSize, blockEnd, sideAt, BlockFiled, LoopFiled, BlockFiles, LoopFiles}
+use Rattle.blocks.specs.Blocks.{firstBlock, firstBlockAt, Drawn}
 use Rattle.blocks.specs.BetweenLaws.{BlockPlace}
 use Rattle.blocks.specs.BlockLaws.{first-over, outer-first, hole-first}
 use Rattle.blocks.specs.OrderLaws.{beyond-self, beyond-through}

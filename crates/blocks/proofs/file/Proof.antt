@@ -22,7 +22,8 @@ loop-points-requires : tie.Need-loop-points-requires Inv-loop μ-loop
 loop-points-requires c κs = outer-place _ (accepted _ (c .before .before .before .before .pre) .shape)
 
 file-loop-requires : tie.Need-file-loop-requires Inv-loop μ-loop
-file-loop-requires c κs = (rw (c .before .loop-points .ensures) (loop-few _ (c .before .before .before .before .before .before .pre) 0 (omega arith)), omega arith)
+file-loop-requires c κs =
+    (rw (c .before .loop-points .ensures) (loop-few _ (c .before .before .before .before .before .before .pre) 0 (omega arith)), omega arith)
 
 loop-holds : tie.Need-loop-holds Inv-loop μ-loop
 loop-holds c =
@@ -33,7 +34,9 @@ add-first-block : tie.Need-add-first-block Inv-loop μ-loop
 add-first-block c = omega arith
 
 first-block-requires : tie.Need-first-block-requires Inv-loop μ-loop
-first-block-requires c κs = hole-asks (c .before .loop .inv .0) (c .loop-test .taken) (c .before .before .before .before .before .before .before .before .before .before .before .pre)
+first-block-requires c κs =
+    let start = c .before .before .before .before .before .before .before .before .before .before .before in
+    hole-asks (c .before .loop .inv .0) (c .loop-test .taken) (start .pre)
 
 add-loop-points : tie.Need-add-loop-points Inv-loop μ-loop
 add-loop-points c = omega arith
@@ -57,7 +60,8 @@ shared-slice-read-start c = omega arith
 
 add-start : tie.Need-add-start Inv-loop μ-loop
 add-start c =
-    let few = passed-few (c .before .before .before .before .before .before .before .before .loop .inv .0) (c .before .before .before .before .before .before .before .loop-test .taken) in
+    let past-test = c .before .before .before .before .before .before .before in
+    let few = passed-few (past-test .before .loop .inv .0) (past-test .loop-test .taken) in
     omega arith
 
 add-k : tie.Need-add-k Inv-loop μ-loop
@@ -72,7 +76,8 @@ loop-again c =
     let in-loop = c .before .before .before .before .before .before .before .loop-test .taken in
     let filed = c .before .before .before .file-loop2 .ensures in (
       passed-next (inv .0) in-loop,
-      hole-filed (inv .0) in-loop (inv .1) (c .before .before .before .before .before .loop-points2 .ensures) (c .before .before .before .before .before .before .first-block .ensures) filed,
+      hole-filed (inv .0) in-loop (inv .1) (c .before .before .before .before .before .loop-points2 .ensures)
+          (c .before .before .before .before .before .before .first-block .ensures) filed,
       filed .long ∙ inv .2,
     )
 
@@ -81,7 +86,9 @@ same-length c = c .before .loop .inv .2 ∙ c .before .before .before .before .f
 
 returns : tie.Need-returns Inv-loop μ-loop
 returns c =
-    drawn (c .before .before .before .before .before .before .before .before .before .before .before .pre) (record { outer = λ i h. c .before .before .before .before .before .before .before .before .before .before .shared-slice-known .given i; holes = λ i h. c .before .before .before .before .before .before .before .before .before .shared-slice-known2 .given i })
+    let holes = c .before .before .before .before .before .before .before .before .before in
+    drawn (holes .before .before .pre)
+    (record { outer = λ i h. holes .before .shared-slice-known .given i; holes = λ i h. holes .shared-slice-known2 .given i })
     (c .before .loop .inv .1) (c .loop-test .left)
 
 pub file-spec : {M : Type 1} → statement M

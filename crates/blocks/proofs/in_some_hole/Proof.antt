@@ -34,7 +34,8 @@ loop-points-requires c κs = passed-place (c .before .before .loop .inv .0) (c .
 
 point-in-polygon-requires : tie.Need-point-in-polygon-requires Inv-loop μ-loop
 point-in-polygon-requires c κs =
-    hole-drawn (c .before .before .before .loop .inv .0) (c .before .before .loop-test .taken) (c .before .before .before .before .before .before .before .before .pre) (c .loop-points .ensures)
+    hole-drawn (c .before .before .before .loop .inv .0) (c .before .before .loop-test .taken)
+    (c .before .before .before .before .before .before .before .before .pre) (c .loop-points .ensures)
     (c .before .first-block .ensures)
 
 returns : tie.Need-returns Inv-loop μ-loop

@@ -237,7 +237,7 @@ fn seed(t: Point) -> Point
     }
 }
 
-// Whether a node at p is fixed: inside, and its nearest segment within 1.5 spacings.
+// Whether a node at p is fixed: inside, and its nearest segment within 1.5 spacings. The distance is known, so it is asked first.
 fn is_fixed<'a>(
     outer: &'a [f64],
     holes: &'a [f64],
@@ -250,8 +250,8 @@ fn is_fixed<'a>(
     requires { ⌜ Drawn (outline (now outer) (now holes) (now lens)) (now blocks) ⌝ }
     ensures { λ r. ⌜ r ≡ isFixed (outline (now (outer .entry)) (now (holes .entry)) (now (lens .entry))) h p found ⌝ }
 {
-    if blocks::contains_point(outer, holes, lens, blocks, p) {
-        found.distance <= Settings::BAND * h
+    if found.distance <= Settings::BAND * h {
+        blocks::contains_point(outer, holes, lens, blocks, p)
     } else {
         false
     }

@@ -1,5 +1,7 @@
--- `crossfield::is_fixed` meets its contract. Assumes nothing.
+-- `crossfield::is_fixed` meets its contract: the definition's tests in the other order. Assumes nothing.
+use mathlib.Core.Path.{sym, _∙_}
 use borrow.Author.Needs.{needs}
+use Rattle.laws.specs.Tests.{and-true, and-false}
 use Rattle.crossfield.specs.Seeds.{isFixed}
 use Rattle.crossfield.proofs.is_fixed.Statement.{statement}
 use Rattle.crossfield.proofs.is_fixed.Tie as tie
@@ -9,11 +11,11 @@ contains-point-requires c κs = search needs
 
 returns : tie.Need-returns
 unfolding isFixed
-returns c = rw (← c .before .before .contains-point .ensures, c .before .if1 .taken)
+returns c = rw (c .before .if1 .taken) (c .contains-point .ensures ∙ sym (and-true _))
 
 returns-2 : tie.Need-returns-2
 unfolding isFixed
-returns-2 c = rw (← c .before .contains-point .ensures, c .if1 .left)
+returns-2 c = rw (c .if1 .left) (sym (and-false _))
 
 pub is-fixed-spec : {M : Type 1} → statement M
 is-fixed-spec = tie.close (tie.spec contains-point-requires returns returns-2)

@@ -23,7 +23,7 @@ use Rattle.indexed.specs.Rects.{blocksAt}
 use Rattle.paving.specs.Checks.{closeNode, tooClose, nodeOk, cornerFree, cornersApart, blocks, nodeInside}
 use Rattle.paving.specs.Checks.{edgeCrosses, edgesFree, cornersOf, quadOk, quadFits}
 use Rattle.paving.specs.Attempt.{isReused, cornerAt, cornerC, cornerD, ideal, quadIf, attemptQuad, normalOf, tryToward, tryEdge}
-use Rattle.attempts.specs.Chain.{exchange}
+use Rattle.laws.specs.Chain.{exchange}
 use Rattle.attempts.specs.Seen.{seen, seenOf, seenNodes, seenPoints, seenEdges}
 
 -- ---- the tests of the scans, by what the code has at hand: r is the test's answer

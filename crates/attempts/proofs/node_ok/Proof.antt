@@ -6,7 +6,7 @@ use Rattle.domain.specs.Outline.{outline}
 use Rattle.domain.specs.Queries.{contains}
 use Rattle.geometry.specs.TestLaws.{passed, refused}
 use Rattle.paving.specs.Checks.{nodeOk}
-use Rattle.attempts.specs.Chain.{fails, passes, second-fails, second-passes}
+use Rattle.laws.specs.Chain.{fails, passes, second-fails, second-passes}
 use Rattle.attempts.proofs.node_ok.Statement.{statement}
 use Rattle.attempts.proofs.node_ok.Tie as tie
 

@@ -6,7 +6,7 @@ use borrow.Author.Needs.{needs}
 use borrow.Author.Tests.{eq-eqb, ne-eqb}
 use Rattle.domain.specs.Outline.{outline}
 use Rattle.geometry.specs.TestLaws.{passed, refused}
-use Rattle.attempts.specs.Chain.{fails, passes}
+use Rattle.laws.specs.Chain.{fails, passes}
 use Rattle.attempts.specs.Seen.{seen}
 use Rattle.attempts.specs.SeenLaws.{quad-fits-is}
 use Rattle.attempts.proofs.quad_fits.Statement.{statement}

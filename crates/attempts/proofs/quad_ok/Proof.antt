@@ -4,7 +4,7 @@ use mathlib.Core.Bool.{not}
 use borrow.Author.Needs.{needs}
 use Rattle.domain.specs.Outline.{outline}
 use Rattle.geometry.specs.TestLaws.{passed, refused}
-use Rattle.attempts.specs.Chain.{fails, passes}
+use Rattle.laws.specs.Chain.{fails, passes}
 use Rattle.attempts.specs.Seen.{seenEdges}
 use Rattle.attempts.specs.SeenLaws.{quad-ok-is}
 use Rattle.attempts.proofs.quad_ok.Statement.{statement}

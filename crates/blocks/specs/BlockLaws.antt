@@ -1,18 +1,17 @@
 -- What a query has of an outline's blocks: each loop's are filed (`drawn-loop`), a block that is listed is there (`block-there`), and its box covers its
 -- segments (`block-covers`). Assumes nothing.
-use mathlib.Core.Bool.{Bool, true, false}
+use mathlib.Core.Bool.{false}
 use mathlib.Core.List.{List}
 use mathlib.Core.Path.{_≡_, refl, sym, ap, _∙_, subst}
-use Prim.Native.Nat.{ℕ, zero, suc, _+_, _-_, _*_, _/_, _≤_, _<_, min}
-use native.Mathlib.Numerals.{add-one}
+use Prim.Native.Nat.{ℕ, zero, suc, _+_, _-_, _*_, _/_, _≤_, _<_, min, zero-le}
 use native.Mathlib.Omega.{arith}
 use lib.Dec.{T}
 use lib.ListN.{length, drop, length-take, length-drop}
 use lib.Ieee.{Float, binary64, fits}
 use Rattle.domain.specs.Outline.{Outline, holeLength, holeStart, holeAt, loopAt, points, pointAt, pointAfter, misshapen, outlineRefusal, LoopPlace}
-use Rattle.domain.specs.OutlineLaws.{start-first, start-next, start-over, Shaped, shaped}
+use Rattle.domain.specs.OutlineLaws.{start-over, shaped, Passed, passed-place, passed-few}
 use Rattle.domain.specs.Accepted.{Accepted, accepted, each, loop-within}
-use Rattle.blocks.specs.Blocks.{reach, blockSize, blockEnd, sideAt, BlockThere, BlockFiled, LoopFiled, LoopDrawn, pointsBefore, firstBlock, firstBlockAt}
+use Rattle.blocks.specs.Blocks.{reach, blockSize, blockEnd, BlockThere, BlockFiled, LoopFiled, LoopDrawn, pointsBefore, firstBlock, firstBlockAt}
 use Rattle.blocks.specs.Blocks.{Drawn, segmentExtent, blockExtent, Covers}
 use Rattle.blocks.specs.BetweenLaws.{BlockPlace}
 use Rattle.blocks.specs.OrderLaws.{beyond-self}
@@ -95,7 +94,13 @@ first-over o e j k c h l m =
 before-most : (o : Outline) → Accepted o → (k : ℕ) → k ≤ length (o .lens) → 3 * k ≤ pointsBefore o k
 before-most o a zero h = omega arith
 before-most o a (suc k) h =
-    omega (arith, before-most o a k (omega arith), a .three k (omega arith), loop-long o (a .shape) k (omega arith) .long, before-over o k (suc k) (omega arith))
+    omega (
+      arith,
+      before-most o a k (omega arith),
+      a .three k (omega arith),
+      loop-long o (a .shape) k (omega arith) .long,
+      before-over o k (suc k) (omega arith),
+    )
 
 pub first-few : (o : Outline) → outlineRefusal o ≡ 0 → (k : ℕ) → k ≤ length (o .lens) → (k ≤ 65535) × (firstBlock o k ≤ 131070)
 unfolding firstBlock
@@ -104,6 +109,13 @@ first-few o e k h =
     let most = before-most o a k h in
     let few = loop-long o (a .shape) k h .few in
     (omega arith, omega arith)
+
+pub loop-few : (o : Outline) → outlineRefusal o ≡ 0 → (k : ℕ) → k ≤ length (o .lens) → points (loopAt o k) ≤ 65535
+loop-few o e k h =
+    let l = loop-long o (accepted o e .shape) k h in
+    let long = l .long in
+    let few = l .few in
+    omega arith
 
 -- the number as the code has it
 pub first-later : (outer : List Float) (k start : ℕ) → (k ≡ 0 → ⊥) → (points outer + start) / blockSize + k ≡ firstBlockAt outer k start
@@ -132,3 +144,33 @@ module _ {o : Outline} {blocks : List ℕ} (d : Drawn o blocks) where
         few = omega arith;
         filed = d .filed k h;
       }
+
+-- ---- a loop over the holes
+
+-- the outer loop's first block
+pub outer-first : (o : Outline) → firstBlock o 0 ≡ 0
+unfolding firstBlock
+outer-first o = refl
+
+module _ {o : Outline} {k start : ℕ} (p : Passed o k start) (h : k < length (o .lens)) where
+  -- what `first_block` asks
+  pub hole-asks : outlineRefusal o ≡ 0 → (points (o .outer) ≤ 65535) × (start ≤ 65535) × (k + 1 ≤ 65535)
+  hole-asks e =
+      let few = shaped o (p .shape) .few in
+      let passed = passed-few p h in
+      (omega arith, omega arith, first-few o e (k + 1) (omega arith) .0)
+
+  pub hole-first : {first : ℕ} → first ≡ firstBlockAt (o .outer) (k + 1) start → first ≡ firstBlock o (k + 1)
+  hole-first e = e ∙ first-at (k + 1) (passed-place p h)
+
+  -- what a function over the loop's blocks asks of the first one's number
+  pub hole-most : {first : ℕ} → outlineRefusal o ≡ 0 → first ≡ firstBlockAt (o .outer) (k + 1) start → first ≤ 1152921504606846976
+  hole-most e f = let few = first-few o e (k + 1) (omega arith) .1 in omega (arith, hole-first f)
+
+  pub hole-drawn : {blocks : List ℕ} {s : List Float} {first : ℕ} → Drawn o blocks → s ≡ loopAt o (k + 1) → first ≡ firstBlockAt (o .outer) (k + 1) start
+      → LoopDrawn s blocks first × (first ≤ 1152921504606846976)
+  hole-drawn {blocks} d e f =
+      (rw e (subst (LoopDrawn (loopAt o (k + 1)) blocks) (sym (hole-first f)) (drawn-loop d (k + 1) (omega arith))), hole-most (d .taken) f)
+
+pub outer-drawn : {o : Outline} {blocks : List ℕ} {s : List Float} → Drawn o blocks → s ≡ loopAt o 0 → LoopDrawn s blocks 0
+outer-drawn {o} {blocks} d e = rw e (subst (LoopDrawn (loopAt o 0) blocks) (outer-first o) (drawn-loop d 0 zero-le))

@@ -91,7 +91,7 @@ pub record LoopFiles (s : List Float) (before after : List ℕ) (first : ℕ) : 
   pub long : length after ≡ length before
   pub rest : (i : ℕ) → i < 4 * first → getD after i 0 ≡ getD before i 0
 
--- and every point of the loop is within 1,000, of doubles
+-- the blocks of a loop of doubles are filed, and every point of it is within 1,000
 pub record LoopDrawn (s : List Float) (blocks : List ℕ) (first : ℕ) : Type 0 where
   pub fits : AllFit s
   pub within : LoopWithin s

@@ -1,18 +1,21 @@
 -- Laws of filing: the segment that reaches farthest, the four numbers of a block, the blocks of a loop, and those of all loops. Assumes nothing.
-use mathlib.Core.Bool.{Bool, true, false}
+use mathlib.Core.Bool.{true, false}
 use mathlib.Core.List.{List}
 use mathlib.Core.Logic.{_⊎_, inl, inr}
 use mathlib.Core.Path.{_≡_, refl, sym, ap, _∙_, subst}
-use Prim.Native.Nat.{ℕ, zero, suc, _+_, _-_, _*_, _≤_, _<_}
+use Prim.Native.Nat.{ℕ, zero, suc, _+_, _*_, _≤_, _<_, zero-le}
 use native.Mathlib.Nat.{le-antisymm, eq-or-lt-of-le}
 use native.Mathlib.Omega.{arith}
 use lib.ListN.{length, getD, set, length-set}
 use lib.Seq.{getD-set-same, getD-set-other}
 use lib.Ieee.{Float}
-use Rattle.domain.specs.Outline.{Outline, loopAt, points, misshapen}
-use Rattle.blocks.specs.Blocks.{reach, isBeyond, Farthest, blockSize, blockEnd, sideAt, BlockFiled, LoopFiled, BlockFiles, LoopFiles, firstBlock}
+use Rattle.domain.specs.Outline.{Outline, loopAt, points, misshapen, outlineRefusal}
+use Rattle.domain.specs.OutlineLaws.{Passed}
+use Rattle.domain.specs.Accepted.{OutlineFits}
+use Rattle.blocks.specs.Blocks.{reach, isBeyond, Farthest, blockSize, blockEnd, sideAt, BlockFiled, LoopFiled, BlockFiles, LoopFiles}
+use Rattle.blocks.specs.Blocks.{firstBlock, firstBlockAt, Drawn}
 use Rattle.blocks.specs.BetweenLaws.{BlockPlace}
-use Rattle.blocks.specs.BlockLaws.{first-over}
+use Rattle.blocks.specs.BlockLaws.{first-over, outer-first, hole-first}
 use Rattle.blocks.specs.OrderLaws.{beyond-self, beyond-through}
 
 -- a number up to n is n or below it
@@ -196,3 +199,20 @@ loops-next {o} {before} {after} {k} e h f n = record {
     earlier j less c m g =
         let over = first-over o e j k c less h m in
         block-kept (λ d l. n .rest (4 * (firstBlock o j + c) + d) (omega arith)) (f .filed j less c m (omega (arith, n .long)))
+
+pub outer-filed : {o : Outline} {before after : List ℕ} {s : List Float} → misshapen o ≡ false → s ≡ loopAt o 0 → LoopFiles s before after 0
+    → LoopsFiled o after 1
+outer-filed {o} {before} {after} {s} e same f =
+    loops-next e zero-le (loops-none o before)
+    (subst (LoopFiles (loopAt o 0) before after) (sym (outer-first o)) (subst (λ (l : List Float). LoopFiles l before after 0) same f))
+
+module _ {o : Outline} {k start : ℕ} (p : Passed o k start) (h : k < length (o .lens)) where
+  pub hole-filed : {before after : List ℕ} {s : List Float} {first : ℕ} → LoopsFiled o before (k + 1) → s ≡ loopAt o (k + 1)
+      → first ≡ firstBlockAt (o .outer) (k + 1) start → LoopFiles s before after first → LoopsFiled o after (k + 1 + 1)
+  hole-filed {before} {after} {s} {first} l e f n =
+      loops-next (p .shape) (omega arith) l
+      (subst (LoopFiles (loopAt o (k + 1)) before after) (hole-first p h f) (subst (λ (x : List Float). LoopFiles x before after first) e n))
+
+pub drawn : {o : Outline} {blocks : List ℕ} {k : ℕ} → outlineRefusal o ≡ 0 → OutlineFits o → LoopsFiled o blocks (k + 1) → length (o .lens) ≤ k
+    → Drawn o blocks
+drawn e f l h = record { taken = e; fits = f; filed = λ j g. l .filed j (omega arith) }

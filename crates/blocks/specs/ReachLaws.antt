@@ -1,14 +1,13 @@
 -- How far a segment reaches: at least as far as its ends, and as a + (b − a). And the boxes of segments and blocks have sides within 10,000.
 -- Assumes nothing.
-use mathlib.Core.Bool.{Bool, true, false, not, cond, true≢false}
+use mathlib.Core.Bool.{Bool, true, false, cond}
 use mathlib.Core.List.{List}
-use mathlib.Core.Path.{_≡_, refl, sym, ap, _∙_, subst}
+use mathlib.Core.Path.{_≡_, refl}
 use Prim.Native.Nat.{ℕ, _+_, _*_, _<_}
 use native.Mathlib.Omega.{arith}
 use borrow.Author.Tests.{ltb-true}
 use lib.Dec.{T, ltb}
-use lib.ListN.{length, getD}
-use lib.Ieee.{Float, nan, inf, fin, binary64, fits, isNan, lt, eq, le}
+use lib.Ieee.{Float, nan, inf, fin, binary64, fits, isNan, lt, le}
 use lib.Ieee.Fits.{add-fits}
 use lib.Signed.{clashℤ}
 use Rattle.numbers.specs.Float.{_⊕_, _⊖_, minF, maxF}

@@ -1,14 +1,13 @@
 // Blocks of the outline's segments, so that a query passes over those that can't matter; and `contains` by blocks, whose answer is proved to be the plain one's
 // (crate domain). The lent list may have any length: a block that it doesn't have is looked through.
 ghost use mathlib.Core.Path.{_≡_};
-ghost use mathlib.Core.Bool.{true, false};
-ghost use Prim.Native.Nat.{_+_, _*_, _≤_, _<_, min};
+ghost use Prim.Native.Nat.{_+_, _*_, _≤_, _<_};
 ghost use lib.ListN.{length};
 ghost use Rattle.laws.specs.Loop.{anyUp};
-ghost use Rattle.domain.specs.Outline.{outline, points, LoopPlace, outlineRefusal};
+ghost use Rattle.domain.specs.Outline.{outline, points, outlineRefusal};
 ghost use Rattle.domain.specs.Queries.{polygonTurn, pointInPolygon, inHole, contains};
-ghost use Rattle.blocks.specs.Blocks.{forBetween, coordinate, reach, isBeyond, Farthest, blockEnd, isListed, BlockThere, BlockFiles, LoopFiles, LoopDrawn, firstBlockAt};
-ghost use Rattle.blocks.specs.Blocks.{Drawn, blockExtent, rayMisses};
+ghost use Rattle.blocks.specs.Blocks.{forBetween, coordinate, reach, isBeyond, Farthest, blockEnd, isListed, BlockThere, BlockFiles, LoopFiles};
+ghost use Rattle.blocks.specs.Blocks.{LoopDrawn, firstBlockAt, Drawn, blockExtent, rayMisses};
 use domain::Point;
 
 // A box round segments.

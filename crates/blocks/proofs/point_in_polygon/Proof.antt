@@ -28,9 +28,10 @@ is-listed-requires : tie.Need-is-listed-requires Inv-loop μ-loop
 is-listed-requires c κs = omega arith
 
 ray-misses-requires : tie.Need-ray-misses-requires Inv-loop μ-loop
-ray-misses-requires c κs = 
+ray-misses-requires c κs =
+    let start = c .before .before .before .before .before .before in
     let listed = ltb-true _ _ (sym (c .before .is-listed .ensures) ∙ c .if1 .taken) in
-    block-there (block-filed (c .before .before .before .before .before .before .pre .0 .filed) (c .before .before .before .loop .inv .1 .place) (omega arith) listed) listed
+    block-there (block-filed (start .pre .0 .filed) (c .before .before .before .loop .inv .1 .place) (omega arith) listed) listed
 
 block-end-requires : tie.Need-block-end-requires Inv-loop μ-loop
 block-end-requires c κs = omega arith

@@ -36,7 +36,7 @@ shared-slice-read-reach-2 : tie.Need-shared-slice-read-reach-2
 shared-slice-read-reach-2 c = search needs
 
 cast-reach-2 : tie.Need-cast-reach-2
-cast-reach-2 c = omega (arith, c .before .before .before .before .before .before .before .pre .sides 3 (omega arith), c .before .before .before .before .before .before .before .pre .listed)
+cast-reach-2 c = let start = c .before .before .before .before .before .before .before in omega (arith, start .pre .sides 3 (omega arith), start .pre .listed)
 
 reach-requires-2 : tie.Need-reach-requires-2
 reach-requires-2 c κs = omega (arith, c .before .before .before .before .before .before .before .pre .sides 3 (omega arith))
@@ -54,15 +54,19 @@ shared-slice-read-reach-3 : tie.Need-shared-slice-read-reach-3
 shared-slice-read-reach-3 c = search needs
 
 cast-reach-3 : tie.Need-cast-reach-3
-cast-reach-3 c = omega (arith, c .before .before .before .before .before .before .before .before .before .before .before .pre .sides 1 (omega arith), c .before .before .before .before .before .before .before .before .before .before .before .pre .listed)
+cast-reach-3 c =
+    let start = c .before .before .before .before .before .before .before .before .before .before .before in
+    omega (arith, start .pre .sides 1 (omega arith), start .pre .listed)
 
 reach-requires-3 : tie.Need-reach-requires-3
 reach-requires-3 c κs = omega (arith, c .before .before .before .before .before .before .before .before .before .before .before .pre .sides 1 (omega arith))
 
 returns-3 : tie.Need-returns-3
 returns-3 c =
+    let past-if1 = c .before .before .before .before .before .before .before in
     rw (c .before .reach3 .ensures)
-    (misses-left _ _ (rw (c .before .before .before .before .before .before .before .before .before .reach .ensures) at (c .before .before .before .before .before .before .before .if1 .left)) (rw (c .before .before .before .before .before .reach2 .ensures) at (c .before .before .before .if2 .left)))
+    (misses-left _ _ (rw (past-if1 .before .before .reach .ensures) at (past-if1 .if1 .left))
+    (rw (c .before .before .before .before .before .reach2 .ensures) at (c .before .before .before .if2 .left)))
 
 pub ray-misses-spec : {M : Type 1} → statement M
 ray-misses-spec =

@@ -147,7 +147,7 @@ fn is_near(p: Point) -> bool
     }
 }
 
-// Slightly more than the squared distance of p from the segment guessed.
+// Slightly more than the squared distance of p from the segment guessed. The answer is the same with any other number, so nothing is promised of it.
 fn limit(p: Point, guess: Near) -> f64 {
     domain::squared_distance(p, domain::foot_of(p, guess.a, guess.b)) * 1.000001 + 1.0e-12
 }

@@ -35,8 +35,8 @@ sqrt-f64-requires c κs = search needs
 returns-2 : tie.Need-returns-2
 returns-2 c =
     let taken = c .before .before .before .before .before in
-    guess-taken _ _ (taken .before .before .search-start .ensures) _ (subst T (sym (taken .limit .ok)) tt) (c .before .before .before .before .search-all .ensures)
-    (c .before .before .sqrt-f64 .ensures) (c .if2 .taken)
+    guess-taken _ _ (taken .before .before .search-start .ensures) _ (subst T (sym (taken .limit .ok)) tt)
+    (c .before .before .before .before .search-all .ensures) (c .before .before .sqrt-f64 .ensures) (c .if2 .taken)
 
 search-all-requires-2 : tie.Need-search-all-requires-2
 search-all-requires-2 c κs =
@@ -45,7 +45,9 @@ search-all-requires-2 c κs =
     (start .pre, asked .is-near .ensures (not-false _ (c .before .before .before .before .before .before .before .before .if1 .left)))
 
 returns-3 : tie.Need-returns-3
-returns-3 c = whole-taken _ _ (c .before .before .before .before .before .before .before .before .before .search-start .ensures) (c .before .search-all2 .ensures)
+returns-3 c =
+    let started = c .before .before .before .before .before .before .before .before .before in
+    whole-taken _ _ (started .search-start .ensures) (c .before .search-all2 .ensures)
 
 pub nearest-segment-spec : {M : Type 1} → statement M
 nearest-segment-spec =

@@ -1,5 +1,4 @@
 -- `nearest::search_all` meets its contract: the loop's invariant is `Loop` of the definition's turn over the holes, and where the next hole's points begin.
-use mathlib.Core.Path.{refl}
 use Prim.Native.Nat.{_-_}
 use native.Mathlib.Omega.{arith}
 use lib.ListN.{length}
@@ -7,8 +6,8 @@ use Rattle.laws.specs.Loop.{Loop, loop-start, loop-next, loop-end}
 use Rattle.domain.specs.Outline.{outline}
 use Rattle.domain.specs.OutlineLaws.{hole-points, outer-place, Passed, passed-none, passed-next, passed-place, passed-few}
 use Rattle.domain.specs.Search.{searchHole}
-use Rattle.blocks.specs.BlockLaws.{drawn-shape}
-use Rattle.nearest.specs.PassLaws.{loop-here, first-asked, searched-all}
+use Rattle.blocks.specs.BlockLaws.{drawn-shape, hole-asks, hole-drawn, outer-drawn}
+use Rattle.nearest.specs.PassLaws.{searched-all}
 use Rattle.nearest.proofs.search_all.Statement.{statement}
 use Rattle.nearest.proofs.search_all.Tie as tie
 
@@ -25,8 +24,7 @@ loop-points-requires c κs = outer-place _ (drawn-shape (c .before .before .befo
 search-loop-requires : tie.Need-search-loop-requires Inv-loop μ-loop
 search-loop-requires c κs =
     let pre = c .before .before .before .before .before .pre in
-    let here = loop-here (pre .0) 0 (outer-place _ (drawn-shape (pre .0))) (c .loop-points .ensures) refl in
-    (here .0, here .1, pre .1)
+    (outer-drawn (pre .0) (c .loop-points .ensures), omega arith, pre .1)
 
 loop-holds : tie.Need-loop-holds Inv-loop μ-loop
 loop-holds c = (passed-none (drawn-shape (c .before .before .before .before .before .before .pre .0)), loop-start _ _ _)
@@ -36,7 +34,7 @@ add-first-block c = omega arith
 
 first-block-requires : tie.Need-first-block-requires Inv-loop μ-loop
 first-block-requires c κs =
-    first-asked (c .before .before .before .before .before .before .before .before .pre .0) (c .before .loop .inv .0) (c .loop-test .taken)
+    hole-asks (c .before .loop .inv .0) (c .loop-test .taken) (c .before .before .before .before .before .before .before .before .pre .0 .taken)
 
 add-loop-points : tie.Need-add-loop-points Inv-loop μ-loop
 add-loop-points c = omega arith
@@ -47,14 +45,14 @@ loop-points-requires-2 c κs = passed-place (c .before .before .loop .inv .0) (c
 search-loop-requires-2 : tie.Need-search-loop-requires-2 Inv-loop μ-loop
 search-loop-requires-2 c κs =
     let pre = c .before .before .before .before .before .before .before .before .before .before .pre in
-    let place = passed-place (c .before .before .before .loop .inv .0) (c .before .before .loop-test .taken) in
-    let here = loop-here (pre .0) _ place (c .loop-points2 .ensures) (c .before .first-block .ensures) in
+    let hole = hole-drawn (c .before .before .before .loop .inv .0) (c .before .before .loop-test .taken) in
+    let here = hole (pre .0) (c .loop-points2 .ensures) (c .before .first-block .ensures) in
     (here .0, here .1, pre .1)
 
 mul-start : tie.Need-mul-start Inv-loop μ-loop
 mul-start c =
     let pre = c .before .before .before .before .before .before .before .before .before .before .before .pre in
-    omega (arith, first-asked (pre .0) (c .before .before .before .before .loop .inv .0) (c .before .before .before .loop-test .taken))
+    omega (arith, hole-asks (c .before .before .before .before .loop .inv .0) (c .before .before .before .loop-test .taken) (pre .0 .taken))
 
 shared-slice-read-start : tie.Need-shared-slice-read-start Inv-loop μ-loop
 shared-slice-read-start c = omega arith
@@ -67,7 +65,7 @@ add-start c =
 add-k : tie.Need-add-k Inv-loop μ-loop
 add-k c =
     let pre = c .before .before .before .before .before .before .before .before .before .before .before .before .pre in
-    omega (arith, first-asked (pre .0) (c .before .before .before .before .before .loop .inv .0) (c .before .before .before .before .loop-test .taken))
+    omega (arith, hole-asks (c .before .before .before .before .before .loop .inv .0) (c .before .before .before .before .loop-test .taken) (pre .0 .taken))
 
 loop-less : tie.Need-loop-less Inv-loop μ-loop
 loop-less c = omega arith

@@ -47,14 +47,13 @@ loop-less c = omega (arith, c .before .before .loop-test .taken)
 
 loop-again : tie.Need-loop-again Inv-loop μ-loop
 loop-again c =
-    let slices = c .before .before .before .before in
-    let pre = slices .before .before .pre in
+    let pre = c .before .before .before .before .before .before .pre in
     let inv = c .before .before .before .loop .inv in
     let taken = c .before .before .loop-test .taken in
     ⊎-elim (λ w. rw (w .3) (blocks-look _ _ inv taken (rw (← w .1 .ensures) (w .2 .ensures))))
     (λ w. rw (w .1)
     (blocks-pass _ _ inv taken
-    (passed-same (pre .0) (inv .place) taken (λ i l. slices .before .shared-slice-known .given i) _ _ (pre .2)
+    (passed-same (pre .0) (inv .place) taken _ _ (pre .2)
     (sym (c .before .is-passed .ensures) ∙ not-false _ (w .0 .left)))))
     (c .if1 .came)
 

@@ -69,11 +69,26 @@ fn root_bits(sig: u64, p: u64, q: u64) -> u64
     p / 2 * 4503599627370496 + r
 }
 
-// A number near the root of x, whose bits are b: two of Newton's steps for 1 / x.sqrt(), then one of the third order.
-// Nothing rests on how near it is.
+// A number near the root of 1 + e, for a small e: the series up to the seventh power.
+fn guess_near_one(e: f64) -> f64 {
+    let u = 0.5 * e;
+    let u2 = u * u;
+    let low = u + u2 * (0.5 * u - 0.5);
+    let high = 0.875 * u - 0.625 + u2 * (2.0625 * u - 1.3125);
+    1.0 + (low + u2 * u2 * high)
+}
+
+// A number near the root of x, whose bits are b. Near 1, where the sweeps' roots mostly are, it is that of a series; elsewhere two of Newton's
+// steps for 1 / x.sqrt(), then one of the third order. Nothing rests on how near it is.
 fn guess_root(x: f64, b: u64) -> f64
     requires { ⌜ b < 2 ^ 63 ⌝ }
 {
+    let e = x - 1.0;
+    if -0.0078125 <= e {
+        if e <= 0.0078125 {
+            return guess_near_one(e);
+        }
+    }
     let h = x * 0.5;
     let y0 = f64::from_bits(0x5fe6_ed21_02dc_bfda - b / 2);
     let y1 = 1.500878955116334 * y0 - h * y0 * (y0 * y0);

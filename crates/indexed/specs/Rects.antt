@@ -23,12 +23,12 @@ nodeRects size xs ys id = nodeRect size (nodeIn xs ys id)
 abbrev pub edgeRects : Float → List Float → List Float → List ℕ → ℕ → Rect
 edgeRects size xs ys edges k = edgeRect size (nodeIn xs ys (getD edges (2 * k) 0)) (nodeIn xs ys (getD edges (2 * k + 1) 0))
 
--- the nodes before `from` are filed, and there are more
+-- the nodes before `from` are filed, and those up to `to` may follow
 pub record NodesFiled (pool : List ℕ) (size : Float) (xs ys : List Float) (from to : ℕ) : Type 0 where
   pub more : from ≤ to
   pub filed : Indexed pool (nodeRects size xs ys) from
 
--- the edges before `from` are filed, and there are more
+-- the edges before `from` are filed, and those up to `to`, which are lent, may follow
 pub record EdgesFiled (pool : List ℕ) (size : Float) (xs ys : List Float) (edges : List ℕ) (from to : ℕ) : Type 0 where
   pub more : from ≤ to
   pub lent : 2 * to ≤ length edges

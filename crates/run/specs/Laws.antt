@@ -15,16 +15,16 @@ use Rattle.domain.specs.Outline.{Outline, firstOf}
 use Rattle.domain.specs.Accepted.{OutlineFits, first-zero}
 use Rattle.domain.specs.RefusalLaws.{answer-refused}
 use Rattle.blocks.specs.Blocks.{Drawn}
-use Rattle.crossfield.specs.declared.Grid.{Grid}
-use Rattle.crossfield.specs.Grid.{bounds, gridOf, gridNodes}
+use Rattle.direction.specs.declared.Grid.{Grid}
+use Rattle.direction.specs.Record.{gridNodes, FieldLists, FieldRecord, fieldRecord}
+use Rattle.direction.specs.Cells as field-places
+use Rattle.direction.specs.Direction.{nearestDirection}
+use Rattle.crossfield.specs.Grid.{bounds, gridOf}
 use Rattle.crossfield.specs.declared.FieldAnswer.{FieldAnswer}
 use Rattle.crossfield.specs.declared.FieldAnswer.the-variants as answer-is
-use Rattle.crossfield.specs.Seeds.{FieldLists}
-use Rattle.crossfield.specs.Field.{FieldRecord, fieldRecord, fieldPlaces, refusalFor, fieldRefusal, fieldOf}
+use Rattle.crossfield.specs.Field.{fieldPlaces, refusalFor, fieldRefusal, fieldOf}
 use Rattle.crossfield.specs.Field.{FieldResult, fieldResult, madeOf, fieldAnswer, FieldDraws}
 use Rattle.crossfield.specs.FieldLaws.{unrefused, few-made, sides}
-use Rattle.crossfield.specs.Places as field-places
-use Rattle.crossfield.specs.Direction.{nearestDirection}
 use Rattle.front.specs.State.{State, stateOf, nodePlaces, edgePlaces}
 use Rattle.front.specs.Sampling.{sampledCount, frontRefusal, fromBoundary, boundaryLoops}
 use Rattle.paving.specs.Attempt.{tryToward, tryEdge}
@@ -32,7 +32,7 @@ use Rattle.paving.specs.Advance.{Passed, passing, passTurn, afterPass, withSnap
 use Rattle.paving.specs.Advance as paving
 use Rattle.paving.specs.ReachLaws.{advance-reaches}
 use Rattle.paving.specs.Loops.{frontLoops}
-use Rattle.paving.specs.Run.{runRefusal, runOf}
+use Rattle.whole_run.specs.Run.{runRefusal, runOf}
 use Rattle.loops.specs.Listed.{lists, Lists, Listable, listedIn}
 use Rattle.loops.specs.ListedLaws.{sound-listable}
 use Rattle.advance.specs.Paveable.{Paveable, Later, reached-later}
@@ -100,7 +100,7 @@ module _ (o : Outline) (set : Settings) (l : Lent) (C : CanRun o set l) where
   unfolding fieldRefusal
   none-for = none-field
 
-  lent-made : OutlineFits o → T (fits binary64 (set .size)) → field-places.Lent (gridOf (bounds o) (set .size)) (l .values)
+  lent-made : OutlineFits o → T (fits binary64 (set .size)) → field-places.FieldLent (gridOf (bounds o) (set .size)) (l .values)
   lent-made doubles held =
       let u = unrefused o (set .size) (set .sweeps) (fieldPlaces (fieldPart l)) none-for in
       let two = sides (bounds o) (set .size) in

@@ -627,7 +627,7 @@ pub fn try_edge<'a>(
     let bx = q.x - p.x;
     let by = q.y - p.y;
     let length = geometry::norm(bx, by);
-    if length <= 1.0e-12 {
+    if length <= Settings::TOLERANCE {
         return Attempt::Nothing;
     }
     let normal = normal_of(bx, by, length);

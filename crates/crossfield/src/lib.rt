@@ -1,7 +1,7 @@
 // The cross field of src/alt_crossfield.rs: grid, seeds, marks and sweeps.
 ghost use mathlib.Core.Path.{_≡_};
 ghost use mathlib.Core.Bool.{true, false};
-ghost use Prim.Native.Nat.{_+_, _-_, _*_, min, _≤_, _<_};
+ghost use Prim.Native.Nat.{_+_, _-_, _*_, _≤_, _<_};
 ghost use lib.ListN.{length};
 ghost use Rattle.numbers.specs.Float.{_⊘_};
 ghost use Rattle.numbers.specs.Whole.{ceilCount};
@@ -95,17 +95,17 @@ fn grid_count(width: f64, h: f64) -> usize
     ensures { λ r. ⌜ r ≤ mostFieldNodes + 3 ⌝ }
 {
     let cells = numbers::ceil_count(width / h) as usize;
-    if cells < 2 { 5 } else { cells + 3 }
+    numbers::max_usize(cells, 2) + 3
 }
 
 // Whether a grid of this spacing has more than 250,000 nodes. A side of more than that has too many by itself, so that no product overflows.
 fn too_many_nodes(width: f64, height: f64, h: f64) -> bool
     ensures { λ r. ⌜ r ≡ tooManyNodes width height h ⌝ }
 {
-    if 250000 < numbers::ceil_count(width / h) {
+    if Settings::MOST_FIELD_NODES < numbers::ceil_count(width / h) as usize {
         return true;
     }
-    if 250000 < numbers::ceil_count(height / h) {
+    if Settings::MOST_FIELD_NODES < numbers::ceil_count(height / h) as usize {
         return true;
     }
     Settings::MOST_FIELD_NODES < grid_count(width, h) * grid_count(height, h)
@@ -411,7 +411,7 @@ fn normalised(v: Point) -> Point
     ensures { λ r. ⌜ r ≡ normalised v ⌝ }
 {
     let n = geometry::norm(v.x, v.y);
-    if 1.0e-12 < n {
+    if Settings::TOLERANCE < n {
         Point {
             x: v.x / n,
             y: v.y / n,
@@ -607,12 +607,6 @@ pub fn field_refusal<'a>(
     places_refusal(grid_of(b, size), places)
 }
 
-pub fn lesser(a: usize, b: usize) -> usize
-    ensures { λ r. ⌜ r ≡ min a b ⌝ }
-{
-    if a < b { a } else { b }
-}
-
 // The field of an outline, in the lists lent; on a refusal nothing is written. The list of blocks may have any length, and has the outline's blocks after.
 pub fn field<'a>(
     outer: &'a [f64],
@@ -629,7 +623,7 @@ pub fn field<'a>(
         (fieldLists (now (values .entry)) (now (marks .entry))) ⌝ }
     ensures { λ r. ⌜ FieldDraws (outline (now (outer .entry)) (now (holes .entry)) (now (lens .entry))) r (now (blocks .entry)) (now (blocks .exit)) ⌝ }
 {
-    let places = lesser(values.len() / 2, marks.len());
+    let places = numbers::min_usize(values.len() / 2, marks.len());
     let refusal = field_refusal(outer, holes, lens, size, limit, places);
     if refusal != 0 {
         return FieldAnswer::Refused(refusal);

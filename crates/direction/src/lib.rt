@@ -134,9 +134,7 @@ fn cell_of(d: f64, h: f64, n: usize) -> usize
     if z < 0 {
         return 0;
     }
-    let k = z as usize;
-    let last = n - 2;
-    if k < last { k } else { last }
+    numbers::min_usize(z as usize, n - 2)
 }
 
 fn weighed(tx: f64, ty: f64, v00: f64, v10: f64, v01: f64, v11: f64) -> f64
@@ -195,7 +193,7 @@ fn half(v: Point) -> Point
 fn direction_of(v: Point) -> Point
     ensures { λ r. ⌜ r ≡ directionOf v ⌝ }
 {
-    if geometry::norm(v.x, v.y) <= 1.0e-12 {
+    if geometry::norm(v.x, v.y) <= Settings::TOLERANCE {
         Point { x: 1.0, y: 0.0 }
     } else {
         half(half(v))

@@ -1,7 +1,7 @@
 // The run whole in one call: field, sampling, paving and the loops of the front, in the lists lent.
 ghost use mathlib.Core.Path.{_≡_};
 ghost use mathlib.Core.List.{[]};
-ghost use Prim.Native.Nat.{_≤_, min};
+ghost use Prim.Native.Nat.{_≤_};
 ghost use lib.ListN.{length};
 ghost use Rattle.domain.specs.Outline.{outline, firstOf};
 ghost use Rattle.blocks.specs.Blocks.{Drawn};
@@ -85,10 +85,10 @@ fn answer(grid: Grid, a: Advanced, listed: Listed) -> Paved
 fn node_places(xs: usize, ys: usize, next: usize, prev: usize, snapshot: usize) -> usize
     ensures { λ r. ⌜ r ≡ fewest xs ys next prev snapshot ⌝ }
 {
-    let coordinates = crossfield::lesser(xs, ys);
-    let links = crossfield::lesser(next, prev);
-    let most = crossfield::lesser(snapshot, 4294967294);
-    crossfield::lesser(crossfield::lesser(coordinates, links), most)
+    let coordinates = numbers::min_usize(xs, ys);
+    let links = numbers::min_usize(next, prev);
+    let most = numbers::min_usize(snapshot, 4294967294);
+    numbers::min_usize(crossfield::lesser(coordinates, links), most)
 }
 
 // Where there are so many places for field nodes, nodes and edges.
@@ -292,11 +292,11 @@ pub fn pave<'a>(
         × Spares (r .refusal) (scratch (now («node_pool» .entry)) (now («edge_pool» .entry)) (now (blocks .entry)))
         (scratch (now («node_pool» .exit)) (now («edge_pool» .exit)) (now (blocks .exit))) ⌝ }
 {
-    let m = crossfield::lesser(
+    let m = numbers::min_usize(
         snapshot.len(),
-        crossfield::lesser(loops.len(), lengths.len()),
+        numbers::min_usize(loops.len(), lengths.len()),
     );
-    let field = crossfield::lesser(values.len() / 2, marks.len());
+    let field = numbers::min_usize(values.len() / 2, marks.len());
     let nodes = node_places(xs.len(), ys.len(), next.len(), prev.len(), m);
     let number = refusal(
         outer,

@@ -10,15 +10,15 @@ use Rattle.crossfield.specs.Field.{fieldRefusal, fieldOf, fieldAnswer}
 use Rattle.crossfield.proofs.field.Statement.{statement}
 use Rattle.crossfield.proofs.field.Tie as tie
 
-lesser-requires : tie.Need-lesser-requires
-lesser-requires c κs = search needs
+min-usize-requires : tie.Need-min-usize-requires
+min-usize-requires c κs = search needs
 
 field-refusal-requires : tie.Need-field-refusal-requires
 field-refusal-requires c κs = search needs
 
 returns : tie.Need-returns
 unfolding fieldAnswer fieldRefusal
-returns c = (rw (← c .before .before .lesser .ensures, ← c .before .field-refusal .ensures) (sym (answer-refused _ _ _ (c .if1 .taken))), refl)
+returns c = (rw (← c .before .before .min-usize .ensures, ← c .before .field-refusal .ensures) (sym (answer-refused _ _ _ (c .if1 .taken))), refl)
 
 bounds-of-requires : tie.Need-bounds-of-requires
 bounds-of-requires c κs = accepted _ (unrefused _ _ _ _ (sym (c .before .field-refusal .ensures) ∙ c .if1 .left) .outline) .shape
@@ -41,7 +41,7 @@ seed-all-requires c κs =
       c .before .before .before .before .before .file .ensures,
       seeds-ask _ _ _ _ _ _ (record { outer = λ i h. known .before .shared-slice-known .given i; holes = λ i h. known .shared-slice-known2 .given i })
           (subst T (sym (known .before .before .good .1 .1 .1 .0 .1)) tt) (sym (asked .field-refusal .ensures) ∙ made .before .before .if1 .left)
-          (asked .before .lesser .ensures) (made .before .bounds-of .ensures) (made .grid-of .ensures),
+          (asked .before .min-usize .ensures) (made .before .bounds-of .ensures) (made .grid-of .ensures),
     )
 
 sweeps-requires : tie.Need-sweeps-requires
@@ -49,7 +49,7 @@ sweeps-requires c κs =
     let made = c .before .before .before .before .before .before .before .before .before .before .before .before .before .before in
     let asked = made .before .before .before in
     let seeds = c .before .before .before .before .before .before .seed-all in
-    room-of (room-made _ _ _ _ _ _ (sym (asked .field-refusal .ensures) ∙ made .before .before .if1 .left) (asked .before .lesser .ensures)
+    room-of (room-made _ _ _ _ _ _ (sym (asked .field-refusal .ensures) ∙ made .before .before .if1 .left) (asked .before .min-usize .ensures)
     (made .before .bounds-of .ensures) (made .grid-of .ensures)) (seeds .kept .1 .1 .1 .1 .1 .0) (seeds .kept .1 .1 .1 .1 .1 .1 .0)
 
 same-length : tie.Need-same-length
@@ -67,7 +67,7 @@ returns-2 c =
     let made = c .before .before .before .before .before .before .before .before .before .before .before .before .before .before .before .before .before in
     let asked = made .before .before .before in (
       rw (
-        ← asked .before .lesser .ensures,
+        ← asked .before .min-usize .ensures,
         sym (asked .field-refusal .ensures) ∙ made .before .before .if1 .left,
         ← made .before .bounds-of .ensures,
         ← made .grid-of .ensures,
@@ -81,7 +81,7 @@ pub field-spec : {M : Type 1} → statement M
 field-spec =
     tie.close
     (tie.spec
-    lesser-requires
+    min-usize-requires
     field-refusal-requires
     returns
     bounds-of-requires

@@ -1,4 +1,4 @@
--- `crossfield::any_unsound` meets its contract. Assumes nothing.
+-- `direction::any_unsound` meets its contract. Assumes nothing.
 use mathlib.Core.Bool.{not}
 use mathlib.Core.Path.{sym, ap, _∙_}
 use Prim.Native.Nat.{_-_}

@@ -1,9 +1,8 @@
--- `crossfield::cell_of` meets its contract. Assumes nothing.
+-- `direction::cell_of` meets its contract. Assumes nothing.
 use mathlib.Core.Bool.{true, false, true≢false}
-use mathlib.Core.Path.{_≡_, refl, sym, ap, _∙_}
-use Prim.Native.Nat.{ℕ, _-_, _<_, _≤_}
+use mathlib.Core.Path.{_≡_, refl, ap, _∙_}
+use Prim.Native.Nat.{ℕ, _-_, min}
 use native.Mathlib.Omega.{arith}
-use native.Mathlib.Nat.{le-of-lt, min-eq-left, min-eq-right}
 use borrow.Author.Tests.{ltb-true}
 use borrow.Author.Needs.{needs}
 use mir.ValLaws.{toZ-ofZ}
@@ -29,13 +28,9 @@ size : (z : ℤ) → ltZ z (pos 0) ≡ false → SFits w64 z → Fits w64 (natAb
 size (pos k) e h = record { fits = let l = h .sfits in omega arith }
 size (negsuc k) e h = absurd (true≢false e)
 
-near : (z : ℤ) (n : ℕ) → ltZ z (pos 0) ≡ false → natAbs z < n - 2 → natAbs z ≡ cellOf z n
-near (pos k) n e h = sym (min-eq-left (le-of-lt h))
-near (negsuc k) n e h = absurd (true≢false e)
-
-far : (z : ℤ) (n : ℕ) → ltZ z (pos 0) ≡ false → n - 2 ≤ natAbs z → n - 2 ≡ cellOf z n
-far (pos k) n e h = sym (min-eq-right h)
-far (negsuc k) n e h = absurd (true≢false e)
+high : (z : ℤ) (n : ℕ) → ltZ z (pos 0) ≡ false → min (natAbs z) (n - 2) ≡ cellOf z n
+high (pos k) n e = refl
+high (negsuc k) n e = absurd (true≢false e)
 
 -- a signed number is read back from its bits
 abbrev read : ℤ → ℤ
@@ -55,8 +50,8 @@ returns c = (
   omega arith,
 )
 
-cast-k : tie.Need-cast-k
-cast-k c = (
+cast-min-usize : tie.Need-cast-min-usize
+cast-min-usize c = (
   sign (read (c .before .floor-quotient .result)) (c .if1 .left),
   rw (toZ-ofZ w64 (c .before .floor-quotient .result) (record { sfits = c .before .floor-quotient .ok }))
       (size (c .before .floor-quotient .result)
@@ -64,25 +59,21 @@ cast-k c = (
       (record { sfits = c .before .floor-quotient .ok })),
 )
 
-sub-last : tie.Need-sub-last
-sub-last c = search needs
+sub-min-usize : tie.Need-sub-min-usize
+sub-min-usize c = search needs
+
+min-usize-requires : tie.Need-min-usize-requires
+min-usize-requires c κs = search needs
 
 returns-2 : tie.Need-returns-2
 returns-2 c = (
-  near (read (c .before .before .floor-quotient .result)) (c .before .before .before .args .n) (c .before .if1 .left)
-      (c .if2 .taken) ∙ ap (λ (z : ℤ). cellOf z (c .before .before .before .args .n))
+  c .min-usize .ensures ∙ high (read (c .before .before .floor-quotient .result)) (c .before .before .before .args .n) (c .before .if1 .left)
+      ∙ ap (λ (z : ℤ). cellOf z (c .before .before .before .args .n))
       (same _ _ (record { sfits = c .before .before .floor-quotient .ok }) (c .before .before .floor-quotient .ensures)),
-  omega arith,
-)
-
-returns-3 : tie.Need-returns-3
-returns-3 c = (
-  far (read (c .before .before .floor-quotient .result)) (c .before .before .before .args .n) (c .before .if1 .left)
-      (c .if2 .left) ∙ ap (λ (z : ℤ). cellOf z (c .before .before .before .args .n))
-      (same _ _ (record { sfits = c .before .before .floor-quotient .ok }) (c .before .before .floor-quotient .ensures)),
-  omega arith,
+  omega (arith, c .min-usize .ensures),
 )
 
 pub cell-of-spec : {M : Type 1} → statement M
 cell-of-spec =
-    tie.close (tie.spec floor-quotient-requires returns cast-k sub-last returns-2 returns-3)
+    tie.close
+    (tie.spec floor-quotient-requires returns cast-min-usize sub-min-usize min-usize-requires returns-2)

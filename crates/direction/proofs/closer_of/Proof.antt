@@ -1,4 +1,4 @@
--- `crossfield::closer_of` meets its contract. Assumes nothing.
+-- `direction::closer_of` meets its contract. Assumes nothing.
 use borrow.Author.Needs.{needs}
 use Rattle.direction.specs.Direction.{closerOf}
 use Rattle.direction.proofs.closer_of.Statement.{statement}

@@ -1,4 +1,4 @@
--- `crossfield::counts_sound` meets its contract. Assumes nothing.
+-- `direction::counts_sound` meets its contract. Assumes nothing.
 use native.Mathlib.Omega.{arith}
 use borrow.Author.Tests.{lt-leb, le-leb, ne-eqb, eq-eqb}
 use borrow.Author.Needs.{needs}

@@ -1,4 +1,4 @@
--- `crossfield::direction_of` meets its contract. Assumes nothing.
+-- `direction::direction_of` meets its contract. Assumes nothing.
 use borrow.Author.Needs.{needs}
 use Rattle.direction.specs.Direction.{directionOf}
 use Rattle.direction.proofs.direction_of.Statement.{statement}

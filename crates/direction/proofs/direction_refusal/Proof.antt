@@ -1,4 +1,4 @@
--- `crossfield::direction_refusal` meets its contract. Assumes nothing.
+-- `direction::direction_refusal` meets its contract. Assumes nothing.
 use mathlib.Core.Path.{sym, _∙_}
 use borrow.Author.Needs.{needs}
 use Rattle.domain.specs.RefusalLaws.{first-stays}

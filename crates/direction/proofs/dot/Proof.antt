@@ -1,4 +1,4 @@
--- `crossfield::dot` meets its contract. Assumes nothing.
+-- `direction::dot` meets its contract. Assumes nothing.
 use mathlib.Core.Path.{refl}
 use Rattle.direction.specs.Direction.{dot}
 use Rattle.direction.proofs.dot.Statement.{statement}

@@ -1,4 +1,4 @@
--- `crossfield::grid_sound` meets its contract. Assumes nothing.
+-- `direction::grid_sound` meets its contract. Assumes nothing.
 use mathlib.Core.Path.{sym, _∙_}
 use borrow.Author.Tests.{not-true, not-false}
 use borrow.Author.Needs.{needs}

@@ -1,4 +1,4 @@
--- `crossfield::half` meets its contract. Assumes nothing.
+-- `direction::half` meets its contract. Assumes nothing.
 use borrow.Author.Needs.{needs}
 use Rattle.direction.specs.Direction.{half}
 use Rattle.direction.proofs.half.Statement.{statement}

@@ -1,4 +1,4 @@
--- `crossfield::is_within` meets its contract. Assumes nothing.
+-- `direction::is_within` meets its contract. Assumes nothing.
 use borrow.Author.Needs.{needs}
 use Rattle.direction.specs.Direction.{within}
 use Rattle.direction.proofs.is_within.Statement.{statement}

@@ -1,4 +1,4 @@
--- `crossfield::nearest_direction` meets its contract. Assumes nothing.
+-- `direction::nearest_direction` meets its contract. Assumes nothing.
 use borrow.Author.Needs.{needs}
 use Rattle.direction.proofs.nearest_direction.Statement.{statement}
 use Rattle.direction.proofs.nearest_direction.Tie as tie

@@ -1,4 +1,4 @@
--- `crossfield::nearest_of` meets its contract. Assumes nothing.
+-- `direction::nearest_of` meets its contract. Assumes nothing.
 use borrow.Author.Needs.{needs}
 use Rattle.direction.specs.Direction.{nearestOf}
 use Rattle.direction.proofs.nearest_of.Statement.{statement}

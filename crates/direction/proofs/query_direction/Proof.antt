@@ -1,4 +1,4 @@
--- `crossfield::query_direction` meets its contract. Assumes nothing.
+-- `direction::query_direction` meets its contract. Assumes nothing.
 use mathlib.Core.Path.{sym, ap, _∙_}
 use borrow.Author.Needs.{needs}
 use Rattle.domain.specs.RefusalLaws.{answer-refused}

@@ -1,4 +1,4 @@
--- `crossfield::raw_at` meets its contract. Assumes nothing.
+-- `direction::raw_at` meets its contract. Assumes nothing.
 use mathlib.Core.Path.{refl}
 use native.Mathlib.Omega.{arith}
 use borrow.Author.Needs.{needs}

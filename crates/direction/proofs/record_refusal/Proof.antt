@@ -1,4 +1,4 @@
--- `crossfield::record_refusal` meets its contract. Assumes nothing.
+-- `direction::record_refusal` meets its contract. Assumes nothing.
 use mathlib.Core.Path.{sym, _∙_}
 use borrow.Author.Tests.{not-true, not-false}
 use borrow.Author.Needs.{needs}

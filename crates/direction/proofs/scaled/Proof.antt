@@ -1,4 +1,4 @@
--- `crossfield::scaled` meets its contract. Assumes nothing.
+-- `direction::scaled` meets its contract. Assumes nothing.
 use borrow.Author.Needs.{needs}
 use Rattle.direction.specs.Direction.{scaled}
 use Rattle.direction.proofs.scaled.Statement.{statement}

@@ -1,4 +1,4 @@
--- `crossfield::weighed` meets its contract. Assumes nothing.
+-- `direction::weighed` meets its contract. Assumes nothing.
 use mathlib.Core.Path.{refl}
 use Rattle.direction.specs.Direction.{weighed}
 use Rattle.direction.proofs.weighed.Statement.{statement}

@@ -90,19 +90,21 @@ few-made o size n places {b} doubles held none same =
     let u = unrefused o size n places none in
     few o size b doubles held (u .outline) (u .size) same (ap boundsRefusal same ∙ u .box)
 
-pub room-made : (o : Outline) (size : Float) (n places floats bytes : ℕ) {b : Bounds} {g : Grid} → refusalFor o size n places ≡ 0
-    → places ≡ min (floats / 2) bytes → b ≡ bounds o → g ≡ gridOf b size → FieldRoom (g .nx) (g .ny) floats bytes
-room-made o size n places floats bytes {b} {g} none lent same made =
+pub room-made : (o : Outline) (size : Float) (n floats bytes : ℕ) {b : Bounds} {g : Grid} → refusalFor o size n (min (floats / 2) bytes) ≡ 0
+    → b ≡ bounds o → g ≡ gridOf b size → FieldRoom (g .nx) (g .ny) floats bytes
+room-made o size n floats bytes {b} {g} none same made =
     room-for g floats bytes
     (le-trans (le-of-eq (ap gridNodes (made ∙ ap (λ (b : Bounds). gridOf b size) same)))
-    (le-trans (unrefused o size n places none .room) (le-of-eq lent)))
+    (unrefused o size n (min (floats / 2) bytes) none .room))
 
 -- what the seeds ask besides
-pub seeds-ask : (o : Outline) (size : Float) (n places floats bytes : ℕ) {b : Bounds} {g : Grid} → OutlineFits o → T (fits binary64 size)
-    → refusalFor o size n places ≡ 0 → places ≡ min (floats / 2) bytes → b ≡ bounds o → g ≡ gridOf b size
+pub seeds-ask : (o : Outline) (size : Float) (n floats bytes : ℕ) {b : Bounds} {g : Grid} → OutlineFits o → T (fits binary64 size)
+    → refusalFor o size n (min (floats / 2) bytes) ≡ 0 → b ≡ bounds o → g ≡ gridOf b size
     → FieldRoom (g .nx) (g .ny) floats bytes × ((g .nx ≤ mostFieldNodes) × (g .ny ≤ mostFieldNodes))
-seeds-ask o size n places floats bytes {b} {g} doubles held none lent same made =
-    (room-made o size n places floats bytes none lent same made, short-sides b size g made (few-made o size n places doubles held none same))
+seeds-ask o size n floats bytes {b} {g} doubles held none same made = (
+  room-made o size n floats bytes none same made,
+  short-sides b size g made (few-made o size n (min (floats / 2) bytes) doubles held none same),
+)
 
 -- the outer loop has a first segment
 pub two-points : {o : Outline} {blocks : List ℕ} → Drawn o blocks → 3 < length (o .outer)

@@ -8,13 +8,13 @@ ghost use Rattle.numbers.specs.Whole.{ceilCount};
 ghost use Rattle.domain.specs.Outline.{outline, misshapen, pointAt};
 ghost use Rattle.domain.specs.Queries.{nearestSegment};
 ghost use Rattle.blocks.specs.Blocks.{Drawn};
-ghost use Rattle.direction.specs.Record.{mostFieldNodes, gridNodes, fieldLists};
+ghost use Rattle.direction.specs.Record.{mostFieldNodes, gridNodes, fieldLists, fieldRecord};
 ghost use Rattle.crossfield.specs.Grid.{noBounds, widened, loopBounds, bounds, gridCount, tooManyNodes, spacing, gridOf, sizeRefusal};
 ghost use Rattle.crossfield.specs.Grid.{boundsRefusal, sweepsRefusal};
 ghost use Rattle.crossfield.specs.Seeds.{gridPoint, seed, isFixed, markOf, seedNode, seedRow, seeded};
 ghost use Rattle.crossfield.specs.Sweeps.{plusIf, oneIf, neighbourSum, neighbourCount, normalised, divided, average, swept, change, relaxed};
 ghost use Rattle.crossfield.specs.Sweeps.{sweepNode, sweepRow, sweep, sweeps};
-ghost use Rattle.crossfield.specs.Field.{placesRefusal, refusalFor, fieldResult, fieldAnswer, FieldDraws};
+ghost use Rattle.crossfield.specs.Field.{placesRefusal, refusalFor, fieldRefusal, fieldOf, fieldResult, fieldAnswer, FieldDraws};
 ghost use Rattle.crossfield.specs.Places.{Node, Row, NodeMark, RowMarks, FieldRoom};
 use direction::Grid;
 use domain::Near;
@@ -607,6 +607,30 @@ pub fn field_refusal<'a>(
     places_refusal(grid_of(b, size), places)
 }
 
+// The field where none of 1 to 9 refuses it, in the lists lent; and the outline's blocks.
+pub fn make_field<'a>(
+    outer: &'a [f64],
+    holes: &'a [f64],
+    lens: &[usize],
+    size: f64,
+    limit: usize,
+    values: &mut [f64],
+    marks: &mut [u8],
+    blocks: &mut [u32],
+) -> Grid
+    requires { ⌜ fieldRefusal (outline (now outer) (now holes) (now lens)) size limit (fieldLists (now values) (now marks)) ≡ 0 ⌝ }
+    ensures { λ r. ⌜ fieldRecord r (now (values .exit)) (now (marks .exit))
+        ≡ fieldOf (outline (now (outer .entry)) (now (holes .entry)) (now (lens .entry))) size limit
+        (fieldLists (now (values .entry)) (now (marks .entry)))
+        × Drawn (outline (now (outer .entry)) (now (holes .entry)) (now (lens .entry))) (now (blocks .exit)) ⌝ }
+{
+    let g = grid_of(bounds_of(outer, holes, lens), size);
+    blocks::file(outer, holes, lens, blocks);
+    seed_all(outer, holes, lens, blocks, g, values, marks);
+    sweeps(limit, g, marks, values);
+    g
+}
+
 // The field of an outline, in the lists lent; on a refusal nothing is written. The list of blocks may have any length, and has the outline's blocks after.
 pub fn field<'a>(
     outer: &'a [f64],
@@ -628,9 +652,5 @@ pub fn field<'a>(
     if refusal != 0 {
         return FieldAnswer::Refused(refusal);
     }
-    let g = grid_of(bounds_of(outer, holes, lens), size);
-    blocks::file(outer, holes, lens, blocks);
-    seed_all(outer, holes, lens, blocks, g, values, marks);
-    sweeps(limit, g, marks, values);
-    FieldAnswer::Made(g)
+    FieldAnswer::Made(make_field(outer, holes, lens, size, limit, values, marks, blocks))
 }

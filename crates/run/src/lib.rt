@@ -4,16 +4,14 @@ ghost use mathlib.Core.List.{[]};
 ghost use Prim.Native.Nat.{_≤_};
 ghost use lib.ListN.{length};
 ghost use Rattle.domain.specs.Outline.{outline, firstOf};
-ghost use Rattle.blocks.specs.Blocks.{Drawn};
-ghost use Rattle.direction.specs.Record.{fieldLists, fieldRecord};
-ghost use Rattle.crossfield.specs.Field.{refusalFor, fieldRefusal, fieldOf};
+ghost use Rattle.direction.specs.Record.{fieldRecord};
+ghost use Rattle.crossfield.specs.Field.{refusalFor};
 ghost use Rattle.front.specs.State.{State, stateOf, nodePlaces, edgePlaces};
 ghost use Rattle.front.specs.Sampling.{frontRefusal, fromBoundary};
 ghost use Rattle.paving.specs.Advance.{paved, advance};
 ghost use Rattle.run.specs.Run.{settings, lent, scratch, ran, fewest, endNumber, refusedAnswer, pavedAnswer, unused, acceptedIn, Paves, Spares};
 ghost use Rattle.run.specs.Asked.{CanPave, CanRun};
 use advance::Advanced;
-use crossfield::FieldAnswer;
 use direction::Grid;
 use front::Counts;
 use loops::Listed;
@@ -115,36 +113,6 @@ fn refusal<'a>(
 
 // ---- the stages
 
-// The field, where none of 1 to 9 refuses it, and the outline's blocks.
-fn make_field<'a>(
-    outer: &'a [f64],
-    holes: &'a [f64],
-    lens: &[usize],
-    size: f64,
-    sweeps: usize,
-    values: &mut [f64],
-    marks: &mut [u8],
-    blocks: &mut [u32],
-) -> Grid
-    requires { ⌜ fieldRefusal (outline (now outer) (now holes) (now lens)) size sweeps (fieldLists (now values) (now marks)) ≡ 0 ⌝ }
-    ensures { λ r. ⌜ fieldRecord r (now (values .exit)) (now (marks .exit))
-        ≡ fieldOf (outline (now (outer .entry)) (now (holes .entry)) (now (lens .entry))) size sweeps
-        (fieldLists (now (values .entry)) (now (marks .entry)))
-        × Drawn (outline (now (outer .entry)) (now (holes .entry)) (now (lens .entry))) (now (blocks .exit)) ⌝ }
-{
-    let made = crossfield::field(outer, holes, lens, size, sweeps, values, marks, blocks);
-    match made {
-        FieldAnswer::Refused(_) => Grid {
-            xmin: 0.0,
-            ymin: 0.0,
-            h: 0.0,
-            nx: 0,
-            ny: 0,
-        },
-        FieldAnswer::Made(grid) => grid,
-    }
-}
-
 // Sampling and paving, where 10 doesn't refuse them.
 fn sample_and_advance<'a>(
     outer: &'a [f64],
@@ -232,7 +200,7 @@ fn pave_in<'a>(
         (lent (now (values .entry)) (now (marks .entry)) (now (xs .entry)) (now (ys .entry)) (now (next .entry)) (now (prev .entry))
         (now (snapshot .entry)) (now (quads .entry)) (now (edges .entry)) (now (loops .entry)) (now (lengths .entry))) ⌝ }
 {
-    let grid = make_field(outer, holes, lens, size, sweeps, values, marks, blocks);
+    let grid = crossfield::make_field(outer, holes, lens, size, sweeps, values, marks, blocks);
     let a = sample_and_advance(
         outer,
         holes,

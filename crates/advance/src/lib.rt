@@ -8,7 +8,7 @@ ghost use Prim.Native.Nat.{_*_, _≤_, _<_, min};
 ghost use lib.ListN.{length};
 ghost use Rattle.laws.specs.Loop.{run};
 ghost use Rattle.domain.specs.Outline.{outline};
-ghost use Rattle.crossfield.specs.Field.{fieldRecord};
+ghost use Rattle.direction.specs.Record.{fieldRecord};
 ghost use Rattle.front.specs.State.{stateOf};
 ghost use Rattle.indexed.specs.Rects.{NodesFiled, EdgesFiled};
 ghost use Rattle.attempts.specs.Seen.{TryLent};
@@ -16,7 +16,7 @@ ghost use Rattle.paving.specs.Advance.{copied, passing, passTurn, afterPass, pa
 ghost use Rattle.advance.specs.Answers.{edgeAttempt, Settles, settledCounts, quadSettled, passed, passedCounts, passAnswer};
 ghost use Rattle.advance.specs.Paveable.{Paveable};
 ghost use Rattle.advance.specs.Searchable.{Searchable};
-use crossfield::Grid;
+use direction::Grid;
 use domain::Settings;
 use front::Counts;
 use front::OFF;

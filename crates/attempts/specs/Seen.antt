@@ -5,9 +5,9 @@ use lib.ListN.{length}
 use lib.Ieee.{Float}
 use Rattle.domain.specs.Outline.{Outline}
 use Rattle.blocks.specs.Blocks.{Drawn}
-use Rattle.crossfield.specs.declared.Grid.{Grid}
-use Rattle.crossfield.specs.Places.{Lent}
 use Rattle.index.specs.Pool.{Indexed}
+use Rattle.direction.specs.declared.Grid.{Grid}
+use Rattle.direction.specs.Cells.{FieldLent}
 use Rattle.front.specs.declared.Counts.{Counts}
 use Rattle.front.specs.State.{State, counted}
 use Rattle.indexed.specs.Rects.{nodeRects, edgeRects}
@@ -67,4 +67,4 @@ pub record AttemptLent (o : Outline) (blocks : List ℕ) (size : Float) (xs ys :
 pub record TryLent (o : Outline) (blocks : List ℕ) (g : Grid) (values : List Float) (size : Float) (xs ys : List Float)
     (next prev edges node-pool edge-pool : List ℕ) (counts : Counts) : Type 0 where
   pub attempt : AttemptLent o blocks size xs ys next prev edges node-pool edge-pool counts
-  pub field : Lent g values
+  pub field : FieldLent g values

@@ -13,8 +13,8 @@ use Rattle.geometry.specs.declared.Key.{Key}
 use Rattle.geometry.specs.declared.Corners.{Corners}
 use Rattle.geometry.specs.Plane.{norm, convexCcw, centroid}
 use Rattle.geometry.specs.Keys.{keyOf, clearance, isTooClose, tooCloseAt}
-use Rattle.crossfield.specs.Field.{FieldRecord, fieldRecord}
-use Rattle.crossfield.specs.Direction.{nearestDirection}
+use Rattle.direction.specs.Record.{FieldRecord, fieldRecord}
+use Rattle.direction.specs.Direction.{nearestDirection}
 use Rattle.front.specs.declared.Corner.{Corner}
 use Rattle.front.specs.declared.Corner.the-variants.{Reused, Fresh}
 use Rattle.front.specs.State.{State, node, nextOf}

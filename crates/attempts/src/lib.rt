@@ -7,8 +7,8 @@ ghost use Prim.Native.Nat.{_+_, _≤_};
 ghost use lib.ListN.{length};
 ghost use Rattle.topology.specs.Links.{linkOf};
 ghost use Rattle.domain.specs.Outline.{outline};
-ghost use Rattle.crossfield.specs.Field.{fieldRecord};
 ghost use Rattle.index.specs.Pool.{Indexed};
+ghost use Rattle.direction.specs.Record.{fieldRecord};
 ghost use Rattle.front.specs.Place.{added, cornerId, cornerPoint};
 ghost use Rattle.indexed.specs.Rects.{nodeRects};
 ghost use Rattle.paving.specs.Checks.{tooClose, nodeOk, cornerFree, cornersApart, nodeInside};
@@ -16,7 +16,7 @@ ghost use Rattle.paving.specs.Checks.{edgeCrosses, sideCrosses, edgesFree, corn
 ghost use Rattle.paving.specs.Attempt.{isReused, cornerAt, ideal, attemptQuad, normalOf, tryToward, tryEdge};
 ghost use Rattle.attempts.specs.Seen.{seen, seenNodes, seenPoints, seenEdges};
 ghost use Rattle.attempts.specs.Seen.{NodesLent, EdgesIndexed, EdgesLent, QuadLent, AttemptLent, TryLent};
-use crossfield::Grid;
+use direction::Grid;
 use domain::Point;
 use domain::Settings;
 use front::Corner;
@@ -551,8 +551,8 @@ fn try_toward<'a>(
         (fieldRecord grid (now (values .entry)) [])
         (seen (now (xs .entry)) (now (ys .entry)) (now (next .entry)) (now (prev .entry)) (now (edges .entry)) counts) a b normal ⌝ }
 {
-    let da = crossfield::nearest_direction(grid, values, front::node_at(xs, ys, a), normal);
-    let db = crossfield::nearest_direction(grid, values, front::node_at(xs, ys, b), normal);
+    let da = direction::nearest_direction(grid, values, front::node_at(xs, ys, a), normal);
+    let db = direction::nearest_direction(grid, values, front::node_at(xs, ys, b), normal);
     let first = attempt_quad(
         outer,
         holes,
@@ -627,7 +627,7 @@ pub fn try_edge<'a>(
     let bx = q.x - p.x;
     let by = q.y - p.y;
     let length = geometry::norm(bx, by);
-    if length <= 1.0e-12 {
+    if length <= Settings::TOLERANCE {
         return Attempt::Nothing;
     }
     let normal = normal_of(bx, by, length);

@@ -2,7 +2,7 @@
 ghost use mathlib.Core.Path.{_≡_};
 ghost use mathlib.Core.Bool.{false};
 ghost use mathlib.Core.List.{List};
-ghost use Prim.Native.Nat.{ℕ, _+_, _*_, _<_, _≤_, min, max};
+ghost use Prim.Native.Nat.{ℕ, _+_, _*_, _<_, _≤_, min};
 ghost use lib.Ieee.{Float};
 ghost use lib.ListN.{length};
 ghost use Rattle.domain.specs.Outline.{outline, misshapen, loopStart, after};
@@ -334,18 +334,6 @@ fn split_longest(
 
 // ---- the front
 
-fn lesser(u: u32, v: u32) -> u32
-    ensures { λ r. ⌜ r ≡ min u v ⌝ }
-{
-    if u < v { u } else { v }
-}
-
-fn greater(u: u32, v: u32) -> u32
-    ensures { λ r. ⌜ r ≡ max u v ⌝ }
-{
-    if u < v { v } else { u }
-}
-
 // v comes after u, and their edge is edge e.
 fn link(next: &mut [u32], prev: &mut [u32], edges: &mut [u32], u: u32, v: u32, e: usize)
     requires { ⌜ (u < length (now next)) × (v < length (now prev)) × (2 * e + 1 < length (now edges)) ⌝ }
@@ -354,8 +342,8 @@ fn link(next: &mut [u32], prev: &mut [u32], edges: &mut [u32], u: u32, v: u32, e
 {
     next[u as usize] = v;
     prev[v as usize] = u;
-    edges[2 * e] = lesser(u, v);
-    edges[2 * e + 1] = greater(u, v);
+    edges[2 * e] = numbers::min_u32(u, v);
+    edges[2 * e + 1] = numbers::max_u32(u, v);
 }
 
 // Each id of the ring is joined to the next. Its edges are new, so none is looked for: they are written from edge e on.

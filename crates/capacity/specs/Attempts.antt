@@ -15,9 +15,9 @@ use Rattle.domain.specs.declared.Point.{Point}
 use Rattle.domain.specs.Outline.{Outline, point}
 use Rattle.geometry.specs.declared.Corners.{Corners}
 use Rattle.geometry.specs.Plane.{distance}
-use Rattle.crossfield.specs.Field.{FieldRecord}
 use Rattle.topology.specs.Links.{off}
 use Rattle.topology.specs.Front.{next-in, prev-in}
+use Rattle.direction.specs.Record.{FieldRecord}
 use Rattle.front.specs.declared.Corner.{Corner}
 use Rattle.front.specs.declared.Corner.the-variants.{Reused, Fresh}
 use Rattle.front.specs.State.{State, node, nextOf, prevOf}

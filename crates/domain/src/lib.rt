@@ -72,6 +72,8 @@ impl Settings {
     pub const CLEARANCE: f64 = 0.45;
     // Of the size: a front node within this of a corner is reused for it.
     pub const REUSE: f64 = 0.35;
+    // A length, an area or an orientation of no more than this counts as none.
+    pub const TOLERANCE: f64 = 1.0e-12;
     // A corner's sine is above this, which is sin 20°.
     pub const LEAST_SINE: f64 = 0.3420201433256687;
     // An edge whose key rectangle has more spans is no candidate.

@@ -13,12 +13,12 @@ use Rattle.domain.specs.declared.Nearest.{Nearest}
 use Rattle.domain.specs.declared.Nearest.the-variants as nearest-is
 use Rattle.domain.specs.declared.Distance.{Distance}
 use Rattle.domain.specs.declared.Distance.the-variants as distance-is
-use Rattle.crossfield.specs.declared.Grid.{Grid}
+use Rattle.direction.specs.declared.Grid.{Grid}
+use Rattle.direction.specs.declared.Direction.{Direction}
+use Rattle.direction.specs.declared.Direction.the-variants as direction-is
+use Rattle.direction.specs.Record.{FieldLists, fieldLists}
 use Rattle.crossfield.specs.declared.FieldAnswer.{FieldAnswer}
 use Rattle.crossfield.specs.declared.FieldAnswer.the-variants as field-is
-use Rattle.crossfield.specs.declared.Direction.{Direction}
-use Rattle.crossfield.specs.declared.Direction.the-variants as direction-is
-use Rattle.crossfield.specs.Seeds.{FieldLists, fieldLists}
 use Rattle.crossfield.specs.Field.{FieldResult}
 use Rattle.domain.specs.declared.Settings.{Settings}
 use Rattle.domain.specs.Outline.{Outline}

@@ -3,15 +3,15 @@
 ghost use mathlib.Core.Path.{_≡_};
 ghost use Rattle.domain.specs.Outline.{outline, point};
 ghost use Rattle.domain.specs.Queries.{containsAnswer, nearestAnswer, distanceAnswer};
-ghost use Rattle.crossfield.specs.Seeds.{fieldLists};
-ghost use Rattle.crossfield.specs.Field.{fieldRecord, fieldAnswer};
-ghost use Rattle.crossfield.specs.Direction.{directionAnswer};
+ghost use Rattle.direction.specs.Record.{fieldLists, fieldRecord};
+ghost use Rattle.direction.specs.Direction.{directionAnswer};
+ghost use Rattle.crossfield.specs.Field.{fieldAnswer};
 ghost use Rattle.run.specs.Run.{settings, lent, scratch, Spares};
 ghost use Rattle.mesher.specs.Answers.{containsNumbers, nearestNumbers, distanceNumbers, gridLent, fieldExit, fieldNumbers, directionNumbers};
 ghost use Rattle.mesher.specs.Answers.{isWhole, paveNumbers, HostPaves};
-use crossfield::Direction;
 use crossfield::FieldAnswer;
-use crossfield::Grid;
+use direction::Direction;
+use direction::Grid;
 use domain::Contains;
 use domain::Distance;
 use domain::Nearest;
@@ -222,7 +222,7 @@ pub extern "C" fn sitjorbe_direction(
         nx,
         ny,
     };
-    let answer = crossfield::query_direction(
+    let answer = direction::query_direction(
         grid,
         values,
         marks,

@@ -7,8 +7,8 @@ use Rattle.numbers.specs.Float.{_⊕_, _⊖_, _⊗_, _⊘_, bits, tolerance}
 use Rattle.domain.specs.declared.Point.{Point}
 use Rattle.domain.specs.Outline.{Outline, point}
 use Rattle.geometry.specs.Plane.{norm, distance}
-use Rattle.crossfield.specs.Field.{FieldRecord}
-use Rattle.crossfield.specs.Direction.{nearestDirection}
+use Rattle.direction.specs.Record.{FieldRecord}
+use Rattle.direction.specs.Direction.{nearestDirection}
 use Rattle.front.specs.declared.Corner.{Corner}
 use Rattle.front.specs.declared.Corner.the-variants.{Reused, Fresh}
 use Rattle.topology.specs.Links.{off}

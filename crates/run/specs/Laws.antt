@@ -9,22 +9,18 @@ use lib.ListN.{length, take, drop}
 use lib.Seq.{length-take-le}
 use lib.Ieee.{Float, binary64, fits}
 use Rattle.laws.specs.Loop.{run}
-use Rattle.numbers.specs.Float.{zeroF}
 use Rattle.domain.specs.declared.Settings.{Settings}
 use Rattle.domain.specs.Outline.{Outline, firstOf}
 use Rattle.domain.specs.Accepted.{OutlineFits, first-zero}
 use Rattle.domain.specs.RefusalLaws.{answer-refused}
 use Rattle.blocks.specs.Blocks.{Drawn}
-use Rattle.crossfield.specs.declared.Grid.{Grid}
-use Rattle.crossfield.specs.Grid.{bounds, gridOf, gridNodes}
-use Rattle.crossfield.specs.declared.FieldAnswer.{FieldAnswer}
-use Rattle.crossfield.specs.declared.FieldAnswer.the-variants as answer-is
-use Rattle.crossfield.specs.Seeds.{FieldLists}
-use Rattle.crossfield.specs.Field.{FieldRecord, fieldRecord, fieldPlaces, refusalFor, fieldRefusal, fieldOf}
-use Rattle.crossfield.specs.Field.{FieldResult, fieldResult, madeOf, fieldAnswer, FieldDraws}
+use Rattle.direction.specs.declared.Grid.{Grid}
+use Rattle.direction.specs.Record.{gridNodes, FieldRecord, fieldRecord}
+use Rattle.direction.specs.Cells as field-places
+use Rattle.direction.specs.Direction.{nearestDirection}
+use Rattle.crossfield.specs.Grid.{bounds, gridOf}
+use Rattle.crossfield.specs.Field.{fieldPlaces, refusalFor, fieldRefusal, fieldOf}
 use Rattle.crossfield.specs.FieldLaws.{unrefused, few-made, sides}
-use Rattle.crossfield.specs.Places as field-places
-use Rattle.crossfield.specs.Direction.{nearestDirection}
 use Rattle.front.specs.State.{State, stateOf, nodePlaces, edgePlaces}
 use Rattle.front.specs.Sampling.{sampledCount, frontRefusal, fromBoundary, boundaryLoops}
 use Rattle.paving.specs.Attempt.{tryToward, tryEdge}
@@ -32,7 +28,7 @@ use Rattle.paving.specs.Advance.{Passed, passing, passTurn, afterPass, withSnap
 use Rattle.paving.specs.Advance as paving
 use Rattle.paving.specs.ReachLaws.{advance-reaches}
 use Rattle.paving.specs.Loops.{frontLoops}
-use Rattle.paving.specs.Run.{runRefusal, runOf}
+use Rattle.whole_run.specs.Run.{runRefusal, runOf}
 use Rattle.loops.specs.Listed.{lists, Lists, Listable, listedIn}
 use Rattle.loops.specs.ListedLaws.{sound-listable}
 use Rattle.advance.specs.Paveable.{Paveable, Later, reached-later}
@@ -62,26 +58,6 @@ module _ (o : Outline) (size : Float) (g : Grid) (values : List Float) (marks ot
   unfolding advance
   advance-unread n s = ap (λ (p : State → Passed). run (min n mostPasses) (λ k. p) allUsed s) pass-unread
 
--- ---- the field that is made
-
--- the grid of an answer, zeros where it is refused
-unfoldable pub gridIn : FieldAnswer → Grid
-gridIn (answer-is.Refused n) = record { xmin = zeroF; ymin = zeroF; h = zeroF; nx = 0; ny = 0 }
-gridIn (answer-is.Made g) = g
-
-module _ (o : Outline) (size : Float) (n : ℕ) (f : FieldLists) (none : fieldRefusal o size n f ≡ 0) (r : FieldAnswer) (values : List Float)
-    (marks : List ℕ) (e : fieldResult r values marks ≡ fieldAnswer o size n f) where
-  made : fieldResult r values marks ≡ madeOf (fieldOf o size n f)
-  unfolding fieldAnswer
-  made = rw none at e
-
-  pub field-made : (g : Grid) → g ≡ gridIn r → fieldRecord g values marks ≡ fieldOf o size n f
-  unfolding fieldOf gridIn
-  field-made g same = rw same (ap (λ (w : FieldResult). fieldRecord (gridIn (w .answer)) (w .lists .values) (w .lists .marks)) made)
-
-  pub field-drawn : (before after : List ℕ) → FieldDraws o r before after → Drawn o after
-  field-drawn before after D = subst (λ (a : FieldAnswer). FieldDraws o a before after) (ap (λ (w : FieldResult). w .answer) made) D
-
 -- ---- what sampling and paving ask
 
 halves : (n floats bytes : ℕ) → n ≤ min (floats / 2) bytes → 2 * n ≤ floats
@@ -100,7 +76,7 @@ module _ (o : Outline) (set : Settings) (l : Lent) (C : CanRun o set l) where
   unfolding fieldRefusal
   none-for = none-field
 
-  lent-made : OutlineFits o → T (fits binary64 (set .size)) → field-places.Lent (gridOf (bounds o) (set .size)) (l .values)
+  lent-made : OutlineFits o → T (fits binary64 (set .size)) → field-places.FieldLent (gridOf (bounds o) (set .size)) (l .values)
   lent-made doubles held =
       let u = unrefused o (set .size) (set .sweeps) (fieldPlaces (fieldPart l)) none-for in
       let two = sides (bounds o) (set .size) in

@@ -8,13 +8,13 @@ use Rattle.numbers.specs.Float.{zeroF}
 use Rattle.domain.specs.declared.Settings.{Settings}
 use Rattle.domain.specs.Outline.{Outline}
 use Rattle.domain.specs.Queries.{answerBy}
-use Rattle.crossfield.specs.declared.Grid.{Grid}
-use Rattle.crossfield.specs.Seeds.{FieldLists, fieldLists}
+use Rattle.direction.specs.declared.Grid.{Grid}
+use Rattle.direction.specs.Record.{FieldLists, fieldLists}
 use Rattle.front.specs.declared.Counts.{Counts}
 use Rattle.front.specs.State.{State, stateOf, counted}
 use Rattle.paving.specs.declared.End.{End}
 use Rattle.paving.specs.declared.End.the-variants.{Still, Passes, Cap, Full}
-use Rattle.paving.specs.Run.{runRefusal, runOf}
+use Rattle.whole_run.specs.Run.{runRefusal, runOf}
 use Rattle.loops.specs.declared.Listed.{Listed}
 use Rattle.loops.specs.Listed as loops
 use Rattle.books.specs.Holds.{BooksHold}

@@ -1,20 +1,18 @@
 // The run whole in one call: field, sampling, paving and the loops of the front, in the lists lent.
 ghost use mathlib.Core.Path.{_≡_};
 ghost use mathlib.Core.List.{[]};
-ghost use Prim.Native.Nat.{_≤_, min};
+ghost use Prim.Native.Nat.{_≤_};
 ghost use lib.ListN.{length};
 ghost use Rattle.domain.specs.Outline.{outline, firstOf};
-ghost use Rattle.blocks.specs.Blocks.{Drawn};
-ghost use Rattle.crossfield.specs.Seeds.{fieldLists};
-ghost use Rattle.crossfield.specs.Field.{fieldRecord, refusalFor, fieldRefusal, fieldOf};
+ghost use Rattle.direction.specs.Record.{fieldRecord};
+ghost use Rattle.crossfield.specs.Field.{refusalFor};
 ghost use Rattle.front.specs.State.{State, stateOf, nodePlaces, edgePlaces};
 ghost use Rattle.front.specs.Sampling.{frontRefusal, fromBoundary};
 ghost use Rattle.paving.specs.Advance.{paved, advance};
 ghost use Rattle.run.specs.Run.{settings, lent, scratch, ran, fewest, endNumber, refusedAnswer, pavedAnswer, unused, acceptedIn, Paves, Spares};
 ghost use Rattle.run.specs.Asked.{CanPave, CanRun};
 use advance::Advanced;
-use crossfield::FieldAnswer;
-use crossfield::Grid;
+use direction::Grid;
 use front::Counts;
 use loops::Listed;
 use paving::End;
@@ -85,10 +83,10 @@ fn answer(grid: Grid, a: Advanced, listed: Listed) -> Paved
 fn node_places(xs: usize, ys: usize, next: usize, prev: usize, snapshot: usize) -> usize
     ensures { λ r. ⌜ r ≡ fewest xs ys next prev snapshot ⌝ }
 {
-    let coordinates = crossfield::lesser(xs, ys);
-    let links = crossfield::lesser(next, prev);
-    let most = crossfield::lesser(snapshot, 4294967294);
-    crossfield::lesser(crossfield::lesser(coordinates, links), most)
+    let coordinates = numbers::min_usize(xs, ys);
+    let links = numbers::min_usize(next, prev);
+    let most = numbers::min_usize(snapshot, 4294967294);
+    numbers::min_usize(crossfield::lesser(coordinates, links), most)
 }
 
 // Where there are so many places for field nodes, nodes and edges.
@@ -114,36 +112,6 @@ fn refusal<'a>(
 }
 
 // ---- the stages
-
-// The field, where none of 1 to 9 refuses it, and the outline's blocks.
-fn make_field<'a>(
-    outer: &'a [f64],
-    holes: &'a [f64],
-    lens: &[usize],
-    size: f64,
-    sweeps: usize,
-    values: &mut [f64],
-    marks: &mut [u8],
-    blocks: &mut [u32],
-) -> Grid
-    requires { ⌜ fieldRefusal (outline (now outer) (now holes) (now lens)) size sweeps (fieldLists (now values) (now marks)) ≡ 0 ⌝ }
-    ensures { λ r. ⌜ fieldRecord r (now (values .exit)) (now (marks .exit))
-        ≡ fieldOf (outline (now (outer .entry)) (now (holes .entry)) (now (lens .entry))) size sweeps
-        (fieldLists (now (values .entry)) (now (marks .entry)))
-        × Drawn (outline (now (outer .entry)) (now (holes .entry)) (now (lens .entry))) (now (blocks .exit)) ⌝ }
-{
-    let made = crossfield::field(outer, holes, lens, size, sweeps, values, marks, blocks);
-    match made {
-        FieldAnswer::Refused(_) => Grid {
-            xmin: 0.0,
-            ymin: 0.0,
-            h: 0.0,
-            nx: 0,
-            ny: 0,
-        },
-        FieldAnswer::Made(grid) => grid,
-    }
-}
 
 // Sampling and paving, where 10 doesn't refuse them.
 fn sample_and_advance<'a>(
@@ -232,7 +200,7 @@ fn pave_in<'a>(
         (lent (now (values .entry)) (now (marks .entry)) (now (xs .entry)) (now (ys .entry)) (now (next .entry)) (now (prev .entry))
         (now (snapshot .entry)) (now (quads .entry)) (now (edges .entry)) (now (loops .entry)) (now (lengths .entry))) ⌝ }
 {
-    let grid = make_field(outer, holes, lens, size, sweeps, values, marks, blocks);
+    let grid = crossfield::make_field(outer, holes, lens, size, sweeps, values, marks, blocks);
     let a = sample_and_advance(
         outer,
         holes,
@@ -292,11 +260,11 @@ pub fn pave<'a>(
         × Spares (r .refusal) (scratch (now («node_pool» .entry)) (now («edge_pool» .entry)) (now (blocks .entry)))
         (scratch (now («node_pool» .exit)) (now («edge_pool» .exit)) (now (blocks .exit))) ⌝ }
 {
-    let m = crossfield::lesser(
+    let m = numbers::min_usize(
         snapshot.len(),
-        crossfield::lesser(loops.len(), lengths.len()),
+        numbers::min_usize(loops.len(), lengths.len()),
     );
-    let field = crossfield::lesser(values.len() / 2, marks.len());
+    let field = numbers::min_usize(values.len() / 2, marks.len());
     let nodes = node_places(xs.len(), ys.len(), next.len(), prev.len(), m);
     let number = refusal(
         outer,

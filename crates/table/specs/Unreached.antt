@@ -10,10 +10,10 @@ use Rattle.laws.specs.Loop.{go, out}
 use Rattle.numbers.specs.Float.{toFloat, zeroF, oneF, halfF}
 use Rattle.domain.specs.declared.Point.{Point}
 use Rattle.domain.specs.Outline.{Outline, outline, point}
-use Rattle.crossfield.specs.Field.{FieldRecord}
 use Rattle.geometry.specs.Plane.{segmentsCross}
 use Rattle.geometry.specs.Keys.{isCandidate}
 use Rattle.topology.specs.Links.{off}
+use Rattle.direction.specs.Record.{FieldRecord}
 use Rattle.front.specs.declared.Corner.the-variants.{Reused, Fresh}
 use Rattle.front.specs.State.{State, stateOf, counted}
 use Rattle.paving.specs.declared.Attempt.the-variants.{Nothing, Quad}

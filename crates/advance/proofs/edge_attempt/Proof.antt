@@ -3,7 +3,7 @@ use mathlib.Core.List.{[]}
 use mathlib.Core.Path.{_∙_}
 use borrow.Author.Needs.{needs}
 use Rattle.domain.specs.Outline.{Outline, outline}
-use Rattle.crossfield.specs.Field.{FieldRecord, fieldRecord}
+use Rattle.direction.specs.Record.{FieldRecord, fieldRecord}
 use Rattle.front.specs.State.{State, stateOf}
 use Rattle.attempts.specs.SeenLaws.{try-seen}
 use Rattle.advance.specs.Laws.{attempt-off, attempt-gone, attempt-there}

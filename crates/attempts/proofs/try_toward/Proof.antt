@@ -1,7 +1,7 @@
 -- `attempts::try_toward` meets its contract: the second attempt is made where the first answers nothing.
 use mathlib.Core.Path.{refl}
 use borrow.Author.Needs.{needs}
-use Rattle.crossfield.specs.Direction.{nearestDirection}
+use Rattle.direction.specs.Direction.{nearestDirection}
 use Rattle.paving.specs.Attempt.{tryToward}
 use Rattle.attempts.proofs.try_toward.Statement.{statement}
 use Rattle.attempts.proofs.try_toward.Tie as tie

@@ -12,7 +12,7 @@ use Rattle.laws.specs.Loop.{forUp}
 use Rattle.numbers.specs.Float.{_⊕_, _⊖_, minF, maxF}
 use Rattle.exact.specs.Units.{Within}
 use Rattle.domain.specs.declared.Point.{Point}
-use Rattle.domain.specs.Outline.{Outline, holeStart, loopAt, points, pointAt, pointAfter, outlineRefusal}
+use Rattle.domain.specs.Outline.{Outline, holeStart, loopAt, points, pointAt, pointAfter, mostPoints, outlineRefusal}
 use Rattle.domain.specs.Accepted.{AllFit, OutlineFits, LoopWithin}
 use Rattle.blocks.specs.declared.Extent.{Extent}
 
@@ -96,7 +96,7 @@ pub record LoopDrawn (s : List Float) (blocks : List ℕ) (first : ℕ) : Type 0
   pub fits : AllFit s
   pub within : LoopWithin s
   pub even : 2 * points s ≡ length s
-  pub few : points s ≤ 65535
+  pub few : points s ≤ mostPoints
   pub filed : LoopFiled s blocks first
 
 -- ---- the blocks of an outline

@@ -12,7 +12,7 @@ use lib.ListN.{length, take, drop}
 use lib.Ieee.{Float}
 use Rattle.laws.specs.Loop.{forUp, sumUp}
 use Rattle.laws.specs.Tests.{neither}
-use Rattle.domain.specs.Outline.{Outline, holeLength, holeStart, holeAt, loopAt, points, misshapen, LoopPlace}
+use Rattle.domain.specs.Outline.{Outline, holeLength, holeStart, holeAt, loopAt, points, mostPoints, misshapen, LoopPlace}
 
 -- ---- the points before a hole
 
@@ -45,12 +45,12 @@ start-over lens k n h =
 
 -- ---- an outline that refusal 1 lets through
 
--- no list of odd length, lengths that add up, at most 65,535 points
+-- no list of odd length, lengths that add up, not too many points
 pub record Shaped (o : Outline) : Type 0 where
   pub outer-even : 2 * points (o .outer) ≡ length (o .outer)
   pub holes-even : 2 * points (o .holes) ≡ length (o .holes)
   pub sum : holeStart (o .lens) (length (o .lens)) ≡ points (o .holes)
-  pub few : points (o .outer) + points (o .holes) ≤ 65535
+  pub few : points (o .outer) + points (o .holes) ≤ mostPoints
 
 abbrev even : (n : ℕ) → eqb (n % 2) 1 ≡ false → 2 * (n / 2) ≡ n
 even n e = let h = eqb-false (n % 2) 1 e in two n h
@@ -76,7 +76,7 @@ shaped o e =
 -- loop k + 1's coordinates as the part that the code takes of the holes' list, which has few enough floats that no place overflows
 pub record HolePart (o : Outline) (k start : ℕ) : Type 0 where
   pub ends : 2 * start + 2 * holeLength (o .lens) (k - 1) ≤ length (o .holes)
-  pub few : length (o .holes) ≤ 131070
+  pub few : length (o .holes) ≤ 2 * mostPoints
   pub same : take (2 * start + 2 * holeLength (o .lens) (k - 1) - 2 * start) (drop (2 * start) (o .holes)) ≡ loopAt o k
 
 pub hole-part : {o : Outline} {start : ℕ} (k : ℕ) → LoopPlace o k start → (k ≡ 0 → ⊥) → HolePart o k start
@@ -126,7 +126,7 @@ module _ {o : Outline} where
     pub passed-place : LoopPlace o (k + 1) start
     passed-place = record { shape = p .shape; within = omega arith; at = rw add-one (p .at) }
 
-    pub passed-few : start + holeLength (o .lens) k ≤ 65535
+    pub passed-few : start + holeLength (o .lens) k ≤ mostPoints
     passed-few =
         let s = shaped o (p .shape) in
         omega (arith, p .at, start-over (o .lens) k (length (o .lens)) h)

@@ -1,16 +1,11 @@
--- Boxes that are farther from a point than the best so far, and the search from any start. Definitions only.
+-- Boxes that are farther from a point than the best so far. Definitions only.
 use mathlib.Core.Bool.{Bool, not, _&&_, cond}
 use mathlib.Core.List.{List}
 use Prim.Native.Nat.{ℕ}
-use lib.ListN.{length}
 use lib.Ieee.{Float, lt}
-use Rattle.laws.specs.Loop.{forUp}
 use Rattle.numbers.specs.Float.{_⊕_, _⊖_, _⊗_, zeroF}
 use Rattle.domain.specs.declared.Point.{Point}
-use Rattle.domain.specs.declared.Search.{Search}
-use Rattle.domain.specs.Outline.{Outline}
 use Rattle.domain.specs.Accepted.{PointWithin}
-use Rattle.domain.specs.Search.{searchLoop, searchHole}
 use Rattle.blocks.specs.declared.Extent.{Extent}
 use Rattle.blocks.specs.Blocks.{isListed, blockExtent}
 
@@ -36,7 +31,3 @@ isFar p e squared = not (lt (extentSquared p e) squared)
 -- block b is listed and its box is so
 unfoldable pub isPassed : Point → List Float → List ℕ → ℕ → Float → Bool
 isPassed p s blocks b squared = isListed blocks b && isFar p (blockExtent s blocks b) squared
-
--- the search over all loops, from the best so far
-unfoldable pub searchFrom : Outline → Point → Search → Search
-searchFrom o p best = forUp (length (o .lens)) (searchHole o p) (searchLoop p (o .outer) best)

@@ -18,10 +18,9 @@ use Rattle.domain.specs.declared.Near.{Near}
 use Rattle.domain.specs.declared.Search.{Search}
 use Rattle.domain.specs.Outline.{Outline, holeAt, points, pointAt, pointAfter}
 use Rattle.domain.specs.Queries.{squaredDistance, footOf, pointSegmentDistance, near, nowhere, nearer, segmentTurn, nearestInLoop, holeTurn, nearestSegment}
-use Rattle.domain.specs.Search.{search, searchStart, searched, searchTurn, searchLoop, searchHole, searchAll}
+use Rattle.domain.specs.Search.{search, searchStart, searched, searchTurn, searchLoop, searchHole, searchFrom}
 use Rattle.domain.specs.SearchLaws.{Finds, finds-segment, search-same}
 use Rattle.blocks.specs.OrderLaws.{lt-self, lt-cut}
-use Rattle.nearest.specs.Far.{searchFrom}
 
 -- ---- floats that are not below r
 
@@ -130,11 +129,6 @@ guess-same o p limit f e = end (guess-all r o p start (inr (misses, above-infini
     end (inl g) = g .same
     end (inr (m, k)) = absurd (subst T (lt-self _) (m .distance _ (rw e tt)))
 
--- and from nowhere it always does
-pub whole-same : (o : Outline) (p : Point) → searchFrom o p searchStart .near ≡ nearestSegment o p
-unfolding searchFrom searchAll
-whole-same o p = search-same o p
-
 -- ---- as the code has them
 
 module _ (o : Outline) (p : Point) {start : Search} (e : start ≡ searchStart) where
@@ -145,4 +139,4 @@ module _ (o : Outline) (p : Point) {start : Search} (e : start ≡ searchStart) 
       ap (λ (s : Search). s .near) same ∙ guess-same o p limit f (rw (← same, ← i) h)
 
   pub whole-taken : {found : Search} → found ≡ searchFrom o p start → found .near ≡ nearestSegment o p
-  whole-taken g = ap (λ (s : Search). s .near) (g ∙ ap (searchFrom o p) e) ∙ whole-same o p
+  whole-taken g = ap (λ (s : Search). s .near) (g ∙ ap (searchFrom o p) e) ∙ search-same o p

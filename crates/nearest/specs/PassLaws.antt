@@ -19,12 +19,12 @@ use Rattle.domain.specs.declared.Search.{Search}
 use Rattle.domain.specs.Outline.{Outline, loopAt, points, pointAt, pointAfter}
 use Rattle.domain.specs.OutlineLaws.{outer-points}
 use Rattle.domain.specs.Accepted.{after-within}
-use Rattle.domain.specs.Search.{searchTurn, searchLoop, searchHole}
+use Rattle.domain.specs.Search.{searchTurn, searchLoop, searchHole, searchFrom}
 use Rattle.blocks.specs.Blocks.{blockEnd, isListed, BlockThere, LoopDrawn, blockExtent}
 use Rattle.blocks.specs.BetweenLaws.{BlockPlace}
 use Rattle.blocks.specs.BlockLaws.{block-there, block-covers, block-filed}
 use Rattle.blocks.specs.ReachLaws.{point-fits, after-fits, block-within}
-use Rattle.nearest.specs.Far.{Moderate, isFar, isPassed, searchFrom}
+use Rattle.nearest.specs.Far.{Moderate, isFar, isPassed}
 use Rattle.nearest.specs.FarLaws.{Ends, far-same}
 
 -- ---- a coordinate of the point
@@ -66,14 +66,15 @@ module _ {s : List Float} {blocks : List ℕ} {first from b : ℕ} (d : LoopDraw
   }
 
   -- a block that is passed over has no segment to take
-  pub passed-same : (p : Point) (best : Search) → Moderate p → isPassed p s blocks b (best .squared) ≡ true
+  pub passed-same : (p : Point) (best : Search) → (0 < length blocks → Moderate p) → isPassed p s blocks b (best .squared) ≡ true
       → (i : ℕ) → from ≤ i → i < blockEnd (points s) from → searchTurn p s i best ≡ best
   unfolding isPassed
   passed-same p best m e i g l =
       let t = both (isListed blocks b) (isFar p (blockExtent s blocks b) (best .squared)) e in
-      let filed = block-filed (d .filed) place h (ltb-true (4 * b + 3) (length blocks) (t .0)) in
-      let there = block-there filed (ltb-true (4 * b + 3) (length blocks) (t .0)) in
-      far-same p (pointAt s i) (pointAfter s i) (blockExtent s blocks b) m (ends i (omega arith)) (block-within s (d .within) there)
+      let listed = ltb-true (4 * b + 3) (length blocks) (t .0) in
+      let filed = block-filed (d .filed) place h listed in
+      let there = block-there filed listed in
+      far-same p (pointAt s i) (pointAfter s i) (blockExtent s blocks b) (m (omega arith)) (ends i (omega arith)) (block-within s (d .within) there)
       (block-covers filed i g l) best (t .1)
 
 -- ---- the loops of an outline

@@ -10,12 +10,12 @@ use lib.ListN.{length, drop, length-take, length-drop}
 use lib.Ieee.{Float, binary64, fits}
 use Rattle.domain.specs.Outline.{Outline, holeLength, holeStart, holeAt, loopAt, points, pointAt, pointAfter, mostPoints}
 use Rattle.domain.specs.Outline.{misshapen, outlineRefusal, LoopPlace}
-use Rattle.domain.specs.OutlineLaws.{start-over, shaped, Passed, passed-place, passed-few}
+use Rattle.domain.specs.OutlineLaws.{start-over, shaped, HolesPassed, passed-place, passed-few}
 use Rattle.domain.specs.Accepted.{OutlineFits, Accepted, accepted, each, loop-within}
 use Rattle.blocks.specs.Blocks.{reach, blockSize, blockEnd, BlockThere, BlockFiled, LoopFiled, LoopDrawn, pointsBefore, firstBlock, firstBlockAt}
 use Rattle.blocks.specs.Blocks.{Drawn, segmentExtent, blockExtent, Covers}
 use Rattle.blocks.specs.BetweenLaws.{BlockPlace}
-use Rattle.blocks.specs.OrderLaws.{beyond-self}
+use Rattle.blocks.specs.OrderLaws.{farther-self}
 
 -- ---- a block
 
@@ -33,10 +33,10 @@ module _ {s : List Float} {blocks : List ℕ} {b from : ℕ} (f : BlockFiled s b
 
 pub segment-covers : (s : List Float) (i : ℕ) → Covers (segmentExtent s i) (pointAt s i) (pointAfter s i)
 segment-covers s i = record {
-  xmin = beyond-self 0 (reach 0 s i);
-  xmax = beyond-self 1 (reach 1 s i);
-  ymin = beyond-self 2 (reach 2 s i);
-  ymax = beyond-self 3 (reach 3 s i);
+  xmin = farther-self 0 (reach 0 s i);
+  xmax = farther-self 1 (reach 1 s i);
+  ymin = farther-self 2 (reach 2 s i);
+  ymax = farther-self 3 (reach 3 s i);
 }
 
 -- the block at which a loop by blocks stands
@@ -157,7 +157,7 @@ pub outer-first : (o : Outline) → firstBlock o 0 ≡ 0
 unfolding firstBlock
 outer-first o = refl
 
-module _ {o : Outline} {k start : ℕ} (p : Passed o k start) (h : k < length (o .lens)) where
+module _ {o : Outline} {k start : ℕ} (p : HolesPassed o k start) (h : k < length (o .lens)) where
   -- what `first_block` asks
   pub hole-asks : outlineRefusal o ≡ 0 → (points (o .outer) ≤ mostPoints) × (start ≤ mostPoints) × (k + 1 ≤ mostPoints)
   hole-asks e =

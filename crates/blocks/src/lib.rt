@@ -1,12 +1,12 @@
-// Blocks of the outline's segments, so that a query passes over those that can't matter; and `contains` by blocks, whose answer is proved to be the plain one's
-// (crate domain). The lent list may have any length: a block that it doesn't have is looked through.
+// Blocks of the outline's segments, so that a search passes over those that can't matter; and `contains` by blocks, whose answer is proved to be that of the
+// definition in crate domain, which asks every segment. The lent list may have any length: a block that it doesn't have is looked through.
 ghost use mathlib.Core.Path.{_≡_};
 ghost use Prim.Native.Nat.{_+_, _*_, _≤_, _<_};
 ghost use lib.ListN.{length};
 ghost use Rattle.laws.specs.Loop.{anyUp};
 ghost use Rattle.domain.specs.Outline.{outline, points, mostPoints, outlineRefusal};
 ghost use Rattle.domain.specs.Queries.{polygonTurn, pointInPolygon, inHole, contains};
-ghost use Rattle.blocks.specs.Blocks.{forBetween, coordinate, reach, isBeyond, Farthest, blockEnd, isListed, BlockThere, BlockFiles, LoopFiles};
+ghost use Rattle.blocks.specs.Blocks.{forBetween, coordinate, reach, isFarther, Farthest, blockEnd, isListed, BlockThere, BlockFiles, LoopFiles};
 ghost use Rattle.blocks.specs.Blocks.{LoopDrawn, firstBlockAt, Drawn, blockExtent, rayMisses};
 use domain::Point;
 
@@ -44,8 +44,8 @@ pub fn reach(d: usize, s: &[f64], i: usize) -> f64
     }
 }
 
-fn is_beyond(d: usize, x: f64, y: f64) -> bool
-    ensures { λ r. ⌜ r ≡ isBeyond d x y ⌝ }
+fn is_farther(d: usize, x: f64, y: f64) -> bool
+    ensures { λ r. ⌜ r ≡ isFarther d x y ⌝ }
 {
     if d % 2 == 1 { y < x } else { x < y }
 }
@@ -68,7 +68,7 @@ fn farthest(d: usize, s: &[f64], from: usize, to: usize) -> u32
     let mut far = from;
     let mut i = from + 1;
     while i < to {
-        if is_beyond(d, reach(d, s, i), reach(d, s, far)) {
+        if is_farther(d, reach(d, s, i), reach(d, s, far)) {
             far = i;
         }
         i += 1;

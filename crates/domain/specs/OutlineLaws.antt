@@ -111,16 +111,16 @@ pub outer-place : (o : Outline) → misshapen o ≡ false → LoopPlace o 0 0
 outer-place o e = record { shape = e; within = omega arith; at = refl }
 
 -- a loop over the holes: k of them are passed, with `start` points
-pub record Passed (o : Outline) (k start : ℕ) : Type 0 where
+pub record HolesPassed (o : Outline) (k start : ℕ) : Type 0 where
   pub shape : misshapen o ≡ false
   pub at : start ≡ holeStart (o .lens) k
 
 module _ {o : Outline} where
-  pub passed-none : misshapen o ≡ false → Passed o 0 0
+  pub passed-none : misshapen o ≡ false → HolesPassed o 0 0
   passed-none e = record { shape = e; at = sym (start-first (o .lens)) }
 
-  module _ {k start : ℕ} (p : Passed o k start) (h : k < length (o .lens)) where
-    pub passed-next : Passed o (k + 1) (start + holeLength (o .lens) k)
+  module _ {k start : ℕ} (p : HolesPassed o k start) (h : k < length (o .lens)) where
+    pub passed-next : HolesPassed o (k + 1) (start + holeLength (o .lens) k)
     passed-next = record { shape = p .shape; at = omega (arith, p .at, start-next (o .lens) k) }
 
     pub passed-place : LoopPlace o (k + 1) start
@@ -134,27 +134,27 @@ module _ {o : Outline} where
 -- ---- lengths taken off a total
 
 -- k lengths have been taken off, and `left` is left
-pub record Left (lens : List ℕ) (total left k : ℕ) : Type 0 where
+pub record LengthsLeft (lens : List ℕ) (total left k : ℕ) : Type 0 where
   pub within : k ≤ length lens
   pub sum : left + holeStart lens k ≡ total
 
-pub left-start : (lens : List ℕ) (total : ℕ) → Left lens total total 0
-left-start lens total = record { within = omega arith; sum = omega (arith, start-first lens) }
+pub lengths-start : (lens : List ℕ) (total : ℕ) → LengthsLeft lens total total 0
+lengths-start lens total = record { within = omega arith; sum = omega (arith, start-first lens) }
 
-pub left-next : {lens : List ℕ} {total left k : ℕ} → Left lens total left k → k < length lens → holeLength lens k ≤ left
-    → Left lens total (left - holeLength lens k) (k + 1)
-left-next {lens} {total} {left} {k} l h e = record { within = omega arith; sum = omega (arith, start-next lens k) }
+pub lengths-next : {lens : List ℕ} {total left k : ℕ} → LengthsLeft lens total left k → k < length lens → holeLength lens k ≤ left
+    → LengthsLeft lens total (left - holeLength lens k) (k + 1)
+lengths-next {lens} {total} {left} {k} l h e = record { within = omega arith; sum = omega (arith, start-next lens k) }
 
 -- a length above what is left: the lengths add up to more
-pub left-short : {lens : List ℕ} {total left k : ℕ} → Left lens total left k → k < length lens → left < holeLength lens k
+pub lengths-short : {lens : List ℕ} {total left k : ℕ} → LengthsLeft lens total left k → k < length lens → left < holeLength lens k
     → false ≡ eqb (holeStart lens (length lens)) total
-left-short {lens} {total} {left} {k} l h e =
+lengths-short {lens} {total} {left} {k} l h e =
     let over = start-over lens k (length lens) h in
     sym (ne-eqb (holeStart lens (length lens)) total (λ same. omega arith))
 
-pub left-end : {lens : List ℕ} {total left k : ℕ} → Left lens total left k → length lens ≤ k
+pub lengths-end : {lens : List ℕ} {total left k : ℕ} → LengthsLeft lens total left k → length lens ≤ k
     → eqb left 0 ≡ eqb (holeStart lens (length lens)) total
-left-end {lens} {total} {left} {k} l h =
+lengths-end {lens} {total} {left} {k} l h =
     decide (eqb left 0) refl (omega (arith, ap (holeStart lens) (le-antisymm (l .within) h)))
   where
     decide : (b : Bool) → eqb left 0 ≡ b → left + holeStart lens (length lens) ≡ total → eqb left 0 ≡ eqb (holeStart lens (length lens)) total

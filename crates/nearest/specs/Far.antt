@@ -1,4 +1,4 @@
--- Boxes that are farther from a point than the best so far. Definitions only.
+-- Boxes that are no nearer to a point than the best so far. Definitions only.
 use mathlib.Core.Bool.{Bool, not, _&&_, cond}
 use mathlib.Core.List.{List}
 use Prim.Native.Nat.{ℕ}
@@ -9,19 +9,23 @@ use Rattle.domain.specs.Accepted.{PointWithin}
 use Rattle.blocks.specs.declared.Extent.{Extent}
 use Rattle.blocks.specs.Blocks.{isListed, blockExtent}
 
--- far within what squares can hold: 2^20 either way
-abbrev pub Moderate : Point → Type 0
-Moderate p = PointWithin 1048576 1048576 p
+-- 2^20, far within what squares can hold
+abbrev pub moderateBound : ℕ
+moderateBound = 1048576
+
+-- p is at most so far out either way
+abbrev pub ModeratePoint : Point → Type 0
+ModeratePoint p = PointWithin moderateBound moderateBound p
 
 -- how far x is outside of least to most, with a sign; 0 within
-unfoldable pub gap : Float → Float → Float → Float
-gap x least most = cond (lt x least) (x ⊖ least) (cond (lt most x) (x ⊖ most) zeroF)
+unfoldable pub spanGap : Float → Float → Float → Float
+spanGap x least most = cond (lt x least) (x ⊖ least) (cond (lt most x) (x ⊖ most) zeroF)
 
 -- the squared distance of p from the box
 unfoldable pub extentSquared : Point → Extent → Float
 extentSquared p e =
-    let dx = gap (p .x) (e .xmin) (e .xmax) in
-    let dy = gap (p .y) (e .ymin) (e .ymax) in
+    let dx = spanGap (p .x) (e .xmin) (e .xmax) in
+    let dy = spanGap (p .y) (e .ymin) (e .ymax) in
     dx ⊗ dx ⊕ dy ⊗ dy
 
 -- no segment in the box is nearer to p than the best so far

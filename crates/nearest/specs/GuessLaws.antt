@@ -21,6 +21,7 @@ use Rattle.domain.specs.Queries.{squaredDistance, footOf, pointSegmentDistance,
 use Rattle.domain.specs.Search.{search, searchStart, searched, searchTurn, searchLoop, searchHole, searchFrom}
 use Rattle.domain.specs.SearchLaws.{Finds, finds-segment, search-same}
 use Rattle.blocks.specs.OrderLaws.{lt-self, lt-cut}
+use Rattle.nearest.specs.FarLaws.{either-way}
 
 -- ---- floats that are not below r
 
@@ -60,10 +61,6 @@ record Misses (r : Float) (s : Search) : Type 0 where
 abbrev Guess : Float → Search → Near → Type 0
 Guess r s n = Finds s n ⊎ (Misses r s × Above r (n .distance))
 
-either : {A : Type 0} (P : A → Type 0) (b : Bool) {x y : A} → (b ≡ true → P x) → P y → P (cond b x y)
-either P true h k = h refl
-either P false h k = k
-
 guess-segment : (r : Float) (p a b : Point) (s : Search) (n : Near) → Guess r s n → Guess r (searched p a b s) (nearer p a b n)
 unfolding searched nearer pointSegmentDistance squaredDistance
 guess-segment r p a b s n (inl f) = inl (finds-segment p a b s n f)
@@ -90,10 +87,10 @@ guess-segment r p a b s n (inr (m, k)) = decide (lt d r) refl
         rw (u, v, w) (inl (record { same = refl; held = fy; root = refl }))
     decide false e =
         inr (
-          either (Misses r) (lt y (s .squared) && lt d (s .near .distance))
+          either-way (Misses r) (lt y (s .squared) && lt d (s .near .distance))
               (λ t. let up = above r d (s .near .distance) (both (lt y (s .squared)) _ t .1) e in record { held = fy; squared = up; distance = up })
-              m,
-          either (λ (z : Near). Above r (z .distance)) (lt d (n .distance)) (λ t. above r d (n .distance) t e) k,
+              (λ t. m),
+          either-way (λ (z : Near). Above r (z .distance)) (lt d (n .distance)) (λ t. above r d (n .distance) t e) (λ t. k),
         )
 
 -- ---- the search

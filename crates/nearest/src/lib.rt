@@ -1,5 +1,5 @@
-// `nearest_segment` of the outline by blocks (crate blocks): those farther from the point than the best so far are passed over. The answer is proved to be
-// that of the plain search (crate domain).
+// `nearest_segment` of the outline by blocks (crate blocks): those no nearer to the point than the best so far are passed over. The answer is proved to be
+// that of the definition in crate domain, which asks every segment.
 ghost use mathlib.Core.Path.{_≡_};
 ghost use mathlib.Core.Bool.{true};
 ghost use Prim.Native.Nat.{_+_, _*_, _≤_, _<_};
@@ -9,7 +9,7 @@ ghost use Rattle.domain.specs.Outline.{outline, points, mostPoints};
 ghost use Rattle.domain.specs.Queries.{nearestSegment};
 ghost use Rattle.domain.specs.Search.{searchTurn, searchLoop, searchFrom};
 ghost use Rattle.blocks.specs.Blocks.{forBetween, reach, sideAt, BlockThere, LoopDrawn, Drawn, blockExtent};
-ghost use Rattle.nearest.specs.Far.{Moderate, gap, isFar, isPassed};
+ghost use Rattle.nearest.specs.Far.{moderateBound, ModeratePoint, spanGap, isFar, isPassed};
 use blocks::BLOCK;
 use blocks::Extent;
 use domain::Near;
@@ -17,8 +17,11 @@ use domain::Point;
 use domain::Search;
 use domain::Settings;
 
-fn gap(x: f64, least: f64, most: f64) -> f64
-    ensures { λ r. ⌜ r ≡ gap x least most ⌝ }
+// A coordinate beyond this either way is too far out for the search by blocks.
+const MODERATE: f64 = 1048576.0;
+
+fn span_gap(x: f64, least: f64, most: f64) -> f64
+    ensures { λ r. ⌜ r ≡ spanGap x least most ⌝ }
 {
     if x < least {
         return x - least;
@@ -30,8 +33,8 @@ fn gap(x: f64, least: f64, most: f64) -> f64
 fn is_far(p: Point, e: Extent, squared: f64) -> bool
     ensures { λ r. ⌜ r ≡ isFar p e squared ⌝ }
 {
-    let dx = gap(p.x, e.xmin, e.xmax);
-    let dy = gap(p.y, e.ymin, e.ymax);
+    let dx = span_gap(p.x, e.xmin, e.xmax);
+    let dy = span_gap(p.y, e.ymin, e.ymax);
     !(dx * dx + dy * dy < squared)
 }
 
@@ -84,7 +87,7 @@ fn search_part(p: Point, s: &[f64], from: usize, to: usize, best: Search) -> Sea
 }
 
 fn search_loop(p: Point, s: &[f64], blocks: &[u32], first: usize, best: Search) -> Search
-    requires { ⌜ LoopDrawn (now s) (now blocks) first × (first ≤ 2 * mostPoints) × (0 < length (now blocks) → Moderate p) ⌝ }
+    requires { ⌜ LoopDrawn (now s) (now blocks) first × (first ≤ 2 * mostPoints) × (0 < length (now blocks) → ModeratePoint p) ⌝ }
     ensures { λ r. ⌜ r ≡ searchLoop p (now (s .entry)) best ⌝ }
 {
     let n = s.len() / 2;
@@ -109,7 +112,7 @@ fn search_all<'a>(
     p: Point,
     best: Search,
 ) -> Search
-    requires { ⌜ Drawn (outline (now outer) (now holes) (now lens)) (now blocks) × (0 < length (now blocks) → Moderate p) ⌝ }
+    requires { ⌜ Drawn (outline (now outer) (now holes) (now lens)) (now blocks) × (0 < length (now blocks) → ModeratePoint p) ⌝ }
     ensures { λ r. ⌜ r ≡ searchFrom (outline (now (outer .entry)) (now (holes .entry)) (now (lens .entry))) p best ⌝ }
 {
     let mut found = search_loop(
@@ -139,7 +142,7 @@ pub fn search_outline<'a>(
     blocks: &[u32],
     p: Point,
 ) -> Near
-    requires { ⌜ Drawn (outline (now outer) (now holes) (now lens)) (now blocks) × (0 < length (now blocks) → Moderate p) ⌝ }
+    requires { ⌜ Drawn (outline (now outer) (now holes) (now lens)) (now blocks) × (0 < length (now blocks) → ModeratePoint p) ⌝ }
     ensures { λ r. ⌜ r ≡ nearestSegment (outline (now (outer .entry)) (now (holes .entry)) (now (lens .entry))) p ⌝ }
 {
     let found = search_all(outer, holes, lens, blocks, p, domain::search_start());
@@ -149,14 +152,14 @@ pub fn search_outline<'a>(
 // ---- from a guess
 
 fn is_moderate(x: f64) -> bool
-    ensures { λ r. ⌜ (r ≡ true → Within 1048576 x) ⌝ }
+    ensures { λ r. ⌜ (r ≡ true → Within moderateBound x) ⌝ }
 {
-    numbers::abs_f64(x) <= 1048576.0
+    numbers::abs_f64(x) <= MODERATE
 }
 
 // Whether p is near enough for the search by blocks.
 fn is_near(p: Point) -> bool
-    ensures { λ r. ⌜ (r ≡ true → Moderate p) ⌝ }
+    ensures { λ r. ⌜ (r ≡ true → ModeratePoint p) ⌝ }
 {
     if is_moderate(p.x) {
         is_moderate(p.y)

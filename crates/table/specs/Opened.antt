@@ -15,7 +15,7 @@ use Rattle.topology.specs.Listing.{addLoop, listing}
 use Rattle.domain.specs.Outline.{holeStart, holeAt, loopAt, pointAt, pointAfter, anyFloat, misshapen, loopRefusal, loopsRefusal, farRefusal}
 use Rattle.domain.specs.Outline.{outlineRefusal, pointRefusal, queryRefusal}
 use Rattle.domain.specs.Queries.{rayCrosses, pointInPolygon, contains, squaredDistance, footOf, pointSegmentDistance, nearer, nearestInLoop}
-use Rattle.domain.specs.Queries.{nearestSegment, containsAnswer, nearestAnswer, distanceAnswer}
+use Rattle.domain.specs.Queries.{nearestSegment}
 use Rattle.geometry.specs.Plane.{distance, tangent, areaTerm, cross2, doubledArea, leftOf, pointInConvex, onSegment, opposite, touches, segmentsCross}
 use Rattle.geometry.specs.Plane.{centroid, convexCcw}
 use Rattle.geometry.specs.Keys.{keyOf, spansKept, rangesMeet, rectanglesMeet, candidateAt, isCandidate, nearKeys, tooCloseAt, isTooClose, leastOf}
@@ -62,8 +62,7 @@ openedTopology = tt
 
 unfoldable pub openedDomain : Unit {0}
 unfolding holeStart holeAt loopAt pointAt pointAfter anyFloat misshapen loopRefusal loopsRefusal farRefusal outlineRefusal pointRefusal queryRefusal
-    rayCrosses pointInPolygon contains squaredDistance footOf pointSegmentDistance nearer nearestInLoop nearestSegment containsAnswer
-    nearestAnswer distanceAnswer
+    rayCrosses pointInPolygon contains squaredDistance footOf pointSegmentDistance nearer nearestInLoop nearestSegment
 openedDomain = tt
 
 unfoldable pub openedGeometry : Unit {0}

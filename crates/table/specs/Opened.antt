@@ -27,6 +27,7 @@ use Rattle.crossfield.specs.Field.{placesRefusal, fieldRefusal, fieldOf}
 use Rattle.crossfield.specs.Direction.{within, countsSound, gridSound, recordRefusal, weighed, rawAt, scaled, half, directionOf, dot, closerOf}
 use Rattle.crossfield.specs.Direction.{nearestOf, nearestDirection, directionRefusal}
 use Rattle.front.specs.State.{nodePlaces, quadPlaces, edgePlaces, nodeIn, hasEdge, pushNode, addFront, removeFront, pushEdge, addEdge, pushQuad, cleared}
+use Rattle.front.specs.Neighbours.{neighbourOf}
 use Rattle.front.specs.Sampling.{partsOf, parts, loopParts, loopNodes, sampledCount, frontRefusal, cut, sampleSegment, sampleLoop, signedArea}
 use Rattle.front.specs.Sampling.{edgeLength, longestEdge, ringOf, ringAt, midpoint, splitLongest, joinRing, closeLoop, boundaryTurn, fromBoundary}
 use Rattle.front.specs.Sampling.{ringIds, boundaryLoops}
@@ -79,7 +80,7 @@ unfolding widened loopBounds bounds gridCount tooManyNodes spacing gridOf sizeRe
 openedCrossfield = tt
 
 unfoldable pub openedFront : Unit {0}
-unfolding nodePlaces quadPlaces edgePlaces nodeIn hasEdge pushNode addFront removeFront pushEdge addEdge pushQuad cleared partsOf parts loopParts
+unfolding nodePlaces quadPlaces edgePlaces nodeIn neighbourOf hasEdge pushNode addFront removeFront pushEdge addEdge pushQuad cleared partsOf parts loopParts
     loopNodes sampledCount frontRefusal cut sampleSegment sampleLoop signedArea edgeLength longestEdge ringOf ringAt midpoint splitLongest
     joinRing closeLoop boundaryTurn fromBoundary tabulate ringIds boundaryLoops addEdges moveFront place edgesAdded isFull
 openedFront = tt

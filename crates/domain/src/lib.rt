@@ -62,6 +62,8 @@ impl Settings {
     pub const TOLERANCE: f64 = 1.0e-12;
     // A corner's sine is above this, which is sin 20°.
     pub const LEAST_SINE: f64 = 0.3420201433256687;
+    // Lengths, areas and orientations up to this count as none.
+    pub const TOLERANCE: f64 = 1.0e-12;
     // An edge whose key rectangle has more spans is no candidate.
     pub const MOST_SPANS: u64 = 4096;
     // How many keys each way `too_close` looks.

@@ -27,6 +27,7 @@ use Rattle.crossfield.specs.Seeds.{gridPoint, seed, isFixed, setValue, seedNode
 use Rattle.crossfield.specs.Sweeps.{plusIf, neighbourSum, neighbourCount, normalised, average, change, relaxed, sweepNode, sweepRow, sweep, sweeps}
 use Rattle.crossfield.specs.Field.{placesRefusal, fieldRefusal, fieldOf}
 use Rattle.front.specs.State.{nodePlaces, quadPlaces, edgePlaces, nodeIn, hasEdge, pushNode, addFront, removeFront, pushEdge, addEdge, pushQuad, cleared}
+use Rattle.front.specs.Neighbours.{neighbourOf}
 use Rattle.front.specs.Sampling.{partsOf, parts, loopParts, loopNodes, sampledCount, frontRefusal, cut, sampleSegment, sampleLoop, signedArea}
 use Rattle.front.specs.Sampling.{edgeLength, longestEdge, ringOf, ringAt, midpoint, splitLongest, joinRing, closeLoop, boundaryTurn, fromBoundary}
 use Rattle.front.specs.Sampling.{ringIds, boundaryLoops}
@@ -78,7 +79,7 @@ unfolding widened loopBounds bounds gridCount tooManyNodes spacing gridOf sizeRe
 openedCrossfield = tt
 
 unfoldable pub openedFront : Unit {0}
-unfolding nodePlaces quadPlaces edgePlaces nodeIn hasEdge pushNode addFront removeFront pushEdge addEdge pushQuad cleared partsOf parts loopParts
+unfolding nodePlaces quadPlaces edgePlaces nodeIn neighbourOf hasEdge pushNode addFront removeFront pushEdge addEdge pushQuad cleared partsOf parts loopParts
     loopNodes sampledCount frontRefusal cut sampleSegment sampleLoop signedArea edgeLength longestEdge ringOf ringAt midpoint splitLongest
     joinRing closeLoop boundaryTurn fromBoundary tabulate ringIds boundaryLoops addEdges moveFront place edgesAdded isFull
 openedFront = tt

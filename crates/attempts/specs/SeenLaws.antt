@@ -4,13 +4,11 @@ use mathlib.Core.Bool.{Bool}
 use mathlib.Core.List.{[]}
 use Prim.Native.Nat.{ℕ}
 use lib.Ieee.{Float}
-use Rattle.numbers.specs.Float.{_⊖_, _⊗_}
+use Rattle.numbers.specs.Float.{_⊖_}
 use Rattle.domain.specs.declared.Point.{Point}
 use Rattle.domain.specs.Outline.{Outline}
-use Rattle.geometry.specs.declared.Key.{Key}
 use Rattle.geometry.specs.declared.Corners.{Corners}
 use Rattle.geometry.specs.Plane.{norm}
-use Rattle.geometry.specs.Keys.{keyOf, clearance, isTooClose, tooCloseAt}
 use Rattle.direction.specs.Record.{FieldRecord, fieldRecord}
 use Rattle.direction.specs.Direction.{nearestDirection}
 use Rattle.front.specs.declared.Corner.{Corner}
@@ -20,22 +18,10 @@ use Rattle.front.specs.declared.Neighbour.the-variants.{At, Off}
 use Rattle.front.specs.State.{State, node}
 use Rattle.front.specs.Neighbours.{nextAt, prevAt}
 use Rattle.front.specs.Place.{cornerPoint}
-use Rattle.paving.specs.Checks.{closeNode, tooClose, nodeOk, cornerFree, blocksAt, blocks, nodeInside}
+use Rattle.paving.specs.Checks.{tooClose, nodeOk, cornerFree, nodeInside}
 use Rattle.paving.specs.Checks.{edgeCrosses, edgesFree, cornersOf, quadOk, quadFits}
 use Rattle.paving.specs.Attempt.{isReused, cornerAt, cornerC, cornerD, ideal, attemptQuad, normalOf, tryToward, tryEdge}
 use Rattle.attempts.specs.Seen.{seenOf, seenNodes, seenPoints, seenEdges}
-
--- ---- the tests of the scans, by what the code has at hand: r is the test's answer
-
-pub close-is : (size : Float) (s : State) (p : Point) (id : ℕ) {key : Key} {q : Point} {r : Bool}
-    → key ≡ keyOf size p → q ≡ node s id → r ≡ tooCloseAt key p (clearance ⊗ size ⊗ (clearance ⊗ size)) size q
-    → closeNode size s p id ≡ r
-unfolding isTooClose
-close-is size s p id k e t = rw (← k, ← e) (sym t)
-
-pub blocks-is : (size : Float) (s : State) (p : Corners) (a b d c id : ℕ) {q : Point} {r : Bool}
-    → q ≡ node s id → r ≡ blocksAt size p a b d c id q → blocks size s p a b d c id ≡ r
-blocks-is size s p a b d c id e t = rw (← e) (sym t)
 
 -- ---- what each function reads
 

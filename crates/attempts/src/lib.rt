@@ -1,6 +1,6 @@
 // The read-only part of the paving (src/alt_crossfield.rs): the choice of corners, the checks of `attempt_quad`, and `try_edge`.
 // Lists are lent as a `Paving` holds them. A contract speaks of the state that has just the lists its function is lent (specs/Seen.antt);
-// the laws in specs/SeenLaws.antt carry it to a state with all of them. Each scan is one function.
+// the laws in specs/SeenLaws.antt carry it to a state with all of them.
 ghost use mathlib.Core.Path.{_≡_};
 ghost use mathlib.Core.List.{[]};
 ghost use Prim.Native.Nat.{_+_, _≤_};
@@ -67,26 +67,12 @@ fn corner_point(xs: &[f64], ys: &[f64], c: Corner) -> Point
 
 // ---- new nodes
 
-// Whether some node is too close to p: by a walk of the pool of nodes, and by a scan of all nodes where it isn't in use.
+// Whether some node is too close to p.
 fn too_close(size: f64, xs: &[f64], ys: &[f64], node_pool: &[u32], counts: Counts, p: Point) -> bool
     requires { ⌜ Indexed (now «node_pool») (nodeRects size (now xs) (now ys)) (counts .nodes) ⌝ }
     ensures { λ r. ⌜ r ≡ tooClose size (seenNodes (now (xs .entry)) (now (ys .entry)) counts) p ⌝ }
 {
-    let nodes = counts.nodes;
-    if index::is_live(node_pool) {
-        return indexed::any_close(node_pool, size, xs, ys, nodes, p);
-    }
-    let radius = Settings::CLEARANCE * size;
-    let radius2 = radius * radius;
-    let key = geometry::key_of(size, p);
-    let mut id: u32 = 0;
-    while id < nodes {
-        if geometry::too_close_at(key, p, radius2, size, front::node_at(xs, ys, id)) {
-            return true;
-        }
-        id += 1;
-    }
-    false
+    indexed::any_close(node_pool, size, xs, ys, counts.nodes, p)
 }
 
 // Whether a new corner is finite, not too close to a node, and inside; nothing is asked of a reused one. The nodes are asked before the outline:
@@ -140,7 +126,7 @@ fn corners_apart(size: f64, c: Corner, d: Corner) -> bool
 
 // ---- nodes inside the quad
 
-// Whether some node other than the corners a, b, d, c lies in the quad p: by a walk, as `too_close`.
+// Whether some node other than the corners a, b, d, c lies in the quad p.
 fn node_in_quad(
     size: f64,
     xs: &[f64],
@@ -156,24 +142,12 @@ fn node_in_quad(
     requires { ⌜ Indexed (now «node_pool») (nodeRects size (now xs) (now ys)) (counts .nodes) ⌝ }
     ensures { λ r. ⌜ r ≡ nodeInside size (seenNodes (now (xs .entry)) (now (ys .entry)) counts) p a b d c ⌝ }
 {
-    let nodes = counts.nodes;
-    if index::is_live(node_pool) {
-        return indexed::any_inside(node_pool, size, xs, ys, nodes, p, a, b, d, c);
-    }
-    let mut id: u32 = 0;
-    while id < nodes {
-        if indexed::blocks_at(size, p, a, b, d, c, id, front::node_at(xs, ys, id)) {
-            return true;
-        }
-        id += 1;
-    }
-    false
+    indexed::any_inside(node_pool, size, xs, ys, counts.nodes, p, a, b, d, c)
 }
 
 // ---- edges
 
-// Whether some edge crosses the new edge a to b, whose ends are the nodes u and v: by a walk of the pool of edges, and by a scan of all edges where it
-// isn't in use.
+// Whether some edge crosses the new edge a to b, whose ends are the nodes u and v.
 fn edge_crosses(
     size: f64,
     xs: &[f64],
@@ -189,18 +163,7 @@ fn edge_crosses(
     requires { ⌜ EdgesIndexed size (now xs) (now ys) (now edges) (now «edge_pool») (counts .edges) ⌝ }
     ensures { λ r. ⌜ r ≡ edgeCrosses size (seenEdges (now (xs .entry)) (now (ys .entry)) (now (edges .entry)) counts) a b u v ⌝ }
 {
-    let n = counts.edges;
-    if index::is_live(edge_pool) {
-        return indexed::any_crossing(edge_pool, size, xs, ys, edges, n, a, b, u, v);
-    }
-    let mut i = 0;
-    while i < n {
-        if indexed::crosses_at(size, xs, ys, a, b, u, v, edges[2 * i], edges[2 * i + 1]) {
-            return true;
-        }
-        i += 1;
-    }
-    false
+    indexed::any_crossing(edge_pool, size, xs, ys, edges, counts.edges, a, b, u, v)
 }
 
 // Whether the edge from a new corner's node to its neighbour crosses another; that of a reused one is there already.

@@ -1,21 +1,23 @@
--- `scan_edges` meets its contract: the loop's invariant is a search that has found nothing.
+-- `indexed::known_from` meets its contract: the loop's invariant is a search that has found nothing.
+use mathlib.Core.Logic.{⊎-elim}
 use Prim.Native.Nat.{_-_}
 use native.Mathlib.Omega.{arith}
-use mathlib.Core.Logic.{⊎-elim}
 use borrow.Author.Tests.{eq-eqb, ne-eqb}
+use Rattle.laws.specs.Loop.{Scan, scan-hit, scan-next, scan-none}
 use Rattle.front.specs.State.{edgeIs}
-use Rattle.laws.specs.Loop.{Scan, scan-start, scan-next, scan-hit, scan-none}
-use Rattle.front.proofs.scan_edges.Statement.{statement}
-use Rattle.front.proofs.scan_edges.Tie as tie
+use Rattle.indexed.specs.Laws.{scan-from}
+use borrow.Author.Needs.{needs}
+use Rattle.indexed.proofs.known_from.Statement.{statement}
+use Rattle.indexed.proofs.known_from.Tie as tie
 
 abbrev Inv-loop : tie.InvT-loop
-Inv-loop edges n u v k₀ k = Scan (edgeIs edges u v) n k
+Inv-loop edges from count u v k₀ k = Scan (edgeIs edges u v) count k
 
 abbrev μ-loop : tie.MeasureT-loop
-μ-loop edges n u v k₀ k = n - k
+μ-loop edges from count u v k₀ k = count - k
 
 loop-holds : tie.Need-loop-holds Inv-loop μ-loop
-loop-holds c = scan-start _ _
+loop-holds c = scan-from (c .pre .0)
 
 mul-if1 : tie.Need-mul-if1 Inv-loop μ-loop
 mul-if1 c = omega arith
@@ -57,8 +59,8 @@ loop-again c =
 returns-2 : tie.Need-returns-2 Inv-loop μ-loop
 returns-2 c = scan-none _ (c .before .loop .inv) (c .loop-test .left)
 
-pub scan-edges-spec : {M : Type 1} → statement M
-scan-edges-spec =
+pub known-from-spec : {M : Type 1} → statement M
+known-from-spec =
     tie.close
     (tie.spec
     Inv-loop

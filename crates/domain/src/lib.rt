@@ -50,7 +50,7 @@ impl Settings {
     pub const MOST_POINTS: usize = 65535;
 
     pub const FARTHEST: f64 = 1000.0;
-    // Of lengths, areas and orientations.
+    // Lengths, areas and orientations up to this count as none.
     pub const TOLERANCE: f64 = 1.0e-12;
     // Of the size: no part of a segment is longer than this.
     pub const STRETCH: f64 = 1.05;
@@ -58,12 +58,8 @@ impl Settings {
     pub const CLEARANCE: f64 = 0.45;
     // Of the size: a front node within this of a corner is reused for it.
     pub const REUSE: f64 = 0.35;
-    // A length, an area or an orientation of no more than this counts as none.
-    pub const TOLERANCE: f64 = 1.0e-12;
     // A corner's sine is above this, which is sin 20°.
     pub const LEAST_SINE: f64 = 0.3420201433256687;
-    // Lengths, areas and orientations up to this count as none.
-    pub const TOLERANCE: f64 = 1.0e-12;
     // An edge whose key rectangle has more spans is no candidate.
     pub const MOST_SPANS: u64 = 4096;
     // How many keys each way `too_close` looks.

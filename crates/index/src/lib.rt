@@ -4,7 +4,7 @@
 // the places have run out (`Indexed`); those that came after that are left to a scan.
 ghost use mathlib.Core.Path.{_≡_};
 ghost use mathlib.Core.Bool.{true};
-ghost use Prim.Native.Nat.{_+_, _-_, _*_, _%_, _≤_, _<_, min, max};
+ghost use Prim.Native.Nat.{_+_, _-_, _*_, _%_, _≤_, _<_};
 ghost use lib.Dec.{leb};
 ghost use lib.ListN.{length};
 ghost use Rattle.index.specs.Pool.{cells, capacity, used, filed, ownAt, cellOf, span, cleared, push, fileRow, takes, file};

@@ -1,6 +1,9 @@
 // The public entries: what a host calls, on numbers and slices. None has a `requires`, and none writes what is lent but `sitjorbe_field`
 // and `sitjorbe_pave`, which write the lists lent as `&mut`.
 ghost use mathlib.Core.Path.{_≡_};
+ghost use mathlib.Core.Bool.{_&&_};
+ghost use lib.Dec.{eqb};
+ghost use Rattle.topology.specs.LongLoops.{isWhole};
 ghost use Rattle.domain.specs.Outline.{outline, point};
 ghost use Rattle.domain.specs.Queries.{containsAnswer, nearestAnswer, distanceAnswer};
 ghost use Rattle.crossfield.specs.Seeds.{fieldLists};
@@ -8,7 +11,7 @@ ghost use Rattle.crossfield.specs.Field.{fieldRecord, fieldAnswer};
 ghost use Rattle.crossfield.specs.Direction.{directionAnswer};
 ghost use Rattle.run.specs.Run.{settings, lent, scratch, Spares};
 ghost use Rattle.mesher.specs.Answers.{containsNumbers, nearestNumbers, distanceNumbers, gridLent, fieldExit, fieldNumbers, directionNumbers};
-ghost use Rattle.mesher.specs.Answers.{isWhole, paveNumbers, HostPaves};
+ghost use Rattle.mesher.specs.Answers.{paveNumbers, HostPaves};
 use crossfield::Direction;
 use crossfield::FieldAnswer;
 use crossfield::Grid;
@@ -245,7 +248,7 @@ pub extern "C" fn sitjorbe_direction(
 
 // Whether nothing is refused and no loop is listed.
 fn is_whole(refusal: u32, loops: usize) -> bool
-    ensures { λ r. ⌜ r ≡ isWhole refusal loops ⌝ }
+    ensures { λ r. ⌜ r ≡ (eqb refusal 0 && isWhole loops) ⌝ }
 {
     if refusal != 0 {
         return false;

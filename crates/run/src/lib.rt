@@ -7,10 +7,10 @@ ghost use Rattle.domain.specs.Outline.{outline, firstOf};
 ghost use Rattle.blocks.specs.Blocks.{Drawn};
 ghost use Rattle.crossfield.specs.Seeds.{fieldLists};
 ghost use Rattle.crossfield.specs.Field.{fieldRecord, refusalFor, fieldRefusal, fieldOf};
-ghost use Rattle.front.specs.State.{State, stateOf, nodePlaces, edgePlaces};
-ghost use Rattle.front.specs.Sampling.{frontRefusal, fromBoundary};
+ghost use Rattle.front.specs.State.{stateOf, fewest, mostNodes};
+ghost use Rattle.front.specs.Sampling.{sampledRefusal, fromBoundary};
 ghost use Rattle.paving.specs.Advance.{paved, advance};
-ghost use Rattle.run.specs.Run.{settings, lent, scratch, ran, fewest, endNumber, refusedAnswer, pavedAnswer, unused, acceptedIn, Paves, Spares};
+ghost use Rattle.run.specs.Run.{settings, lent, scratch, ran, endNumber, refusedAnswer, pavedAnswer, unused, lengthsRefusal, acceptedIn, Paves, Spares};
 ghost use Rattle.run.specs.Asked.{CanPave, CanRun};
 use advance::Advanced;
 use crossfield::FieldAnswer;
@@ -87,11 +87,10 @@ fn node_places(xs: usize, ys: usize, next: usize, prev: usize, snapshot: usize) 
 {
     let coordinates = crossfield::lesser(xs, ys);
     let links = crossfield::lesser(next, prev);
-    let most = crossfield::lesser(snapshot, 4294967294);
-    crossfield::lesser(crossfield::lesser(coordinates, links), most)
+    crossfield::lesser(crossfield::lesser(coordinates, links), snapshot)
 }
 
-// Where there are so many places for field nodes, nodes and edges.
+// Where there are so many places for field nodes, nodes, edges and lengths of loops.
 fn refusal<'a>(
     outer: &'a [f64],
     holes: &'a [f64],
@@ -101,16 +100,23 @@ fn refusal<'a>(
     field: usize,
     nodes: usize,
     edges: usize,
+    lengths: usize,
 ) -> u32
-    ensures { λ r. ⌜ ((s : State) → nodePlaces s ≡ nodes → edgePlaces s ≡ edges
-        → r ≡ firstOf (refusalFor (outline (now (outer .entry)) (now (holes .entry)) (now (lens .entry))) size sweeps field)
-        (frontRefusal (outline (now (outer .entry)) (now (holes .entry)) (now (lens .entry))) size s)) ⌝ }
+    ensures { λ r. ⌜ r
+        ≡ firstOf
+        (firstOf (refusalFor (outline (now (outer .entry)) (now (holes .entry)) (now (lens .entry))) size sweeps field)
+        (sampledRefusal (outline (now (outer .entry)) (now (holes .entry)) (now (lens .entry))) size (min nodes mostNodes) edges))
+        (lengthsRefusal (outline (now (outer .entry)) (now (holes .entry)) (now (lens .entry))) lengths) ⌝ }
 {
     let number = crossfield::field_refusal(outer, holes, lens, size, sweeps, field);
     if number != 0 {
         return number;
     }
-    boundary::front_refusal(outer, holes, lens, size, nodes, edges)
+    let few = boundary::front_refusal(outer, holes, lens, size, nodes, edges);
+    if few != 0 {
+        return few;
+    }
+    if lens.len() < lengths { 0 } else { 10 }
 }
 
 // ---- the stages
@@ -199,7 +205,7 @@ fn sample_and_advance<'a>(
     )
 }
 
-// A run that isn't refused, where `snapshot` is no longer than the lists of the loops.
+// A run that isn't refused, where `snapshot` is no longer than `loops`.
 fn pave_in<'a>(
     outer: &'a [f64],
     holes: &'a [f64],
@@ -258,9 +264,10 @@ fn pave_in<'a>(
 
 // ---- the run
 
-// Paves an outline, in the lists that the caller lends; on a refusal nothing is written. Of the lists of nodes the shortest counts, those of
-// the loops among them: so the run gets no more of `snapshot` than they have places. The pools and the list of blocks are scratch of any length:
-// searches go by them as far as they have room. The answer doesn't depend on what they hold, and what a run leaves in them is free.
+// Paves an outline, in the lists that the caller lends; on a refusal nothing is written. Of the lists of nodes the shortest counts, `loops`
+// among them: so the run gets no more of `snapshot` than that has places. `lengths` holds a number for each loop. The pools and the list of blocks
+// are scratch of any length: searches go by them as far as they have room. The answer doesn't depend on what they hold, and what a run leaves in
+// them is free.
 pub fn pave<'a>(
     outer: &'a [f64],
     holes: &'a [f64],
@@ -292,10 +299,7 @@ pub fn pave<'a>(
         × Spares (r .refusal) (scratch (now («node_pool» .entry)) (now («edge_pool» .entry)) (now (blocks .entry)))
         (scratch (now («node_pool» .exit)) (now («edge_pool» .exit)) (now (blocks .exit))) ⌝ }
 {
-    let m = crossfield::lesser(
-        snapshot.len(),
-        crossfield::lesser(loops.len(), lengths.len()),
-    );
+    let m = crossfield::lesser(snapshot.len(), loops.len());
     let field = crossfield::lesser(values.len() / 2, marks.len());
     let nodes = node_places(xs.len(), ys.len(), next.len(), prev.len(), m);
     let number = refusal(
@@ -307,6 +311,7 @@ pub fn pave<'a>(
         field,
         nodes,
         edges.len() / 2,
+        lengths.len(),
     );
     if number != 0 {
         return refused(number);

@@ -188,7 +188,7 @@ module _ (o : Outline) (size : Float) (s : State) (snapshot : List ℕ) where
 -- ---- what is answered of the loops
 
 -- what `front_loops` writes, and the numbers that it answers
-module _ (o : Outline) (size : Float) (s : State) (marks loops lengths : List ℕ) (p : Lists)
+module _ (o : Outline) (s : State) (marks loops lengths : List ℕ) (p : Lists)
     (e : p ≡ listedIn (s .counts) (s .next) marks loops lengths) where
   loops-answered : (b : Book) → Closes o s b
       → LoopsAnswered o b (p .listed .count) (p .listed .ids) (p .loops) (p .lengths) (isWhole (p .listed .count))
@@ -235,13 +235,17 @@ module _ (o : Outline) (set : Settings) (l : Lent) (m : ℕ) (e : m ≡ snapshot
   unfolding refusalOf runRefusal fieldRefusal frontRefusal nodePlaces edgePlaces
   number-is field nodes number ef en h = h ∙ rw (ef, en, ← e, part-long) refl
 
-  pub can-run : refusalOf o set l ≡ 0 → CanRun o set (run-is.withSnapshot l (take m (l .snapshot)))
+  -- neither the run nor the list of lengths is refused
+  none-of : refusalOf o set l ≡ 0 → (runRefusal o set (fieldPart l) (statePart (narrowed l)) ≡ 0) × (lengthsRefusal o (length (l .lengths)) ≡ 0)
   unfolding refusalOf
+  none-of z = first-zero (runRefusal o set (fieldPart l) (statePart (narrowed l))) (lengthsRefusal o (length (l .lengths))) z
+
+  pub can-run : refusalOf o set l ≡ 0 → CanRun o set (run-is.withSnapshot l (take m (l .snapshot)))
   can-run z =
       record {
-        none = rw e (first-zero _ _ z .0);
+        none = rw e (none-of z .0);
         loops = rw part-long (omega (arith, e));
-        lengths = room (first-zero _ _ z .1);
+        lengths = room (none-of z .1);
       }
     where
       room : lengthsRefusal o (length (l .lengths)) ≡ 0 → loopCount o ≤ length (l .lengths)
@@ -256,7 +260,7 @@ module _ (o : Outline) (set : Settings) (l : Lent) (m : ℕ) (e : m ≡ snapshot
   pub paves-accepted : refusalOf o set l ≡ 0 → OutlineFits o → (r : Paved) (after : Lent)
       → ran r after ≡ acceptedIn o set (run-is.withSnapshot l (take m (l .snapshot)))
       → Paves o set l r (run-is.withSnapshot after (after .snapshot ++ drop m (l .snapshot)))
-  unfolding runAnswer acceptedRun acceptedIn refusalOf
+  unfolding runAnswer acceptedRun acceptedIn
   paves-accepted z doubles r after q =
       let same : ran r after ≡ acceptedIn o set (narrowed l) = rw e at q in
       record {
@@ -266,9 +270,10 @@ module _ (o : Outline) (set : Settings) (l : Lent) (m : ℕ) (e : m ≡ snapshot
             λ _.
             let snapshot = after .snapshot ++ drop m (l .snapshot) in
             let s = runOf o set (fieldPart l) (statePart (narrowed l)) .paving .state in
-            let B = books-unread o (set .size) s snapshot (books-hold o set (fieldPart l) (statePart (narrowed l)) doubles (first-zero _ _ z .0)) in
+            let B = books-unread o (set .size) s snapshot (books-hold o set (fieldPart l) (statePart (narrowed l)) doubles (none-of z .0)) in
+            let p = listedIn (s .counts) (s .next) (s .snapshot) (l .loops) (l .lengths) in
             subst⁻¹ (λ (w : Ran). PavesBooks o set (w .answer) (run-is.withSnapshot (w .lists) snapshot)) same
-            (record { books = B; front = λ b q. loops-answered o _ (s .snapshot) (l .loops) (l .lengths) _ refl b (B .closes b q) });
+            (record { books = B; front = λ b q. loops-answered o _ (s .snapshot) (l .loops) (l .lengths) p refl b (B .closes b q) });
       }
 
 -- a run that is made refuses nothing

@@ -26,7 +26,7 @@ given s =
 
 abbrev start-of : tie.After-lesser → tie.Start
 start-of c =
-    c .before .before .before .before .before .before .before .before .before .before .before .before .before .before .before .before .before .before .before
+    c .before .before .before .before .before .before .before .before .before .before .before .before .before .before .before .before .before .before
 
 -- the run, as it stands at the end
 abbrev paved : tie.After-slice-known28 → tie.After-pave-in
@@ -37,7 +37,7 @@ paved c =
 -- the coordinates lent are doubles
 doubles : (c : tie.After-lesser) → OutlineFits (around (start-of c))
 doubles c =
-    let at-holes = c .before .before .before .before .before .before .before .before .before .before .before .before .before .before .before .before .before in
+    let at-holes = c .before .before .before .before .before .before .before .before .before .before .before .before .before .before .before .before in
     record { outer = λ i h. at-holes .before .shared-slice-known .given i; holes = λ i h. at-holes .shared-slice-known2 .given i }
 
 places-are : (c : tie.After-lesser) → c .lesser .result ≡ snapshotPlaces (given (start-of c))

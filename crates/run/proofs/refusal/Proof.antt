@@ -2,13 +2,16 @@
 use mathlib.Core.Path.{sym, _∙_}
 use native.Mathlib.Omega.{arith}
 use borrow.Author.Tests.{lt-ltb, le-ltb}
-use lib.ListN.{length}
+use Prim.Native.Nat.{ℕ, suc, _<_, _≤_}
 use Rattle.domain.specs.Accepted.{accepted}
 use Rattle.domain.specs.RefusalLaws.{first-stays}
 use Rattle.crossfield.specs.FieldLaws.{unrefused}
 use borrow.Author.Needs.{needs}
 use Rattle.run.proofs.refusal.Statement.{statement}
 use Rattle.run.proofs.refusal.Tie as tie
+
+below : {m n : ℕ} → m ≤ n → m < suc n
+below h = omega arith
 
 field-refusal-requires : tie.Need-field-refusal-requires
 field-refusal-requires c κs = search needs
@@ -45,7 +48,7 @@ returns-4 c =
     let at-if1 = at-if2 .before .before in
     let none = sym (at-if1 .before .field-refusal .ensures) ∙ at-if1 .if1 .left in
     let few = sym (at-if2 .before .front-refusal .ensures) ∙ at-if2 .if2 .left in
-    rw (none, few, lt-ltb _ _ (omega (arith, c .if3 .left)))
+    rw (none, few, lt-ltb _ _ (below (c .if3 .left)))
 
 pub refusal-spec : {M : Type 1} → statement M
 refusal-spec = tie.close (tie.spec field-refusal-requires returns front-refusal-requires returns-2 returns-3 returns-4)

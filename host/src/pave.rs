@@ -39,7 +39,7 @@ pub struct Lists<'a> {
     pub edges: &'a mut [u32],
     /// The ids of the listed loops, one loop after the other; a place a node.
     pub loops: &'a mut [u32],
-    /// The lengths of the listed loops; a place a node.
+    /// The lengths of the listed loops; a place a loop of the outline.
     pub lengths: &'a mut [u32],
     /// For the run's own use: it files nodes there, so as not to search them all. With few places or none it takes longer, and answers the same.
     pub node_pool: &'a mut [u32],
@@ -336,7 +336,8 @@ impl Memory {
     pub fn new(places: Places) -> Memory {
         let Places { field_nodes, nodes: n, quads, edges, .. } = places;
         let [node_pool, edge_pool] = places.pools();
-        let numbers = [n, n, n, 4 * quads, 2 * edges, n, n, node_pool, edge_pool, places.blocks()];
+        // A loop is sampled with four nodes at least: where `n` has places for these, a quarter of it has one for each loop.
+        let numbers = [n, n, n, 4 * quads, 2 * edges, n, n / 4, node_pool, edge_pool, places.blocks()];
         Memory {
             floats: [2 * field_nodes, n, n].map(|length| vec![0.0; length]),
             marks: vec![0; field_nodes],

@@ -104,7 +104,7 @@ fn a_field_is_written_and_read_within_its_lists() {
 
 #[test]
 fn the_guards_of_a_run_show_a_write() {
-    let lengths = list_lengths(Places { field_nodes: 4, nodes: 5, quads: 6, edges: 7, points: 8 });
+    let lengths = list_lengths(Places { field_nodes: 4, nodes: 20, quads: 6, edges: 7, points: 8 });
     let nothing = RunPlaces::new(lengths);
     assert_eq!(nothing.written_past([0; 14]), [""; 0]);
     let mut places = RunPlaces::new(lengths);

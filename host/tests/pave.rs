@@ -145,7 +145,7 @@ fn a_run_ends_where_the_lists_are_full() {
     };
     ends(list_lengths(SQUARE), 4, End::Still, "just enough");
     // The first quad needs node 8, each has a place, and the new edges are 1 8 and 7 8, then 3 8, then 5 8, then none.
-    for list in ["xs", "ys", "next", "prev", "snapshot", "loops", "lengths"] {
+    for list in ["xs", "ys", "next", "prev", "snapshot", "loops"] {
         ends(shorter(list, 1), 0, End::Full, list);
     }
     for (by, quads) in [(1, 3), (4, 3), (5, 2), (8, 2), (9, 1), (13, 0), (16, 0)] {
@@ -317,7 +317,8 @@ fn every_cause_is_refused_alone() {
 #[test]
 fn the_shortest_list_counts() {
     let square = || Drawing::square(2.0);
-    let needed = list_lengths(Places { nodes: 8, quads: 0, edges: 8, ..SQUARE });
+    let mut needed = list_lengths(Places { nodes: 8, quads: 0, edges: 8, ..SQUARE });
+    needed[10] = 1;
     let just = Asked { drawing: square(), settings: USUAL, lengths: needed };
     assert_eq!((just.raw().0.refusal, just.raw().0.end), (0, End::Full as u32));
     let numbers = [9, 9, 10, 10, 10, 10, 10, 0, 10, 10, 10, 0, 0, 0];
@@ -328,4 +329,29 @@ fn the_shortest_list_counts() {
             Asked { drawing: square(), settings: USUAL, lengths }.assert_refused(number, LISTS[k]);
         }
     }
+}
+
+/// `lengths` needs a place for each loop of the outline and no more: with so many the mesh is that of ample lists, with fewer it is refused.
+#[test]
+fn lengths_has_a_place_for_each_loop() {
+    for (drawing, loops) in [(Drawing::square(2.0), 1), (ring(), 2)] {
+        let asked = |places| {
+            let mut lengths = list_lengths(PROGRAM);
+            lengths[10] = places;
+            Asked { drawing: drawing.clone(), settings: USUAL, lengths }
+        };
+        let ample = said(&RunPlaces::new(list_lengths(PROGRAM)).pave(&drawing.outline(), &USUAL).unwrap());
+        for places in [loops, loops + 1, 7, 800] {
+            let mut lists = RunPlaces::new(asked(places).lengths);
+            assert_eq!(said(&lists.pave(&drawing.outline(), &USUAL).unwrap()), ample, "{places} places, {loops} loops");
+        }
+        (0..loops).for_each(|places| asked(places).assert_refused(10, &format!("{places} places, {loops} loops")));
+    }
+    // Nothing paved: every loop is listed, and each has its length.
+    let mut lengths = list_lengths(PROGRAM);
+    lengths[10] = 2;
+    let mut lists = RunPlaces::new(lengths);
+    let mesh = lists.pave(&ring().outline(), &Settings { passes: 0, ..USUAL }).unwrap();
+    assert_eq!((mesh.loop_count(), mesh.is_whole()), (2, false));
+    assert!(mesh.front_loops().all(|ids| ids.len() % 2 == 0 && ids.iter().all(|id| *id >= ids[0])));
 }

@@ -1,7 +1,7 @@
 -- `attempts::try_edge` meets its contract: the edge's normal is the definition's, and the second attempt is made where the first answers nothing.
 use mathlib.Core.Path.{refl}
 use borrow.Author.Needs.{needs}
-use Rattle.crossfield.specs.Direction.{nearestDirection}
+use Rattle.direction.specs.Direction.{nearestDirection}
 use Rattle.paving.specs.Attempt.{tryToward, tryEdge}
 use Rattle.attempts.proofs.try_edge.Statement.{statement}
 use Rattle.attempts.proofs.try_edge.Tie as tie

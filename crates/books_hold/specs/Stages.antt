@@ -198,11 +198,11 @@ module _ (o : Outline) (size : Float) (s : State) (ls : List (List ℕ)) (final 
 
 -- ---- every state of a run
 
--- a state t of a run, sound and after the one that the run began with, whose front had the loops ls
-pub record Standing (n : ℕ) (s : State) (ls : List (List ℕ)) (t : State) : Type 0 where
+-- a state t of a run, sound and after the one that the run began with, whose front had the loops `begun`
+pub record Standing (n : ℕ) (s : State) (begun : List (List ℕ)) (t : State) : Type 0 where
   pub loops : List (List ℕ)
   pub sound : Sound n t loops
-  pub number : length loops ≡ length ls
+  pub number : length loops ≡ length begun
   pub frame : Frame s t
 
 pub standing : {n : ℕ} {o : Outline} {size : Float} {s : State} {ls : List (List ℕ)} {k : ℕ} {t : State} → Sound n s ls → Reaches o size s k t

@@ -341,7 +341,7 @@ impl Tally {
             let places = cases::places(rng, &needs, space);
             self.compare(rng, &mut asked, &places, short(&places, &needs), scratch);
         }
-        if self.outlines % 3 == 0 {
+        if self.outlines.is_multiple_of(3) {
             asked.settings.passes = cases::passes(rng);
             let places = cases::places(rng, &needs, 1);
             let scratch = Scratch::pick(rng);
@@ -415,7 +415,7 @@ fn generated(kind: &str, seed: u64, place: u64) -> Asked {
     };
     let terms::Drawing { outer, holes, hole_lengths } = drawing;
     let terms::Settings { size, sweeps, passes } = settings;
-    let few = place % 8 != 0 && sweeps <= 1_000;
+    let few = !place.is_multiple_of(8) && sweeps <= 1_000;
     let sweeps = if few { sweeps.min(3) } else { sweeps };
     let settings = Settings { size, sweeps: sweeps as usize, passes: passes as usize };
     Asked::new(Drawing { outer, holes, hole_lengths }, settings)
@@ -544,8 +544,11 @@ fn example() -> (Outcome, Outcome, Sampled, Answered) {
     (Outcome::of_library(&mesh), reference, asked.sampled().clone(), answered(&mesh))
 }
 
-/// One thing changed in each part of what is answered, in the order of the parts.
-const CHANGES: [(&str, fn(&mut Outcome)); 11] = [
+/// A part of what is answered, and a change of it.
+type Change = (&'static str, fn(&mut Outcome));
+
+/// One thing changed in each part, in the order of the parts.
+const CHANGES: [Change; 11] = [
     ("end", |outcome| outcome.end = "full".to_string()),
     ("whole", |outcome| outcome.whole = !outcome.whole),
     ("grid", |outcome| outcome.grid[2] += 1),

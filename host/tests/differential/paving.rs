@@ -532,6 +532,22 @@ fn runs_of_many_nodes() {
     tally.finish("runs of many nodes", &["still", "passes"]);
 }
 
+/// A square of side 520 has room for more than 250,000 quads of size 1: the run ends in cap, in places for just so many. All that it answers
+/// is compared; its books aren't gone through, which takes ten times as long as the runs.
+#[test]
+fn a_run_ends_in_cap() {
+    let settings = Settings { size: 1.0, sweeps: 1, passes: 600 };
+    let (mut tally, mut asked) = (Tally::default(), Asked::new(Drawing::square(520.0), settings));
+    let places = Places { field_nodes: 250_000, nodes: 252_814, quads: 250_000, edges: 510_000, points: 4 };
+    let expected = asked.expected(&places);
+    let mut lists = RunPlaces::new(cases::lengths(&mut Rng(10), &places, places.pools(), places.blocks()));
+    let faults = tally.run(&mut asked, &expected, &mut lists, "nothing", false);
+    let Tally { nodes, quads, answers, .. } = tally;
+    println!("a run that ends in cap: {nodes} nodes and {quads} quads; {} faults", faults.len());
+    assert_eq!(faults, Vec::<String>::new());
+    assert_eq!((nodes, quads, answers), (252_814, 250_000, BTreeMap::from([("cap".to_string(), 1)])));
+}
+
 // --- what is compared is found to differ ---
 
 /// A run of the library, and what the oracle answers.

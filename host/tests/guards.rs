@@ -122,7 +122,8 @@ fn the_guards_of_a_run_show_a_write() {
 fn a_run_is_written_and_read_within_its_lists() {
     let drawing = finer();
     let settings = Settings { size: 0.5, sweeps: 400, passes: 600 };
-    let mut memory = Memory::new(Places { field_nodes: 1_600, nodes: 800, quads: 800, edges: 2_400, points: 0 });
+    let mut memory =
+        Memory::new(Places { field_nodes: 1_600, nodes: 800, quads: 800, edges: 2_400, points: 0 }).unwrap();
     let mesh = memory.pave(&drawing.outline(), &settings).unwrap();
     let (field_nodes, nodes) = (mesh.record().nodes(), mesh.node_count());
     let points = Block::needed(&drawing) / 2;

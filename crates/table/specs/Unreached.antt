@@ -14,11 +14,8 @@ use Rattle.geometry.specs.Plane.{segmentsCross}
 use Rattle.geometry.specs.Keys.{isCandidate}
 use Rattle.topology.specs.Links.{off}
 use Rattle.direction.specs.Record.{FieldRecord}
-use Rattle.front.specs.declared.Corner.{Corner}
 use Rattle.front.specs.declared.Corner.the-variants.{Reused, Fresh}
 use Rattle.front.specs.State.{State, stateOf, counted}
-use Rattle.front.specs.Neighbours.{nextAt, isAt}
-use Rattle.front.specs.Place.{idC, idD, isFull}
 use Rattle.paving.specs.declared.Attempt.the-variants.{Nothing, Quad}
 use Rattle.paving.specs.declared.End.the-variants.{Passes, Cap}
 use Rattle.paving.specs.Checks.{edgeCrosses}
@@ -28,10 +25,10 @@ use Rattle.paving.specs.Loops.{frontLoops}
 use Rattle.table.specs.Opened.{opened}
 
 -- the point (x, y) of whole numbers
-abbrev at : ℕ → ℕ → Point
+abbrev pub at : ℕ → ℕ → Point
 at x y = point (toFloat x) (toFloat y)
 
-abbrev up : Point
+abbrev pub up : Point
 up = at 0 1
 
 -- n nodes, each with its links, and no quad or edge
@@ -55,31 +52,6 @@ quad-fits = refl
 pub next-of-c-is-d : attemptQuad unit oneF (corners 2) 0 1 up up ≡ Nothing
 unfolding opened
 next-of-c-is-d = refl
-
--- ---- as many nodes as have numbers
-
--- 4,294,967,294 nodes: two new corners get the numbers 4,294,967,294 and 4,294,967,295, of which the last marks a node off the front
-abbrev most : State
-most = linked 4294967294 [] [] [] []
-
-abbrev newC : Corner
-newC = Fresh zeroF oneF
-
-abbrev newD : Corner
-newD = Fresh oneF oneF
-
-pub last-number : idD most newC newD ≡ off
-unfolding opened
-last-number = refl
-
--- c, which has no successor, isn't taken for one that d follows: the quad isn't refused for it, and the paving is full
-pub not-next : isAt (nextAt most (idC most newC)) (idD most newC newD) ≡ false
-unfolding opened
-not-next = refl
-
-pub most-full : isFull most 0 1 newC newD ≡ true
-unfolding opened
-most-full = refl
 
 -- ---- the same corner
 

@@ -540,7 +540,7 @@ fn a_run_ends_in_cap() {
     let (mut tally, mut asked) = (Tally::default(), Asked::new(Drawing::square(520.0), settings));
     let places = Places { field_nodes: 250_000, nodes: 252_814, quads: 250_000, edges: 510_000, points: 4 };
     let expected = asked.expected(&places);
-    let mut lists = RunPlaces::new(cases::lengths(&mut Rng(10), &places, places.pools(), places.blocks()));
+    let mut lists = RunPlaces::new(cases::lengths(&mut Rng(10), &places, 1, places.pools(), places.blocks()));
     let faults = tally.run(&mut asked, &expected, &mut lists, "nothing", false);
     let Tally { nodes, quads, answers, .. } = tally;
     println!("a run that ends in cap: {nodes} nodes and {quads} quads; {} faults", faults.len());

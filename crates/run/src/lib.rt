@@ -86,7 +86,7 @@ fn node_places(xs: usize, ys: usize, next: usize, prev: usize, snapshot: usize) 
     let coordinates = numbers::min_usize(xs, ys);
     let links = numbers::min_usize(next, prev);
     let most = numbers::min_usize(snapshot, 4294967294);
-    numbers::min_usize(crossfield::lesser(coordinates, links), most)
+    numbers::min_usize(numbers::min_usize(coordinates, links), most)
 }
 
 // Where there are so many places for field nodes, nodes and edges.

@@ -20,6 +20,22 @@ pub record Afresh (m : Mesh) (x : Results) : Type 0 where
   pub count : x .count ≡ countAfresh m (x .thresholds)
   pub sum : x .sum ≡ sumAfresh m (x .thresholds)
 
+-- ---- a refused call changes nothing
+
+refused-unmoved : (refusal : ℕ) (x y : Results) → (unlessRefused refusal x y .refusal ≡ 0 → ⊥) → unlessRefused refusal x y .results ≡ x
+refused-unmoved zero x y h = absurd (h refl)
+refused-unmoved (suc n) x y h = refl
+
+module _ (m : Mesh) (x : Results) (id : ℕ) where
+  pub enter-unmoved : (v : ℕ) → (enterAnswer m x id v .refusal ≡ 0 → ⊥) → enterAnswer m x id v .results ≡ x
+  unfolding enterAnswer
+  enter-unmoved v h = refused-unmoved (refusalAt (m .nodes) (x .thresholds) id v 16) x (withThreshold m x id v) h
+
+  pub withdraw-unmoved : (withdrawAnswer m x id .refusal ≡ 0 → ⊥) → withdrawAnswer m x id .results ≡ x
+  unfolding withdrawAnswer
+  withdraw-unmoved h =
+      refused-unmoved (refusalAt (m .nodes) (x .thresholds) id (thresholdAt (x .thresholds) id) 17) x (withThreshold m x id noThreshold) h
+
 -- ---- one change
 
 module _ (m : Mesh) (few : m .quads ≤ 250000) where

@@ -9,7 +9,7 @@ use native.Mathlib.Omega.{arith}
 use lib.ListN.{length, getD, set, replicate, drop, length-append, length-replicate, length-drop, drop-of-length-le}
 use lib.Dec.{eqb, leb, ltb}
 use mathlib.Core.List.{append-nil}
-use borrow.Author.Tests.{ne-eqb, leb-false, ltb-false}
+use borrow.Author.Tests.{ne-eqb, le-leb, lt-leb, le-ltb, lt-ltb, leb-false, ltb-false}
 use borrow.Author.Fill.{fill-none, fill-more}
 use Rattle.laws.specs.Loop.{sumUp}
 use Rattle.laws.specs.Sums.{sum-zero, sum-suc}
@@ -17,7 +17,7 @@ use Rattle.laws.specs.Tests.{neither}
 use Rattle.domain.specs.RefusalLaws.{answer-refused}
 use Rattle.lent_mesh.specs.declared.QuadIds.{QuadIds}
 use Rattle.lent_mesh.specs.Mesh.{Mesh, mesh, quadOf, quadCount}
-use Rattle.thresholds.specs.Figures.{noThreshold, mostThreshold, thresholdAt, isComplete, quadTotal, countAt, sumAt, names, shareAt, shareOf, moved}
+use Rattle.thresholds.specs.Figures.{noThreshold, mostThreshold, thresholdAt, stands, isComplete, quadTotal, countAt, sumAt, names, shareAt, shareOf, moved}
 use Rattle.thresholds.specs.Figures.{Results, results, outcome, unlessRefused, isMissing, refusalAt, withThreshold, enterAnswer, withdrawAnswer}
 use Rattle.thresholds.specs.Laws.{share-at-most, count-at-most, sum-at-most, quad-total-most}
 
@@ -42,6 +42,24 @@ or-thrice false = refl
 pub names-last : (q : QuadIds) (id : ℕ) → (q .a ≡ id → ⊥) → (q .b ≡ id → ⊥) → (q .d ≡ id → ⊥) → eqb (q .c) id ≡ names q id
 unfolding names
 names-last q id ha hb hd = rw (ne-eqb (q .a) id ha, ne-eqb (q .b) id hb, ne-eqb (q .d) id hd)
+
+-- at no node none stands; at a node the list decides
+pub no-node-stands : (n : ℕ) (t : List ℕ) (id : ℕ) → n ≤ id → false ≡ stands n t id
+unfolding stands
+no-node-stands n t id h = rw (le-ltb id n h)
+
+pub node-stands : (n : ℕ) (t : List ℕ) (id v : ℕ) → id < n → v ≡ thresholdAt t id → leb v mostThreshold ≡ stands n t id
+unfolding stands
+node-stands n t id v h e = rw (lt-ltb id n h, e)
+
+-- an id that is no node is missing; of a node the list decides
+pub missing-node : (n : ℕ) (t : List ℕ) (id : ℕ) → n ≤ id → true ≡ isMissing n t id
+unfolding isMissing
+missing-node n t id h = rw (le-leb n id h)
+
+pub missing-place : (n : ℕ) (t : List ℕ) (id : ℕ) → id < n → leb (length t) id ≡ isMissing n t id
+unfolding isMissing
+missing-place n t id h = rw (lt-leb n id h)
 
 -- ---- none in every place
 

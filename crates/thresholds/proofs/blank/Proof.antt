@@ -28,13 +28,13 @@ loop-less : tie.Need-loop-less Inv-loop μ-loop
 loop-less c = omega (arith, blank-length (c .before .loop .inv))
 
 loop-again : tie.Need-loop-again Inv-loop μ-loop
-loop-again c = blank-next (c .before .loop .inv) (c .loop-test .taken)
+loop-again c = blank-next (c .before .loop .inv) (omega arith)
 
 same-length : tie.Need-same-length Inv-loop μ-loop
 same-length c = blank-length (c .before .loop .inv)
 
 returns : tie.Need-returns Inv-loop μ-loop
-returns c = blank-end (c .before .loop .inv) (c .loop-test .left)
+returns c = blank-end (c .before .loop .inv) (omega arith)
 
 pub blank-spec : {M : Type 1} → statement M
 blank-spec =

@@ -1,16 +1,14 @@
 -- `is_missing` meets its contract: its two tests. Assumes nothing.
-use Rattle.thresholds.specs.Figures.{isMissing}
-use borrow.Author.Tests.{le-leb, lt-leb}
+use native.Mathlib.Omega.{arith}
+use Rattle.thresholds.specs.Code.{missing-node, missing-place}
 use Rattle.thresholds.proofs.is_missing.Statement.{statement}
 use Rattle.thresholds.proofs.is_missing.Tie as tie
 
 returns : tie.Need-returns
-unfolding isMissing
-returns c = simp (le-leb _ _ (c .if1 .taken))
+returns c = missing-node (c .before .args .nodes) (c .before .args .thresholds .now) (c .before .args .id) (omega arith)
 
 returns-2 : tie.Need-returns-2
-unfolding isMissing
-returns-2 c = simp (lt-leb _ _ (c .if1 .left))
+returns-2 c = missing-place (c .before .args .nodes) (c .before .args .thresholds .now) (c .before .args .id) (omega arith)
 
 pub is-missing-spec : {M : Type 1} → statement M
 is-missing-spec = tie.close (tie.spec returns returns-2)

@@ -1,5 +1,5 @@
 -- THE FIGURES KEPT: after an exam has begun and after any list of events, refused ones among them, both figures are those worked out afresh.
-use Prim.Native.Nat.{ℕ, zero, suc, _≤_}
+use Prim.Native.Nat.{ℕ, zero, suc, _≤_, _<_}
 use mathlib.Core.Path.{_≡_, refl, sym}
 use mathlib.Core.Bool.{false}
 use mathlib.Core.List.{List, [], _∷_}
@@ -10,7 +10,7 @@ use lib.Ieee.{Float}
 use Rattle.laws.specs.Loop.{sumUp}
 use Rattle.laws.specs.Tests.{and-false}
 use Rattle.lent_mesh.specs.Mesh.{Mesh, meshOf, quadOf, quads-few}
-use Rattle.thresholds.specs.Figures.{noThreshold, thresholdAt, stands, isComplete, countAt, sumAt, countAfresh, sumAfresh, shareOf, moved}
+use Rattle.thresholds.specs.Figures.{noThreshold, thresholdAt, stands, isComplete, countAt, sumAt, countAfresh, sumAfresh, names, shareOf, moved}
 use Rattle.thresholds.specs.Figures.{Results, unlessRefused, refusalAt, withThreshold, beginAnswer, enterAnswer, withdrawAnswer}
 use Rattle.thresholds.specs.Figures.{Event, enter, withdraw, eventAnswer, afterEvents}
 use Rattle.thresholds.specs.Laws.{share-law, share-le, count-same, sum-same, sum-most, count-small, sum-small, moved-is}
@@ -39,31 +39,26 @@ module _ (m : Mesh) (x : Results) (id : ℕ) where
 -- ---- one change
 
 module _ (m : Mesh) (few : m .quads ≤ 250000) where
-  count-kept : (t : List ℕ) (id v x : ℕ) → x ≡ countAfresh m t
-      → moved x (shareOf m id (countAt m t)) (shareOf m id (countAt m (set t id v))) ≡ countAfresh m (set t id v)
-  unfolding countAfresh
-  count-kept t id v x e =
-      moved-is x (countAfresh m (set t id v)) (shareOf m id (countAt m t)) (shareOf m id (countAt m (set t id v)))
-      (omega (arith, e, share-law m id (countAt m t) (countAt m (set t id v)) (count-same t id v m)))
-      (omega (arith, e, share-le m id (countAt m t)))
-      (omega (arith, e, count-small m t few))
-      (omega (arith, count-small m (set t id v) few))
-
-  sum-kept : (t : List ℕ) (id v x : ℕ) → x ≡ sumAfresh m t
-      → moved x (shareOf m id (sumAt m t)) (shareOf m id (sumAt m (set t id v))) ≡ sumAfresh m (set t id v)
-  unfolding sumAfresh
-  sum-kept t id v x e =
-      moved-is x (sumAfresh m (set t id v)) (shareOf m id (sumAt m t)) (shareOf m id (sumAt m (set t id v)))
-      (omega (arith, e, share-law m id (sumAt m t) (sumAt m (set t id v)) (sum-same t id v m)))
-      (omega (arith, e, share-le m id (sumAt m t)))
-      (omega (arith, e, sum-small m t few))
-      (omega (arith, sum-small m (set t id v) few))
+  -- of any figure that adds up f over the quads, where h is the same but at quads that name id
+  figure-kept : (f h : ℕ → ℕ) (id x : ℕ) → ((k : ℕ) → names (quadOf m k) id ≡ false → f k ≡ h k)
+      → sumUp (m .quads) f < 4294967296 → sumUp (m .quads) h < 4294967296 → x ≡ sumUp (m .quads) f
+      → moved x (shareOf m id f) (shareOf m id h) ≡ sumUp (m .quads) h
+  figure-kept f h id x same old new e =
+      moved-is x (sumUp (m .quads) h) (shareOf m id f) (shareOf m id h) (omega (arith, e, share-law m id f h same))
+      (omega (arith, e, share-le m id f)) (omega (arith, e, old)) new
 
   -- whatever is written at whatever place
   pub change-kept : (x : Results) (id v : ℕ) → Afresh m x → Afresh m (withThreshold m x id v)
-  unfolding withThreshold
-  change-kept x id v f =
-      record { count = count-kept (x .thresholds) id v (x .count) (f .count); sum = sum-kept (x .thresholds) id v (x .sum) (f .sum) }
+  unfolding withThreshold countAfresh sumAfresh
+  change-kept x id v a =
+      let t = x .thresholds in
+      let u = set t id v in
+      record {
+        count = figure-kept (countAt m t) (countAt m u) id (x .count) (count-same t id v m) (omega (arith, count-small m t few))
+            (omega (arith, count-small m u few)) (a .count);
+        sum = figure-kept (sumAt m t) (sumAt m u) id (x .sum) (sum-same t id v m) (omega (arith, sum-small m t few))
+            (omega (arith, sum-small m u few)) (a .sum);
+      }
 
   refused-kept : (refusal : ℕ) (x y : Results) → Afresh m x → Afresh m y → Afresh m (unlessRefused refusal x y .results)
   refused-kept zero x y f g = g

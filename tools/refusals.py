@@ -1,4 +1,4 @@
-"""Document 01's refusals in words: what is wrong, and what to do. The host's words, host/src/refusal.rs, are the same."""
+"""The refusals of documents 01 and 02 in words: what is wrong, and what to do. The host's words, host/src/refusal.rs, are the same."""
 
 WORDS = {
     1: ("the outline's lists don't fit together",
@@ -18,6 +18,7 @@ WORDS = {
          "the file is damaged, so fetch it again, or write it anew from the outline"),
     13: ("the file has a wrong length, a wrong count, or something where zeros belong",
          "write it anew from the outline, with 1 to 8 loops, at most 248 points in all, and nothing after the last block"),
+    26: ("the list is too short for every small quad", "lend four places for each, 14,944 in all"),
 }
 
 

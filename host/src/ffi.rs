@@ -70,6 +70,14 @@ pub struct PaveAnswer {
     pub ids: usize,
 }
 
+/// `count` is how many fours are listed, 0 on a refusal.
+#[repr(C)]
+#[derive(Clone, Copy, Debug)]
+pub struct SmallQuadsAnswer {
+    pub refusal: u32,
+    pub count: usize,
+}
+
 #[link(name = "sitjorbe", kind = "static")]
 extern "C" {
     pub fn sitjorbe_contains(
@@ -177,4 +185,6 @@ extern "C" {
         blocks: *mut u32,
         blocks_len: usize,
     ) -> PaveAnswer;
+
+    pub fn sitjorbe_small_quads(fours: *mut u32, fours_len: usize) -> SmallQuadsAnswer;
 }

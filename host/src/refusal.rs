@@ -1,4 +1,4 @@
-//! The refusals of document 01, with words for people.
+//! The refusals of documents 01 and 02, with words for people.
 
 use std::{error, fmt};
 
@@ -34,11 +34,13 @@ pub enum Refusal {
     WrongCheck = 12,
     /// A file with a wrong length, count or fill.
     WrongFile = 13,
+    /// The lent list is too short for every small quad.
+    FoursNeedSpace = 26,
 }
 
 impl Refusal {
     /// Every refusal, in the order of the numbers.
-    pub const ALL: [Refusal; 13] = [
+    pub const ALL: [Refusal; 14] = [
         Refusal::Lists,
         Refusal::ShortLoop,
         Refusal::NotFinite,
@@ -52,14 +54,15 @@ impl Refusal {
         Refusal::NoFieldRecord,
         Refusal::WrongCheck,
         Refusal::WrongFile,
+        Refusal::FoursNeedSpace,
     ];
 
-    /// Document 01's number, 1 to 13.
+    /// Its number: document 01's are 1 to 13, document 02's come after them.
     pub fn number(self) -> u32 {
         self as u32
     }
 
-    /// The refusal with this number, if document 01 has one.
+    /// The refusal with this number, if there is one.
     pub fn of_number(number: u32) -> Option<Refusal> {
         Refusal::ALL.into_iter().find(|refusal| refusal.number() == number)
     }
@@ -68,13 +71,13 @@ impl Refusal {
     ///
     /// # Panics
     ///
-    /// On a number that document 01 doesn't have. The library never answers one, so this is a bug: most likely an archive
+    /// On a number that no refusal has. The library never answers one, so this is a bug: most likely an archive
     /// that doesn't belong to this crate.
     pub(crate) fn check(number: u32) -> Result<(), Refusal> {
         match (number, Refusal::of_number(number)) {
             (0, _) => Ok(()),
             (_, Some(refusal)) => Err(refusal),
-            (_, None) => panic!("a bug: the library answered refusal {number}, which document 01 doesn't have"),
+            (_, None) => panic!("a bug: the library answered refusal {number}, which is none"),
         }
     }
 
@@ -111,6 +114,9 @@ impl Refusal {
                 "the file has a wrong length, a wrong count, or something where zeros belong: write it anew from the outline, \
                  with 1 to 8 loops, at most 248 points in all, and nothing after the last block"
             }
+            Refusal::FoursNeedSpace => {
+                "the list is too short for every small quad: lend four places for each, 14,944 in all"
+            }
         }
     }
 }
@@ -129,9 +135,9 @@ mod tests {
     use super::Refusal;
 
     #[test]
-    fn numbers_are_document_01s() {
+    fn numbers_are_the_documents() {
         let numbers: Vec<u32> = Refusal::ALL.into_iter().map(Refusal::number).collect();
-        assert_eq!(numbers, (1..=13).collect::<Vec<u32>>());
+        assert_eq!(numbers, (1..=13).chain([26]).collect::<Vec<u32>>());
         for refusal in Refusal::ALL {
             assert_eq!(Refusal::of_number(refusal.number()), Some(refusal));
             assert_eq!(Refusal::check(refusal.number()), Err(refusal));
@@ -142,14 +148,14 @@ mod tests {
 
     #[test]
     fn each_has_words_of_its_own() {
-        let texts: Vec<String> = Refusal::ALL.iter().map(Refusal::to_string).collect();
-        for (k, text) in texts.iter().enumerate() {
-            assert!(text.starts_with(&format!("refused ({}): ", k + 1)), "{text}");
+        for refusal in Refusal::ALL {
+            let text = refusal.to_string();
+            assert!(text.starts_with(&format!("refused ({}): ", refusal.number())), "{text}");
             assert_eq!(text.matches(": ").count(), 2, "what is wrong, then what to do: {text}");
             assert!(!text.contains("  ") && text.is_ascii(), "{text}");
         }
         let words: std::collections::HashSet<&str> = Refusal::ALL.iter().map(|refusal| refusal.words()).collect();
-        assert_eq!(words.len(), 13);
+        assert_eq!(words.len(), Refusal::ALL.len());
     }
 
     #[test]

@@ -22,8 +22,8 @@ class Words(unittest.TestCase):
     def test_they_are_the_hosts(self):
         self.assertEqual(host_words(), {number: ": ".join(words) for number, words in refusals.WORDS.items()})
 
-    def test_document_01_has_thirteen(self):
-        self.assertEqual(list(refusals.WORDS), list(range(1, 14)))
+    def test_the_numbers_are_the_documents(self):
+        self.assertEqual(list(refusals.WORDS), [*range(1, 14), 26])
 
     def test_as_the_host_displays_them(self):
         self.assertEqual(refusals.in_words(2),

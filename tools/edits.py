@@ -23,14 +23,15 @@ FACTS = [
     r"`omega`: (?:the goal|the part|a listed rule) ",
     r"`cc`: the equations do not join ",
     r"`rw`: no occurrence of the path's ",
-    r"`rw` has no last argument, so what it leaves must be a path whose two ends are equal",
+    r"`simp`: no equation of the list ",
+    r"`(?:rw|simp)` has no last argument, so what it leaves must be a path whose two ends are equal",
     r"the two types (?:are|differ|first differ)\b",
-    r"expected type `[^`]*`, but this has type ",
+    r"expected type `[^`]*`,? but this has type ",
 ]
 
 # Two types that differ, and yet no fact: what is wanted is a type of values, or a need of the code has no answer in the proof.
 NO_FACTS = [
-    r"expected type `(?:List )?\w+`, ",
+    r"expected type `(?:List )?\w+`,? but ",
     r"but this has type `tie\.Need-",
 ]
 

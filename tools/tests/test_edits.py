@@ -46,6 +46,21 @@ logic=not-proved
   `rw` has no last argument, so what it leaves must be a path whose two ends are equal, and `Path ℕ 1 2` isn't one
 logic=not-proved
 """,
+    "simp, of another term": """\
+/t/proofs/entry/Proof.antt:12:13: error: `returns`: `simp`: no equation of the list has an instance in the goal `reads.Post (c .before .κs)`
+logic=not-proved
+""",
+    "simp, of ends that differ": """\
+/t/proofs/entry/Proof.antt:24:15: error: `returns-2`: give a proof of that as the last argument, `simp L t` (`simp L ?` shows it as a hole's goal), or add what is missing to the list
+  `simp` has no last argument, so what it leaves must be a path whose two ends are equal, and `Path ℕ 1 2` isn't one
+logic=not-proved
+""",
+    "an answer that differs": """\
+/t/proofs/entry/Proof.antt:14:13: error: `returns`: expected type `reads.Post (c .before .κs) …[1869 bytes]… (c .before)) .1)))`
+  but this has type `answer 26 0 (?0 c) ≡ smallQuads (?0 c)`
+  here `?0` is the `_` written at 14:24
+logic=not-proved
+""",
     "a function without a proof file": """\
 note: /t/src/lib.rt:5:1: it is not proved that what the function ensures holds when it returns (`returns`)
 note: what antt said of a `search` in the proof that rattle made: /t/src/lib.rt:5:8: `returns`: `search`: no proof of `reads.Post`

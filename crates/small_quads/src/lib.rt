@@ -15,6 +15,9 @@ pub struct SmallQuadsAnswer {
     pub count: usize,
 }
 
+// The fours of 16 points.
+const FOURS: u32 = 65_536;
+
 // ---- a corner
 
 // a · b, of two small numbers.
@@ -111,7 +114,7 @@ fn count_quads() -> usize
 {
     let mut n: usize = 0;
     let mut k: u32 = 0;
-    while k < 65536 {
+    while k < FOURS {
         if is_small_quad(k) {
             n += 1;
         }
@@ -149,7 +152,7 @@ fn list_quads(list: &mut [u32])
 {
     let mut n: usize = 0;
     let mut k: u32 = 0;
-    while k < 65536 {
+    while k < FOURS {
         n = list_four(list, n, k);
         k += 1;
     }
@@ -168,8 +171,5 @@ pub extern "C" fn sitjorbe_small_quads(fours: &mut [u32]) -> SmallQuadsAnswer
         };
     }
     list_quads(fours);
-    SmallQuadsAnswer {
-        refusal: 0,
-        count: count,
-    }
+    SmallQuadsAnswer { refusal: 0, count }
 }

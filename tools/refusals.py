@@ -21,6 +21,7 @@ WORDS = {
     15: ("the node isn't in the mesh, or is past the lent list of thresholds", "count nodes from 0, and lend a place for each"),
     16: ("the threshold is above 500", "give it in tenths of a decibel, 0 to 500; to take one back, withdraw it"),
     17: ("no threshold stands at the node", "enter one first, or look whether it was withdrawn already"),
+    26: ("the list is too short for every small quad", "lend four places for each, 14,944 in all"),
 }
 
 

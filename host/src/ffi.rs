@@ -79,6 +79,14 @@ pub struct RefusalAnswer {
     pub refusal: u32,
 }
 
+/// `count` is how many fours are listed, 0 on a refusal.
+#[repr(C)]
+#[derive(Clone, Copy, Debug)]
+pub struct SmallQuadsAnswer {
+    pub refusal: u32,
+    pub count: usize,
+}
+
 #[link(name = "sitjorbe", kind = "static")]
 extern "C" {
     pub fn sitjorbe_contains(
@@ -222,4 +230,6 @@ extern "C" {
         sum: *mut u32,
         node: u32,
     ) -> RefusalAnswer;
+
+    pub fn sitjorbe_small_quads(fours: *mut u32, fours_len: usize) -> SmallQuadsAnswer;
 }

@@ -40,11 +40,13 @@ pub enum Refusal {
     ThresholdTooHigh = 16,
     /// A withdrawal where no threshold stands.
     NoThreshold = 17,
+    /// The lent list is too short for every small quad.
+    FoursNeedSpace = 26,
 }
 
 impl Refusal {
     /// Every refusal, in the order of the numbers.
-    pub const ALL: [Refusal; 16] = [
+    pub const ALL: [Refusal; 17] = [
         Refusal::Lists,
         Refusal::ShortLoop,
         Refusal::NotFinite,
@@ -61,6 +63,7 @@ impl Refusal {
         Refusal::NoNode,
         Refusal::ThresholdTooHigh,
         Refusal::NoThreshold,
+        Refusal::FoursNeedSpace,
     ];
 
     /// Its number: 1 to 13 are document 01's, those above are the papers'.
@@ -127,6 +130,9 @@ impl Refusal {
                 "the threshold is above 500: give it in tenths of a decibel, 0 to 500; to take one back, withdraw it"
             }
             Refusal::NoThreshold => "no threshold stands at the node: enter one first, or look whether it was withdrawn already",
+            Refusal::FoursNeedSpace => {
+                "the list is too short for every small quad: lend four places for each, 14,944 in all"
+            }
         }
     }
 }

@@ -4,7 +4,9 @@ mod common;
 
 use common::blocks::Block;
 use common::{by_kind, list_lengths, refused, said, used, Drawing, FieldPlaces, Lengths, Lent, Raw, RunPlaces};
-use sitjorbe::{direction, ffi, pave, LentMesh, Lists, Memory, Outline, Places, Refusal, Results, Settings};
+use sitjorbe::{
+    direction, ffi, pave, small_quads, LentMesh, Lists, Memory, Outline, Places, Refusal, Results, Settings,
+};
 
 /// Drawings and points that are accepted and refused.
 fn queries() -> Vec<(Drawing, [f64; 2])> {
@@ -99,6 +101,19 @@ fn a_field_is_written_and_read_within_its_lists() {
             let of_pages = direction(&record, lent_values.list(), lent_marks.list(), point, [0.3, -1.0]);
             assert_eq!(of_pages, direction(&record, values, marks, point, [0.3, -1.0]), "{point:?}");
         }
+    }
+}
+
+/// The list in memory of its own, just long enough and one place too short, with memory beside it that can't be touched.
+#[cfg(target_os = "linux")]
+#[test]
+fn small_quads_are_written_within_their_list() {
+    for side in [pages::Side::Start, pages::Side::End] {
+        let mut enough = pages::Pages::writable(&vec![7; 14_944], side);
+        assert_eq!(small_quads(enough.list_mut()).map(<[_]>::len), Ok(3_736));
+        let mut short = pages::Pages::writable(&vec![7; 14_943], side);
+        assert_eq!(small_quads(short.list_mut()), Err(Refusal::FoursNeedSpace));
+        assert!(short.list().iter().all(|place| *place == 7));
     }
 }
 

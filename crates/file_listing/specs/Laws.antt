@@ -138,9 +138,13 @@ readListing r =
     let head = r .numbers .head in
     answerBy refusedListing (outlineListing (heldOutline (r .points) (r .lens) head) (head .settings)) (r .numbers .refusal)
 
--- what it tells of the lists
+-- what it tells of the lists, by its number
+abbrev ToldBy : ℕ → Reading → Type 0
+ToldBy zero r = Held (r .points) (r .lens) (r .numbers .head)
+ToldBy (suc n) r = Unit {0}
+
 abbrev Told : Reading → Type 0
-Told r = answerBy (λ n. Unit {0}) (Held (r .points) (r .lens) (r .numbers .head)) (r .numbers .refusal)
+Told r = ToldBy (r .numbers .refusal) r
 
 module _ (file : List ℕ) (points : List Float) (lens : List ℕ) where
   listing-read : readListing (readFile file points lens) ≡ programListing file

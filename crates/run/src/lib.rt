@@ -1,7 +1,7 @@
 // The run whole in one call: field, sampling, paving and the loops of the front, in the lists lent.
 ghost use mathlib.Core.Path.{_≡_};
 ghost use mathlib.Core.List.{[]};
-ghost use Prim.Native.Nat.{_≤_};
+ghost use Prim.Native.Nat.{_≤_, min};
 ghost use lib.ListN.{length};
 ghost use Rattle.domain.specs.Outline.{outline, firstOf};
 ghost use Rattle.direction.specs.Record.{fieldRecord};

@@ -1,4 +1,4 @@
-"""Document 01's refusals in words: what is wrong, and what to do. The host's words, host/src/refusal.rs, are the same."""
+"""The refusals of document 01 and of the papers in words: what is wrong, and what to do. The host's words, host/src/refusal.rs, are the same."""
 
 WORDS = {
     1: ("the outline's lists don't fit together",
@@ -19,6 +19,10 @@ WORDS = {
          "the file is damaged, so fetch it again, or write it anew from the outline"),
     13: ("the file has a wrong length, a wrong count, or something where zeros belong",
          "write it anew from the outline, with 1 to 8 loops, at most 248 points in all, and nothing after the last block"),
+    15: ("the node isn't in the mesh, or is past the lent list of thresholds", "count nodes from 0, and lend a place for each"),
+    16: ("the threshold is above 500", "give it in tenths of a decibel, 0 to 500; to take one back, withdraw it"),
+    17: ("no threshold stands at the node", "enter one first, or look whether it was withdrawn already"),
+    26: ("the list is too short for every small quad", "lend four places for each, 14,944 in all"),
 }
 
 

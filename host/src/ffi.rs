@@ -1,7 +1,9 @@
 //! The library's entries as they cross: the `extern "C"` functions of all crates, with each slice as two parameters, pointer and
-//! length, in the order of the Rattle signature. tests/signatures.rs holds this file against their source.
+//! length, in the order of the Rattle signature, and a reference to a number as its pointer. tests/signatures.rs holds this file
+//! against their source.
 //!
-//! A pointer and its length must be those of one slice; that is all an entry asks. The wrappers in the crate's root see to it.
+//! A pointer and its length must be those of one slice, and a pointer without a length that of a number; that is all an entry asks.
+//! The wrappers in the crate's root see to it.
 
 /// `refusal` is document 01's number, or 0. The values of a refused query are false or 0.0, here and below.
 #[repr(C)]
@@ -68,6 +70,21 @@ pub struct PaveAnswer {
     pub front: usize,
     pub loops: usize,
     pub ids: usize,
+}
+
+/// An event's answer: only whether it was refused. All else is in what was lent.
+#[repr(C)]
+#[derive(Clone, Copy, Debug)]
+pub struct RefusalAnswer {
+    pub refusal: u32,
+}
+
+/// `count` is how many fours are listed, 0 on a refusal.
+#[repr(C)]
+#[derive(Clone, Copy, Debug)]
+pub struct SmallQuadsAnswer {
+    pub refusal: u32,
+    pub count: usize,
 }
 
 #[link(name = "sitjorbe", kind = "static")]
@@ -177,4 +194,42 @@ extern "C" {
         blocks: *mut u32,
         blocks_len: usize,
     ) -> PaveAnswer;
+
+    pub fn sitjorbe_begin(thresholds: *mut u16, thresholds_len: usize, count: *mut u32, sum: *mut u32)
+        -> RefusalAnswer;
+
+    pub fn sitjorbe_enter(
+        nodes: u32,
+        xs: *const f64,
+        xs_len: usize,
+        ys: *const f64,
+        ys_len: usize,
+        quad_count: usize,
+        quads: *const u32,
+        quads_len: usize,
+        thresholds: *mut u16,
+        thresholds_len: usize,
+        count: *mut u32,
+        sum: *mut u32,
+        node: u32,
+        threshold: u32,
+    ) -> RefusalAnswer;
+
+    pub fn sitjorbe_withdraw(
+        nodes: u32,
+        xs: *const f64,
+        xs_len: usize,
+        ys: *const f64,
+        ys_len: usize,
+        quad_count: usize,
+        quads: *const u32,
+        quads_len: usize,
+        thresholds: *mut u16,
+        thresholds_len: usize,
+        count: *mut u32,
+        sum: *mut u32,
+        node: u32,
+    ) -> RefusalAnswer;
+
+    pub fn sitjorbe_small_quads(fours: *mut u32, fours_len: usize) -> SmallQuadsAnswer;
 }

@@ -51,8 +51,12 @@ mod field;
 mod pave;
 mod queries;
 mod refusal;
+mod small_quads;
+mod thresholds;
 
 pub use field::{direction, field, FieldRecord};
 pub use pave::{pave, pave_numbers, End, Lists, Memory, Mesh, Places, Settings, TooManyPlaces, OFF};
 pub use queries::{contains, distance_to_boundary, nearest_segment, NearestSegment, Outline};
 pub use refusal::Refusal;
+pub use small_quads::small_quads;
+pub use thresholds::{LentMesh, Results, Thresholds, MOST_THRESHOLD, NO_THRESHOLD};

@@ -182,6 +182,16 @@ impl<'a> Mesh<'a> {
         self.xs.iter().zip(self.ys).map(|(&x, &y)| [x, y])
     }
 
+    /// The nodes' first coordinates and their second ones, as they were lent.
+    pub(crate) fn coordinates(&self) -> (&'a [f64], &'a [f64]) {
+        (self.xs, self.ys)
+    }
+
+    /// The ids of all quads, four a quad, as they were lent.
+    pub(crate) fn quad_ids(&self) -> &'a [u32] {
+        self.quads
+    }
+
     /// Each quad's ids a, b, d, c, in the order in which the quads were placed.
     pub fn quads(&self) -> impl ExactSizeIterator<Item = [u32; 4]> + Clone + 'a {
         self.quads.chunks_exact(4).map(|quad| [quad[0], quad[1], quad[2], quad[3]])

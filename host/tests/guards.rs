@@ -4,7 +4,9 @@ mod common;
 
 use common::blocks::Block;
 use common::{by_kind, list_lengths, refused, said, used, Drawing, FieldPlaces, Lengths, Lent, Raw, RunPlaces};
-use sitjorbe::{direction, ffi, pave, Lists, Memory, Outline, Places, Refusal, Settings};
+use sitjorbe::{
+    direction, ffi, pave, small_quads, LentMesh, Lists, Memory, Outline, Places, Refusal, Results, Settings,
+};
 
 /// Drawings and points that are accepted and refused.
 fn queries() -> Vec<(Drawing, [f64; 2])> {
@@ -102,6 +104,19 @@ fn a_field_is_written_and_read_within_its_lists() {
     }
 }
 
+/// The list in memory of its own, just long enough and one place too short, with memory beside it that can't be touched.
+#[cfg(target_os = "linux")]
+#[test]
+fn small_quads_are_written_within_their_list() {
+    for side in [pages::Side::Start, pages::Side::End] {
+        let mut enough = pages::Pages::writable(&vec![7; 14_944], side);
+        assert_eq!(small_quads(enough.list_mut()).map(<[_]>::len), Ok(3_736));
+        let mut short = pages::Pages::writable(&vec![7; 14_943], side);
+        assert_eq!(small_quads(short.list_mut()), Err(Refusal::FoursNeedSpace));
+        assert!(short.list().iter().all(|place| *place == 7));
+    }
+}
+
 #[test]
 fn the_guards_of_a_run_show_a_write() {
     let lengths = list_lengths(Places { field_nodes: 4, nodes: 20, quads: 6, edges: 7, points: 8 });
@@ -152,6 +167,37 @@ fn a_run_is_written_and_read_within_its_lists() {
             let found = pave(&outline, &settings, pages.lists()).map(|mesh| (said(&mesh), used(&mesh)));
             assert_eq!(found, expected, "{places:?}");
         }
+    }
+}
+
+/// The mesh in read-only memory, and the thresholds and each figure in memory of their own: an exam begins, and events are taken and refused,
+/// with ids that are no nodes in the quads and a quad that isn't whole.
+#[cfg(target_os = "linux")]
+#[test]
+fn events_are_taken_within_their_lists() {
+    let quads = [0, 1, 2, 3, 3, 3, 2, 0, 4, u32::MAX, 1, 0, 1 << 31, 2];
+    for (side, places) in
+        [pages::Side::Start, pages::Side::End].into_iter().flat_map(|side| [0, 3, 4, 9].map(|n| (side, n)))
+    {
+        let [xs, ys] = [pages::Pages::read_only(&[0.5; 4], side), pages::Pages::read_only(&[0.5; 4], side)];
+        let quads = pages::Pages::read_only(&quads, side);
+        let mut thresholds = pages::Pages::writable(&vec![7u16; places], side);
+        let [mut count, mut sum] = [pages::Pages::writable(&[7u32], side), pages::Pages::writable(&[7u32], side)];
+        let mesh =
+            LentMesh { nodes: u32::MAX, xs: xs.list(), ys: ys.list(), quad_count: usize::MAX, quads: quads.list() };
+        let [count, sum] = [&mut count, &mut sum].map(|figure| &mut figure.list_mut()[0]);
+        let mut results = Results { thresholds: thresholds.list_mut(), count, sum };
+        results.begin();
+        for node in [0, 1, 2, 3, 4, 1 << 16, u32::MAX] {
+            let missing = node as usize >= places.min(4);
+            let refused = |refusal: Refusal| if missing { Err(Refusal::NoNode) } else { Err(refusal) };
+            assert_eq!(results.enter(&mesh, node, 501), refused(Refusal::ThresholdTooHigh));
+            assert_eq!(results.withdraw(&mesh, node), refused(Refusal::NoThreshold));
+            let entered = results.enter(&mesh, node, 100);
+            assert_eq!(entered, if missing { Err(Refusal::NoNode) } else { Ok(()) });
+        }
+        let figures = if places < 4 { (0, 0) } else { (2, 700) };
+        assert_eq!((*results.count, *results.sum), figures);
     }
 }
 

@@ -86,8 +86,8 @@ impl Declared {
         }
         for (name, kind) in self.functions.values().chain(self.structs.values()).flatten() {
             let scalar = kind.strip_prefix("*const ").or(kind.strip_prefix("*mut ")).unwrap_or(kind);
-            let known =
-                ["bool", "u8", "u32", "u64", "usize", "f64"].contains(&scalar) || self.structs.contains_key(kind);
+            let known = ["bool", "u8", "u16", "u32", "u64", "usize", "f64"].contains(&scalar)
+                || self.structs.contains_key(kind);
             if !known {
                 found.push(format!("{name}: {kind} isn't a type that crosses"));
             }
@@ -96,16 +96,18 @@ impl Declared {
     }
 }
 
-/// A Rattle parameter as it crosses: a slice is two, pointer and length.
+/// A Rattle parameter as it crosses: a slice is two, pointer and length, and a reference to a number its pointer.
 fn crossing((name, kind): (String, String)) -> Typed {
-    let element = |start: &str| kind.strip_prefix(start).and_then(|rest| rest.strip_suffix(']'));
-    let pointer = match (element("&["), element("&mut [")) {
-        (Some(element), _) => format!("*const {element}"),
-        (_, Some(element)) => format!("*mut {element}"),
+    let (pointer, referent) = match (kind.strip_prefix("&mut "), kind.strip_prefix('&')) {
+        (Some(referent), _) => ("*mut", referent),
+        (_, Some(referent)) => ("*const", referent),
         _ => return vec![(name, kind)],
     };
+    let Some(element) = referent.strip_prefix('[').and_then(|rest| rest.strip_suffix(']')) else {
+        return vec![(name, format!("{pointer} {referent}"))];
+    };
     let length = (format!("{name}_len"), "usize".to_string());
-    vec![(name, pointer), length]
+    vec![(name, format!("{pointer} {element}")), length]
 }
 
 /// The words and signs of a source, without comments and lifetimes.
@@ -222,8 +224,9 @@ fn archive() -> Declared {
 fn declarations_are_those_of_the_rattle_source() {
     let rattle = archive();
     let rust = Declared::of_rust(include_str!("../src/ffi.rs"));
-    let entries = ["contains", "nearest_segment", "distance_to_boundary", "field", "direction", "pave"];
-    for entry in entries.map(|name| format!("sitjorbe_{name}")) {
+    let document_01 = ["contains", "nearest_segment", "distance_to_boundary", "field", "direction", "pave"];
+    let papers = ["begin", "enter", "withdraw", "small_quads"];
+    for entry in document_01.iter().chain(&papers).map(|name| format!("sitjorbe_{name}")) {
         assert!(rattle.functions.contains_key(&entry), "{entry} isn't found in the Rattle source");
     }
     let differences = rattle.differences(&rust);
@@ -235,7 +238,7 @@ const RATTLE: &str = r#"
     #[repr(C)]
     pub struct Answer { pub refusal: u32, pub x: f64, }
     #[no_mangle]
-    pub extern "C" fn entry<'a>(points: &'a [f64], marks: &mut [u8], size: f64, sweeps: u32) -> Answer
+    pub extern "C" fn entry<'a>(points: &'a [f64], marks: &mut [u8], figure: &mut u32, size: f64, sweeps: u32) -> Answer
         ensures { λ r. ⌜ r ≡ answer (now (points .entry)) ⌝ }
     { Answer { refusal: 0, x: size } }
     pub fn inner(x: f64) -> f64 { x }
@@ -248,24 +251,28 @@ const RUST: &str = r#"
     extern "C" {
         pub fn entry(
             points: *const f64, points_len: usize,
-            marks: *mut u8, marks_len: usize, size: f64, sweeps: u32,
+            marks: *mut u8, marks_len: usize, figure: *mut u32, size: f64, sweeps: u32,
         ) -> Answer;
     }
 "#;
 
 /// Edits of either source after which the declarations differ.
-const EDITS: [(&str, &str); 14] = [
+const EDITS: [(&str, &str); 18] = [
     ("size: f64, sweeps: u32)", "sweeps: u32, size: f64)"),
-    ("marks: &mut [u8], size", "size"),
+    ("marks: &mut [u8], figure", "figure"),
     ("&'a [f64]", "&'a [f32]"),
     ("&mut [u8]", "&[u8]"),
     ("&mut [u8]", "u8"),
+    ("&mut u32", "&u32"),
+    ("&mut u32", "&mut u16"),
+    ("&mut u32", "u32"),
     ("-> Answer\n", "-> f64\n"),
     ("fn entry<", "fn other<"),
     ("pub refusal: u32, pub x: f64,", "pub x: f64, pub refusal: u32,"),
     ("pub refusal: u32, pub x: f64,", "pub refusal: u64, pub x: f64,"),
     ("points: *const f64, points_len: usize,", "points_len: usize, points: *const f64,"),
     ("marks: *mut u8", "marks: *const u8"),
+    ("figure: *mut u32", "figure: *const u32"),
     ("points: *const f64, points_len: usize,", "points: &[f64],"),
     ("pub refusal: u32, pub x: f64 }", "pub x: f64 }"),
     ("-> Answer;", ";"),

@@ -3,6 +3,7 @@
 
 pub mod blocks;
 pub mod book;
+pub mod rng;
 pub mod whole;
 
 use std::hint::black_box;
@@ -96,6 +97,14 @@ impl Place for usize {
 impl Place for u32 {
     const GUARD: u32 = 0x5afe_5afe;
     const FILL: u32 = 0xa5a5_a5a5;
+    fn bits(self) -> u64 {
+        u64::from(self)
+    }
+}
+
+impl Place for u16 {
+    const GUARD: u16 = 0x5afe;
+    const FILL: u16 = 0xa5a5;
     fn bits(self) -> u64 {
         u64::from(self)
     }

@@ -1,0 +1,2 @@
+-- What the entries promise.
+pub mod Entries

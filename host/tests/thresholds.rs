@@ -1,0 +1,392 @@
+//! Thresholds that come and go: readings by hand, refusals, and paper 6 in Rust, written from its words, beside the entries. The model keeps
+//! no figure: it works both out afresh from the thresholds that stand, after each event.
+
+mod common;
+
+use std::collections::BTreeSet;
+
+use common::rng::Rng;
+use common::{Drawing, Guarded};
+use sitjorbe::{LentMesh, Memory, Places, Refusal, Results, Settings, Thresholds, NO_THRESHOLD};
+
+// ---- paper 6
+
+/// A mesh as it counts, and the list of thresholds.
+#[derive(Clone, Debug)]
+struct Model {
+    nodes: u32,
+    quads: Vec<[u32; 4]>,
+    list: Vec<u16>,
+}
+
+impl Model {
+    /// "a count beyond its list stops at its last whole node or quad, and quads stop at 250,000"
+    fn of(mesh: &LentMesh<'_>, list: &[u16]) -> Model {
+        let whole = mesh.xs.iter().zip(mesh.ys).count();
+        let quads = mesh.quads.chunks(4).filter_map(|quad| <[u32; 4]>::try_from(quad).ok());
+        Model {
+            nodes: (0..mesh.nodes).take(whole).count() as u32,
+            quads: quads.take(mesh.quad_count).take(250_000).collect(),
+            list: list.to_vec(),
+        }
+    }
+
+    /// The threshold that stands at an id: "anything above 500 means none", and an id that is no node has none.
+    fn standing(&self, id: u32) -> Option<u32> {
+        let place = self.list.get(id as usize).filter(|_| id < self.nodes)?;
+        (*place <= 500).then_some(u32::from(*place))
+    }
+
+    /// "how many quads have all four thresholds and the sum of all thresholds of those quads, a node counted once for each such quad"
+    fn figures(&self) -> [u32; 2] {
+        let thresholds = |quad: &[u32; 4]| {
+            let nodes: BTreeSet<u32> = quad.iter().copied().collect();
+            nodes.into_iter().map(|id| self.standing(id)).collect::<Option<Vec<u32>>>()
+        };
+        let complete: Vec<Vec<u32>> = self.quads.iter().filter_map(thresholds).collect();
+        [complete.len() as u32, complete.iter().flatten().sum()]
+    }
+
+    /// "15 for a node id not in the mesh or past the lent threshold list, 16 for a threshold above 500, 17 for a withdrawal where none
+    /// stands; in that order, and nothing changes"
+    fn take(&mut self, event: Event) -> u32 {
+        let node = event.node();
+        let missing = node >= self.nodes || node as usize >= self.list.len();
+        match event {
+            _ if missing => 15,
+            Event::Enter(_, 501..) => 16,
+            Event::Withdraw(_) if self.standing(node).is_none() => 17,
+            Event::Enter(_, threshold) => self.write(node, threshold as u16),
+            Event::Withdraw(_) => self.write(node, 65_535),
+        }
+    }
+
+    fn write(&mut self, node: u32, place: u16) -> u32 {
+        self.list[node as usize] = place;
+        0
+    }
+}
+
+#[derive(Clone, Copy, Debug)]
+enum Event {
+    Enter(u32, u32),
+    Withdraw(u32),
+}
+
+impl Event {
+    fn node(self) -> u32 {
+        match self {
+            Event::Enter(node, _) | Event::Withdraw(node) => node,
+        }
+    }
+
+    /// Hands the event over; the refusal's number, or 0.
+    fn hand_over(self, results: &mut Results<'_>, mesh: &LentMesh<'_>) -> u32 {
+        let answer = match self {
+            Event::Enter(node, threshold) => results.enter(mesh, node, threshold),
+            Event::Withdraw(node) => results.withdraw(mesh, node),
+        };
+        answer.map_or_else(Refusal::number, |()| 0)
+    }
+}
+
+// ---- lists that are lent
+
+/// The lists of an exam, each with its guards, and the two figures between guards of their own.
+struct Lent {
+    nodes: u32,
+    xs: Guarded<f64>,
+    ys: Guarded<f64>,
+    quad_count: usize,
+    quads: Guarded<u32>,
+    thresholds: Guarded<u16>,
+    count: Guarded<u32>,
+    sum: Guarded<u32>,
+}
+
+impl Lent {
+    fn new(
+        nodes: u32,
+        places: [usize; 2],
+        quad_count: usize,
+        quads: &[u32],
+        thresholds: &[u16],
+        figures: [u32; 2],
+    ) -> Lent {
+        let [xs, ys] = places.map(|length| Guarded::new(&vec![0.25; length]));
+        let [count, sum] = figures.map(|figure| Guarded::new(&[figure]));
+        let (quads, thresholds) = (Guarded::new(quads), Guarded::new(thresholds));
+        Lent { nodes, xs, ys, quad_count, quads, thresholds, count, sum }
+    }
+
+    fn parts(&mut self) -> (Results<'_>, LentMesh<'_>) {
+        let Lent { nodes, xs, ys, quad_count, quads, thresholds, count, sum } = self;
+        let mesh =
+            LentMesh { nodes: *nodes, xs: xs.list(), ys: ys.list(), quad_count: *quad_count, quads: quads.list() };
+        let [count, sum] = [count, sum].map(|figure| &mut figure.list_mut()[0]);
+        (Results { thresholds: thresholds.list_mut(), count, sum }, mesh)
+    }
+
+    fn model(&mut self) -> Model {
+        let (results, mesh) = self.parts();
+        Model::of(&mesh, results.thresholds)
+    }
+
+    fn figures(&self) -> [u32; 2] {
+        [&self.count, &self.sum].map(|figure| figure.list()[0])
+    }
+
+    /// Whether the mesh keeps every bit, and the guards of what may be written.
+    fn kept(&self) -> bool {
+        let mesh = self.xs.kept() && self.ys.kept() && self.quads.kept();
+        mesh && self.thresholds.kept_from(usize::MAX) && self.count.kept_from(1) && self.sum.kept_from(1)
+    }
+}
+
+/// Hands an event to the library and to the model: refusal, list and figures agree, and nothing else is written. The figures move by what the
+/// model's move, also those that no call left.
+fn agree(lent: &mut Lent, model: &mut Model, event: Event) -> u32 {
+    let ([count, sum], [old_count, old_sum]) = (lent.figures(), model.figures());
+    let expected = model.take(event);
+    let [new_count, new_sum] = model.figures();
+    let (mut results, mesh) = lent.parts();
+    let number = event.hand_over(&mut results, &mesh);
+    assert_eq!(number, expected, "{event:?} {model:?}");
+    assert_eq!(lent.thresholds.list(), model.list, "{event:?} {model:?}");
+    let moved = |x: u32, old: u32, new: u32| x.wrapping_sub(old).wrapping_add(new);
+    assert_eq!(
+        lent.figures(),
+        [moved(count, old_count, new_count), moved(sum, old_sum, new_sum)],
+        "{event:?} {model:?}"
+    );
+    assert!(lent.kept(), "{event:?} {model:?}");
+    number
+}
+
+// ---- by hand
+
+const WRAPPED: [u32; 2] = [u32::MAX, u32::MAX - 4];
+
+/// What is read into the paper where it is silent, each on its smallest input: nodes, quads, list and figures lent, the event, and what is
+/// answered and left.
+#[test]
+fn readings() {
+    use Event::{Enter, Withdraw};
+    type Reading<'a> = (&'a str, u32, &'a [u32], (&'a [u16], [u32; 2]), Event, u32, (&'a [u16], [u32; 2]));
+    let none = NO_THRESHOLD;
+    let all: [Reading<'_>; 12] = [
+        (
+            "a node twice counts once",
+            3,
+            &[0, 0, 1, 2],
+            (&[10, 20, none], [0, 0]),
+            Enter(2, 30),
+            0,
+            (&[10, 20, 30], [1, 60]),
+        ),
+        (
+            "in the list, but no node",
+            3,
+            &[0, 1, 2, 3],
+            (&[1, 2, none, 4], [0, 0]),
+            Enter(2, 3),
+            0,
+            (&[1, 2, 3, 4], [0, 0]),
+        ),
+        ("501 is none", 1, &[0, 0, 0, 0], (&[501], [0, 0]), Withdraw(0), 17, (&[501], [0, 0])),
+        ("65,534 is none", 1, &[0, 0, 0, 0], (&[65_534], [0, 0]), Enter(0, 500), 0, (&[500], [1, 500])),
+        ("65,541 isn't cut to 5", 1, &[0, 0, 0, 0], (&[none], [0, 0]), Enter(0, 65_541), 16, (&[none], [0, 0])),
+        ("501 is too high", 1, &[0, 0, 0, 0], (&[7], [1, 7]), Enter(0, 501), 16, (&[7], [1, 7])),
+        ("figures that no call left wrap", 1, &[0, 0, 0, 0], (&[5], [0, 0]), Withdraw(0), 0, (&[none], WRAPPED)),
+        ("the node before the threshold", 0, &[], (&[], [0, 0]), Enter(0, 501), 15, (&[], [0, 0])),
+        ("past the list", 2, &[], (&[3], [0, 0]), Enter(1, 3), 15, (&[3], [0, 0])),
+        ("in the list, but no node, withdrawn", 1, &[], (&[3, 4], [0, 0]), Withdraw(1), 15, (&[3, 4], [0, 0])),
+        ("the same again", 1, &[0, 0, 0, 0], (&[5], [1, 5]), Enter(0, 5), 0, (&[5], [1, 5])),
+        ("a replacement", 2, &[0, 1, 0, 1], (&[5, 6], [1, 11]), Enter(1, 0), 0, (&[5, 0], [1, 5])),
+    ];
+    for (what, nodes, quads, (list, figures), event, refusal, left) in all {
+        let mut lent = Lent::new(nodes, [nodes as usize; 2], quads.len() / 4, quads, list, figures);
+        let mut model = lent.model();
+        assert_eq!(agree(&mut lent, &mut model, event), refusal, "{what}");
+        assert_eq!((lent.thresholds.list(), lent.figures()), left, "{what}");
+    }
+}
+
+/// A node that lacks a coordinate is none, and a quad that lacks an id.
+#[test]
+fn counts_stop_at_whole_nodes_and_quads() {
+    for (places, refusal) in [([2, 2], 0), ([2, 1], 15), ([1, 2], 15), ([3, 3], 0)] {
+        let mut lent = Lent::new(2, places, 1, &[0, 0, 0, 0], &[NO_THRESHOLD; 2], [0, 0]);
+        let mut model = lent.model();
+        assert_eq!(agree(&mut lent, &mut model, Event::Enter(1, 9)), refusal, "{places:?}");
+    }
+    for (quad_count, numbers, complete) in [(2, 7, 1), (2, 8, 2), (1, 8, 1), (usize::MAX, 9, 2), (0, 8, 0)] {
+        let mut lent = Lent::new(1, [1, 1], quad_count, &vec![0; numbers], &[NO_THRESHOLD], [0, 0]);
+        let mut model = lent.model();
+        assert_eq!(agree(&mut lent, &mut model, Event::Enter(0, 500)), 0);
+        assert_eq!(lent.figures(), [complete, 500 * complete], "{quad_count} {numbers}");
+    }
+}
+
+/// Quads stop at 250,000, and the greatest sum that there can be.
+#[test]
+fn quads_stop_at_250_000() {
+    let quads: Vec<u32> = (0..4 * 250_001).map(|k| if k < 1_000_000 { k % 4 } else { 4 }).collect();
+    let mut lent = Lent::new(5, [5, 5], 250_001, &quads, &[NO_THRESHOLD; 5], [0, 0]);
+    let mut model = lent.model();
+    for (node, figures) in [(4, [0, 0]), (0, [0, 0]), (1, [0, 0]), (2, [0, 0]), (3, [250_000, 500_000_000])] {
+        assert_eq!(agree(&mut lent, &mut model, Event::Enter(node, 500)), 0);
+        assert_eq!(lent.figures(), figures, "{node}");
+    }
+}
+
+/// Every place is written, past the nodes too, and whatever it held; both figures are 0.
+#[test]
+fn an_exam_begins() {
+    for length in [0, 1, 2, 7, 100] {
+        let list: Vec<u16> = (0..length).map(|k| [501, 0, 65_534, 500, NO_THRESHOLD][k % 5]).collect();
+        let mut lent = Lent::new(1, [1, 1], 1, &[0, 0, 0, 0], &list, [3, u32::MAX]);
+        lent.parts().0.begin();
+        assert_eq!((lent.thresholds.list(), lent.figures()), (&vec![65_535; length][..], [0, 0]));
+        assert!(lent.kept());
+    }
+}
+
+/// The guards show a write beside a list, and one in the mesh.
+#[test]
+fn the_guards_show_a_write() {
+    let lent = || Lent::new(2, [2, 2], 1, &[0, 1, 0, 1], &[1, 2], [1, 3]);
+    assert!(lent().kept());
+    let writes: [fn(&mut Lent); 4] = [
+        |lent| lent.quads.list_mut()[3] = 0,
+        |lent| lent.ys.list_mut()[0] = 1.0,
+        // SAFETY: eight guards stand after the list.
+        |lent| unsafe { lent.thresholds.list_mut().as_mut_ptr().add(2).write(7) },
+        // SAFETY: eight guards stand before the figure.
+        |lent| unsafe { lent.count.list_mut().as_mut_ptr().sub(1).write(7) },
+    ];
+    for write in writes {
+        let mut lent = lent();
+        write(&mut lent);
+        assert!(!lent.kept());
+    }
+}
+
+// ---- at random
+
+/// Lists of any lengths, ids that are no nodes, nodes several times in a quad, junk in the list.
+fn hostile(rng: &mut Rng) -> Lent {
+    let nodes = rng.below(12);
+    let near =
+        |rng: &mut Rng, n: usize| (n + rng.below(3)).saturating_sub(if rng.once_in(3) { rng.below(4) } else { 0 });
+    let places = [near(rng, nodes), near(rng, nodes)];
+    let length = near(rng, nodes);
+    let numbers = 4 * rng.below(14) + if rng.once_in(3) { rng.below(4) } else { 0 };
+    let id = |rng: &mut Rng| match rng.below(12) {
+        0 => rng.pick(&[u32::MAX, u32::MAX - 1, 1 << 31, 65_535, nodes as u32 + 1]),
+        _ => rng.below(nodes + 1) as u32,
+    };
+    let quads: Vec<u32> = (0..numbers).map(|_| id(rng)).collect();
+    let quad_count = if rng.once_in(4) {
+        rng.pick(&[0, 1, usize::MAX, usize::MAX / 4 + 1, 250_001])
+    } else {
+        near(rng, numbers / 4)
+    };
+    let nodes = if rng.once_in(10) { u32::MAX } else { nodes as u32 };
+    let place = |rng: &mut Rng| match rng.below(4) {
+        0 => rng.pick(&[501, 65_534, 65_535, 32_768, 500]),
+        _ => rng.below(502) as u16,
+    };
+    let list: Vec<u16> = (0..length).map(|_| place(rng)).collect();
+    let figures = [rng.next() as u32, rng.next() as u32];
+    Lent::new(nodes, places, quad_count, &quads, &list, figures)
+}
+
+fn random_event(rng: &mut Rng, places: usize) -> Event {
+    let node = if rng.once_in(40) { rng.pick(&[u32::MAX, 1 << 16, 1 << 31]) } else { rng.below(places + 2) as u32 };
+    let threshold = match rng.below(12) {
+        0 => rng.pick(&[501, 502, 65_535, 65_536, 65_541, 66_036, u32::MAX]),
+        1 => rng.pick(&[0, 499, 500]),
+        _ => rng.below(501) as u32,
+    };
+    if rng.once_in(3) {
+        Event::Withdraw(node)
+    } else {
+        Event::Enter(node, threshold)
+    }
+}
+
+/// 4,000 hostile meshes, 60 events each: 20 on the list and figures lent, whatever they are, then an exam begins, and after each of the
+/// other 40 both figures are those worked out afresh.
+#[test]
+fn events_on_hostile_meshes_are_the_models() {
+    let mut rng = Rng(6);
+    let mut answers = [0; 18];
+    let mut counted = 0;
+    for _ in 0..4_000 {
+        let mut lent = hostile(&mut rng);
+        let mut model = lent.model();
+        let places = model.list.len();
+        for _ in 0..20 {
+            answers[agree(&mut lent, &mut model, random_event(&mut rng, places)) as usize] += 1;
+        }
+        lent.parts().0.begin();
+        model.list.fill(65_535);
+        for _ in 0..40 {
+            answers[agree(&mut lent, &mut model, random_event(&mut rng, places)) as usize] += 1;
+            assert_eq!(lent.figures(), model.figures(), "{model:?}");
+            counted += u32::from(lent.figures()[0] > 0);
+        }
+    }
+    println!(
+        "taken {}, 15: {}, 16: {}, 17: {}; complete quads after {counted}",
+        answers[0], answers[15], answers[16], answers[17]
+    );
+    assert_eq!(answers.iter().sum::<u32>(), 240_000);
+    assert!(
+        answers[0] > 80_000 && answers[15..].iter().all(|&times| times > 5_000) && counted > 10_000,
+        "{answers:?} {counted}"
+    );
+}
+
+/// On a mesh that a run made: every node entered in some order, replaced, withdrawn.
+#[test]
+fn events_on_a_run_are_the_models() {
+    let drawing = Drawing::square(16.0);
+    let mut memory =
+        Memory::new(Places { field_nodes: 2_000, nodes: 800, quads: 800, edges: 2_400, points: 4 }).unwrap();
+    let mesh = memory.pave(&drawing.outline(), &Settings { size: 1.0, sweeps: 400, passes: 600 }).unwrap();
+    let (nodes, quads) = (mesh.node_count() as u32, mesh.quad_count() as u32);
+    let mut thresholds = Thresholds::begin(&mesh);
+    let mut model = Model::of(thresholds.mesh(), thresholds.list());
+    assert_eq!(model.quads, mesh.quads().collect::<Vec<_>>());
+    let mut rng = Rng(66);
+    let mut all: Vec<u32> = (0..nodes).collect();
+    for k in (1..all.len()).rev() {
+        all.swap(k, rng.below(k + 1));
+    }
+    let mut take = |thresholds: &mut Thresholds<'_>, event: Event| {
+        let answer = match event {
+            Event::Enter(node, threshold) => thresholds.enter(node, threshold),
+            Event::Withdraw(node) => thresholds.withdraw(node),
+        };
+        assert_eq!(answer.map_or_else(Refusal::number, |()| 0), model.take(event));
+        assert_eq!([thresholds.complete_quads(), thresholds.sum()], model.figures());
+        assert_eq!(thresholds.list(), model.list);
+    };
+    for &node in &all {
+        take(&mut thresholds, Event::Enter(node, rng.below(501) as u32));
+    }
+    assert_eq!(thresholds.complete_quads(), quads);
+    for _ in 0..1_000 {
+        let node = rng.below(nodes as usize + 1) as u32;
+        take(
+            &mut thresholds,
+            if rng.once_in(2) { Event::Withdraw(node) } else { Event::Enter(node, rng.below(600) as u32) },
+        );
+    }
+    for &node in &all {
+        take(&mut thresholds, Event::Withdraw(node));
+    }
+    assert_eq!([thresholds.complete_quads(), thresholds.sum()], [0, 0]);
+}

@@ -5,7 +5,7 @@ ghost use Prim.Native.Nat.{_+_, _*_, _<_};
 ghost use lib.Dec.{eqb};
 ghost use lib.ListN.{length};
 ghost use Rattle.laws.specs.Loop.{anyUp};
-ghost use Rattle.domain.specs.Outline.{outline, holeStart, loopAt, pointAt, pointAfter, anyFloat, notFinite, beyond, misshapen, LoopPlace};
+ghost use Rattle.domain.specs.Outline.{outline, holeStart, loopAt, pointAt, after, pointAfter, anyFloat, notFinite, beyond, misshapen, LoopPlace};
 ghost use Rattle.domain.specs.Outline.{loopRefusal, loopsRefusal, outlineRefusal, pointRefusal, queryRefusal};
 ghost use Rattle.domain.specs.Queries.{rayCrosses, pointInPolygon, inHole, contains, squaredDistance, footOf, nearestSegment, containsAnswer};
 ghost use Rattle.domain.specs.Queries.{nearestAnswer, distanceAnswer};
@@ -263,6 +263,14 @@ pub fn point_at(s: &[f64], i: usize) -> Point
         x: s[2 * i],
         y: s[2 * i + 1],
     }
+}
+
+// The index after i among n, in a ring.
+pub fn after(n: usize, i: usize) -> usize
+    requires { ⌜ i < n ⌝ }
+    ensures { λ r. ⌜ (r ≡ after n i) × (r < n) ⌝ }
+{
+    if i + 1 < n { i + 1 } else { 0 }
 }
 
 pub fn point_after(s: &[f64], i: usize) -> Point

@@ -75,9 +75,7 @@ fn is_extreme(u: f64, v: f64, w: f64) -> bool
     ensures { λ r. ⌜ r ≡ isExtreme (units u) (units v) (units w) ⌝ }
 {
     if u < v {
-        if w < v {
-            return true;
-        }
+        return w < v;
     }
     if v < u {
         return v < w;
@@ -90,12 +88,13 @@ fn folds_back(a: Point, b: Point, c: Point) -> bool
     requires { ⌜ PointWithin 1000 1000 a × PointWithin 1000 1000 b × PointWithin 1000 1000 c ⌝ }
     ensures { λ r. ⌜ r ≡ foldsBack (place a) (place b) (place c) ⌝ }
 {
-    if !is_extreme(a.x, b.x, c.x) {
-        if !is_extreme(a.y, b.y, c.y) {
-            return false;
-        }
+    if is_extreme(a.x, b.x, c.x) {
+        return orientation::side(a, b, c) == 0;
     }
-    orientation::side(a, b, c) == 0
+    if is_extreme(a.y, b.y, c.y) {
+        return orientation::side(a, b, c) == 0;
+    }
+    false
 }
 
 // ---- one loop

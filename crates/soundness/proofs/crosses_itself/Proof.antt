@@ -1,0 +1,90 @@
+use Rattle.soundness.specs.Sound.{clash, crossesItself}
+use Rattle.laws.specs.Loop.{anyUp, Scan, scan-start, scan-next, scan-hit, scan-none}
+use lib.ListN.{length}
+use native.Mathlib.Omega.{arith}
+use mathlib.Core.Path.{_≡_, refl, sym, _∙_}
+use mathlib.Core.Bool.{false}
+use Prim.Native.Nat.{_-_, _/_, _<_}
+use Rattle.soundness.proofs.crosses_itself.Statement.{statement}
+use Rattle.soundness.proofs.crosses_itself.Tie as tie
+use Rattle.soundness.proofs.crosses_itself.Reads as reads
+use Rattle.soundness.proofs.crosses_itself.Lts as lts
+use Rattle.soundness.proofs.clash.Reads as clash-reads
+
+abbrev Inv-loop : tie.InvT-loop
+Inv-loop s n found₀ i j₀ found j = (found ≡ false) × Scan (λ j. clash s j i) i j
+
+abbrev μ-loop : tie.MeasureT-loop
+μ-loop s n found₀ i j₀ found j = i - j
+
+abbrev Inv-pairs : tie.InvT-pairs
+Inv-pairs s n found₀ i₀ found i = (found ≡ false) × (n ≡ length s / 2) × Scan (λ i. anyUp i (λ j. clash s j i)) n i
+
+abbrev μ-pairs : tie.MeasureT-pairs
+μ-pairs s n found₀ i₀ found i = n - i
+
+-- src/lib.rt:147:5
+pairs-holds : tie.Need-pairs-holds Inv-loop μ-loop Inv-pairs μ-pairs
+pairs-holds c = (refl, refl, scan-start _ _)
+
+-- src/lib.rt:149:9
+loop-holds : tie.Need-loop-holds Inv-loop μ-loop Inv-pairs μ-pairs
+loop-holds c = (c .before .pairs .inv .0, scan-start _ _)
+
+-- src/lib.rt:150:16
+clash-requires : tie.Need-clash-requires Inv-loop μ-loop Inv-pairs μ-pairs
+clash-requires c κs = let h = c .loop-test .taken in let g = c .before .before .pairs-test .taken in let e = c .before .before .before .pairs .inv .1 in (c .before .before .before .before .before .pre, omega arith, omega arith)
+
+-- src/lib.rt:154:13
+add-j : tie.Need-add-j Inv-loop μ-loop Inv-pairs μ-pairs
+add-j c = omega arith
+
+-- src/lib.rt:149:9
+loop-less : tie.Need-loop-less Inv-loop μ-loop Inv-pairs μ-pairs
+loop-less c = omega arith
+
+-- src/lib.rt:149:9
+loop-again : tie.Need-loop-again Inv-loop μ-loop Inv-pairs μ-pairs
+loop-again c = let inv = c .before .before .before .loop .inv in (inv .0, scan-next _ (inv .1) (c .before .before .loop-test .taken) (sym (c .before .clash .ensures) ∙ c .if1 .left))
+
+-- src/lib.rt:156:9
+add-i : tie.Need-add-i Inv-loop μ-loop Inv-pairs μ-pairs
+add-i c = omega arith
+
+-- src/lib.rt:147:5
+pairs-less : tie.Need-pairs-less Inv-loop μ-loop Inv-pairs μ-pairs
+pairs-less c = omega arith
+
+-- src/lib.rt:147:5
+pairs-again : tie.Need-pairs-again Inv-loop μ-loop Inv-pairs μ-pairs
+pairs-again c = let inv = c .before .before .before .pairs .inv in (c .before .loop .inv .0, inv .1, scan-next _ (inv .2) (c .before .before .pairs-test .taken) (sym (scan-none _ (c .before .loop .inv .1) (c .loop-test .left))))
+
+-- src/lib.rt:140:1
+returns : tie.Need-returns Inv-loop μ-loop Inv-pairs μ-pairs
+unfolding crossesItself
+returns c = let inv = c .before .pairs .inv in inv .0 ∙ scan-none _ (inv .2) (c .pairs-test .left)
+
+-- src/lib.rt:140:1
+returns-2 : tie.Need-returns-2 Inv-loop μ-loop Inv-pairs μ-pairs
+unfolding crossesItself
+returns-2 c = scan-hit _ (c .before .before .before .before .before .pairs .inv .2) (c .before .before .before .before .pairs-test .taken) (sym (scan-hit _ (c .before .before .before .loop .inv .1) (c .before .before .loop-test .taken) (sym (c .before .clash .ensures) ∙ c .if1 .taken)))
+
+pub crosses-itself-spec : {M : Type 1} → statement M
+crosses-itself-spec =
+    tie.close
+    (tie.spec
+    Inv-loop
+    μ-loop
+    Inv-pairs
+    μ-pairs
+    pairs-holds
+    loop-holds
+    clash-requires
+    add-j
+    loop-less
+    loop-again
+    add-i
+    pairs-less
+    pairs-again
+    returns
+    returns-2)

@@ -23,6 +23,8 @@ use Rattle.domain.specs.Accepted.{OutlineFits, PointWithin, LoopWithin, accepte
 use Rattle.orientation.specs.Orient.{place, orient, sideOf}
 use Rattle.soundness.specs.Sound.{start, end, least, greatest, overlap, parted, meets, foldsBack, foldsAt, clash, crossesItself, touch}
 use Rattle.soundness.specs.Sound.{rayMeets, isInside, straysOut, liesIn, outlineSound}
+use Rattle.soundness.specs.declared.SoundAnswer.{SoundAnswer}
+use Rattle.soundness.specs.Answer.{soundAnswer}
 use Rattle.soundness.specs.FoldsLaws.{isExtreme, folds-extreme}
 
 or-false-right : (b : Bool) → (b || false) ≡ b
@@ -464,3 +466,17 @@ module _ (o : Outline) {x : Bool} (e : x ≡ crossesItself (o .outer)) where
   module _ (h : x ≡ false) {y : Bool} (f : y ≡ anyUp (length (o .lens)) (unsoundAt o)) where
     pub walk-holes : not y ≡ outlineSound o
     walk-holes = ap₂ (λ (z w : Bool). not (z || w)) (sym h ∙ e) f ∙ sym (sound-walk o)
+
+-- ---- the entry
+
+module _ (o : Outline) {n : ℕ} (e : n ≡ outlineRefusal o) where
+  abbrev answer : ℕ → Bool → SoundAnswer
+  answer n b = record { refusal = n; sound = b }
+
+  pub sound-refused : (n ≡ 0 → ⊥) → answer n false ≡ soundAnswer o
+  unfolding soundAnswer
+  sound-refused h = ap₂ answer e (ap (λ (b : Bool). b && outlineSound o) (sym (ne-eqb (outlineRefusal o) 0 (λ z. h (e ∙ z)))))
+
+  pub sound-judged : n ≡ 0 → {s : Bool} → s ≡ outlineSound o → answer 0 s ≡ soundAnswer o
+  unfolding soundAnswer
+  sound-judged z f = ap₂ answer (sym z ∙ e) (f ∙ ap (λ (b : Bool). b && outlineSound o) (sym (eq-eqb (outlineRefusal o) 0 (sym e ∙ z))))

@@ -11,6 +11,7 @@ ghost use Rattle.domain.specs.Accepted.{PointWithin, LoopWithin};
 ghost use Rattle.orientation.specs.Orient.{place};
 ghost use Rattle.soundness.specs.Sound.{start, end, overlap, parted, meets, foldsBack, foldsAt, clash, crossesItself, touch};
 ghost use Rattle.soundness.specs.Sound.{rayMeets, isInside, outlineSound};
+ghost use Rattle.soundness.specs.Answer.{soundAnswer};
 ghost use Rattle.soundness.specs.FoldsLaws.{isExtreme};
 ghost use Rattle.soundness.specs.CodeLaws.{lesserF, greaterF, anyPoint, holesClash, holeUnsound, Judged};
 use domain::Point;
@@ -259,7 +260,13 @@ fn holes_clash(s: &[f64], t: &[f64]) -> bool
 }
 
 // Whether the loop s clashes with one of the first k holes.
-fn clashes_before<'a>(outer: &'a [f64], holes: &'a [f64], lens: &[usize], s: &[f64], k: usize) -> bool
+fn clashes_before<'a>(
+    outer: &'a [f64],
+    holes: &'a [f64],
+    lens: &[usize],
+    s: &[f64],
+    k: usize,
+) -> bool
     requires { ⌜ Judged (outline (now outer) (now holes) (now lens)) × LoopWithin (now s) × (k ≤ length (now lens)) ⌝ }
     ensures { λ r. ⌜ r ≡ anyUp k (λ l. holesClash (now (s .entry)) (holeAt (outline (now (outer .entry)) (now (holes .entry)) (now (lens .entry))) l)) ⌝ }
 {
@@ -276,7 +283,13 @@ fn clashes_before<'a>(outer: &'a [f64], holes: &'a [f64], lens: &[usize], s: &[f
 }
 
 // What is asked of hole k, whose points are s: whether it crosses itself, touches or strays out of the outer loop, or clashes with a hole before it.
-fn is_hole_unsound<'a>(outer: &'a [f64], holes: &'a [f64], lens: &[usize], s: &[f64], k: usize) -> bool
+fn is_hole_unsound<'a>(
+    outer: &'a [f64],
+    holes: &'a [f64],
+    lens: &[usize],
+    s: &[f64],
+    k: usize,
+) -> bool
     requires { ⌜ Judged (outline (now outer) (now holes) (now lens)) × LoopWithin (now s) × (k ≤ length (now lens)) ⌝ }
     ensures { λ r. ⌜ r ≡ holeUnsound (outline (now (outer .entry)) (now (holes .entry)) (now (lens .entry))) (now (s .entry)) k ⌝ }
 {
@@ -311,4 +324,32 @@ pub fn is_sound<'a>(outer: &'a [f64], holes: &'a [f64], lens: &[usize]) -> bool
         k += 1;
     }
     true
+}
+
+// ---- the entry
+
+#[repr(C)]
+pub struct SoundAnswer {
+    pub refusal: u32,
+    pub sound: bool,
+}
+
+// Whether the outline is sound; refusals 1 to 4 come first, with false.
+#[no_mangle]
+pub extern "C" fn sitjorbe_sound<'a>(
+    outer: &'a [f64],
+    holes: &'a [f64],
+    lens: &[usize],
+) -> SoundAnswer
+    ensures { λ r. ⌜ r ≡ soundAnswer (outline (now (outer .entry)) (now (holes .entry)) (now (lens .entry))) ⌝ }
+{
+    let refusal = domain::outline_refusal(outer, holes, lens);
+    if refusal != 0 {
+        return SoundAnswer {
+            refusal,
+            sound: false,
+        };
+    }
+    let sound = is_sound(outer, holes, lens);
+    SoundAnswer { refusal: 0, sound }
 }

@@ -1,17 +1,14 @@
-use Rattle.soundness.specs.CodeLaws.{anyPoint, point-in}
-use Rattle.soundness.specs.Sound.{start, isInside}
-use Rattle.laws.specs.Loop.{Scan, scan-start, scan-next, scan-hit, scan-none}
-use lib.ListN.{length}
-use native.Mathlib.Omega.{arith}
+-- `soundness::any_point` meets its contract: the loop is a search that has found nothing yet.
 use mathlib.Core.Path.{_≡_, refl}
 use mathlib.Core.Bool.{Bool·beq}
 use Prim.Native.Nat.{_-_, _/_}
+use native.Mathlib.Omega.{arith}
+use lib.ListN.{length}
+use Rattle.soundness.specs.CodeLaws.{anyPoint, point-in}
+use Rattle.soundness.specs.Sound.{start, isInside}
+use Rattle.laws.specs.Loop.{Scan, scan-start, scan-next, scan-hit, scan-none}
 use Rattle.soundness.proofs.any_point.Statement.{statement}
 use Rattle.soundness.proofs.any_point.Tie as tie
-use Rattle.soundness.proofs.any_point.Reads as reads
-use Rattle.soundness.proofs.any_point.Lts as lts
-use Rattle.domain.proofs.point_at.Reads as point-at-reads
-use Rattle.soundness.proofs.is_inside.Reads as is-inside-reads
 
 abbrev Inv-loop : tie.InvT-loop
 Inv-loop s t inside n i₀ i = (n ≡ length s / 2) × Scan (λ i. Bool·beq (isInside (start s i) t) inside) n i
@@ -19,37 +16,29 @@ Inv-loop s t inside n i₀ i = (n ≡ length s / 2) × Scan (λ i. Bool·beq (is
 abbrev μ-loop : tie.MeasureT-loop
 μ-loop s t inside n i₀ i = n - i
 
--- src/lib.rt:236:5
 loop-holds : tie.Need-loop-holds Inv-loop μ-loop
 loop-holds c = (refl, scan-start _ _)
 
--- src/lib.rt:237:22
 point-at-requires : tie.Need-point-at-requires Inv-loop μ-loop
 point-at-requires c κs = omega arith
 
--- src/lib.rt:237:12
 is-inside-requires : tie.Need-is-inside-requires Inv-loop μ-loop
 is-inside-requires c κs = let p = c .before .before .before .before .before .pre in rw (c .point-at .ensures) (p .0 _ (c .before .loop-test .taken), p .1)
 
--- src/lib.rt:238:13
 returns : tie.Need-returns Inv-loop μ-loop
 unfolding anyPoint
 returns c = scan-hit _ (c .before .before .before .before .loop .inv .1) (c .before .before .before .loop-test .taken) (point-in _ _ _ _ (c .before .before .point-at .ensures) (c .before .is-inside .ensures) (c .if1 .taken))
 
--- src/lib.rt:240:9
 add-i : tie.Need-add-i Inv-loop μ-loop
 add-i c = omega arith
 
--- src/lib.rt:236:5
 loop-less : tie.Need-loop-less Inv-loop μ-loop
 loop-less c = omega arith
 
--- src/lib.rt:236:5
 loop-again : tie.Need-loop-again Inv-loop μ-loop
 loop-again c = let inv = c .before .before .before .before .loop .inv in
     (inv .0, scan-next _ (inv .1) (c .before .before .before .loop-test .taken) (point-in _ _ _ _ (c .before .before .point-at .ensures) (c .before .is-inside .ensures) (c .if1 .left)))
 
--- src/lib.rt:230:1
 returns-2 : tie.Need-returns-2 Inv-loop μ-loop
 unfolding anyPoint
 returns-2 c = scan-none _ (c .before .loop .inv .1) (c .loop-test .left)

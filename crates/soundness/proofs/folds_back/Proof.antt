@@ -1,37 +1,27 @@
-use Rattle.soundness.specs.CodeLaws.{folds-x, folds-y, folds-none}
+-- `soundness::folds_back` meets its contract: `folds-x`, `folds-y`, `folds-none`.
 use borrow.Author.Needs.{needs}
+use Rattle.soundness.specs.CodeLaws.{folds-x, folds-y, folds-none}
 use Rattle.soundness.proofs.folds_back.Statement.{statement}
 use Rattle.soundness.proofs.folds_back.Tie as tie
-use Rattle.soundness.proofs.folds_back.Reads as reads
-use Rattle.soundness.proofs.folds_back.Lts as lts
-use Rattle.orientation.proofs.side.Reads as side-reads
-use Rattle.soundness.proofs.is_extreme.Reads as is-extreme-reads
 
--- src/lib.rt:91:8
 is-extreme-requires : tie.Need-is-extreme-requires
 is-extreme-requires c κs = search needs
 
--- src/lib.rt:92:16
 side-requires : tie.Need-side-requires
 side-requires c κs = search needs
 
--- src/lib.rt:92:9
 returns : tie.Need-returns
 returns c = folds-x _ _ _ (c .before .before .is-extreme .ensures) (c .before .if1 .taken) (c .side .ensures)
 
--- src/lib.rt:94:8
 is-extreme-requires-2 : tie.Need-is-extreme-requires-2
 is-extreme-requires-2 c κs = search needs
 
--- src/lib.rt:95:16
 side-requires-2 : tie.Need-side-requires-2
 side-requires-2 c κs = search needs
 
--- src/lib.rt:95:9
 returns-2 : tie.Need-returns-2
 returns-2 c = folds-y _ _ _ (c .before .before .before .before .is-extreme .ensures) (c .before .before .before .if1 .left) (c .before .before .is-extreme2 .ensures) (c .before .if2 .taken) (c .side2 .ensures)
 
--- src/lib.rt:87:1
 returns-3 : tie.Need-returns-3
 returns-3 c = folds-none _ _ _ (c .before .before .before .is-extreme .ensures) (c .before .before .if1 .left) (c .before .is-extreme2 .ensures) (c .if2 .left)
 

@@ -1,14 +1,11 @@
+-- `soundness::greater` meets its contract: by the test.
 use mathlib.Core.Path.{refl}
 use Rattle.soundness.proofs.greater.Statement.{statement}
 use Rattle.soundness.proofs.greater.Tie as tie
-use Rattle.soundness.proofs.greater.Reads as reads
-use Rattle.soundness.proofs.greater.Lts as lts
 
--- src/lib.rt:26:1
 returns : tie.Need-returns
 returns c = rw (c .if1 .taken) refl
 
--- src/lib.rt:26:1
 returns-2 : tie.Need-returns-2
 returns-2 c = rw (c .if1 .left) refl
 

@@ -1,19 +1,14 @@
+-- `soundness::is_sound` meets its contract: `sound-walk`: the loop is a search that has found nothing yet, and where the next hole's points begin.
+use Prim.Native.Nat.{_-_}
+use native.Mathlib.Omega.{arith}
+use lib.ListN.{length}
 use Rattle.soundness.specs.CodeLaws.{unsoundAt, judged, outer-within, walk-outer, walk-holes}
 use Rattle.domain.specs.Accepted.{accepted}
 use Rattle.domain.specs.OutlineLaws.{hole-points, Passed, passed-none, passed-next, passed-place, passed-few}
 use Rattle.domain.specs.Outline.{outline}
 use Rattle.laws.specs.Loop.{Scan, scan-start, scan-next, scan-hit, scan-none}
-use lib.ListN.{length}
-use native.Mathlib.Omega.{arith}
-use mathlib.Core.Path.{sym, _∙_}
-use Prim.Native.Nat.{_-_}
 use Rattle.soundness.proofs.is_sound.Statement.{statement}
 use Rattle.soundness.proofs.is_sound.Tie as tie
-use Rattle.soundness.proofs.is_sound.Reads as reads
-use Rattle.soundness.proofs.is_sound.Lts as lts
-use Rattle.domain.proofs.loop_points.Reads as loop-points-reads
-use Rattle.soundness.proofs.crosses_itself.Reads as crosses-itself-reads
-use Rattle.soundness.proofs.is_hole_unsound.Reads as is-hole-unsound-reads
 
 abbrev Inv-loop : tie.InvT-loop
 Inv-loop outer holes lens k₀ start₀ k start = Passed (outline outer holes lens) k start × Scan (unsoundAt (outline outer holes lens)) (length lens) k
@@ -21,64 +16,50 @@ Inv-loop outer holes lens k₀ start₀ k start = Passed (outline outer holes le
 abbrev μ-loop : tie.MeasureT-loop
 μ-loop outer holes lens k₀ start₀ k start = length lens - k
 
--- src/lib.rt:300:8
 crosses-itself-requires : tie.Need-crosses-itself-requires Inv-loop μ-loop
 crosses-itself-requires c κs = outer-within (judged _ (record { outer = λ i h. c .before .before .shared-slice-known .given i; holes = λ i h. c .before .shared-slice-known2 .given i }) (c .before .before .before .pre))
 
--- src/lib.rt:301:9
 returns : tie.Need-returns Inv-loop μ-loop
 returns c = walk-outer _ (c .before .crosses-itself .ensures) (c .if1 .taken)
 
--- src/lib.rt:305:5
 loop-holds : tie.Need-loop-holds Inv-loop μ-loop
 loop-holds c = (passed-none (accepted _ (c .before .before .before .before .before .pre) .shape), scan-start _ _)
 
--- src/lib.rt:306:57
 add-loop-points : tie.Need-add-loop-points Inv-loop μ-loop
 add-loop-points c = omega arith
 
--- src/lib.rt:306:13
 loop-points-requires : tie.Need-loop-points-requires Inv-loop μ-loop
 loop-points-requires c κs = passed-place (c .before .loop .inv .0) (c .loop-test .taken)
 
--- src/lib.rt:307:12
 is-hole-unsound-requires : tie.Need-is-hole-unsound-requires Inv-loop μ-loop
 is-hole-unsound-requires c κs = let j = judged _ (record { outer = λ i h. c .before .before .before .before .before .before .before .shared-slice-known .given i; holes = λ i h. c .before .before .before .before .before .before .shared-slice-known2 .given i }) (c .before .before .before .before .before .before .before .before .pre) in
     (j, rw (c .loop-points .ensures) (j .within _ (omega (arith, c .before .loop-test .taken))), omega (arith, c .before .loop-test .taken))
 
--- src/lib.rt:308:13
 returns-2 : tie.Need-returns-2 Inv-loop μ-loop
 returns-2 c = walk-holes _ (c .before .before .before .before .before .before .crosses-itself .ensures) (c .before .before .before .before .before .if1 .left)
     (scan-hit _ (c .before .before .before .before .loop .inv .1) (c .before .before .before .loop-test .taken) (rw (← hole-points _ _ (c .before .before .loop-points .ensures), ← c .before .is-hole-unsound .ensures) (c .if2 .taken)))
 
--- src/lib.rt:310:18
 mul-start : tie.Need-mul-start Inv-loop μ-loop
 mul-start c = omega arith
 
--- src/lib.rt:310:18
 shared-slice-read-start : tie.Need-shared-slice-read-start Inv-loop μ-loop
 shared-slice-read-start c = omega arith
 
--- src/lib.rt:310:9
 add-start : tie.Need-add-start Inv-loop μ-loop
 add-start c = let few = passed-few (c .before .before .before .before .before .loop .inv .0) (c .before .before .before .before .loop-test .taken) in omega arith
 
--- src/lib.rt:311:9
 add-k : tie.Need-add-k Inv-loop μ-loop
 add-k c = omega arith
 
--- src/lib.rt:305:5
 loop-less : tie.Need-loop-less Inv-loop μ-loop
 loop-less c = omega arith
 
--- src/lib.rt:305:5
 loop-again : tie.Need-loop-again Inv-loop μ-loop
 loop-again c = let inv = c .before .before .before .before .before .loop .inv in (
-      passed-next (inv .0) (c .before .before .before .before .loop-test .taken),
-      scan-next _ (inv .1) (c .before .before .before .before .loop-test .taken) (rw (← hole-points _ _ (c .before .before .before .loop-points .ensures), ← c .before .before .is-hole-unsound .ensures) (c .before .if2 .left)),
-    )
+  passed-next (inv .0) (c .before .before .before .before .loop-test .taken),
+  scan-next _ (inv .1) (c .before .before .before .before .loop-test .taken) (rw (← hole-points _ _ (c .before .before .before .loop-points .ensures), ← c .before .before .is-hole-unsound .ensures) (c .before .if2 .left)),
+)
 
--- src/lib.rt:296:1
 returns-3 : tie.Need-returns-3 Inv-loop μ-loop
 returns-3 c = walk-holes _ (c .before .before .before .crosses-itself .ensures) (c .before .before .if1 .left) (scan-none _ (c .before .loop .inv .1) (c .loop-test .left))
 

@@ -1,14 +1,11 @@
+-- `soundness::lesser` meets its contract: by the test.
 use mathlib.Core.Path.{refl}
 use Rattle.soundness.proofs.lesser.Statement.{statement}
 use Rattle.soundness.proofs.lesser.Tie as tie
-use Rattle.soundness.proofs.lesser.Reads as reads
-use Rattle.soundness.proofs.lesser.Lts as lts
 
--- src/lib.rt:20:1
 returns : tie.Need-returns
 returns c = rw (c .if1 .taken) refl
 
--- src/lib.rt:20:1
 returns-2 : tie.Need-returns-2
 returns-2 c = rw (c .if1 .left) refl
 

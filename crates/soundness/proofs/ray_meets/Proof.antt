@@ -1,35 +1,27 @@
-use Rattle.soundness.specs.CodeLaws.{lt-ltZ, ray-above, ray-down, ray-up, ray-below}
+-- `soundness::ray_meets` meets its contract: `ray-above`, `ray-down`, `ray-up`, `ray-below`.
 use mathlib.Core.Path.{sym, _∙_}
 use borrow.Author.Needs.{needs}
+use Rattle.soundness.specs.CodeLaws.{lt-ltZ, ray-above, ray-down, ray-up, ray-below}
 use Rattle.soundness.proofs.ray_meets.Statement.{statement}
 use Rattle.soundness.proofs.ray_meets.Tie as tie
-use Rattle.soundness.proofs.ray_meets.Reads as reads
-use Rattle.soundness.proofs.ray_meets.Lts as lts
-use Rattle.orientation.proofs.side.Reads as side-reads
 
--- src/lib.rt:204:13
 returns : tie.Need-returns
 returns c = let p = c .before .before .before .before .before .before .pre in ray-above _ _ _ (sym (lt-ltZ (p .0 .y) (p .1 .y)) ∙ c .before .before .before .if1 .taken) (sym (lt-ltZ (p .0 .y) (p .2 .y)) ∙ c .if2 .taken)
 
--- src/lib.rt:206:16
 side-requires : tie.Need-side-requires
 side-requires c κs = search needs
 
--- src/lib.rt:206:9
 returns-2 : tie.Need-returns-2
 returns-2 c = let p = c .before .before .before .before .before .before .before .pre in
     ray-down _ _ _ (sym (lt-ltZ (p .0 .y) (p .1 .y)) ∙ c .before .before .before .before .if1 .taken) (sym (lt-ltZ (p .0 .y) (p .2 .y)) ∙ c .before .if2 .left) (c .side .ensures)
 
--- src/lib.rt:209:16
 side-requires-2 : tie.Need-side-requires-2
 side-requires-2 c κs = search needs
 
--- src/lib.rt:209:9
 returns-3 : tie.Need-returns-3
 returns-3 c = let p = c .before .before .before .before .before .before .before .pre in
     ray-up _ _ _ (sym (lt-ltZ (p .0 .y) (p .1 .y)) ∙ c .before .before .before .before .if1 .left) (sym (lt-ltZ (p .0 .y) (p .2 .y)) ∙ c .before .if3 .taken) (c .side2 .ensures)
 
--- src/lib.rt:198:1
 returns-4 : tie.Need-returns-4
 returns-4 c = let p = c .before .before .before .before .before .before .pre in ray-below _ _ _ (sym (lt-ltZ (p .0 .y) (p .1 .y)) ∙ c .before .before .before .if1 .left) (sym (lt-ltZ (p .0 .y) (p .2 .y)) ∙ c .if3 .left)
 

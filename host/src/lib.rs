@@ -51,8 +51,10 @@ mod field;
 mod pave;
 mod queries;
 mod refusal;
+mod sound;
 
 pub use field::{direction, field, FieldRecord};
 pub use pave::{pave, pave_numbers, End, Lists, Memory, Mesh, Places, Settings, OFF};
 pub use queries::{contains, distance_to_boundary, nearest_segment, NearestSegment, Outline};
 pub use refusal::Refusal;
+pub use sound::is_sound;

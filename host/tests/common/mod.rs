@@ -3,6 +3,7 @@
 
 pub mod blocks;
 pub mod book;
+pub mod sound;
 pub mod whole;
 
 use std::hint::black_box;

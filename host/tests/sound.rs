@@ -141,7 +141,7 @@ impl Draw {
 
     /// Three or four points of which one is near the line through two others, at any scale.
     fn near_degenerate(&mut self) -> Drawing {
-        let scale = f64::from_bits((1 + self.below(1031)) << 52);
+        let scale = f64::from_bits((1 + self.below(1030)) << 52);
         let wild = self.below(3) == 0;
         let mut point = || if wild { [self.float(), self.float()] } else { self.lattice(9).map(|x| (x - 4.0) * scale) };
         let (a, b, c) = (point(), point(), point());

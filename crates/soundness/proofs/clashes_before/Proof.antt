@@ -2,14 +2,14 @@
 use Prim.Native.Nat.{_-_}
 use native.Mathlib.Omega.{arith}
 use Rattle.soundness.specs.CodeLaws.{holesClash}
-use Rattle.domain.specs.OutlineLaws.{hole-points, Passed, passed-none, passed-next, passed-place, passed-few}
+use Rattle.domain.specs.OutlineLaws.{hole-points, HolesPassed, passed-none, passed-next, passed-place, passed-few}
 use Rattle.domain.specs.Outline.{outline, holeAt}
 use Rattle.laws.specs.Loop.{Scan, scan-start, scan-next, scan-hit, scan-none}
 use Rattle.soundness.proofs.clashes_before.Statement.{statement}
 use Rattle.soundness.proofs.clashes_before.Tie as tie
 
 abbrev Inv-loop : tie.InvT-loop
-Inv-loop outer holes lens s k l₀ start₀ l start = Passed (outline outer holes lens) l start × Scan (λ l. holesClash s (holeAt (outline outer holes lens) l)) k l
+Inv-loop outer holes lens s k l₀ start₀ l start = HolesPassed (outline outer holes lens) l start × Scan (λ l. holesClash s (holeAt (outline outer holes lens) l)) k l
 
 abbrev μ-loop : tie.MeasureT-loop
 μ-loop outer holes lens s k l₀ start₀ l start = k - l

@@ -4,14 +4,14 @@ use native.Mathlib.Omega.{arith}
 use lib.ListN.{length}
 use Rattle.soundness.specs.CodeLaws.{unsoundAt, judged, outer-within, walk-outer, walk-holes}
 use Rattle.domain.specs.Accepted.{accepted}
-use Rattle.domain.specs.OutlineLaws.{hole-points, Passed, passed-none, passed-next, passed-place, passed-few}
+use Rattle.domain.specs.OutlineLaws.{hole-points, HolesPassed, passed-none, passed-next, passed-place, passed-few}
 use Rattle.domain.specs.Outline.{outline}
 use Rattle.laws.specs.Loop.{Scan, scan-start, scan-next, scan-hit, scan-none}
 use Rattle.soundness.proofs.is_sound.Statement.{statement}
 use Rattle.soundness.proofs.is_sound.Tie as tie
 
 abbrev Inv-loop : tie.InvT-loop
-Inv-loop outer holes lens k₀ start₀ k start = Passed (outline outer holes lens) k start × Scan (unsoundAt (outline outer holes lens)) (length lens) k
+Inv-loop outer holes lens k₀ start₀ k start = HolesPassed (outline outer holes lens) k start × Scan (unsoundAt (outline outer holes lens)) (length lens) k
 
 abbrev μ-loop : tie.MeasureT-loop
 μ-loop outer holes lens k₀ start₀ k start = length lens - k

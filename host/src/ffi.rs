@@ -31,6 +31,13 @@ pub struct DistanceAnswer {
     pub distance: f64,
 }
 
+#[repr(C)]
+#[derive(Clone, Copy, Debug)]
+pub struct SoundAnswer {
+    pub refusal: u32,
+    pub sound: bool,
+}
+
 /// A field record's floats and counts; its values and marks are in the lists lent. All 0 on a refusal.
 #[repr(C)]
 #[derive(Clone, Copy, Debug)]
@@ -121,6 +128,15 @@ extern "C" {
         x: f64,
         y: f64,
     ) -> DistanceAnswer;
+
+    pub fn sitjorbe_sound(
+        outer: *const f64,
+        outer_len: usize,
+        holes: *const f64,
+        holes_len: usize,
+        lens: *const usize,
+        lens_len: usize,
+    ) -> SoundAnswer;
 
     pub fn sitjorbe_field(
         outer: *const f64,

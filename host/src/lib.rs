@@ -52,6 +52,7 @@ mod pave;
 mod queries;
 mod refusal;
 mod small_quads;
+mod sound;
 mod thresholds;
 
 pub use field::{direction, field, FieldRecord};
@@ -59,4 +60,5 @@ pub use pave::{pave, pave_numbers, End, Lists, Memory, Mesh, Places, Settings, T
 pub use queries::{contains, distance_to_boundary, nearest_segment, NearestSegment, Outline};
 pub use refusal::Refusal;
 pub use small_quads::small_quads;
+pub use sound::is_sound;
 pub use thresholds::{LentMesh, Results, Thresholds, MOST_THRESHOLD, NO_THRESHOLD};

@@ -5,7 +5,7 @@ ghost use mathlib.Core.List.{List};
 ghost use Prim.Native.Nat.{ℕ, _+_, _*_, _<_, _≤_, min};
 ghost use lib.Ieee.{Float};
 ghost use lib.ListN.{length};
-ghost use Rattle.domain.specs.Outline.{outline, misshapen, loopStart, after};
+ghost use Rattle.domain.specs.Outline.{outline, misshapen, loopStart};
 ghost use Rattle.front.specs.declared.Counts.{Counts};
 ghost use Rattle.front.specs.State.{State, stateOf, mostNodes, pushNode};
 ghost use Rattle.front.specs.Sampling.{partsOf, loopParts, sampledCount, sampledRefusal, frontRefusal, cut, sampleSegment, sampleLoop, fromBoundary};
@@ -185,14 +185,6 @@ fn sample_loop(
 
 // ---- the ring of a loop's nodes
 
-// The index after i among n, in a ring.
-fn after(n: usize, i: usize) -> usize
-    requires { ⌜ i < n ⌝ }
-    ensures { λ r. ⌜ (r ≡ after n i) × (r < n) ⌝ }
-{
-    if i + 1 < n { i + 1 } else { 0 }
-}
-
 // `signed_area` of n nodes from base on.
 fn signed_area(xs: &[f64], ys: &[f64], base: usize, n: usize) -> f64
     requires { ⌜ NodesFrom base n ⌝ }
@@ -202,7 +194,7 @@ fn signed_area(xs: &[f64], ys: &[f64], base: usize, n: usize) -> f64
     let mut i = 0;
     while i < n {
         let a = front::node_at(xs, ys, (base + i) as u32);
-        let b = front::node_at(xs, ys, (base + after(n, i)) as u32);
+        let b = front::node_at(xs, ys, (base + domain::after(n, i)) as u32);
         sum = sum + (a.x * b.y - b.x * a.y);
         i += 1;
     }
@@ -223,7 +215,11 @@ fn edge_length(xs: &[f64], ys: &[f64], base: usize, n: usize, turned: bool, k: u
     ensures { λ r. ⌜ r ≡ edgeLength (now (xs .entry)) (now (ys .entry)) base n turned k ⌝ }
 {
     let a = front::node_at(xs, ys, ordered_at(base, n, turned, k) as u32);
-    let b = front::node_at(xs, ys, ordered_at(base, n, turned, after(n, k)) as u32);
+    let b = front::node_at(
+        xs,
+        ys,
+        ordered_at(base, n, turned, domain::after(n, k)) as u32,
+    );
     geometry::distance(a, b)
 }
 
@@ -305,7 +301,7 @@ fn midpoint(xs: &[f64], ys: &[f64], r: Ring) -> Point
 {
     let k = r.longest as usize;
     let a = front::node_at(xs, ys, sampled_at(r, k));
-    let b = front::node_at(xs, ys, sampled_at(r, after(r.count as usize, k)));
+    let b = front::node_at(xs, ys, sampled_at(r, domain::after(r.count as usize, k)));
     Point {
         x: (a.x + b.x) / 2.0,
         y: (a.y + b.y) / 2.0,
@@ -360,7 +356,7 @@ fn link_ring(r: Ring, next: &mut [u32], prev: &mut [u32], edges: &mut [u32], e: 
     let mut i = 0;
     while i < n {
         let u = ring_at(r, i);
-        let v = ring_at(r, after(n, i));
+        let v = ring_at(r, domain::after(n, i));
         link(next, prev, edges, u, v, e + i);
         i += 1;
     }

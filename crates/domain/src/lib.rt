@@ -4,7 +4,7 @@ ghost use mathlib.Core.Bool.{false};
 ghost use Prim.Native.Nat.{_+_, _*_, _<_};
 ghost use lib.Dec.{eqb};
 ghost use lib.ListN.{length};
-ghost use Rattle.domain.specs.Outline.{outline, holeStart, loopAt, pointAt, pointAfter, anyFloat, notFinite, beyond, misshapen, LoopPlace};
+ghost use Rattle.domain.specs.Outline.{outline, holeStart, loopAt, pointAt, after, pointAfter, anyFloat, notFinite, beyond, misshapen, LoopPlace};
 ghost use Rattle.domain.specs.Outline.{loopRefusal, loopsRefusal, outlineRefusal, pointRefusal};
 ghost use Rattle.domain.specs.Queries.{rayCrosses, squaredDistance, footOf};
 ghost use Rattle.domain.specs.Search.{searchStart, searched};
@@ -239,6 +239,14 @@ pub fn point_at(s: &[f64], i: usize) -> Point
         x: s[2 * i],
         y: s[2 * i + 1],
     }
+}
+
+// The index after i among n, in a ring.
+pub fn after(n: usize, i: usize) -> usize
+    requires { ⌜ i < n ⌝ }
+    ensures { λ r. ⌜ (r ≡ after n i) × (r < n) ⌝ }
+{
+    if i + 1 < n { i + 1 } else { 0 }
 }
 
 pub fn point_after(s: &[f64], i: usize) -> Point

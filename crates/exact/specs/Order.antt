@@ -16,16 +16,11 @@ use lib.Ieee.Bits.{is-true, is-false}
 use lib.Ieee.Fits.{down-pos, and-i, and-l, and-r, eq→eqb}
 use Rattle.laws.specs.Ring.{Expr, var, num, con, _+ᵉ_, _*ᵉ_, _-ᵉ_, neg, eval, same}
 use Rattle.laws.specs.Certificate.{Nonneg, nonneg, not-nonneg, of-le, to-le, of-≤ℤ, of-<ℤ, to-<ℤ, <ℤ-or-≤ℤ, <ℤ-weaken, ≤ℤ-antisym, hyp, _⊞_, prove}
+use Rattle.laws.specs.Tests.{T-ext}
 use Rattle.numbers.specs.Float.{isFinite, absF}
 use Rattle.exact.specs.Units.{W, W-pos, Val, signed, signOf, sizeOf, units, val-of, abs-val, Within, within, whole-val}
 
 -- ---- the tests from the units: A / c and B / c are the fractions that lib.Ieee compares, and a / w and b / w are the same
-
-T-ext : (p q : Bool) → (T p → T q) → (T q → T p) → p ≡ q
-T-ext true true f g = refl
-T-ext true false f g = absurd (f tt)
-T-ext false true f g = absurd (g tt)
-T-ext false false f g = refl
 
 module _ (A B a b w c : ℕ) (p : A * w ≡ a * c) (q : B * w ≡ b * c) (Wp : 0 < w) (Cp : 0 < c) where
   lt-there : A < B → a < b

@@ -174,6 +174,10 @@ module _ (test : ℕ → Bool) where
       choose false f below true g = (n, omega arith, g)
       choose false f below false g = absurd (true≢false (sym e ∙ ap₂ (λ (b c : Bool). b || c) f g))
 
+  pub none-found : (n : ℕ) → ((i : ℕ) → i < n → test i ≡ false) → anyUp n test ≡ false
+  unfolding anyUp
+  none-found n none = forUp-keeps (λ i found. found ≡ false) n (anyTurn test) false refl (λ i found h e. ap₂ (λ (b c : Bool). b || c) e (none i h))
+
   pub any-none : (n : ℕ) → anyUp n test ≡ false → (i : ℕ) → i < n → test i ≡ false
   unfolding anyUp forUp
   any-none zero e i h = absurd (omega arith)

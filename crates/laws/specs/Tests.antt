@@ -1,6 +1,14 @@
 -- Laws of `&&` and `||`. Assumes nothing.
 use mathlib.Core.Bool.{Bool, true, false, _&&_, _||_, true≢false}
 use mathlib.Core.Path.{_≡_, refl, sym}
+use lib.Dec.{T}
+
+-- two tests that hold together are one
+pub T-ext : (p q : Bool) → (T p → T q) → (T q → T p) → p ≡ q
+T-ext true true f g = refl
+T-ext true false f g = absurd (f tt)
+T-ext false true f g = absurd (g tt)
+T-ext false false f g = refl
 
 pub both : (a b : Bool) → a && b ≡ true → (a ≡ true) × (b ≡ true)
 both true b e = (refl, e)

@@ -5,3 +5,4 @@ mod Sign
 mod Sqrt
 mod Digits
 mod Square
+mod TakenApart

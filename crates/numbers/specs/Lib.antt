@@ -5,3 +5,4 @@ pub mod Table
 pub mod Isqrt
 pub mod RootUnits
 pub mod Nearest
+pub mod TakenApart

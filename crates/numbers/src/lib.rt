@@ -1,9 +1,11 @@
 // Number routines that Rattle lacks, each equal to a definition of specs/ on every input (`to_f64`: on every count below 2^32).
 ghost use mathlib.Core.Path.{_≡_};
 ghost use Prim.Native.Nat.{_+_, _*_, _/_, _%_, _^_, min, max, _≤_, _<_};
+ghost use lib.Dec.{T};
 ghost use Rattle.numbers.specs.Root.{NearRoot, RootBits, rootUnits, root};
 ghost use Rattle.numbers.specs.Float.{toFloat, isFinite, absF, minF, maxF, clampF};
 ghost use Rattle.numbers.specs.Whole.{ceilDiv, sizeOf, floorInt, floorQuotient, ceilCount};
+ghost use Rattle.numbers.specs.TakenApart.{IsParts};
 
 // The whole number nearest to the root of s * 2^52, digit by digit.
 fn root_by_digits(s: u64) -> u64
@@ -231,6 +233,34 @@ pub extern "C" fn ceil_count(x: f64) -> u64
         return 0xffff_ffff_ffff_ffff;
     }
     0
+}
+
+// A finite f64: its sign, and its size as significand * 2^exponent times the smallest f64 above 0.
+pub struct Parts {
+    pub negative: bool,
+    pub significand: u64,
+    pub exponent: u64,
+}
+
+pub fn parts_of(x: f64) -> Parts
+    requires { ⌜ T (isFinite x) ⌝ }
+    ensures { λ r. ⌜ IsParts x r ⌝ }
+{
+    let b = f64::to_bits(x);
+    let negative = 0x8000_0000_0000_0000 <= b;
+    let m = b % 0x8000_0000_0000_0000;
+    if m < 4503599627370496 {
+        return Parts {
+            negative,
+            significand: m,
+            exponent: 0,
+        };
+    }
+    Parts {
+        negative,
+        significand: m % 4503599627370496 + 4503599627370496,
+        exponent: m / 4503599627370496 - 1,
+    }
 }
 
 // `n as f64`

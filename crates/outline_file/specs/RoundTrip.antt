@@ -13,7 +13,7 @@ use lib.ListN.{length, getD, take, drop, replicate, length-append, length-take, 
 use lib.Seq.{take-at, take-length, drop-append-add, getD-append-add, getD-take, getD-drop}
 use lib.Ieee.{Float, nan, binary64, fits, toBits}
 use lib.Ieee.Bits.{ofBits-toBits, toBits-lt}
-use Rattle.laws.specs.Loop.{forUp-same, forUp-keeps, anyUp, anyTurn, sumUp, sumTurn}
+use Rattle.laws.specs.Loop.{forUp-same, forUp-keeps, none-found, anyUp, sumUp, sumTurn}
 use Rattle.laws.specs.Sums.{sum-term}
 use Rattle.laws.specs.Tabulate.{tabulate, tabulate-same, tabulate-take, tabulate-length, tabulate-map, tabulate-at}
 use Rattle.numbers.specs.Float.{bits}
@@ -110,11 +110,6 @@ check-small : (b : List ℕ) → checkOf b < 65536
 unfolding checkOf
 check-small b = omega arith
 
--- a search that finds nothing
-none-found : (n : ℕ) (test : ℕ → Bool) → ((i : ℕ) → i < n → test i ≡ false) → anyUp n test ≡ false
-unfolding anyUp
-none-found n test none = forUp-keeps (λ i found. found ≡ false) n (anyTurn test) false refl (λ i found h e. rw (e, none i h))
-
 module _ (contents : List ℕ) where
   abbrev zeros : List ℕ
   zeros = replicate (510 - length contents) 0
@@ -157,7 +152,7 @@ module _ (contents : List ℕ) where
 
     pub block-zeros : zeroFrom (blockOf contents) (length contents) ≡ true
     unfolding zeroFrom blockOf
-    block-zeros = ap not (none-found (510 - length contents) (filled (blockOf contents) (length contents)) (λ i h. ap not (eq-eqb _ 0 (zero-at i h))))
+    block-zeros = ap not (none-found (filled (blockOf contents) (length contents)) (510 - length contents) (λ i h. ap not (eq-eqb _ 0 (zero-at i h))))
       where
         zero-at : (i : ℕ) → i < 510 - length contents → getD (blockOf contents) (length contents + i) 0 ≡ 0
         zero-at i h =

@@ -4,6 +4,7 @@
 pub mod blocks;
 pub mod book;
 pub mod rng;
+pub mod sound;
 pub mod whole;
 
 use std::hint::black_box;

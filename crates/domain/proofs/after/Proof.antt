@@ -1,9 +1,9 @@
--- `boundary::after` meets its contract: by the test.
+-- `domain::after` meets its contract: by the test.
 use native.Mathlib.Omega.{arith}
 use borrow.Author.Tests.{lt-ltb, le-ltb}
 use borrow.Author.Needs.{needs}
-use Rattle.boundary.proofs.after.Statement.{statement}
-use Rattle.boundary.proofs.after.Tie as tie
+use Rattle.domain.proofs.after.Statement.{statement}
+use Rattle.domain.proofs.after.Tie as tie
 
 add-if1 : tie.Need-add-if1
 add-if1 c = search needs

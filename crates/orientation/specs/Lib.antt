@@ -1,0 +1,4 @@
+pub mod Limbs
+pub mod Sums
+pub mod Orient
+pub mod Examples

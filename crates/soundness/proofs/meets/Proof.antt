@@ -1,0 +1,48 @@
+-- `soundness::meets` meets its contract: the definition's four tests, each as it is called.
+use mathlib.Core.Path.{refl}
+use borrow.Author.Tests.{not-true, not-false}
+use borrow.Author.Needs.{needs}
+use Rattle.soundness.specs.Sound.{meets}
+use Rattle.soundness.proofs.meets.Statement.{statement}
+use Rattle.soundness.proofs.meets.Tie as tie
+
+overlaps-requires : tie.Need-overlaps-requires
+overlaps-requires c κs = search needs
+
+returns : tie.Need-returns
+unfolding meets
+returns c = rw (← c .before .overlaps .ensures, not-true (c .before .overlaps .result) (c .if1 .taken)) refl
+
+overlaps-requires-2 : tie.Need-overlaps-requires-2
+overlaps-requires-2 c κs = search needs
+
+returns-2 : tie.Need-returns-2
+unfolding meets
+returns-2 c = rw (← c .before .before .before .overlaps .ensures, not-false (c .before .before .before .overlaps .result) (c .before .before .if1 .left), ← c .before .overlaps2 .ensures, not-true (c .before .overlaps2 .result) (c .if2 .taken)) refl
+
+is-parted-requires : tie.Need-is-parted-requires
+is-parted-requires c κs = search needs
+
+returns-3 : tie.Need-returns-3
+unfolding meets
+returns-3 c = rw (← c .before .before .before .before .before .overlaps .ensures, not-false (c .before .before .before .before .before .overlaps .result) (c .before .before .before .before .if1 .left), ← c .before .before .before .overlaps2 .ensures, not-false (c .before .before .before .overlaps2 .result) (c .before .before .if2 .left), ← c .before .is-parted .ensures, c .if3 .taken) refl
+
+is-parted-requires-2 : tie.Need-is-parted-requires-2
+is-parted-requires-2 c κs = search needs
+
+returns-4 : tie.Need-returns-4
+unfolding meets
+returns-4 c = rw (← c .before .before .before .before .before .before .overlaps .ensures, not-false (c .before .before .before .before .before .before .overlaps .result) (c .before .before .before .before .before .if1 .left), ← c .before .before .before .before .overlaps2 .ensures, not-false (c .before .before .before .before .overlaps2 .result) (c .before .before .before .if2 .left), ← c .before .before .is-parted .ensures, c .before .if3 .left, ← c .is-parted2 .ensures) refl
+
+pub meets-spec : {M : Type 1} → statement M
+meets-spec =
+    tie.close
+    (tie.spec
+    overlaps-requires
+    returns
+    overlaps-requires-2
+    returns-2
+    is-parted-requires
+    returns-3
+    is-parted-requires-2
+    returns-4)

@@ -316,9 +316,10 @@ impl Places {
         [4 * self.nodes, 16 * self.edges]
     }
 
-    /// A length of `blocks` that is always enough: 16 points take four numbers, and each loop, which has at least three points, four more.
+    /// A length of `blocks` that is always enough: 16 points take four numbers, and each loop, which has at least three points, four more. No outline
+    /// that is paved has more than [`Outline::MOST_POINTS`].
     pub fn blocks(&self) -> usize {
-        2 * self.points
+        2 * self.points.min(Outline::MOST_POINTS)
     }
 }
 

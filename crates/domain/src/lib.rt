@@ -50,7 +50,7 @@ impl Settings {
     pub const MOST_POINTS: usize = 4096;
 
     pub const FARTHEST: f64 = 1000.0;
-    // Of lengths, areas and orientations.
+    // Lengths, areas and orientations up to this count as none.
     pub const TOLERANCE: f64 = 1.0e-12;
     // Of the size: no part of a segment is longer than this.
     pub const STRETCH: f64 = 1.05;

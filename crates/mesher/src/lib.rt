@@ -1,16 +1,19 @@
 // The public entries of the field, the direction query and the run: what a host calls, on numbers and slices. None has a `requires`, and of what is lent
 // only the lists lent as `&mut` are written.
 ghost use mathlib.Core.Path.{_≡_};
+ghost use mathlib.Core.Bool.{_&&_};
+ghost use lib.Dec.{eqb};
+ghost use Rattle.topology.specs.LongLoops.{isWhole};
 ghost use Rattle.domain.specs.Outline.{outline, point};
-ghost use Rattle.crossfield.specs.Seeds.{fieldLists};
-ghost use Rattle.crossfield.specs.Field.{fieldRecord, fieldAnswer};
-ghost use Rattle.crossfield.specs.Direction.{directionAnswer};
+ghost use Rattle.direction.specs.Record.{fieldLists, fieldRecord};
+ghost use Rattle.direction.specs.Direction.{directionAnswer};
+ghost use Rattle.crossfield.specs.Field.{fieldAnswer};
 ghost use Rattle.run.specs.Run.{settings, lent, scratch, Spares};
 ghost use Rattle.mesher.specs.Answers.{gridLent, fieldExit, fieldNumbers, directionNumbers};
-ghost use Rattle.mesher.specs.Answers.{isWhole, paveNumbers, HostPaves};
-use crossfield::Direction;
+ghost use Rattle.mesher.specs.Answers.{paveNumbers, HostPaves};
 use crossfield::FieldAnswer;
-use crossfield::Grid;
+use direction::Direction;
+use direction::Grid;
 use domain::Point;
 use run::Paved;
 
@@ -119,7 +122,7 @@ pub extern "C" fn sitjorbe_direction(
         nx,
         ny,
     };
-    let answer = crossfield::query_direction(
+    let answer = direction::query_direction(
         grid,
         values,
         marks,
@@ -142,7 +145,7 @@ pub extern "C" fn sitjorbe_direction(
 
 // Whether nothing is refused and no loop is listed.
 fn is_whole(refusal: u32, loops: usize) -> bool
-    ensures { λ r. ⌜ r ≡ isWhole refusal loops ⌝ }
+    ensures { λ r. ⌜ r ≡ (eqb refusal 0 && isWhole loops) ⌝ }
 {
     if refusal != 0 {
         return false;

@@ -12,8 +12,8 @@ use Rattle.domain.specs.Queries.{contains}
 use Rattle.domain.specs.Table.{unitSquare}
 use Rattle.geometry.specs.declared.Key.{Key}
 use Rattle.geometry.specs.Keys.{keyOf, spansKept}
+use Rattle.direction.specs.Record.{fieldLists}
 use Rattle.crossfield.specs.Grid.{sizeRefusal}
-use Rattle.crossfield.specs.Seeds.{fieldLists}
 use Rattle.crossfield.specs.Field.{fieldRefusal}
 use Rattle.front.specs.declared.Corner.the-variants.{Fresh}
 use Rattle.front.specs.State.{State, counted}

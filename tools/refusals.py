@@ -2,7 +2,7 @@
 
 WORDS = {
     1: ("the outline's lists don't fit together",
-        "lend x and y for every point, hole lengths that add up to the hole points, and at most 65,535 points in all"),
+        "lend x and y for every point, hole lengths that add up to the hole points, and at most 4,096 points in all"),
     2: ("a loop has fewer than three points", "draw at least three, or leave the loop out"),
     3: ("a coordinate is infinite or not a number",
         "look for a division by zero or a missing reading where the outline and the point come from"),

@@ -321,14 +321,15 @@ pub struct Places {
 
 impl Places {
     /// Lengths of `node_pool` and `edge_pool` that are enough: eight numbers hold three places, a node takes one place, and an edge seldom
-    /// more than five. Where a length is beyond a `usize` it is [`usize::MAX`], and no list is so long; here and in `blocks`.
+    /// more than five. Where a length is beyond a `usize` it is [`usize::MAX`], and no list is so long.
     pub fn pools(&self) -> [usize; 2] {
         [self.nodes.saturating_mul(4), self.edges.saturating_mul(16)]
     }
 
-    /// A length of `blocks` that is always enough: 16 points take four numbers, and each loop, which has at least three points, four more.
+    /// A length of `blocks` that is always enough: 16 points take four numbers, and each loop, which has at least three points, four more. No outline
+    /// that is paved has more than [`Outline::MOST_POINTS`].
     pub fn blocks(&self) -> usize {
-        self.points.saturating_mul(2)
+        2 * self.points.min(Outline::MOST_POINTS)
     }
 }
 

@@ -16,6 +16,11 @@ pub struct Outline<'a> {
     pub hole_lengths: &'a [usize],
 }
 
+impl Outline<'_> {
+    /// The most points that an outline may have, in all its loops together; one with more is refused.
+    pub const MOST_POINTS: usize = 4_096;
+}
+
 /// A segment of an outline, and how far it is from the point that was asked about.
 #[derive(Clone, Copy, Debug, PartialEq)]
 pub struct NearestSegment {

@@ -8,7 +8,7 @@ use std::{error, fmt};
 #[derive(Clone, Copy, Debug, PartialEq, Eq, Hash)]
 #[repr(u32)]
 pub enum Refusal {
-    /// A coordinate list of odd length, hole lengths that don't add up to the hole points, or more than 65,535 points.
+    /// A coordinate list of odd length, hole lengths that don't add up to the hole points, or more than 4,096 points.
     Lists = 1,
     /// A loop of fewer than three points.
     ShortLoop = 2,
@@ -95,7 +95,7 @@ impl Refusal {
         match self {
             Refusal::Lists => {
                 "the outline's lists don't fit together: lend x and y for every point, hole lengths that add up to the hole \
-                 points, and at most 65,535 points in all"
+                 points, and at most 4,096 points in all"
             }
             Refusal::ShortLoop => "a loop has fewer than three points: draw at least three, or leave the loop out",
             Refusal::NotFinite => {

@@ -3,10 +3,13 @@
 mod common;
 
 use std::fmt::Write;
+use std::fs;
 
 use common::blocks::{listed, Block};
 use common::{list_lengths, refused, said, used, Drawing, Lengths, Lent, RunPlaces, LISTS};
-use sitjorbe::{contains, ffi, field, pave_numbers, End, Memory, Mesh, Places, Refusal, Settings, TooManyPlaces};
+use sitjorbe::{
+    contains, ffi, field, pave_numbers, End, Memory, Mesh, Outline, Places, Refusal, Settings, TooManyPlaces,
+};
 
 /// The places that document 01's program lends; a file has at most 248 points.
 const PROGRAM: Places = Places { field_nodes: 1_600, nodes: 800, quads: 800, edges: 2_400, points: 248 };
@@ -296,6 +299,44 @@ fn of_any_causes_the_least_number_is_answered() {
     }
 }
 
+/// A run of so many points, some of them in a hole, that is refused for nothing but their number.
+fn of_points(points: usize) -> Asked {
+    let outer = (0..points - 8).map(|k| (k as f64 / (points - 8) as f64, k % 2)).map(|(t, up)| match (4.0 * t) as usize {
+        0 => [40.0 * t, 0.0],
+        1 => [10.0, 40.0 * t - 10.0],
+        2 => [30.0 - 40.0 * t, 10.0 - 0.001 * up as f64],
+        _ => [0.0, 40.0 - 40.0 * t],
+    });
+    let hole = (0..8).map(|k| [4.0 + (k % 4) as f64 / 2.0, 4.0 + (k / 4) as f64]);
+    let places = Places { field_nodes: 1_600, nodes: 4_200, quads: 10, edges: 4_200, points };
+    let drawing = Drawing::of_loops(&[outer.collect(), hole.collect()]);
+    Asked { drawing, settings: Settings { passes: 0, ..USUAL }, lengths: list_lengths(places) }
+}
+
+#[test]
+fn too_many_points_go_before_each_later_refusal() {
+    assert_eq!((of_points(4_096).drawing.points(), of_points(4_096).raw().0.refusal), (4_096, 0));
+    of_points(4_097).assert_refused(1, "4,097 points");
+    let short: fn(&mut Asked) = |asked| asked.drawing.hole_lengths = vec![6, 2];
+    for (number, cause) in (2..).zip([&[short], &CAUSES[2..]].concat()) {
+        for (points, answer) in [(4_096, number), (4_097, 1)] {
+            let mut asked = of_points(points);
+            cause(&mut asked);
+            asked.assert_refused(answer, &format!("{points} points and a cause of {number}"));
+        }
+    }
+}
+
+/// The host's bound is the one in the source of the library, whose contract has it.
+#[test]
+fn the_most_points_are_those_of_the_source() {
+    let source = fs::read_to_string(concat!(env!("CARGO_MANIFEST_DIR"), "/../crates/domain/src/lib.rt")).unwrap();
+    let text = source.split("pub const MOST_POINTS: usize = ").nth(1).unwrap();
+    assert_eq!(text.split(';').next().unwrap().parse(), Ok(Outline::MOST_POINTS));
+    let blocks = |points| Places { points, ..PROGRAM }.blocks();
+    assert_eq!([0, 4_095, 4_096, 4_097, usize::MAX].map(blocks), [0, 8_190, 8_192, 8_192, 8_192]);
+}
+
 #[test]
 fn every_cause_is_refused_alone() {
     let of_outline = refused().into_iter().filter(|(_, drawing, ..)| contains(&drawing.outline(), [0.0, 0.0]).is_err());
@@ -367,11 +408,11 @@ fn more_places_than_there_can_be_are_an_error() {
             Places { nodes: count, ..none },
             Places { quads: count, ..none },
             Places { edges: count, ..none },
-            Places { points: count, ..none },
         ];
         for places in each {
             assert_eq!(Memory::new(places).err(), Some(TooManyPlaces), "{places:?}");
         }
+        assert!(Memory::new(Places { points: count, ..none }).is_ok(), "no outline has so many points");
     }
     assert_eq!(TooManyPlaces.to_string(), "there isn't memory for so many places: ask for fewer");
 }

@@ -66,9 +66,13 @@ fn the_bounds_themselves_are_accepted() {
     assert_eq!(contains(&far.outline(), [1e3, 1e3]), Ok(false));
     assert_eq!(distance_to_boundary(&far.outline(), [1e3, -1e3]), Ok(0.0));
 
-    let most = Drawing { outer: vec![0.5; 2 * 65_535], ..Drawing::default() };
+    let most = Drawing { outer: vec![0.5; 2 * 4_096], ..Drawing::default() };
     assert_eq!(contains(&most.outline(), [0.0, 0.0]), Ok(false));
     assert_eq!(distance_to_boundary(&most.outline(), [0.5, 1.5]), Ok(1.0));
+
+    let loops = Drawing::of_loops(&vec![vec![[0.0, 0.0], [4.0, 0.0], [0.0, 4.0]]; 1_365]);
+    assert_eq!((loops.points(), contains(&loops.outline(), [1.0, 1.0])), (4_095, Ok(false)));
+    assert_eq!(distance_to_boundary(&loops.outline(), [1.0, 1.0]), Ok(1.0));
 }
 
 #[test]

@@ -485,7 +485,7 @@ fn lists(rng: &mut Rng) -> Case {
         3 => drawing.hole_lengths.extend([usize::MAX, 1]),
         4 => drawing.hole_lengths = vec![],
         5 => drawing.holes.extend([0.0, 0.0]),
-        6 => drawing.outer = vec![0.5; 2 * rng.pick(&[65_536, 65_535, 65_534])],
+        6 => drawing.outer = vec![0.5; 2 * rng.pick(&[4_097, 4_096, 4_095])],
         7 => drawing.hole_lengths.reverse(),
         _ => drawing.outer.clear(),
     }

@@ -12,6 +12,9 @@ impl fmt::Display for Refusal {
     }
 }
 
+/// How many points an outline has at most (document 02, paper 5).
+pub const MOST_POINTS: usize = 4_096;
+
 /// An outline as it is lent: coordinates x, y, x, y, .. of the outer loop and of all holes, and each hole's number of points.
 #[derive(Clone, Copy, Debug)]
 pub struct Outline<'a> {
@@ -21,13 +24,13 @@ pub struct Outline<'a> {
 }
 
 impl<'a> Outline<'a> {
-    /// Refusal 1: lists of odd length, hole lengths that don't add up, more than 65,535 points in all.
+    /// Refusal 1: lists of odd length, hole lengths that don't add up, more points in all than paper 5 allows.
     pub fn check_lists(&self) -> Result<(), Refusal> {
         if self.outer.len() % 2 == 1 || self.holes.len() % 2 == 1 {
             return Err(Refusal(1));
         }
         let listed = self.hole_lengths.iter().try_fold(0usize, |sum, &length| sum.checked_add(length));
-        if listed != Some(self.holes.len() / 2) || (self.outer.len() + self.holes.len()) / 2 > 65_535 {
+        if listed != Some(self.holes.len() / 2) || (self.outer.len() + self.holes.len()) / 2 > MOST_POINTS {
             return Err(Refusal(1));
         }
         Ok(())

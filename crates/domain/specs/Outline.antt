@@ -79,7 +79,7 @@ beyond x = lt farthest (absF x)
 
 -- how many points an outline has at most, in all its loops together
 abbrev pub mostPoints : ℕ
-mostPoints = 65535
+mostPoints = 4096
 
 -- 1: a coordinate list of odd length, hole lengths that don't add up to the hole points, or too many points
 unfoldable pub misshapen : Outline → Bool

@@ -47,7 +47,7 @@ impl Settings {
     pub const BAND: f64 = 1.5;
 
     // Of all loops together.
-    pub const MOST_POINTS: usize = 65535;
+    pub const MOST_POINTS: usize = 4096;
 
     pub const FARTHEST: f64 = 1000.0;
     // Lengths, areas and orientations up to this count as none.

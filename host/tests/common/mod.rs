@@ -379,6 +379,11 @@ pub fn refused() -> Vec<(&'static str, Drawing, [f64; 2], u32)> {
     let broken = [1.0, 1.0, f64::NAN, 1.0, 1.0, 2.0];
     let above = 1_000.0f64.next_up();
     let points = |n: usize| Drawing { outer: vec![0.5; 2 * n], ..Drawing::default() };
+    let with_hole = |n: usize, holes: &[f64], lengths: &[usize]| Drawing {
+        holes: holes.to_vec(),
+        hole_lengths: lengths.to_vec(),
+        ..points(n)
+    };
     let inside = [1.0, 1.0];
     vec![
         ("an odd outer list", Drawing { outer: vec![0.0; 7], ..square() }, inside, 1),
@@ -395,7 +400,15 @@ pub fn refused() -> Vec<(&'static str, Drawing, [f64; 2], u32)> {
             1,
         ),
         ("a length whose double wraps round", hole(&triangle, &[usize::MAX / 2 + 4]), inside, 1),
-        ("65,536 points", points(65_536), inside, 1),
+        ("4,097 points", points(4_097), inside, 1),
+        ("4,095 points and a hole of two", with_hole(4_095, &triangle[..4], &[2]), inside, 1),
+        ("4,094 points and a hole of three", with_hole(4_094, &triangle, &[3]), inside, 1),
+        ("4,097 points, none finite", Drawing { outer: vec![f64::NAN; 2 * 4_097], ..Drawing::default() }, inside, 1),
+        ("1,366 loops of three", Drawing::of_loops(&vec![vec![[1.0, 1.0], [2.0, 1.0], [1.0, 2.0]]; 1_366]), inside, 1),
+        ("4,094 points and a hole of two", with_hole(4_094, &triangle[..4], &[2]), inside, 2),
+        ("4,096 points and holes of none", with_hole(4_096, &[], &[0, 0, 0]), inside, 2),
+        ("4,096 points, none finite", Drawing { outer: vec![f64::NAN; 2 * 4_096], ..Drawing::default() }, inside, 3),
+        ("4,096 points beyond 1,000", Drawing { outer: vec![above; 2 * 4_096], ..Drawing::default() }, inside, 4),
         ("1 before 2 and 3", hole(&broken, &[2]), [f64::NAN, 0.0], 1),
         ("no points", points(0), inside, 2),
         ("two points", points(2), inside, 2),

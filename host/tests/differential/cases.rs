@@ -115,6 +115,38 @@ pub fn large(rng: &mut Rng, points: usize) -> Drawing {
     Drawing::of_loops(&[outer.to_vec(), hole.to_vec()])
 }
 
+/// Outlines of 4,093 to 4,097 points, the last of which are too many: a ring, two loops, and as many loops of three as that makes.
+pub fn about_most_points(rng: &mut Rng) -> Vec<Drawing> {
+    let mut drawings = vec![];
+    for points in 4_093..=4_097 {
+        drawings.extend([lane(points), large(rng, points), threes(points)]);
+    }
+    drawings
+}
+
+/// One loop of so many points along the sides of a box of 1,000 by 4.
+pub fn lane(points: usize) -> Drawing {
+    let along = |k: usize| match 2_008.0 * k as f64 / points as f64 {
+        s if s < 1_000.0 => [s - 500.0, 0.0],
+        s if s < 1_004.0 => [500.0, s - 1_000.0],
+        s if s < 2_004.0 => [1_504.0 - s, 4.0],
+        s => [-500.0, 2_008.0 - s],
+    };
+    Drawing::of_loops(&[(0..points).map(along).collect()])
+}
+
+/// Loops of three points in rows inside an outer loop, which has those that are left.
+fn threes(points: usize) -> Drawing {
+    let holes = points / 3 - 1;
+    let hole = |k: usize| {
+        let [x, y] = [k % 40, k / 40].map(|place| 10.0 * place as f64);
+        vec![[x, y], [x + 6.0, y + 1.0], [x + 2.0, y + 7.0]]
+    };
+    let corners = [[-20.0, -20.0], [420.0, -20.0], [420.0, 400.0], [200.0, 410.0], [-20.0, 400.0]];
+    let outer = corners[..points - 3 * holes].to_vec();
+    Drawing::of_loops(&[vec![outer], (0..holes).map(hole).collect()].concat())
+}
+
 /// An outline of several blocks of 16 segments, in the outer loop and in most holes. One in two has its points on quarters of whole numbers, so
 /// that they are level with each other and with nodes of the field.
 pub fn several_blocks(rng: &mut Rng) -> Drawing {

@@ -242,9 +242,12 @@ fn fields_of_many_nodes() {
         let setting = Setting { size, sweeps, values: 500_000, marks: 250_000 };
         fields.compare(&mut rng, &Drawing { outer, holes, hole_lengths }, setting);
     }
-    let most = cases::large(&mut rng, 65_535);
-    fields.compare(&mut rng, &most, Setting { size: 100.0, sweeps: 1_000, values: 1_000, marks: 500 });
-    fields.finish("many nodes or points", &[0], 5, [0, 0]);
+    for drawing in cases::about_most_points(&mut rng) {
+        for (size, sweeps) in [(100.0, 1_000), (20.0, 3)] {
+            fields.compare(&mut rng, &drawing, Setting { size, sweeps, values: 40_000, marks: 20_000 });
+        }
+    }
+    fields.finish("many nodes or points", &[0, 1], 6, [0, 0]);
 }
 
 /// Puts sixteen points and targets to both, of a record in guarded lists.

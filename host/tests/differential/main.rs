@@ -128,11 +128,11 @@ fn fields_as_drawn() {
 fn outlines_of_many_points() {
     let mut rng = Rng(2);
     let mut tally = Tally::default();
-    for points in [65_534, 65_535, 65_535, 65_536, 65_537, 200_000] {
-        let drawing = cases::large(&mut rng, points);
-        let asked: Vec<[f64; 2]> = (0..20).map(|_| cases::point(&mut rng, &drawing)).collect();
+    let many = [4_098, 65_535, 200_000].map(|points| cases::large(&mut rng, points));
+    for drawing in cases::about_most_points(&mut rng).into_iter().chain(many) {
+        let asked: Vec<[f64; 2]> = (0..200).map(|_| cases::point(&mut rng, &drawing)).collect();
         tally.compare(&drawing, asked);
     }
-    assert_eq!(tally.refused.get(&1), Some(&60), "of 65,536 points and more");
-    tally.finish("outlines of about 65,535 points", 0);
+    assert_eq!(tally.refused.get(&1), Some(&1_200), "of 4,097 points and more");
+    tally.finish("outlines of about 4,096 points", 0);
 }

@@ -525,10 +525,12 @@ fn runs_of_many_nodes() {
         let size = cases::extent(&drawing) / across;
         roomy(&mut tally, &mut rng, drawing, Settings { size, sweeps: 2, passes });
     }
-    for (points, passes) in [(65_535, 0), (65_534, 0), (3_001, 1)] {
-        let drawing = cases::large(&mut rng, points);
+    for drawing in cases::about_most_points(&mut rng) {
+        let passes = rng.pick(&[0, 1]);
         roomy(&mut tally, &mut rng, drawing, Settings { size: 100.0, sweeps: 0, passes });
     }
+    let lane = cases::lane(4_096);
+    roomy(&mut tally, &mut rng, lane, Settings { size: 0.49, sweeps: 1, passes: 1 });
     tally.finish("runs of many nodes", &["still", "passes"]);
 }
 

@@ -301,12 +301,13 @@ fn of_any_causes_the_least_number_is_answered() {
 
 /// A run of so many points, some of them in a hole, that is refused for nothing but their number.
 fn of_points(points: usize) -> Asked {
-    let outer = (0..points - 8).map(|k| (k as f64 / (points - 8) as f64, k % 2)).map(|(t, up)| match (4.0 * t) as usize {
-        0 => [40.0 * t, 0.0],
-        1 => [10.0, 40.0 * t - 10.0],
-        2 => [30.0 - 40.0 * t, 10.0 - 0.001 * up as f64],
-        _ => [0.0, 40.0 - 40.0 * t],
-    });
+    let outer =
+        (0..points - 8).map(|k| (k as f64 / (points - 8) as f64, k % 2)).map(|(t, up)| match (4.0 * t) as usize {
+            0 => [40.0 * t, 0.0],
+            1 => [10.0, 40.0 * t - 10.0],
+            2 => [30.0 - 40.0 * t, 10.0 - 0.001 * up as f64],
+            _ => [0.0, 40.0 - 40.0 * t],
+        });
     let hole = (0..8).map(|k| [4.0 + (k % 4) as f64 / 2.0, 4.0 + (k / 4) as f64]);
     let places = Places { field_nodes: 1_600, nodes: 4_200, quads: 10, edges: 4_200, points };
     let drawing = Drawing::of_loops(&[outer.collect(), hole.collect()]);

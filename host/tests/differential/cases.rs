@@ -547,7 +547,7 @@ pub struct Filed {
 
 /// The places of a pool of this length, if it has a cell: crates/index/specs/Pool.antt has the layout.
 pub fn pool_places(length: usize) -> Option<usize> {
-    (length >= 4).then(|| (length - 1 - length / 4) / 2)
+    (length >= 4).then(|| (length - 2 - length / 4) / 2)
 }
 
 /// The least length with so many places.

@@ -314,17 +314,16 @@ impl Tally {
         faults
     }
 
-    /// Notes how far the pools serve a run that files so much. Names those that are in use at its end and shouldn't be, or the reverse:
-    /// a pool without a cell isn't, nor one whose first number stands for no place.
+    /// Notes how far the pools serve a run that files so much. Names those that have everything filed at its end and shouldn't, or the reverse:
+    /// a pool without a cell has nothing filed, and in others the first number says how many places are in use.
     fn pools(&mut self, kind: Pools, lists: &RunPlaces, filed: &Filed) -> Vec<String> {
         let [.., node_pool, edge_pool, _] = lists.numbers.each_ref().map(Guarded::list);
         let pools = [("node_pool", node_pool), ("edge_pool", edge_pool)];
         let served = [0, 1].map(|k| Served::new(pools[k].1.len(), filed.first[k], filed.all[k]));
         *self.pools.entry((kind, served)).or_default() += 1;
-        let in_use = |pool: &[u32]| pool.len() >= 4 && pool[0] != OFF;
-        let wrong =
-            pools.into_iter().zip(served).filter(|((_, pool), served)| in_use(pool) != (*served == Served::Always));
-        wrong.map(|((name, _), served)| format!("{name} should serve {served:?}")).collect()
+        let all_filed = |k: usize| pools[k].1.len() >= 4 && pools[k].1[0] as usize == filed.all[k];
+        let wrong = (0..2).filter(|&k| all_filed(k) != (served[k] == Served::Always));
+        wrong.map(|k| format!("{} should serve {:?}", pools[k].0, served[k])).collect()
     }
 
     /// An outline with ample space, with space of two kinds chosen from what it used, and with other passes.

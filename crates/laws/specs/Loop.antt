@@ -184,6 +184,21 @@ module _ (test : ℕ → Bool) where
       last-or-less : (i n : ℕ) → i < suc n → (i ≡ n) ⊎ (i < n)
       last-or-less i n h = eq-or-lt-of-le (le-of-suc-le-suc h)
 
+  -- and the other way
+  pub any-true : (n i : ℕ) → i < n → test i ≡ true → anyUp n test ≡ true
+  any-true n i h e = by (anyUp n test) refl
+    where
+      by : (b : Bool) → anyUp n test ≡ b → b ≡ true
+      by true f = refl
+      by false f = absurd (true≢false (sym e ∙ any-none n f i h))
+
+  pub any-false : (n : ℕ) → ((i : ℕ) → i < n → test i ≡ false) → anyUp n test ≡ false
+  any-false n none = by (anyUp n test) refl
+    where
+      by : (b : Bool) → anyUp n test ≡ b → b ≡ false
+      by false f = refl
+      by true f = let found = any-found n f in absurd (true≢false (sym (found .2) ∙ none (found .0) (found .1)))
+
 -- ---- a sum: f 0 + f 1 + .. + f (n - 1)
 
 abbrev pub sumTurn : (ℕ → ℕ) → ℕ → ℕ → ℕ

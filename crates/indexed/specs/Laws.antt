@@ -1,13 +1,11 @@
--- Laws of the loops that file items one after the other, and of the tests as the code has them at hand.
+-- Laws of the tests as the code has them at hand.
 use mathlib.Core.Bool.{Bool, true, not}
 use mathlib.Core.List.{List}
-use mathlib.Core.Path.{_≡_, refl, sym, ap, _∙_, subst}
-use Prim.Native.Nat.{ℕ, _+_, _*_, _<_, _≤_}
-use native.Mathlib.Nat.{le-antisymm}
-use native.Mathlib.Omega.{arith}
+use mathlib.Core.Path.{_≡_, refl, sym}
+use Prim.Native.Nat.{ℕ, _+_, _*_}
 use borrow.Author.Tests.{eqb-true}
 use lib.Dec.{eqb}
-use lib.ListN.{length, getD}
+use lib.ListN.{getD}
 use lib.Ieee.{Float}
 use Rattle.laws.specs.Tests.{both}
 use Rattle.numbers.specs.Float.{_⊗_}
@@ -15,33 +13,11 @@ use Rattle.domain.specs.declared.Point.{Point}
 use Rattle.geometry.specs.declared.Key.{Key}
 use Rattle.geometry.specs.declared.Corners.{Corners}
 use Rattle.geometry.specs.Keys.{keyOf, edgeBucket, spansKept, clearance, isTooClose, tooCloseAt, lowest, highest, isInBox, isCandidate}
-use Rattle.index.specs.declared.Rect.{Rect}
-use Rattle.index.specs.Pool.{file, Indexed}
-use Rattle.index.specs.FileLaws.{file-length, indexed-file}
 use Rattle.index.specs.Rects.{rectOf, rectAt, edgeRect, Meets}
 use Rattle.index.specs.KeyLaws.{box-meets, candidate-meets, end-meets}
 use Rattle.front.specs.State.{State, nodeIn, edgeIs}
 use Rattle.paving.specs.Checks.{shareEnd, closeNode, blocks, crossesEdge}
 use Rattle.indexed.specs.Rects.{nodeRects, edgeRects, closeAt, blocksAt, insideAt, crossesAt, crossingAt}
-
--- ---- filing one item after the other: those before id are filed
-
-pub record Filing (rects : ℕ → Rect) (to : ℕ) (pool₀ pool : List ℕ) (id : ℕ) : Type 0 where
-  pub size : length pool ≡ length pool₀
-  pub within : id ≤ to
-  pub filed : Indexed pool rects id
-
-module _ {rects : ℕ → Rect} {to : ℕ} {pool₀ pool : List ℕ} {id : ℕ} (f : Filing rects to pool₀ pool id) where
-  pub filing-next : {r : Rect} {next : List ℕ} → id < to → r ≡ rects id → next ≡ file r id pool → Filing rects to pool₀ next (id + 1)
-  filing-next {r} less e n =
-      record {
-        size = ap length n ∙ file-length r id pool ∙ f .size;
-        within = omega arith;
-        filed = subst (λ (p : List ℕ). Indexed p rects (id + 1)) (sym n) (indexed-file pool rects id r (sym e) (f .filed));
-      }
-
-  pub filing-end : to ≤ id → Indexed pool rects to
-  filing-end past = subst (λ (k : ℕ). Indexed pool rects k) (le-antisymm (f .within) past) (f .filed)
 
 -- ---- the tests, by what the code has at hand: r is the test's answer
 

@@ -7,7 +7,7 @@ use Rattle.domain.specs.declared.Point.{Point}
 use Rattle.index.specs.Rects.{edgeRect}
 use Rattle.index.specs.FileLaws.{indexed-closed}
 use Rattle.indexed.specs.Rects.{edgeRects}
-use Rattle.indexed.specs.Laws.{Filing, filing-next, filing-end}
+use Rattle.index.specs.Filing.{Filing, filing-next, filing-end}
 use Rattle.indexed.proofs.file_edges.Statement.{statement}
 use Rattle.indexed.proofs.file_edges.Tie as tie
 

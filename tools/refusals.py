@@ -1,4 +1,4 @@
-"""Document 01's refusals in words: what is wrong, and what to do. The host's words, host/src/refusal.rs, are the same."""
+"""The refusals of document 01 and of the papers in words: what is wrong, and what to do. The host's words, host/src/refusal.rs, are the same."""
 
 WORDS = {
     1: ("the outline's lists don't fit together",
@@ -18,6 +18,10 @@ WORDS = {
          "the file is damaged, so fetch it again, or write it anew from the outline"),
     13: ("the file has a wrong length, a wrong count, or something where zeros belong",
          "write it anew from the outline, with 1 to 8 loops, at most 248 points in all, and nothing after the last block"),
+    21: ("the order leaves a quad out, names one twice or names one that isn't there",
+         "name every quad of the mesh exactly once, counted from 0"),
+    22: ("a quad stands before one that laid a front edge which it used up",
+         "move it after every such quad, or keep the order in which the quads were placed"),
 }
 
 

@@ -70,6 +70,14 @@ pub struct PaveAnswer {
     pub ids: usize,
 }
 
+/// `place` is where a quad stands too early, on refusal 22; else 0.
+#[repr(C)]
+#[derive(Clone, Copy, Debug)]
+pub struct OrderAnswer {
+    pub refusal: u32,
+    pub place: usize,
+}
+
 #[link(name = "sitjorbe", kind = "static")]
 extern "C" {
     pub fn sitjorbe_contains(
@@ -177,4 +185,16 @@ extern "C" {
         blocks: *mut u32,
         blocks_len: usize,
     ) -> PaveAnswer;
+
+    pub fn sitjorbe_order(
+        quad_count: usize,
+        quads: *const u32,
+        quads_len: usize,
+        order: *const u32,
+        order_len: usize,
+        places: *mut usize,
+        places_len: usize,
+        pool: *mut u32,
+        pool_len: usize,
+    ) -> OrderAnswer;
 }

@@ -48,11 +48,13 @@
 
 pub mod ffi;
 mod field;
+mod order;
 mod pave;
 mod queries;
 mod refusal;
 
 pub use field::{direction, field, FieldRecord};
+pub use order::{check_order, check_order_in, nearest_order, order_numbers, NotAccepted, OrderScratch};
 pub use pave::{pave, pave_numbers, End, Lists, Memory, Mesh, Places, Settings, OFF};
 pub use queries::{contains, distance_to_boundary, nearest_segment, NearestSegment, Outline};
 pub use refusal::Refusal;

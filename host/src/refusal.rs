@@ -1,10 +1,10 @@
-//! The refusals of document 01, with words for people.
+//! The refusals of document 01 and of the papers, with words for people.
 
 use std::{error, fmt};
 
 /// Why the library refused. A refusal is its number alone ([`Refusal::number`]); the words are this crate's.
 ///
-/// A refused call has changed none of the memory lent to it.
+/// A refused call has changed none of the memory lent to it, but scratch where the wrapper says so.
 #[derive(Clone, Copy, Debug, PartialEq, Eq, Hash)]
 #[repr(u32)]
 pub enum Refusal {
@@ -34,11 +34,15 @@ pub enum Refusal {
     WrongCheck = 12,
     /// A file with a wrong length, count or fill.
     WrongFile = 13,
+    /// A presentation order in which some quad is absent, repeated or unknown.
+    NotEachOnce = 21,
+    /// A presentation order in which a quad stands before one that laid a front edge which it used up.
+    TooEarly = 22,
 }
 
 impl Refusal {
     /// Every refusal, in the order of the numbers.
-    pub const ALL: [Refusal; 13] = [
+    pub const ALL: [Refusal; 15] = [
         Refusal::Lists,
         Refusal::ShortLoop,
         Refusal::NotFinite,
@@ -52,14 +56,16 @@ impl Refusal {
         Refusal::NoFieldRecord,
         Refusal::WrongCheck,
         Refusal::WrongFile,
+        Refusal::NotEachOnce,
+        Refusal::TooEarly,
     ];
 
-    /// Document 01's number, 1 to 13.
+    /// Its number: 1 to 13 are document 01's, those above are the papers'.
     pub fn number(self) -> u32 {
         self as u32
     }
 
-    /// The refusal with this number, if document 01 has one.
+    /// The refusal with this number, if there is one.
     pub fn of_number(number: u32) -> Option<Refusal> {
         Refusal::ALL.into_iter().find(|refusal| refusal.number() == number)
     }
@@ -68,13 +74,13 @@ impl Refusal {
     ///
     /// # Panics
     ///
-    /// On a number that document 01 doesn't have. The library never answers one, so this is a bug: most likely an archive
+    /// On a number that no refusal has. The library never answers one, so this is a bug: most likely an archive
     /// that doesn't belong to this crate.
     pub(crate) fn check(number: u32) -> Result<(), Refusal> {
         match (number, Refusal::of_number(number)) {
             (0, _) => Ok(()),
             (_, Some(refusal)) => Err(refusal),
-            (_, None) => panic!("a bug: the library answered refusal {number}, which document 01 doesn't have"),
+            (_, None) => panic!("a bug: the library answered refusal {number}, which there isn't"),
         }
     }
 
@@ -111,6 +117,14 @@ impl Refusal {
                 "the file has a wrong length, a wrong count, or something where zeros belong: write it anew from the outline, \
                  with 1 to 8 loops, at most 248 points in all, and nothing after the last block"
             }
+            Refusal::NotEachOnce => {
+                "the order leaves a quad out, names one twice or names one that isn't there: name every quad of the mesh exactly \
+                 once, counted from 0"
+            }
+            Refusal::TooEarly => {
+                "a quad stands before one that laid a front edge which it used up: move it after every such quad, or keep the \
+                 order in which the quads were placed"
+            }
         }
     }
 }
@@ -129,32 +143,33 @@ mod tests {
     use super::Refusal;
 
     #[test]
-    fn numbers_are_document_01s() {
+    fn numbers_are_document_01s_and_the_papers() {
         let numbers: Vec<u32> = Refusal::ALL.into_iter().map(Refusal::number).collect();
-        assert_eq!(numbers, (1..=13).collect::<Vec<u32>>());
+        assert_eq!(numbers[..13], (1..=13).collect::<Vec<u32>>());
+        assert!(numbers.windows(2).all(|pair| pair[0] < pair[1]), "{numbers:?}");
         for refusal in Refusal::ALL {
             assert_eq!(Refusal::of_number(refusal.number()), Some(refusal));
             assert_eq!(Refusal::check(refusal.number()), Err(refusal));
         }
         assert_eq!(Refusal::check(0), Ok(()));
-        assert_eq!([0, 14, u32::MAX].map(Refusal::of_number), [None; 3]);
+        assert_eq!([0, 27, u32::MAX].map(Refusal::of_number), [None; 3]);
     }
 
     #[test]
     fn each_has_words_of_its_own() {
-        let texts: Vec<String> = Refusal::ALL.iter().map(Refusal::to_string).collect();
-        for (k, text) in texts.iter().enumerate() {
-            assert!(text.starts_with(&format!("refused ({}): ", k + 1)), "{text}");
+        for refusal in Refusal::ALL {
+            let text = refusal.to_string();
+            assert!(text.starts_with(&format!("refused ({}): ", refusal.number())), "{text}");
             assert_eq!(text.matches(": ").count(), 2, "what is wrong, then what to do: {text}");
             assert!(!text.contains("  ") && text.is_ascii(), "{text}");
         }
         let words: std::collections::HashSet<&str> = Refusal::ALL.iter().map(|refusal| refusal.words()).collect();
-        assert_eq!(words.len(), 13);
+        assert_eq!(words.len(), Refusal::ALL.len());
     }
 
     #[test]
-    #[should_panic(expected = "a bug: the library answered refusal 14")]
+    #[should_panic(expected = "a bug: the library answered refusal 27")]
     fn an_unknown_number_is_a_bug() {
-        let _ = Refusal::check(14);
+        let _ = Refusal::check(27);
     }
 }

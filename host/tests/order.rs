@@ -171,7 +171,9 @@ fn orders_from_wishes_are_accepted_and_near() {
     let (mut random, mut moved) = (Random(1), 0);
     for run in runs() {
         let count = run.quads.len() / 4;
-        for _ in 0..20 {
+        let needed = |quad| (0..quad).filter(|&other| comes_after(&run.quads, quad, other)).collect::<Vec<usize>>();
+        let needed: Vec<Vec<usize>> = (0..count).map(needed).collect();
+        for _ in 0..10 {
             let mut wish = placing(&run);
             random.shuffle(&mut wish);
             let order = nearest_order(count, &run.quads, &wish);
@@ -179,12 +181,10 @@ fn orders_from_wishes_are_accepted_and_near() {
             assert_eq!(check_order(count, &run.quads, &order), Ok(()));
             // An accepted wish comes back, and each place has the first of the wish that may come there.
             assert_eq!(nearest_order(count, &run.quads, &order), order);
-            let free = |quad: u32, out: &[u32]| {
-                (0..count).all(|other| !comes_after(&run.quads, quad as usize, other) || out.contains(&(other as u32)))
-            };
             for place in 0..count.min(40) {
                 let out = &order[..place];
-                let first = wish.iter().find(|&&quad| !out.contains(&quad) && free(quad, out));
+                let free = |quad: u32| needed[quad as usize].iter().all(|&other| out.contains(&(other as u32)));
+                let first = wish.iter().find(|&&quad| !out.contains(&quad) && free(quad));
                 assert_eq!(first, Some(&order[place]));
             }
             moved += usize::from(order != placing(&run));
@@ -194,7 +194,7 @@ fn orders_from_wishes_are_accepted_and_near() {
         let order = nearest_order(count, &run.quads, &[last, 1, last, u32::MAX, count as u32]);
         assert_eq!(answer(count, &run.quads, &order), (0, 0));
     }
-    assert!(moved > 50, "{moved}");
+    assert!(moved > 20, "{moved}");
     assert_eq!(nearest_order(7, &[1, 2, 3], &[0]), []);
 }
 

@@ -1,4 +1,5 @@
--- What is accepted, in the paper's words.
+-- What is accepted, in the paper's words (`Respects`), and what each refusal means. The theorems stand at the end: `order-means`, `accepted-iff`, and that the
+-- order of placing is accepted, `placing-answer`.
 use Prim.Native.Nat.{ℕ, suc, _-_, _≤_, _<_}
 use mathlib.Core.Path.{_≡_, refl, sym, _∙_, ap}
 use mathlib.Core.Bool.{Bool, true, false, not, _&&_, _||_, cond, true≢false}

@@ -39,6 +39,7 @@ firstPlace (x ∷ xs) i = cond (eqb x i) 0 (suc (firstPlace xs i))
 abbrev pub isWrong : ℕ → List ℕ → ℕ → Bool
 isWrong n order p = leb n (getD order p 0) || not (eqb (firstPlace order (getD order p 0)) p)
 
+-- quad i stands nowhere
 abbrev pub isAbsent : List ℕ → ℕ → Bool
 isAbsent order i = eqb (firstPlace order i) (length order)
 
@@ -56,15 +57,19 @@ tooEarly quads n order p = anyUp n (waitsFor quads order p (getD order p 0))
 
 -- ---- the answer
 
+-- nothing is refused
 abbrev pub orderAccepted : OrderAnswer
 orderAccepted = record { refusal = 0; place = 0 }
 
+-- some quad is absent, repeated or unknown
 abbrev pub notOnce : OrderAnswer
 notOnce = record { refusal = 21; place = 0 }
 
+-- the quad at p stands too early
 abbrev pub earlyAt : ℕ → OrderAnswer
 earlyAt p = record { refusal = 22; place = p }
 
+-- the search is out at a place where a quad stands too early
 abbrev pub earlyTurn : List ℕ → ℕ → List ℕ → ℕ → Unit {0} → Turn (Unit {0}) OrderAnswer
 earlyTurn quads n order p s = cond (tooEarly quads n order p) (out (earlyAt p)) (go s)
 
@@ -76,7 +81,7 @@ firstEarly quads n order = run (length order) (earlyTurn quads n order) (λ s. o
 unfoldable pub orderOf : List ℕ → ℕ → List ℕ → OrderAnswer
 orderOf quads n order = cond (namesEachOnce n order) (firstEarly quads n order) notOnce
 
--- THE ANSWER
+-- THE ANSWER, of a count and lists as lent
 unfoldable pub orderAnswer : ℕ → List ℕ → List ℕ → OrderAnswer
 orderAnswer count quads order = orderOf quads (quadCount count quads) order
 

@@ -222,7 +222,7 @@ fn archive() -> Declared {
 fn declarations_are_those_of_the_rattle_source() {
     let rattle = archive();
     let rust = Declared::of_rust(include_str!("../src/ffi.rs"));
-    let entries = ["contains", "nearest_segment", "distance_to_boundary", "field", "direction", "pave"];
+    let entries = ["contains", "nearest_segment", "distance_to_boundary", "field", "direction", "pave", "order"];
     for entry in entries.map(|name| format!("sitjorbe_{name}")) {
         assert!(rattle.functions.contains_key(&entry), "{entry} isn't found in the Rattle source");
     }

@@ -26,7 +26,7 @@ pub enum Refusal {
     TooManySweeps = 8,
     /// The field has more nodes than were lent.
     FieldNeedsSpace = 9,
-    /// The sampled outline has more nodes than the lent node places or edge places.
+    /// The sampled outline has more nodes than the lent node places or edge places, or more loops than there are places for their lengths.
     FrontNeedsSpace = 10,
     /// A field record that isn't one.
     NoFieldRecord = 11,
@@ -117,7 +117,7 @@ impl Refusal {
             Refusal::TooManySweeps => "more than 1,000 sweeps are asked for: ask for 1,000 or fewer",
             Refusal::FieldNeedsSpace => "the field has more nodes than were lent: set a larger size, or lend longer lists",
             Refusal::FrontNeedsSpace => {
-                "the sampled outline has more nodes than the lent node or edge places: set a larger size, or lend longer lists"
+                "the sampled outline has more nodes or loops than the lent lists have places: set a larger size, or lend longer lists"
             }
             Refusal::NoFieldRecord => {
                 "the field record isn't one: hand over the record, values and marks as the field entry answered them"

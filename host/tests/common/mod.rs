@@ -55,6 +55,11 @@ impl Drawing {
         loops
     }
 
+    /// The number of loops, as the lengths have it.
+    pub fn loop_count(&self) -> usize {
+        self.hole_lengths.len() + 1
+    }
+
     /// How many points it has, those of the holes too.
     pub fn points(&self) -> usize {
         (self.outer.len() + self.holes.len()) / 2

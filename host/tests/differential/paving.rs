@@ -268,7 +268,7 @@ impl Tally {
         for (k, kind) in scratch.iter().enumerate() {
             let pools = kind.pools.lengths(rng, places, &filed);
             let blocks = kind.blocks.length(rng, &asked.drawing, expected.is_ok());
-            let lengths = cases::lengths(rng, places, asked.drawing.hole_lengths.len() + 1, pools, blocks);
+            let lengths = cases::lengths(rng, places, asked.drawing.loop_count(), pools, blocks);
             let mut lists = RunPlaces::new(lengths);
             let mut faults = self.run(asked, &expected, &mut lists, short, k == 0);
             if expected.is_ok() {
@@ -540,7 +540,7 @@ fn a_run_ends_in_cap() {
     let (mut tally, mut asked) = (Tally::default(), Asked::new(Drawing::square(520.0), settings));
     let places = Places { field_nodes: 250_000, nodes: 252_814, quads: 250_000, edges: 510_000, points: 4 };
     let expected = asked.expected(&places);
-    let mut lists = RunPlaces::new(cases::lengths(&mut Rng(10), &places, places.pools(), places.blocks()));
+    let mut lists = RunPlaces::new(cases::lengths(&mut Rng(10), &places, 1, places.pools(), places.blocks()));
     let faults = tally.run(&mut asked, &expected, &mut lists, "nothing", false);
     let Tally { nodes, quads, answers, .. } = tally;
     println!("a run that ends in cap: {nodes} nodes and {quads} quads; {} faults", faults.len());
@@ -555,13 +555,8 @@ fn example() -> (Outcome, Outcome, Sampled, Answered) {
     let mut asked = generated("lattice", 1, 5);
     let run = asked.of_oracle(&AMPLE).expect("it is accepted");
     let reference = Outcome::of_oracle(run, asked.field.as_ref().expect("the run has made it"));
-    let mut lists = RunPlaces::new(cases::lengths(
-        &mut Rng(9),
-        &AMPLE,
-        1 + asked.drawing.hole_lengths.len(),
-        AMPLE.pools(),
-        AMPLE.blocks(),
-    ));
+    let mut lists =
+        RunPlaces::new(cases::lengths(&mut Rng(9), &AMPLE, asked.drawing.loop_count(), AMPLE.pools(), AMPLE.blocks()));
     let mesh = lists.pave(&asked.drawing.outline(), &asked.settings).expect("it is accepted");
     (Outcome::of_library(&mesh), reference, asked.sampled().clone(), answered(&mesh))
 }

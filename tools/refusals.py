@@ -22,6 +22,10 @@ WORDS = {
     15: ("the node isn't in the mesh, or is past the lent list of thresholds", "count nodes from 0, and lend a place for each"),
     16: ("the threshold is above 500", "give it in tenths of a decibel, 0 to 500; to take one back, withdraw it"),
     17: ("no threshold stands at the node", "enter one first, or look whether it was withdrawn already"),
+    21: ("the order leaves a quad out, names one twice or names one that isn't there",
+         "name every quad of the mesh exactly once, counted from 0"),
+    22: ("a quad stands before one that laid a front edge which it used up",
+         "move it after every such quad, or keep the order in which the quads were placed"),
     26: ("the list is too short for every small quad", "lend four places for each, 14,944 in all"),
 }
 

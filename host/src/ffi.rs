@@ -79,6 +79,14 @@ pub struct PaveAnswer {
     pub ids: usize,
 }
 
+/// `place` is where a quad stands too early, on refusal 22; else 0.
+#[repr(C)]
+#[derive(Clone, Copy, Debug)]
+pub struct OrderAnswer {
+    pub refusal: u32,
+    pub place: usize,
+}
+
 /// An event's answer: only whether it was refused. All else is in what was lent.
 #[repr(C)]
 #[derive(Clone, Copy, Debug)]
@@ -248,4 +256,16 @@ extern "C" {
     ) -> RefusalAnswer;
 
     pub fn sitjorbe_small_quads(fours: *mut u32, fours_len: usize) -> SmallQuadsAnswer;
+
+    pub fn sitjorbe_order(
+        quad_count: usize,
+        quads: *const u32,
+        quads_len: usize,
+        order: *const u32,
+        order_len: usize,
+        places: *mut usize,
+        places_len: usize,
+        pool: *mut u32,
+        pool_len: usize,
+    ) -> OrderAnswer;
 }

@@ -6,7 +6,7 @@
 //!
 //! ```
 //! use sitjorbe::{contains, direction, distance_to_boundary, field, nearest_segment, Outline, Refusal};
-//! use sitjorbe::{End, Memory, Places, Settings};
+//! use sitjorbe::{check_order, nearest_order, End, Memory, Places, Settings};
 //!
 //! // A square with a square hole.
 //! let outline = Outline {
@@ -39,6 +39,12 @@
 //! assert_eq!(mesh.quads().next(), Some([0, 1, 40, 31]));
 //! assert!(!mesh.is_whole());
 //!
+//! // The order in which the quads are to be tested: the last one as soon as may be.
+//! let quads: Vec<u32> = mesh.quads().flatten().collect();
+//! let order = nearest_order(44, &quads, &[43]);
+//! assert_eq!(check_order(44, &quads, &order), Ok(()));
+//! assert!(check_order(44, &quads, &order[1..]).is_err());
+//!
 //! // A refusal says what is wrong and what to do about it.
 //! let refusal = contains(&outline, [f64::NAN, 0.0]).unwrap_err();
 //! assert_eq!(refusal, Refusal::NotFinite);
@@ -48,6 +54,7 @@
 
 pub mod ffi;
 mod field;
+mod order;
 mod pave;
 mod queries;
 mod refusal;
@@ -56,6 +63,7 @@ mod sound;
 mod thresholds;
 
 pub use field::{direction, field, FieldRecord};
+pub use order::{check_order, check_order_in, nearest_order, order_numbers, NotAccepted, OrderScratch};
 pub use pave::{pave, pave_numbers, End, Lists, Memory, Mesh, Places, Settings, TooManyPlaces, OFF};
 pub use queries::{contains, distance_to_boundary, nearest_segment, NearestSegment, Outline};
 pub use refusal::Refusal;

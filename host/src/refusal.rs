@@ -4,7 +4,7 @@ use std::{error, fmt};
 
 /// Why the library refused. A refusal is its number alone ([`Refusal::number`]); the words are this crate's.
 ///
-/// A refused call has changed none of the memory lent to it.
+/// A refused call has changed none of the memory lent to it, but scratch where the wrapper says so.
 #[derive(Clone, Copy, Debug, PartialEq, Eq, Hash)]
 #[repr(u32)]
 pub enum Refusal {
@@ -40,13 +40,17 @@ pub enum Refusal {
     ThresholdTooHigh = 16,
     /// A withdrawal where no threshold stands.
     NoThreshold = 17,
+    /// A presentation order in which some quad is absent, repeated or unknown.
+    NotEachOnce = 21,
+    /// A presentation order in which a quad stands before one that laid a front edge which it used up.
+    TooEarly = 22,
     /// The lent list is too short for every small quad.
     FoursNeedSpace = 26,
 }
 
 impl Refusal {
     /// Every refusal, in the order of the numbers.
-    pub const ALL: [Refusal; 17] = [
+    pub const ALL: [Refusal; 19] = [
         Refusal::Lists,
         Refusal::ShortLoop,
         Refusal::NotFinite,
@@ -63,6 +67,8 @@ impl Refusal {
         Refusal::NoNode,
         Refusal::ThresholdTooHigh,
         Refusal::NoThreshold,
+        Refusal::NotEachOnce,
+        Refusal::TooEarly,
         Refusal::FoursNeedSpace,
     ];
 
@@ -130,6 +136,14 @@ impl Refusal {
                 "the threshold is above 500: give it in tenths of a decibel, 0 to 500; to take one back, withdraw it"
             }
             Refusal::NoThreshold => "no threshold stands at the node: enter one first, or look whether it was withdrawn already",
+            Refusal::NotEachOnce => {
+                "the order leaves a quad out, names one twice or names one that isn't there: name every quad of the mesh exactly \
+                 once, counted from 0"
+            }
+            Refusal::TooEarly => {
+                "a quad stands before one that laid a front edge which it used up: move it after every such quad, or keep the \
+                 order in which the quads were placed"
+            }
             Refusal::FoursNeedSpace => {
                 "the list is too short for every small quad: lend four places for each, 14,944 in all"
             }

@@ -5,7 +5,8 @@ mod common;
 use common::blocks::Block;
 use common::{by_kind, list_lengths, refused, said, used, Drawing, FieldPlaces, Lengths, Lent, Raw, RunPlaces};
 use sitjorbe::{
-    direction, ffi, pave, small_quads, LentMesh, Lists, Memory, Outline, Places, Refusal, Results, Settings,
+    check_order_in, direction, ffi, pave, small_quads, LentMesh, Lists, Memory, NotAccepted, Outline, Places, Refusal,
+    Results, Settings,
 };
 
 /// Drawings and points that are accepted and refused.
@@ -198,6 +199,34 @@ fn events_are_taken_within_their_lists() {
         }
         let figures = if places < 4 { (0, 0) } else { (2, 700) };
         assert_eq!((*results.count, *results.sum), figures);
+    }
+}
+
+/// Quads and order in read-only memory, and scratch of several lengths in memory of its own, each between pages that can't be touched:
+/// orders that are accepted and refused, with counts that fit and counts beyond the list.
+#[cfg(target_os = "linux")]
+#[test]
+fn an_order_is_read_and_written_within_its_lists() {
+    let quads = [0, 1, 2, 3, 3, 2, 4, 5, 5, 4, 6, 7, 1, 0, 9];
+    for (order, expected) in [
+        (&[0, 1, 2][..], Ok(())),
+        (&[0, 2, 1], Err(NotAccepted::TooEarly { place: 1 })),
+        (&[0, 1, 1], Err(NotAccepted::NotEachOnce)),
+        (&[0, 1, 2, u32::MAX], Err(NotAccepted::NotEachOnce)),
+        (&[], Err(NotAccepted::NotEachOnce)),
+    ] {
+        for (side, count) in [pages::Side::Start, pages::Side::End]
+            .into_iter()
+            .flat_map(|side| [(side, 3), (side, 4), (side, usize::MAX)])
+        {
+            let [quads, order] = [&quads[..], order].map(|list| pages::Pages::read_only(list, side));
+            for (places, pool) in (0..5).flat_map(|places| (0..28).map(move |pool| (places, pool))) {
+                let mut places = pages::Pages::writable(&vec![7usize; places], side);
+                let mut pool = pages::Pages::writable(&vec![7; pool], side);
+                let found = check_order_in(count, quads.list(), order.list(), places.list_mut(), pool.list_mut());
+                assert_eq!(found, expected, "{count} {:?}", order.list());
+            }
+        }
     }
 }
 

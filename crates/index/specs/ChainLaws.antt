@@ -8,6 +8,7 @@ use native.Mathlib.Nat.{eq-or-lt-of-le, le-of-suc-le-suc}
 use native.Mathlib.Omega.{arith}
 use borrow.Author.Tests.{eq-eqb, ne-eqb, eqb-true, eqb-false, ltb-true, ltb-false}
 use lib.Dec.{eqb, ltb}
+use Rattle.laws.specs.Tests.{or-right}
 use Rattle.index.specs.Pool.{falling, anyOf}
 use Rattle.index.specs.Walk.{across}
 
@@ -31,10 +32,6 @@ same-or-not a b = by (eqb a b) refl
 pub less-other : {i k : ℕ} → i < suc k → (i ≡ k → ⊥) → i < k
 less-other {i} {k} h other = ⊎-elim (λ less. less) (λ past. absurd (other (omega arith))) (below-or-not i k)
 
-pub or-true : (b : Bool) {c : Bool} → c ≡ true → b || c ≡ true
-or-true true f = refl
-or-true false f = f
-
 -- ---- a test over a list
 
 module _ (test : ℕ → Bool) where
@@ -51,7 +48,7 @@ module _ (test : ℕ → Bool) where
   any-left l m e = any-append l m ∙ ap (λ (b : Bool). b || anyOf test m) e
 
   pub any-right : (l m : List ℕ) → anyOf test m ≡ true → anyOf test (l ++ m) ≡ true
-  any-right l m e = any-append l m ∙ or-true (anyOf test l) e
+  any-right l m e = any-append l m ∙ or-right (anyOf test l) e
 
   pub any-neither : (l m : List ℕ) → anyOf test l ≡ false → anyOf test m ≡ false → anyOf test (l ++ m) ≡ false
   any-neither l m e f = any-append l m ∙ ap₂ (λ (b c : Bool). b || c) e f
@@ -65,7 +62,7 @@ module _ (test : ℕ → Bool) where
       by : (b : Bool) → eqb x y ≡ b → b || anyOf (eqb x) l ≡ true → (anyOf (eqb x) l ≡ true → anyOf test l ≡ true)
           → test y || anyOf test l ≡ true
       by true f g rest = ap (λ (b : Bool). b || anyOf test l) (ap test (sym (eqb-true x y f)) ∙ e)
-      by false f g rest = or-true (test y) (rest g)
+      by false f g rest = or-right (test y) (rest g)
 
 -- ---- falling links
 

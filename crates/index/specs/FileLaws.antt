@@ -12,13 +12,13 @@ use lib.Dec.{eqb, leb}
 use lib.ListN.{length, getD, set, length-set}
 use lib.Seq.{getD-set-same, getD-set-other}
 use Rattle.laws.specs.Loop.{Loop, loop-start, loop-next, loop-end, forUp, forUp-keeps, forUp-same, sumUp, sumTurn}
-use Rattle.laws.specs.Tests.{both}
+use Rattle.laws.specs.Tests.{both, or-right}
 use Rattle.index.specs.declared.Rect.{Rect}
 use Rattle.laws.specs.Sums.{sum-zero, sum-suc}
 use Rattle.index.specs.Pool.{none, stride, cells, capacity, ownPlace, linkPlace, used, filed, headAt, ownAt, linkAt, falling, chain, anyOf, cellOf}
 use Rattle.index.specs.Pool.{Within, span, clearCell, cleared, placed, push, fileColumn, fileRow, fileLine, keyCount, takes, file}
 use Rattle.index.specs.Pool.{Holds, Under, keySum, Filed, Indexed}
-use Rattle.index.specs.ChainLaws.{falling-high, falling-step, falling-on, falling-keeps, falling-same, below-or-not, same-or-not, less-other, or-true}
+use Rattle.index.specs.ChainLaws.{falling-high, falling-step, falling-on, falling-keeps, falling-same, below-or-not, same-or-not, less-other}
 
 -- ---- the layout
 
@@ -206,7 +206,7 @@ module _ (pool : List ℕ) (c own count : ℕ) (inside : c < cells (length pool)
       has-here d x h s e =
           ap (λ (t : ℕ). anyOf (eqb x) (chain n next t)) (ap (headAt next) e ∙ head-here)
           ∙ ap (anyOf (eqb x)) (chain-here (H .heads c inside))
-          ∙ ⊎-elim (λ old. or-true (eqb x own) (ap (λ (t : ℕ). anyOf (eqb x) (chain n pool (headAt pool t))) (sym e) ∙ H .has d x h old))
+          ∙ ⊎-elim (λ old. or-right (eqb x own) (ap (λ (t : ℕ). anyOf (eqb x) (chain n pool (headAt pool t))) (sym e) ∙ H .has d x h old))
           (λ new. ap (λ (b : Bool). b || anyOf (eqb x) (chain n pool (headAt pool c))) (eq-eqb x own (new .1))) s
 
 -- ---- one item under one cell

@@ -4,5 +4,6 @@ pub mod Rects
 pub mod Walk
 pub mod ChainLaws
 pub mod FileLaws
+pub mod Filing
 pub mod WalkLaws
 pub mod KeyLaws

@@ -1,14 +1,12 @@
 -- Under which keys the nodes and edges of a state are filed, and the tests of its scans. Definitions only.
-use mathlib.Core.Bool.{Bool, false}
+use mathlib.Core.Bool.{Bool}
 use mathlib.Core.List.{List, []}
-use mathlib.Core.Path.{_≡_}
 use Prim.Native.Nat.{ℕ, _+_, _*_, _≤_}
 use lib.ListN.{length, getD}
 use lib.Ieee.{Float}
 use Rattle.domain.specs.declared.Point.{Point}
 use Rattle.geometry.specs.declared.Corners.{Corners}
 use Rattle.index.specs.declared.Rect.{Rect}
-use Rattle.laws.specs.Loop.{anyUp}
 use Rattle.index.specs.Pool.{Indexed}
 use Rattle.index.specs.Rects.{nodeRect, edgeRect}
 use Rattle.front.specs.State.{State, stateOf, counted, nodeIn}
@@ -32,11 +30,6 @@ pub record EdgesFiled (pool : List ℕ) (size : Float) (xs ys : List Float) (edg
   pub more : from ≤ to
   pub lent : 2 * to ≤ length edges
   pub filed : Indexed pool (edgeRects size xs ys edges) from
-
--- of `count` items none before `from` passes the test
-pub record Unfound (test : ℕ → Bool) (from count : ℕ) : Type 0 where
-  pub within : from ≤ count
-  pub none : anyUp from test ≡ false
 
 -- ---- the tests of the scans are those of crates/paving/specs/Checks.antt, over the lists that they read
 

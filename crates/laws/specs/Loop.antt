@@ -188,6 +188,39 @@ module _ (test : ℕ → Bool) where
       last-or-less : (i n : ℕ) → i < suc n → (i ≡ n) ⊎ (i < n)
       last-or-less i n h = eq-or-lt-of-le (le-of-suc-le-suc h)
 
+  -- and the other way
+  pub any-true : (n i : ℕ) → i < n → test i ≡ true → anyUp n test ≡ true
+  any-true n i h e = by (anyUp n test) refl
+    where
+      by : (b : Bool) → anyUp n test ≡ b → b ≡ true
+      by true f = refl
+      by false f = absurd (true≢false (sym e ∙ any-none n f i h))
+
+  pub any-false : (n : ℕ) → ((i : ℕ) → i < n → test i ≡ false) → anyUp n test ≡ false
+  any-false n none = by (anyUp n test) refl
+    where
+      by : (b : Bool) → anyUp n test ≡ b → b ≡ false
+      by false f = refl
+      by true f = let found = any-found n f in absurd (true≢false (sym (found .2) ∙ none (found .0) (found .1)))
+
+-- of `count` items none before `from` passes the test, so a scan may begin there
+pub record Unfound (test : ℕ → Bool) (from count : ℕ) : Type 0 where
+  pub within : from ≤ count
+  pub none : anyUp from test ≡ false
+
+pub unfound-none : (test : ℕ → Bool) (count : ℕ) → Unfound test 0 count
+unfolding anyUp forUp
+unfound-none test count = record { within = omega arith; none = refl }
+
+module _ {from count : ℕ} where
+  pub scan-from : {test : ℕ → Bool} → Unfound test from count → Scan test count from
+  unfolding anyUp
+  scan-from u = record { within = u .within; same = sym (u .none) }
+
+  -- what is found before `from` is found
+  pub found-before : (test : ℕ → Bool) → from ≤ count → true ≡ anyUp from test → true ≡ anyUp count test
+  found-before test le e = let f = any-found test from (sym e) in sym (any-true test count (f .0) (omega (arith, f .1)) (f .2))
+
 -- ---- a sum: f 0 + f 1 + .. + f (n - 1)
 
 abbrev pub sumTurn : (ℕ → ℕ) → ℕ → ℕ → ℕ

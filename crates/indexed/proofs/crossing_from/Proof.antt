@@ -2,9 +2,8 @@
 use mathlib.Core.Path.{_∙_, sym}
 use Prim.Native.Nat.{_-_}
 use native.Mathlib.Omega.{arith}
-use Rattle.laws.specs.Loop.{Scan, scan-hit, scan-next, scan-none}
+use Rattle.laws.specs.Loop.{Scan, scan-from, scan-hit, scan-next, scan-none}
 use Rattle.indexed.specs.Rects.{crossingAt}
-use Rattle.indexed.specs.Laws.{scan-from}
 use borrow.Author.Needs.{needs}
 use Rattle.indexed.proofs.crossing_from.Statement.{statement}
 use Rattle.indexed.proofs.crossing_from.Tie as tie

@@ -5,7 +5,7 @@ use native.Mathlib.Omega.{arith}
 use borrow.Author.Needs.{needs}
 use Rattle.index.specs.Rects.{edgeRect}
 use Rattle.indexed.specs.Rects.{edgeRects}
-use Rattle.indexed.specs.Laws.{Filing, filing-next, filing-end}
+use Rattle.index.specs.Filing.{Filing, filing-next, filing-end}
 use Rattle.indexed.proofs.file_edges.Statement.{statement}
 use Rattle.indexed.proofs.file_edges.Tie as tie
 

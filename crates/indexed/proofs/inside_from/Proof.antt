@@ -2,9 +2,9 @@
 use mathlib.Core.Path.{refl, _∙_}
 use Prim.Native.Nat.{_-_}
 use native.Mathlib.Omega.{arith}
-use Rattle.laws.specs.Loop.{Scan, scan-hit, scan-next, scan-none}
+use Rattle.laws.specs.Loop.{Scan, scan-from, scan-hit, scan-next, scan-none}
 use Rattle.indexed.specs.Rects.{insideAt}
-use Rattle.indexed.specs.Laws.{scan-from, inside-is}
+use Rattle.indexed.specs.Laws.{inside-is}
 use borrow.Author.Needs.{needs}
 use Rattle.indexed.proofs.inside_from.Statement.{statement}
 use Rattle.indexed.proofs.inside_from.Tie as tie

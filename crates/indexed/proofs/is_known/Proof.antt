@@ -4,14 +4,15 @@ use mathlib.Core.Bool.{true, false}
 use borrow.Author.Needs.{needs}
 use borrow.Author.Tests.{not-true, not-false}
 use lib.ListN.{length}
-use Rattle.laws.specs.Loop.{anyUp}
+use Rattle.laws.specs.Loop.{anyUp, found-before, unfound-none}
 use Rattle.geometry.specs.TestLaws.{passed}
 use Rattle.geometry.specs.Keys.{keyOf, edgeBucket, spansKept}
 use Rattle.index.specs.Pool.{filed, ownAt}
 use Rattle.index.specs.Walk.{over, ahead}
+use Rattle.index.specs.Filing.{unfound}
 use Rattle.index.specs.WalkLaws.{Walk, walk-start, walk-next, walk-hit, walk-none, walk-less}
 use Rattle.front.specs.State.{nodeIn, edgeIs}
-use Rattle.indexed.specs.Laws.{known-meets, found-before, unfound, unfound-none}
+use Rattle.indexed.specs.Laws.{known-meets}
 use Rattle.indexed.proofs.is_known.Statement.{statement}
 use Rattle.indexed.proofs.is_known.Tie as tie
 

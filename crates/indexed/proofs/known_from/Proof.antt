@@ -3,9 +3,8 @@ use mathlib.Core.Logic.{⊎-elim}
 use Prim.Native.Nat.{_-_}
 use native.Mathlib.Omega.{arith}
 use borrow.Author.Tests.{eq-eqb, ne-eqb}
-use Rattle.laws.specs.Loop.{Scan, scan-hit, scan-next, scan-none}
+use Rattle.laws.specs.Loop.{Scan, scan-from, scan-hit, scan-next, scan-none}
 use Rattle.front.specs.State.{edgeIs}
-use Rattle.indexed.specs.Laws.{scan-from}
 use borrow.Author.Needs.{needs}
 use Rattle.indexed.proofs.known_from.Statement.{statement}
 use Rattle.indexed.proofs.known_from.Tie as tie

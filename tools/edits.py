@@ -27,12 +27,23 @@ FACTS = [
     r"`(?:rw|simp)` has no last argument, so what it leaves must be a path whose two ends are equal",
     r"the two types (?:are|differ|first differ)\b",
     r"expected type `[^`]*`,? but this has type ",
+    r"` ≟ `.*` does not hold ",
 ]
 
-# Two types that differ, and yet no fact: what is wanted is a type of values, or a need of the code has no answer in the proof.
-NO_FACTS = [
+# What shows nothing: a name or a field that can't be found, a form that isn't covered, a text that can't be read, a value of another type than is
+# wanted, a need of the code that the proof has no answer to.
+NOTHING = [
+    r"is not in scope",
+    r"cannot find ",
+    r"that can be named from here",
+    r"has no field ",
+    r"does not cover ",
+    r"is still open",
+    r"expected a type",
+    r"unexpected ",
     r"expected type `(?:List )?\w+`,? but ",
     r"but this has type `tie\.Need-",
+    r"the log has no error",
 ]
 
 
@@ -45,9 +56,14 @@ def first_error(log):
     return found[0] if found else "the log has no error"
 
 
+def shows_nothing(error):
+    """Whether this is known to say nothing of a contract or a theorem."""
+    return any(re.search(words, error) for words in NOTHING)
+
+
 def is_fact(error):
-    """Whether this says that a fact doesn't hold. Of what isn't known to say so, it is taken that it doesn't."""
-    return any(re.search(words, error) for words in FACTS) and not any(re.search(words, error) for words in NO_FACTS)
+    """Whether this is known to say that a fact doesn't hold."""
+    return any(re.search(words, error) for words in FACTS) and not shows_nothing(error)
 
 
 def logs(root=ROOT):

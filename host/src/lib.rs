@@ -46,6 +46,7 @@
 //! # Ok::<(), Refusal>(())
 //! ```
 
+mod estimates;
 pub mod ffi;
 mod field;
 mod pave;
@@ -53,6 +54,7 @@ mod queries;
 mod refusal;
 mod thresholds;
 
+pub use estimates::{estimate, MOST_WEIGHT};
 pub use field::{direction, field, FieldRecord};
 pub use pave::{pave, pave_numbers, End, Lists, Memory, Mesh, Places, Settings, OFF};
 pub use queries::{contains, distance_to_boundary, nearest_segment, NearestSegment, Outline};

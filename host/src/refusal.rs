@@ -40,11 +40,15 @@ pub enum Refusal {
     ThresholdTooHigh = 16,
     /// A withdrawal where no threshold stands.
     NoThreshold = 17,
+    /// A quad that isn't in the mesh, or lacks a threshold.
+    NoEstimate = 18,
+    /// A weight above 256.
+    WeightTooHigh = 19,
 }
 
 impl Refusal {
     /// Every refusal, in the order of the numbers.
-    pub const ALL: [Refusal; 16] = [
+    pub const ALL: [Refusal; 18] = [
         Refusal::Lists,
         Refusal::ShortLoop,
         Refusal::NotFinite,
@@ -61,6 +65,8 @@ impl Refusal {
         Refusal::NoNode,
         Refusal::ThresholdTooHigh,
         Refusal::NoThreshold,
+        Refusal::NoEstimate,
+        Refusal::WeightTooHigh,
     ];
 
     /// Its number: 1 to 13 are document 01's, those above are the papers'.
@@ -127,6 +133,10 @@ impl Refusal {
                 "the threshold is above 500: give it in tenths of a decibel, 0 to 500; to take one back, withdraw it"
             }
             Refusal::NoThreshold => "no threshold stands at the node: enter one first, or look whether it was withdrawn already",
+            Refusal::NoEstimate => {
+                "the quad isn't in the mesh, or lacks a threshold: count quads from 0, and enter the thresholds of all its nodes"
+            }
+            Refusal::WeightTooHigh => "a weight is above 256: give weights from 0 to 256, which is all the way across the quad",
         }
     }
 }

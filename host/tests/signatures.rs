@@ -225,7 +225,7 @@ fn declarations_are_those_of_the_rattle_source() {
     let rattle = archive();
     let rust = Declared::of_rust(include_str!("../src/ffi.rs"));
     let queries = ["contains", "nearest_segment", "distance_to_boundary", "field", "direction", "pave"];
-    let exam = ["begin", "enter", "withdraw"];
+    let exam = ["begin", "enter", "withdraw", "estimate"];
     for entry in queries.iter().chain(&exam).map(|name| format!("sitjorbe_{name}")) {
         assert!(rattle.functions.contains_key(&entry), "{entry} isn't found in the Rattle source");
     }

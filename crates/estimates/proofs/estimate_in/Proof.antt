@@ -1,4 +1,5 @@
 -- `estimate_in` meets its contract: four reads, and their sum by weights. Assumes nothing.
+use native.Mathlib.Omega.{arith}
 use Rattle.estimates.specs.Code.{weighable, estimate-of}
 use borrow.Author.Needs.{needs}
 use Rattle.estimates.proofs.estimate_in.Statement.{statement}
@@ -22,9 +23,11 @@ weigh-requires c κs =
     let at-b = at-d .before in
     let at-a = at-b .before in
     let args = at-a .before .before .args in
+    let w =
     weighable (args .nodes) (args .thresholds .now) (args .q) (args .u) (args .v) (at-a .threshold-at .result) (at-b .threshold-at2 .result)
     (at-d .threshold-at3 .result) (c .threshold-at4 .result) (at-a .before .before .pre) (at-a .threshold-at .ensures .0) (at-b .threshold-at2 .ensures .0)
-    (at-d .threshold-at3 .ensures .0) (c .threshold-at4 .ensures .0)
+    (at-d .threshold-at3 .ensures .0) (c .threshold-at4 .ensures .0) in
+    record { u-low = omega arith; v-low = omega arith; a-low = omega arith; b-low = omega arith; d-low = omega arith; c-low = omega arith }
 
 returns : tie.Need-returns
 returns c =

@@ -17,26 +17,16 @@ pub struct QuadIds {
 pub fn node_count(nodes: u32, xs: &[f64], ys: &[f64]) -> u32
     ensures { λ r. ⌜ r ≡ nodeCount nodes (now (xs .entry)) (now (ys .entry)) ⌝ }
 {
-    let n = nodes as usize;
-    let most = if xs.len() < ys.len() {
-        xs.len()
-    } else {
-        ys.len()
-    };
-    if n < most { nodes } else { most as u32 }
+    let whole = numbers::min_usize(xs.len(), ys.len());
+    numbers::min_usize(nodes as usize, whole) as u32
 }
 
 // The count of quads: it stops at the last whole quad, and at 250,000.
 pub fn quad_count(count: usize, quads: &[u32]) -> usize
     ensures { λ r. ⌜ r ≡ quadCount count (now (quads .entry)) ⌝ }
 {
-    let whole = quads.len() / 4;
-    let most = if whole < Settings::MOST_QUADS {
-        whole
-    } else {
-        Settings::MOST_QUADS
-    };
-    if count < most { count } else { most }
+    let most = numbers::min_usize(quads.len() / 4, Settings::MOST_QUADS);
+    numbers::min_usize(count, most)
 }
 
 // An entry of a list; past its end 0.

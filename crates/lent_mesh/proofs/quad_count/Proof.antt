@@ -1,17 +1,19 @@
--- `quad_count` meets its contract: the whole quads, 250,000 and the count, whichever is least. Assumes nothing.
+-- `quad_count` meets its contract: the least of three. Assumes nothing.
 use Rattle.lent_mesh.specs.Mesh.{quadCount}
-use mathlib.Core.Logic.{⊎-elim}
-use native.Mathlib.Omega.{arith}
+use mathlib.Core.Path.{refl}
+use borrow.Author.Needs.{needs}
 use Rattle.lent_mesh.proofs.quad_count.Statement.{statement}
 use Rattle.lent_mesh.proofs.quad_count.Tie as tie
 
+min-usize-requires : tie.Need-min-usize-requires
+min-usize-requires c κs = search needs
+
+min-usize-requires-2 : tie.Need-min-usize-requires-2
+min-usize-requires-2 c κs = search needs
+
 returns : tie.Need-returns
 unfolding quadCount
-returns c = ⊎-elim (λ w. omega arith) (λ w. omega arith) (c .before .if1 .came)
-
-returns-2 : tie.Need-returns-2
-unfolding quadCount
-returns-2 c = ⊎-elim (λ w. omega arith) (λ w. omega arith) (c .before .if1 .came)
+returns c = rw (c .min-usize2 .ensures, c .before .min-usize .ensures) refl
 
 pub quad-count-spec : {M : Type 1} → statement M
-quad-count-spec = tie.close (tie.spec returns returns-2)
+quad-count-spec = tie.close (tie.spec min-usize-requires min-usize-requires-2 returns)

@@ -22,6 +22,8 @@ WORDS = {
     15: ("the node isn't in the mesh, or is past the lent list of thresholds", "count nodes from 0, and lend a place for each"),
     16: ("the threshold is above 500", "give it in tenths of a decibel, 0 to 500; to take one back, withdraw it"),
     17: ("no threshold stands at the node", "enter one first, or look whether it was withdrawn already"),
+    18: ("the quad isn't in the mesh, or lacks a threshold", "count quads from 0, and enter the thresholds of all its nodes"),
+    19: ("a weight is above 256", "give weights from 0 to 256, which is all the way across the quad"),
     21: ("the order leaves a quad out, names one twice or names one that isn't there",
          "name every quad of the mesh exactly once, counted from 0"),
     22: ("a quad stands before one that laid a front edge which it used up",

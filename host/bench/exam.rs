@@ -1,12 +1,13 @@
 //! Events of an exam on grids of quads in a random order, at nodes in a random order. Exits with 1 if a figure isn't the one worked out afresh.
 //!
 //! A round withdraws some thresholds of a grid where all stand, and enters them again; its time is a call's on average. Times are the processor's,
-//! so that waiting for it isn't counted.
+//! so that waiting for it isn't counted. Then estimates at random weights, in the quads
+//! one after the other and in quads at random.
 
 use std::ffi::c_long;
 use std::process::exit;
 
-use sitjorbe::{LentMesh, Results};
+use sitjorbe::{estimate, LentMesh, Results, MOST_WEIGHT};
 
 extern "C" {
     /// The processor time used so far, in microseconds.
@@ -97,5 +98,16 @@ fn main() {
         }
         let [entered, withdrawn] = times.map(least_and_median);
         println!("{:>7} quads: enter {entered:.2?}, withdraw {withdrawn:.2?}", quads.len() / 4);
+        let count = quads.len() / 4;
+        let in_order: Vec<usize> = (0..100_000).map(|k| k % count).collect();
+        let at_random: Vec<usize> = in_order.iter().map(|_| rng.below(count)).collect();
+        let [in_order, at_random] = [in_order, at_random].map(|asked| {
+            let mut weight = || rng.below(MOST_WEIGHT as usize + 1) as u32;
+            let requests: Vec<(usize, u32, u32)> = asked.into_iter().map(|quad| (quad, weight(), weight())).collect();
+            let ask = |&(quad, u, v): &(usize, u32, u32)| u64::from(estimate(&mesh, &all, quad, u, v).unwrap());
+            let round = |_| timed(|| assert!(requests.iter().map(ask).sum::<u64>() > 0)) / 100.0;
+            least_and_median((0..rounds).map(round).collect())
+        });
+        println!("{count:>7} quads: an estimate takes {in_order:.1?} ns in quads in order, {at_random:.1?} at random");
     }
 }

@@ -94,6 +94,14 @@ pub struct RefusalAnswer {
     pub refusal: u32,
 }
 
+/// The estimate, in tenths of a decibel; 0 on a refusal.
+#[repr(C)]
+#[derive(Clone, Copy, Debug)]
+pub struct EstimateAnswer {
+    pub refusal: u32,
+    pub estimate: u32,
+}
+
 /// `count` is how many fours are listed, 0 on a refusal.
 #[repr(C)]
 #[derive(Clone, Copy, Debug)]
@@ -254,6 +262,22 @@ extern "C" {
         sum: *mut u32,
         node: u32,
     ) -> RefusalAnswer;
+
+    pub fn sitjorbe_estimate(
+        nodes: u32,
+        xs: *const f64,
+        xs_len: usize,
+        ys: *const f64,
+        ys_len: usize,
+        quad_count: usize,
+        quads: *const u32,
+        quads_len: usize,
+        thresholds: *const u16,
+        thresholds_len: usize,
+        quad: usize,
+        u: u32,
+        v: u32,
+    ) -> EstimateAnswer;
 
     pub fn sitjorbe_small_quads(fours: *mut u32, fours_len: usize) -> SmallQuadsAnswer;
 

@@ -52,6 +52,7 @@
 //! # Ok::<(), Box<dyn std::error::Error>>(())
 //! ```
 
+mod estimates;
 pub mod ffi;
 mod field;
 mod order;
@@ -62,6 +63,7 @@ mod small_quads;
 mod sound;
 mod thresholds;
 
+pub use estimates::{estimate, MOST_WEIGHT};
 pub use field::{direction, field, FieldRecord};
 pub use order::{check_order, check_order_in, nearest_order, order_numbers, NotAccepted, OrderScratch};
 pub use pave::{pave, pave_numbers, End, Lists, Memory, Mesh, Places, Settings, TooManyPlaces, OFF};

@@ -40,6 +40,10 @@ pub enum Refusal {
     ThresholdTooHigh = 16,
     /// A withdrawal where no threshold stands.
     NoThreshold = 17,
+    /// A quad that isn't in the mesh, or lacks a threshold.
+    NoEstimate = 18,
+    /// A weight above 256.
+    WeightTooHigh = 19,
     /// A presentation order in which some quad is absent, repeated or unknown.
     NotEachOnce = 21,
     /// A presentation order in which a quad stands before one that laid a front edge which it used up.
@@ -50,7 +54,7 @@ pub enum Refusal {
 
 impl Refusal {
     /// Every refusal, in the order of the numbers.
-    pub const ALL: [Refusal; 19] = [
+    pub const ALL: [Refusal; 21] = [
         Refusal::Lists,
         Refusal::ShortLoop,
         Refusal::NotFinite,
@@ -67,6 +71,8 @@ impl Refusal {
         Refusal::NoNode,
         Refusal::ThresholdTooHigh,
         Refusal::NoThreshold,
+        Refusal::NoEstimate,
+        Refusal::WeightTooHigh,
         Refusal::NotEachOnce,
         Refusal::TooEarly,
         Refusal::FoursNeedSpace,
@@ -136,6 +142,10 @@ impl Refusal {
                 "the threshold is above 500: give it in tenths of a decibel, 0 to 500; to take one back, withdraw it"
             }
             Refusal::NoThreshold => "no threshold stands at the node: enter one first, or look whether it was withdrawn already",
+            Refusal::NoEstimate => {
+                "the quad isn't in the mesh, or lacks a threshold: count quads from 0, and enter the thresholds of all its nodes"
+            }
+            Refusal::WeightTooHigh => "a weight is above 256: give weights from 0 to 256, which is all the way across the quad",
             Refusal::NotEachOnce => {
                 "the order leaves a quad out, names one twice or names one that isn't there: name every quad of the mesh exactly \
                  once, counted from 0"

@@ -5,8 +5,8 @@ mod common;
 use common::blocks::Block;
 use common::{by_kind, list_lengths, refused, said, used, Drawing, FieldPlaces, Lengths, Lent, Raw, RunPlaces};
 use sitjorbe::{
-    check_order_in, direction, ffi, pave, small_quads, LentMesh, Lists, Memory, NotAccepted, Outline, Places, Refusal,
-    Results, Settings,
+    check_order_in, direction, estimate, ffi, pave, small_quads, LentMesh, Lists, Memory, NotAccepted, Outline, Places,
+    Refusal, Results, Settings,
 };
 
 /// Drawings and points that are accepted and refused.
@@ -171,8 +171,8 @@ fn a_run_is_written_and_read_within_its_lists() {
     }
 }
 
-/// The mesh in read-only memory, and the thresholds and each figure in memory of their own: an exam begins, and events are taken and refused,
-/// with ids that are no nodes in the quads and a quad that isn't whole.
+/// The mesh in read-only memory, and the thresholds and each figure in memory of their own: an exam begins, events are taken and refused, and
+/// estimates asked for, with ids that are no nodes in the quads and a quad that isn't whole.
 #[cfg(target_os = "linux")]
 #[test]
 fn events_are_taken_within_their_lists() {
@@ -199,6 +199,12 @@ fn events_are_taken_within_their_lists() {
         }
         let figures = if places < 4 { (0, 0) } else { (2, 700) };
         assert_eq!((*results.count, *results.sum), figures);
+        let read = pages::Pages::read_only(results.thresholds, side);
+        for quad in [0, 1, 2, 3, 250_000, usize::MAX] {
+            let whole = quad < 2 && places >= 4;
+            let expected = if whole { Ok(100) } else { Err(Refusal::NoEstimate) };
+            assert_eq!(estimate(&mesh, read.list(), quad, 128, 256), expected);
+        }
     }
 }
 

@@ -5,38 +5,14 @@ mod common;
 
 use std::collections::BTreeSet;
 
+use common::exam::{hostile, ExamLists, Model};
 use common::rng::Rng;
-use common::{Drawing, Guarded};
+use common::Drawing;
 use sitjorbe::{LentMesh, Memory, Places, Refusal, Results, Settings, Thresholds, NO_THRESHOLD};
 
 // ---- paper 6
 
-/// A mesh as it counts, and the list of thresholds.
-#[derive(Clone, Debug)]
-struct Model {
-    nodes: u32,
-    quads: Vec<[u32; 4]>,
-    list: Vec<u16>,
-}
-
 impl Model {
-    /// "a count beyond its list stops at its last whole node or quad, and quads stop at 250,000"
-    fn of(mesh: &LentMesh<'_>, list: &[u16]) -> Model {
-        let whole = mesh.xs.iter().zip(mesh.ys).count();
-        let quads = mesh.quads.chunks(4).filter_map(|quad| <[u32; 4]>::try_from(quad).ok());
-        Model {
-            nodes: (0..mesh.nodes).take(whole).count() as u32,
-            quads: quads.take(mesh.quad_count).take(250_000).collect(),
-            list: list.to_vec(),
-        }
-    }
-
-    /// The threshold that stands at an id: "anything above 500 means none", and an id that is no node has none.
-    fn standing(&self, id: u32) -> Option<u32> {
-        let place = self.list.get(id as usize).filter(|_| id < self.nodes)?;
-        (*place <= 500).then_some(u32::from(*place))
-    }
-
     /// "how many quads have all four thresholds and the sum of all thresholds of those quads, a node counted once for each such quad"
     fn figures(&self) -> [u32; 2] {
         let thresholds = |quad: &[u32; 4]| {
@@ -90,62 +66,9 @@ impl Event {
     }
 }
 
-// ---- lists that are lent
-
-/// The lists of an exam, each with its guards, and the two figures between guards of their own.
-struct Lent {
-    nodes: u32,
-    xs: Guarded<f64>,
-    ys: Guarded<f64>,
-    quad_count: usize,
-    quads: Guarded<u32>,
-    thresholds: Guarded<u16>,
-    count: Guarded<u32>,
-    sum: Guarded<u32>,
-}
-
-impl Lent {
-    fn new(
-        nodes: u32,
-        places: [usize; 2],
-        quad_count: usize,
-        quads: &[u32],
-        thresholds: &[u16],
-        figures: [u32; 2],
-    ) -> Lent {
-        let [xs, ys] = places.map(|length| Guarded::new(&vec![0.25; length]));
-        let [count, sum] = figures.map(|figure| Guarded::new(&[figure]));
-        let (quads, thresholds) = (Guarded::new(quads), Guarded::new(thresholds));
-        Lent { nodes, xs, ys, quad_count, quads, thresholds, count, sum }
-    }
-
-    fn parts(&mut self) -> (Results<'_>, LentMesh<'_>) {
-        let Lent { nodes, xs, ys, quad_count, quads, thresholds, count, sum } = self;
-        let mesh =
-            LentMesh { nodes: *nodes, xs: xs.list(), ys: ys.list(), quad_count: *quad_count, quads: quads.list() };
-        let [count, sum] = [count, sum].map(|figure| &mut figure.list_mut()[0]);
-        (Results { thresholds: thresholds.list_mut(), count, sum }, mesh)
-    }
-
-    fn model(&mut self) -> Model {
-        let (results, mesh) = self.parts();
-        Model::of(&mesh, results.thresholds)
-    }
-
-    fn figures(&self) -> [u32; 2] {
-        [&self.count, &self.sum].map(|figure| figure.list()[0])
-    }
-
-    /// Whether the mesh keeps every bit, and the guards of what may be written.
-    fn kept(&self) -> bool {
-        let mesh = self.xs.kept() && self.ys.kept() && self.quads.kept();
-        mesh && self.thresholds.kept_from(usize::MAX) && self.count.kept_from(1) && self.sum.kept_from(1)
-    }
-}
-
 /// Hands an event to the library and to the model: refusal, list and figures agree, and nothing else is written. The figures move by what the
 /// model's move, also those that no call left.
-fn agree(lent: &mut Lent, model: &mut Model, event: Event) -> u32 {
+fn agree(lent: &mut ExamLists, model: &mut Model, event: Event) -> u32 {
     let ([count, sum], [old_count, old_sum]) = (lent.figures(), model.figures());
     let expected = model.take(event);
     let [new_count, new_sum] = model.figures();
@@ -205,7 +128,7 @@ fn readings() {
         ("a replacement", 2, &[0, 1, 0, 1], (&[5, 6], [1, 11]), Enter(1, 0), 0, (&[5, 0], [1, 5])),
     ];
     for (what, nodes, quads, (list, figures), event, refusal, left) in all {
-        let mut lent = Lent::new(nodes, [nodes as usize; 2], quads.len() / 4, quads, list, figures);
+        let mut lent = ExamLists::new(nodes, [nodes as usize; 2], quads.len() / 4, quads, list, figures);
         let mut model = lent.model();
         assert_eq!(agree(&mut lent, &mut model, event), refusal, "{what}");
         assert_eq!((lent.thresholds.list(), lent.figures()), left, "{what}");
@@ -216,12 +139,12 @@ fn readings() {
 #[test]
 fn counts_stop_at_whole_nodes_and_quads() {
     for (places, refusal) in [([2, 2], 0), ([2, 1], 15), ([1, 2], 15), ([3, 3], 0)] {
-        let mut lent = Lent::new(2, places, 1, &[0, 0, 0, 0], &[NO_THRESHOLD; 2], [0, 0]);
+        let mut lent = ExamLists::new(2, places, 1, &[0, 0, 0, 0], &[NO_THRESHOLD; 2], [0, 0]);
         let mut model = lent.model();
         assert_eq!(agree(&mut lent, &mut model, Event::Enter(1, 9)), refusal, "{places:?}");
     }
     for (quad_count, numbers, complete) in [(2, 7, 1), (2, 8, 2), (1, 8, 1), (usize::MAX, 9, 2), (0, 8, 0)] {
-        let mut lent = Lent::new(1, [1, 1], quad_count, &vec![0; numbers], &[NO_THRESHOLD], [0, 0]);
+        let mut lent = ExamLists::new(1, [1, 1], quad_count, &vec![0; numbers], &[NO_THRESHOLD], [0, 0]);
         let mut model = lent.model();
         assert_eq!(agree(&mut lent, &mut model, Event::Enter(0, 500)), 0);
         assert_eq!(lent.figures(), [complete, 500 * complete], "{quad_count} {numbers}");
@@ -232,7 +155,7 @@ fn counts_stop_at_whole_nodes_and_quads() {
 #[test]
 fn quads_stop_at_250_000() {
     let quads: Vec<u32> = (0..4 * 250_001).map(|k| if k < 1_000_000 { k % 4 } else { 4 }).collect();
-    let mut lent = Lent::new(5, [5, 5], 250_001, &quads, &[NO_THRESHOLD; 5], [0, 0]);
+    let mut lent = ExamLists::new(5, [5, 5], 250_001, &quads, &[NO_THRESHOLD; 5], [0, 0]);
     let mut model = lent.model();
     for (node, figures) in [(4, [0, 0]), (0, [0, 0]), (1, [0, 0]), (2, [0, 0]), (3, [250_000, 500_000_000])] {
         assert_eq!(agree(&mut lent, &mut model, Event::Enter(node, 500)), 0);
@@ -245,7 +168,7 @@ fn quads_stop_at_250_000() {
 fn an_exam_begins() {
     for length in [0, 1, 2, 7, 100] {
         let list: Vec<u16> = (0..length).map(|k| [501, 0, 65_534, 500, NO_THRESHOLD][k % 5]).collect();
-        let mut lent = Lent::new(1, [1, 1], 1, &[0, 0, 0, 0], &list, [3, u32::MAX]);
+        let mut lent = ExamLists::new(1, [1, 1], 1, &[0, 0, 0, 0], &list, [3, u32::MAX]);
         lent.parts().0.begin();
         assert_eq!((lent.thresholds.list(), lent.figures()), (&vec![65_535; length][..], [0, 0]));
         assert!(lent.kept());
@@ -255,9 +178,9 @@ fn an_exam_begins() {
 /// The guards show a write beside a list, and one in the mesh.
 #[test]
 fn the_guards_show_a_write() {
-    let lent = || Lent::new(2, [2, 2], 1, &[0, 1, 0, 1], &[1, 2], [1, 3]);
+    let lent = || ExamLists::new(2, [2, 2], 1, &[0, 1, 0, 1], &[1, 2], [1, 3]);
     assert!(lent().kept());
-    let writes: [fn(&mut Lent); 4] = [
+    let writes: [fn(&mut ExamLists); 4] = [
         |lent| lent.quads.list_mut()[3] = 0,
         |lent| lent.ys.list_mut()[0] = 1.0,
         // SAFETY: eight guards stand after the list.
@@ -273,34 +196,6 @@ fn the_guards_show_a_write() {
 }
 
 // ---- at random
-
-/// Lists of any lengths, ids that are no nodes, nodes several times in a quad, junk in the list.
-fn hostile(rng: &mut Rng) -> Lent {
-    let nodes = rng.below(12);
-    let near =
-        |rng: &mut Rng, n: usize| (n + rng.below(3)).saturating_sub(if rng.once_in(3) { rng.below(4) } else { 0 });
-    let places = [near(rng, nodes), near(rng, nodes)];
-    let length = near(rng, nodes);
-    let numbers = 4 * rng.below(14) + if rng.once_in(3) { rng.below(4) } else { 0 };
-    let id = |rng: &mut Rng| match rng.below(12) {
-        0 => rng.pick(&[u32::MAX, u32::MAX - 1, 1 << 31, 65_535, nodes as u32 + 1]),
-        _ => rng.below(nodes + 1) as u32,
-    };
-    let quads: Vec<u32> = (0..numbers).map(|_| id(rng)).collect();
-    let quad_count = if rng.once_in(4) {
-        rng.pick(&[0, 1, usize::MAX, usize::MAX / 4 + 1, 250_001])
-    } else {
-        near(rng, numbers / 4)
-    };
-    let nodes = if rng.once_in(10) { u32::MAX } else { nodes as u32 };
-    let place = |rng: &mut Rng| match rng.below(4) {
-        0 => rng.pick(&[501, 65_534, 65_535, 32_768, 500]),
-        _ => rng.below(502) as u16,
-    };
-    let list: Vec<u16> = (0..length).map(|_| place(rng)).collect();
-    let figures = [rng.next() as u32, rng.next() as u32];
-    Lent::new(nodes, places, quad_count, &quads, &list, figures)
-}
 
 fn random_event(rng: &mut Rng, places: usize) -> Event {
     let node = if rng.once_in(40) { rng.pick(&[u32::MAX, 1 << 16, 1 << 31]) } else { rng.below(places + 2) as u32 };

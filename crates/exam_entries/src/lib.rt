@@ -3,7 +3,8 @@
 ghost use mathlib.Core.Path.{_≡_};
 ghost use Rattle.lent_mesh.specs.Mesh.{meshOf};
 ghost use Rattle.thresholds.specs.Figures.{results, outcome, beginAnswer, enterAnswer, withdrawAnswer};
-ghost use Rattle.exam_entries.specs.Entries.{EventTaken};
+ghost use Rattle.exam_entries.specs.Entries.{EventTaken, EstimateGiven};
+use estimates::EstimateAnswer;
 
 // `refusal` is 0 where nothing is refused.
 #[repr(C)]
@@ -81,4 +82,23 @@ pub extern "C" fn sitjorbe_withdraw(
     let n = lent_mesh::node_count(nodes, xs, ys);
     let refusal = thresholds::withdraw(n, quad_count, quads, thresholds, count, sum, node);
     RefusalAnswer { refusal }
+}
+
+// The estimate in a quad at the weights u, from a towards b, and v, from a towards c: 0 to 256 across it.
+#[no_mangle]
+pub extern "C" fn sitjorbe_estimate(
+    nodes: u32,
+    xs: &[f64],
+    ys: &[f64],
+    quad_count: usize,
+    quads: &[u32],
+    thresholds: &[u16],
+    quad: usize,
+    u: u32,
+    v: u32,
+) -> EstimateAnswer
+    ensures { λ r. ⌜ EstimateGiven (meshOf nodes (now (xs .entry)) (now (ys .entry)) «quad_count» (now (quads .entry))) (now (thresholds .entry)) quad u v r ⌝ }
+{
+    let n = lent_mesh::node_count(nodes, xs, ys);
+    estimates::estimate_at(n, quad_count, quads, thresholds, quad, u, v)
 }

@@ -3,6 +3,7 @@
 
 pub mod blocks;
 pub mod book;
+pub mod exam;
 pub mod rng;
 pub mod sound;
 pub mod whole;

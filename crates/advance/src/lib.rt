@@ -19,6 +19,7 @@ ghost use Rattle.advance.specs.Searchable.{Searchable};
 use direction::Grid;
 use domain::Settings;
 use front::Counts;
+use front::Neighbour;
 use front::OFF;
 use front::Placed;
 use paving::Attempt;
@@ -87,7 +88,11 @@ fn edge_attempt<'a>(
     if b == OFF {
         return Attempt::Nothing;
     }
-    if attempts::link_at(next, k.nodes, a) != b {
+    let neighbour = attempts::link_at(next, k.nodes, a);
+    let Neighbour::At(v) = neighbour else {
+        return Attempt::Nothing;
+    };
+    if v != b {
         return Attempt::Nothing;
     }
     attempts::try_edge(

@@ -34,7 +34,17 @@ seenPoints xs ys = seenNodes xs ys (counted 0 0 0 0)
 abbrev pub seenEdges : List Float → List Float → List ℕ → Counts → State
 seenEdges xs ys edges counts = seen xs ys [] [] edges counts
 
+-- points, and the links of so many nodes
+abbrev pub seenLinks : List Float → List Float → List ℕ → List ℕ → ℕ → State
+seenLinks xs ys next prev nodes = seen xs ys next prev [] (counted nodes 0 0 0)
+
 -- ---- what the code asks
+
+-- two new nodes have numbers, and the links of the nodes counted are lent
+pub record LinksLent (next prev : List ℕ) (nodes : ℕ) : Type 0 where
+  pub nodes-few : nodes ≤ 4294967294
+  pub next-fit : nodes ≤ length next
+  pub prev-fit : nodes ≤ length prev
 
 -- the outline isn't refused and its blocks are filed, and so are the nodes counted
 pub record NodesLent (o : Outline) (blocks : List ℕ) (size : Float) (xs ys : List Float) (node-pool : List ℕ) (counts : Counts) : Type 0 where

@@ -1,11 +1,10 @@
-// The state of a paving (src/alt_crossfield.rs: `Paving`): lists lent, counts by value. Sampling, and the placing of a quad.
+// The state of a paving (src/alt_crossfield.rs: `Paving`), lists lent and counts by value, and the placing of a quad.
 ghost use mathlib.Core.Path.{_≡_};
 ghost use Prim.Native.Nat.{_+_, _*_, _^_, _≤_, _<_, min, max};
 ghost use lib.ListN.{length, getD, set};
 ghost use lib.Ieee.{nan};
-ghost use Rattle.laws.specs.Loop.{anyUp};
 ghost use Rattle.topology.specs.Links.{off};
-ghost use Rattle.front.specs.State.{stateOf, nodeIn, edgeIs};
+ghost use Rattle.front.specs.State.{stateOf, nodeIn};
 ghost use Rattle.front.specs.Place.{added, cornerId};
 ghost use Rattle.front.specs.Ready.{Ready};
 ghost use Rattle.front.specs.Stores.{Places, countsAfter, afterQuad, isBeyond, storeX, storeY, isReused, knownAcross, unless, newEdges};
@@ -24,6 +23,12 @@ pub struct Counts {
 pub enum Corner {
     Reused(u32),
     Fresh(f64, f64),
+}
+
+// A node's neighbour along the front; none for a node off the front.
+pub enum Neighbour {
+    At(u32),
+    Off,
 }
 
 // The nodes of a sampled loop in the order of the front. `count` nodes were sampled from `base` on; they run backwards where `turned`;
@@ -147,37 +152,6 @@ pub fn larger(u: u32, v: u32) -> u32
     ensures { λ r. ⌜ r ≡ max u v ⌝ }
 {
     if u < v { v } else { u }
-}
-
-// Whether one of the first n edges joins u and v, u the smaller.
-pub fn scan_edges(edges: &[u32], n: usize, u: u32, v: u32) -> bool
-    requires { ⌜ 2 * n ≤ length (now edges) ⌝ }
-    ensures { λ r. ⌜ r ≡ anyUp n (edgeIs (now (edges .entry)) u v) ⌝ }
-{
-    let mut k = 0;
-    while k < n {
-        if edges[2 * k] == u {
-            if edges[2 * k + 1] == v {
-                return true;
-            }
-        }
-        k += 1;
-    }
-    false
-}
-
-// Whether the far corners are joined already. Only two reused ones can be: they alone are searched for.
-pub fn is_known_across(edges: &[u32], n: usize, c: Corner, d: Corner) -> bool
-    requires { ⌜ 2 * n ≤ length (now edges) ⌝ }
-    ensures { λ r. ⌜ r ≡ knownAcross (now (edges .entry)) n c d ⌝ }
-{
-    let Corner::Reused(u) = c else {
-        return false;
-    };
-    let Corner::Reused(v) = d else {
-        return false;
-    };
-    scan_edges(edges, n, smaller(v, u), larger(v, u))
 }
 
 fn unless(known: bool) -> usize

@@ -158,3 +158,9 @@ module _ (f : ℕ → List ℕ) where
   pub across-end : (w a : ℕ) → w ≡ 0 → across f w a ≡ []
   unfolding across
   across-end w a e = ap (λ (v : ℕ). across f v a) e
+
+  -- of empty lists
+  pub across-empty : ((i : ℕ) → f i ≡ []) → (w a : ℕ) → across f w a ≡ []
+  unfolding across
+  across-empty empty zero a = refl
+  across-empty empty (suc w) a = ap₂ (λ (l m : List ℕ). l ++ m) (empty a) (across-empty empty w (a + 1))

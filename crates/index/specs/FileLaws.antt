@@ -1,20 +1,24 @@
 -- Laws of filing: what `push` does to every reading of a pool, and that what is filed stays filed.
-use mathlib.Core.Bool.{Bool, true, false, not, cond, _&&_, _||_, true≢false}
+use mathlib.Core.Bool.{Bool, true, false, cond, _&&_, _||_}
 use mathlib.Core.List.{List, [], _∷_, _++_}
 use mathlib.Core.Logic.{_⊎_, inl, inr, ⊎-elim}
-use mathlib.Core.Path.{_≡_, refl, sym, ap, ap₂, _∙_, subst}
+use mathlib.Core.Path.{_≡_, refl, sym, ap, ap₂, _∙_, subst, fun-ext}
 use Prim.Native.Nat.{ℕ, zero, suc, _+_, _-_, _*_, _/_, _%_, _<_, _≤_, min}
-use native.Mathlib.Nat.{mod-lt, mod-add-mod}
+use native.Mathlib.Nat.{mod-lt, mod-add-mod, mul-zero, mul-suc, mul-le-mul-left, eq-or-lt-of-le, le-antisymm}
 use native.Mathlib.Omega.{arith}
-use borrow.Author.Tests.{eq-eqb, ne-eqb, eqb-true, eqb-false, lt-ltb, le-ltb, ltb-true, ltb-false, leb-true, le-leb, lt-leb}
-use lib.Dec.{eqb, ltb, leb}
+use native.Mathlib.Numerals.{add-one}
+use borrow.Author.Tests.{eq-eqb, ne-eqb, eqb-true, eqb-false, leb-true, leb-false, le-leb, lt-leb}
+use lib.Dec.{eqb, leb}
 use lib.ListN.{length, getD, set, length-set}
 use lib.Seq.{getD-set-same, getD-set-other}
-use Rattle.laws.specs.Loop.{Loop, loop-start, loop-next, loop-end, forUp, forUp-keeps}
+use Rattle.laws.specs.Loop.{Loop, loop-start, loop-next, loop-end, forUp, forUp-keeps, forUp-same, sumUp, sumTurn}
+use Rattle.laws.specs.Tests.{both}
 use Rattle.index.specs.declared.Rect.{Rect}
-use Rattle.index.specs.Pool.{none, stride, cells, capacity, ownPlace, linkPlace, used, headAt, ownAt, linkAt, live, falling, chain, anyOf, cellOf}
-use Rattle.index.specs.Pool.{Within, span, clearCell, cleared, placed, push, fileColumn, fileRow, fileLine, file, Holds, Under, Filed, Indexed}
-use Rattle.index.specs.ChainLaws.{falling-high, falling-step, falling-on, falling-keeps, falling-same, same-or-not, less-other, or-true}
+use Rattle.laws.specs.Sums.{sum-zero, sum-suc}
+use Rattle.index.specs.Pool.{none, stride, cells, capacity, ownPlace, linkPlace, used, filed, headAt, ownAt, linkAt, falling, chain, anyOf, cellOf}
+use Rattle.index.specs.Pool.{Within, span, clearCell, cleared, placed, push, fileColumn, fileRow, fileLine, keyCount, takes, file}
+use Rattle.index.specs.Pool.{Holds, Under, keySum, Filed, Indexed}
+use Rattle.index.specs.ChainLaws.{falling-high, falling-step, falling-on, falling-keeps, falling-same, below-or-not, same-or-not, less-other, or-true}
 
 -- ---- the layout
 
@@ -31,7 +35,7 @@ pub some-cell : (n : ℕ) → 4 ≤ n → 0 < cells n
 unfolding cells
 some-cell n h = omega arith
 
-pub cells-fit : (n : ℕ) → 4 ≤ n → cells n < n
+pub cells-fit : (n : ℕ) → 4 ≤ n → 1 + cells n < n
 unfolding cells
 cells-fit n h = omega arith
 
@@ -46,32 +50,16 @@ next-column m i j =
     let e : i + 1 + j * stride ≡ i + j * stride + 1 = omega arith in
     ap (λ (x : ℕ). x % m) e ∙ sym (mod-add-mod (i + j * stride) m 1)
 
--- ---- being in use
+-- ---- how many items are filed
 
 module _ (pool : List ℕ) where
-  pub live-some : live pool ≡ true → 4 ≤ length pool
-  unfolding live
-  live-some e = by (leb 4 (length pool)) refl e
-    where
-      by : (b : Bool) → leb 4 (length pool) ≡ b → b && not (eqb (used pool) none) ≡ true → 4 ≤ length pool
-      by true f g = leb-true 4 (length pool) f
-      by false f g = absurd (true≢false (sym g))
+  pub filed-some : 4 ≤ length pool → filed pool ≡ getD pool 1 0
+  unfolding filed
+  filed-some h = rw (le-leb 4 (length pool) h)
 
-  pub live-short : length pool < 4 → live pool ≡ false
-  unfolding live
-  live-short h = rw (lt-leb 4 (length pool) h)
-
-  pub live-not : used pool ≡ none → live pool ≡ false
-  unfolding live
-  live-not e = rw (eq-eqb (used pool) none e) (by (leb 4 (length pool)))
-    where
-      by : (b : Bool) → b && false ≡ false
-      by true = refl
-      by false = refl
-
-  pub live-is : 4 ≤ length pool → (used pool ≡ none → ⊥) → live pool ≡ true
-  unfolding live
-  live-is h e = rw (le-leb 4 (length pool) h, ne-eqb (used pool) none e)
+  pub filed-short : length pool < 4 → filed pool ≡ 0
+  unfolding filed
+  filed-short h = rw (lt-leb 4 (length pool) h)
 
 -- ---- one place more
 
@@ -127,36 +115,36 @@ module _ (pool : List ℕ) (c own count : ℕ) (inside : c < cells (length pool)
   fits-next = place-fits n u room
 
   used-next : used next ≡ u + 1
-  used-next = four-last pool (ownPlace n u) (linkPlace n u) (1 + c) own (headAt pool c) u (u + 1) (omega (arith, fits-next))
+  used-next = four-last pool (ownPlace n u) (linkPlace n u) (2 + c) own (headAt pool c) u (u + 1) (omega (arith, fits-next))
 
   head-here : headAt next c ≡ u
   head-here =
       let far = fits-next in
-      four-third pool (ownPlace n u) (linkPlace n u) (1 + c) own (headAt pool c) u (u + 1) (omega arith) (λ e. omega arith)
+      four-third pool (ownPlace n u) (linkPlace n u) (2 + c) own (headAt pool c) u (u + 1) (omega arith) (λ e. omega arith)
 
   head-other : (d : ℕ) → d < cells n → (d ≡ c → ⊥) → headAt next d ≡ headAt pool d
   head-other d small other =
-      four-other pool (ownPlace n u) (linkPlace n u) (1 + c) own (headAt pool c) u (u + 1) (1 + d) (λ e. omega arith) (λ e. omega arith)
+      four-other pool (ownPlace n u) (linkPlace n u) (2 + c) own (headAt pool c) u (u + 1) (2 + d) (λ e. omega arith) (λ e. omega arith)
       (λ e. other (omega arith)) (λ e. omega arith)
 
   own-here : ownAt n next u ≡ own
   own-here =
       let far = fits-next in
-      four-first pool (ownPlace n u) (linkPlace n u) (1 + c) own (headAt pool c) u (u + 1) (omega arith) (λ e. omega arith) (λ e. omega arith)
+      four-first pool (ownPlace n u) (linkPlace n u) (2 + c) own (headAt pool c) u (u + 1) (omega arith) (λ e. omega arith) (λ e. omega arith)
       (λ e. omega arith)
 
   link-here : linkAt n next u ≡ headAt pool c
   link-here =
-      four-second pool (ownPlace n u) (linkPlace n u) (1 + c) own (headAt pool c) u (u + 1) fits-next (λ e. omega arith) (λ e. omega arith)
+      four-second pool (ownPlace n u) (linkPlace n u) (2 + c) own (headAt pool c) u (u + 1) fits-next (λ e. omega arith) (λ e. omega arith)
 
   own-before : (t : ℕ) → t < u → ownAt n next t ≡ ownAt n pool t
   own-before t less =
-      four-other pool (ownPlace n u) (linkPlace n u) (1 + c) own (headAt pool c) u (u + 1) (ownPlace n t) (λ e. omega arith) (λ e. omega arith)
+      four-other pool (ownPlace n u) (linkPlace n u) (2 + c) own (headAt pool c) u (u + 1) (ownPlace n t) (λ e. omega arith) (λ e. omega arith)
       (λ e. omega arith) (λ e. omega arith)
 
   link-before : (t : ℕ) → t < u → linkAt n next t ≡ linkAt n pool t
   link-before t less =
-      four-other pool (ownPlace n u) (linkPlace n u) (1 + c) own (headAt pool c) u (u + 1) (linkPlace n t) (λ e. omega arith) (λ e. omega arith)
+      four-other pool (ownPlace n u) (linkPlace n u) (2 + c) own (headAt pool c) u (u + 1) (linkPlace n t) (λ e. omega arith) (λ e. omega arith)
       (λ e. omega arith) (λ e. omega arith)
 
   -- a chain of places before u is as it was
@@ -225,32 +213,19 @@ module _ (pool : List ℕ) (c own count : ℕ) (inside : c < cells (length pool)
 
 pub push-length : (c own : ℕ) (pool : List ℕ) → length (push c own pool) ≡ length pool
 unfolding push
-push-length c own pool = by (ltb (used pool) (capacity (length pool)))
-  where
-    by : (b : Bool) → length (cond b (placed (used pool) c own pool) (set pool 0 none)) ≡ length pool
-    by true = four-length pool _ _ _ _ _ _ _
-    by false = length-set pool 0 none
+push-length c own pool = four-length pool _ _ _ _ _ _ _
 
--- where the pool is still in use, it was, and holds one item more
-pub push-holds : {S : ℕ → ℕ → Type 0} (n c own count : ℕ) (pool : List ℕ) → length pool ≡ n → c < cells n → own < count
-    → (live pool ≡ true → Holds n pool count S) → live (push c own pool) ≡ true → Holds n (push c own pool) count (with S c own)
+pub push-used : (c own : ℕ) (pool : List ℕ) → 0 < length pool → used (push c own pool) ≡ used pool + 1
 unfolding push
-push-holds {S} n c own count pool e inside small H on =
-    subst (λ (k : ℕ). Holds k (push c own pool) count (with S c own)) e
-    (by (ltb (used pool) (capacity (length pool))) refl (subst (λ (k : ℕ). c < cells k) (sym e) inside)
-    (λ was. subst (λ (k : ℕ). Holds k pool count S) (sym e) (H was)) on)
-  where
-    by : (b : Bool) → ltb (used pool) (capacity (length pool)) ≡ b → c < cells (length pool) → (live pool ≡ true → Holds (length pool) pool count S)
-        → live (cond b (placed (used pool) c own pool) (set pool 0 none)) ≡ true
-        → Holds (length pool) (cond b (placed (used pool) c own pool) (set pool 0 none)) count (with S c own)
-    by true f inside H on =
-        let room = ltb-true (used pool) (capacity (length pool)) f in
-        let some = subst (λ (k : ℕ). 4 ≤ k) (four-length pool _ _ _ _ _ _ _) (live-some (placed (used pool) c own pool) on) in
-        placed-holds pool c own count inside room small
-        (H (live-is pool some (λ is-none. omega (arith, place-small (length pool) (used pool) room))))
-    by false f inside H on =
-        let some = subst (λ (k : ℕ). 4 ≤ k) (length-set pool 0 none) (live-some (set pool 0 none) on) in
-        absurd (true≢false (sym on ∙ live-not (set pool 0 none) (getD-set-same pool 0 none 0 (omega arith))))
+push-used c own pool h = four-last pool _ _ _ _ _ _ _ h
+
+pub push-holds : {S : ℕ → ℕ → Type 0} (n c own count : ℕ) (pool : List ℕ) → length pool ≡ n → c < cells n → used pool < capacity n → own < count
+    → Holds n pool count S → Holds n (push c own pool) count (with S c own)
+unfolding push
+push-holds {S} n c own count pool e inside room small H =
+    subst (λ (k : ℕ). Holds k (placed (used pool) c own pool) count (with S c own)) e
+    (placed-holds pool c own count (subst (λ (k : ℕ). c < cells k) (sym e) inside) (subst (λ (k : ℕ). used pool < capacity k) (sym e) room) small
+    (subst (λ (k : ℕ). Holds k pool count S) (sym e) H))
 
 -- ---- one item under a row, and under a rectangle
 
@@ -258,30 +233,43 @@ push-holds {S} n c own count pool e inside small H on =
 abbrev pub withRow : (ℕ → ℕ → Type 0) → ℕ → ℕ → ℕ → ℕ → ℕ → ℕ → ℕ → Type 0
 withRow S m left j own k d x = S d x ⊎ ((i : ℕ) × (i < k) × (d ≡ cellOf m (left + i) j) × (x ≡ own))
 
--- a pool of n places that holds S where it is in use
-abbrev pub Kept : ℕ → ℕ → (ℕ → ℕ → Type 0) → List ℕ → Type 0
-Kept n count S pool = (length pool ≡ n) × (live pool ≡ true → Holds n pool count S)
+-- a list of n numbers with u places in use, that holds S
+pub record Kept (n count u : ℕ) (S : ℕ → ℕ → Type 0) (pool : List ℕ) : Type 0 where
+  pub long : length pool ≡ n
+  pub places : used pool ≡ u
+  pub holds : Holds n pool count S
 
 pub holds-less : {S R : ℕ → ℕ → Type 0} {n count : ℕ} {pool : List ℕ} → ((c x : ℕ) → R c x → S c x) → Holds n pool count S → Holds n pool count R
 holds-less less H = record { fits = H .fits; heads = H .heads; owners = H .owners; has = λ c x h r. H .has c x h (less c x r) }
 
-pub row-kept : {S : ℕ → ℕ → Type 0} (n count left right j own : ℕ) (pool : List ℕ) → 4 ≤ n → own < count
-    → Kept n count S pool → Kept n count (withRow S (cells n) left j own (span left right)) (fileRow left right j own pool)
+pub row-kept : {S : ℕ → ℕ → Type 0} (n count u left right j own : ℕ) (pool : List ℕ) → 4 ≤ n → own < count → u + span left right ≤ capacity n
+    → Kept n count u S pool
+    → Kept n count (u + span left right) (withRow S (cells n) left j own (span left right)) (fileRow left right j own pool)
 unfolding fileRow
-row-kept {S} n count left right j own pool some small K =
-    subst (λ (m : ℕ). Kept n count (withRow S (cells n) left j own (span left right))
-    (forUp (span left right) (fileColumn (cells m) left j own) pool)) (sym (K .0))
-    (forUp-keeps (λ k p. Kept n count (withRow S (cells n) left j own k) p) (span left right)
-    (fileColumn (cells n) left j own) pool
-    (K .0, λ on. holds-less (λ c x. ⊎-elim (λ s. s) (λ r. absurd (omega (arith, r .1)))) (K .1 on)) more)
+row-kept {S} n count u left right j own pool some small room K =
+    subst (λ (m : ℕ). Kept n count (u + span left right) (withRow S (cells n) left j own (span left right))
+    (forUp (span left right) (fileColumn (cells m) left j own) pool)) (sym (K .long))
+    (forUp-keeps (λ k p. Kept n count (u + k) (withRow S (cells n) left j own k) p) (span left right)
+    (fileColumn (cells n) left j own) pool start more)
   where
-    more : (k : ℕ) (p : List ℕ) → k < span left right → Kept n count (withRow S (cells n) left j own k) p
-        → Kept n count (withRow S (cells n) left j own (suc k)) (push (cellOf (cells n) (left + k) j) own p)
-    more k p h Kp = (
-      push-length _ own p ∙ Kp .0,
-      λ on. holds-less (λ c x. ⊎-elim (λ s. inl (inl s)) (λ r. last c x r (same-or-not (r .0) k)))
-          (push-holds n (cellOf (cells n) (left + k) j) own count p (Kp .0) (cell-in n (left + k) j some) small (Kp .1) on),
-    )
+    start : Kept n count (u + 0) (withRow S (cells n) left j own 0) pool
+    start =
+        record {
+          long = K .long;
+          places = omega (arith, K .places);
+          holds = holds-less (λ c x. ⊎-elim (λ s. s) (λ r. absurd (omega (arith, r .1)))) (K .holds);
+        }
+
+    more : (k : ℕ) (p : List ℕ) → k < span left right → Kept n count (u + k) (withRow S (cells n) left j own k) p
+        → Kept n count (u + suc k) (withRow S (cells n) left j own (suc k)) (push (cellOf (cells n) (left + k) j) own p)
+    more k p h Kp =
+        record {
+          long = push-length _ own p ∙ Kp .long;
+          places = omega (arith, push-used (cellOf (cells n) (left + k) j) own p (omega (arith, Kp .long)), Kp .places);
+          holds =
+              holds-less (λ c x. ⊎-elim (λ s. inl (inl s)) (λ r. last c x r (same-or-not (r .0) k)))
+              (push-holds n (cellOf (cells n) (left + k) j) own count p (Kp .long) (cell-in n (left + k) j some) (omega (arith, Kp .places)) small (Kp .holds));
+        }
       where
         last : (c x : ℕ) (r : (i : ℕ) × (i < suc k) × (c ≡ cellOf (cells n) (left + i) j) × (x ≡ own)) → (r .0 ≡ k) ⊎ (r .0 ≡ k → ⊥)
             → with (withRow S (cells n) left j own k) (cellOf (cells n) (left + k) j) own c x
@@ -294,27 +282,44 @@ abbrev pub withRows : (ℕ → ℕ → Type 0) → ℕ → Rect → ℕ → ℕ 
 withRows S m r own h d x =
     S d x ⊎ ((k i : ℕ) × (k < h) × (i < span (r .left) (r .right)) × (d ≡ cellOf m (r .left + i) (r .low + k)) × (x ≡ own))
 
-pub rect-kept : {S : ℕ → ℕ → Type 0} (n count : ℕ) (r : Rect) (own h : ℕ) (pool : List ℕ) → 4 ≤ n → own < count → Kept n count S pool
-    → Kept n count (withRows S (cells n) r own h) (forUp h (fileLine r own) pool)
-rect-kept {S} n count r own h pool some small K =
-    forUp-keeps (λ k p. Kept n count (withRows S (cells n) r own k) p) h (fileLine r own) pool
-    (K .0, λ on. holds-less (λ c x. ⊎-elim (λ s. s) (λ q. absurd (omega (arith, q .2)))) (K .1 on)) more
+pub rect-kept : {S : ℕ → ℕ → Type 0} (n count u : ℕ) (r : Rect) (own h : ℕ) (pool : List ℕ) → 4 ≤ n → own < count
+    → u + span (r .left) (r .right) * h ≤ capacity n → Kept n count u S pool
+    → Kept n count (u + span (r .left) (r .right) * h) (withRows S (cells n) r own h) (forUp h (fileLine r own) pool)
+rect-kept {S} n count u r own h pool some small room K =
+    forUp-keeps (λ k p. Kept n count (u + w * k) (withRows S (cells n) r own k) p) h (fileLine r own) pool start more
   where
-    more : (k : ℕ) (p : List ℕ) → k < h → Kept n count (withRows S (cells n) r own k) p
-        → Kept n count (withRows S (cells n) r own (suc k)) (fileRow (r .left) (r .right) (r .low + k) own p)
-    more k p h Kp =
-        let R = row-kept n count (r .left) (r .right) (r .low + k) own p some small Kp in
-        (R .0, λ on. holds-less (λ c x. ⊎-elim (λ s. inl (inl s)) (λ q. last c x q (same-or-not (q .0) k))) (R .1 on))
+    w : ℕ
+    w = span (r .left) (r .right)
+
+    start : Kept n count (u + w * 0) (withRows S (cells n) r own 0) pool
+    start =
+        record {
+          long = K .long;
+          places = omega (arith, K .places, mul-zero w);
+          holds = holds-less (λ c x. ⊎-elim (λ s. s) (λ q. absurd (omega (arith, q .2)))) (K .holds);
+        }
+
+    more : (k : ℕ) (p : List ℕ) → k < h → Kept n count (u + w * k) (withRows S (cells n) r own k) p
+        → Kept n count (u + w * suc k) (withRows S (cells n) r own (suc k)) (fileRow (r .left) (r .right) (r .low + k) own p)
+    more k p less Kp =
+        let next : u + w * suc k ≡ u + w * k + w = omega (arith, mul-suc w k) in
+        let R = row-kept n count (u + w * k) (r .left) (r .right) (r .low + k) own p some small
+        (omega (arith, mul-suc w k, mul-le-mul-left w less)) Kp in
+        record {
+          long = R .long;
+          places = R .places ∙ sym next;
+          holds = holds-less (λ c x. ⊎-elim (λ s. inl (inl s)) (λ q. last c x q (same-or-not (q .0) k))) (R .holds);
+        }
       where
         last : (c x : ℕ)
-            (q : (l i : ℕ) × (l < suc k) × (i < span (r .left) (r .right)) × (c ≡ cellOf (cells n) (r .left + i) (r .low + l)) × (x ≡ own))
+            (q : (l i : ℕ) × (l < suc k) × (i < w) × (c ≡ cellOf (cells n) (r .left + i) (r .low + l)) × (x ≡ own))
             → (q .0 ≡ k) ⊎ (q .0 ≡ k → ⊥)
-            → withRow (withRows S (cells n) r own k) (cells n) (r .left) (r .low + k) own (span (r .left) (r .right)) c x
+            → withRow (withRows S (cells n) r own k) (cells n) (r .left) (r .low + k) own w c x
         last c x q =
             ⊎-elim (λ e. inr (q .1, q .3, q .4 ∙ ap (λ (l : ℕ). cellOf (cells n) (r .left + q .1) (r .low + l)) e, q .5))
             (λ other. inl (inr (q .0, q .1, less-other (q .2) other, q .3, q .4, q .5)))
 
--- ---- the laws of an index
+-- ---- lengths and places
 
 pub row-length : (left right j own : ℕ) (pool : List ℕ) → length (fileRow left right j own pool) ≡ length pool
 unfolding fileRow
@@ -322,139 +327,284 @@ row-length left right j own pool =
     forUp-keeps (λ k q. length q ≡ length pool) (span left right) (fileColumn (cells (length pool)) left j own) pool refl
     (λ k q h e. push-length (cellOf (cells (length pool)) (left + k) j) own q ∙ e)
 
+pub row-used : (left right j own : ℕ) (pool : List ℕ) → 0 < length pool → used (fileRow left right j own pool) ≡ used pool + span left right
+unfolding fileRow
+row-used left right j own pool some =
+    forUp-keeps (λ k q. (length q ≡ length pool) × (used q ≡ used pool + k)) (span left right) (fileColumn (cells (length pool)) left j own) pool
+    (refl, omega arith)
+    (λ k q h e.
+    let c = cellOf (cells (length pool)) (left + k) j in
+    (push-length c own q ∙ e .0, omega (arith, push-used c own q (omega (arith, e .0)), e .1))) .1
+
+lines-length : (r : Rect) (own h : ℕ) (pool : List ℕ) → length (forUp h (fileLine r own) pool) ≡ length pool
+lines-length r own h pool =
+    forUp-keeps (λ k q. length q ≡ length pool) h (fileLine r own) pool refl
+    (λ k q less e. row-length (r .left) (r .right) (r .low + k) own q ∙ e)
+
 pub file-length : (r : Rect) (own : ℕ) (pool : List ℕ) → length (file r own pool) ≡ length pool
 unfolding file
-file-length r own pool = by (live pool)
+file-length r own pool = by (takes r own pool)
   where
-    by : (b : Bool)
-        → length (cond b (forUp (span (r .low) (r .high)) (fileLine r own) pool) pool) ≡ length pool
-    by true =
-        forUp-keeps (λ k q. length q ≡ length pool) (span (r .low) (r .high)) (fileLine r own) pool refl
-        (λ k q h e. row-length (r .left) (r .right) (r .low + k) own q ∙ e)
+    by : (b : Bool) → length (cond b (set (forUp (span (r .low) (r .high)) (fileLine r own) pool) 1 (own + 1)) pool) ≡ length pool
+    by true = length-set (forUp (span (r .low) (r .high)) (fileLine r own) pool) 1 (own + 1) ∙ lines-length r own (span (r .low) (r .high)) pool
     by false = refl
 
--- the next item is filed
-pub indexed-file : (pool : List ℕ) (rects : ℕ → Rect) (id : ℕ) (r : Rect) → rects id ≡ r → Indexed pool rects id
-    → Indexed (file r id pool) rects (id + 1)
-unfolding Indexed Filed file
-indexed-file pool rects id r e I on =
-    subst (λ (k : ℕ). Holds k (file r id pool) (id + 1) (Under (cells k) rects (id + 1))) (sym (file-length r id pool)) (by (live pool) refl on)
+-- ---- which items a pool takes
+
+-- two orders that hold together
+pub same-leb : (a b c d : ℕ) → (a ≤ b → c ≤ d) → (c ≤ d → a ≤ b) → leb a b ≡ leb c d
+same-leb a b c d to from = by (leb a b) refl
   where
-    S : ℕ → ℕ → Type 0
-    S = Under (cells (length pool)) rects id
+    by : (t : Bool) → leb a b ≡ t → t ≡ leb c d
+    by true e = sym (le-leb c d (to (leb-true a b e)))
+    by false e = ⊎-elim (λ less. sym (lt-leb c d less)) (λ le. absurd (let l = leb-false a b e in let m = from le in omega arith)) (below-or-not d c)
 
-    wider : Holds (length pool) pool id S → Holds (length pool) pool (id + 1) S
-    wider H = record { fits = H .fits; heads = H .heads; owners = λ t h. omega (arith, H .owners t h); has = H .has }
+module _ (r : Rect) (own : ℕ) (pool : List ℕ) where
+  -- the three tests of `takes`
+  pub takes-short : length pool < 4 → takes r own pool ≡ false
+  unfolding takes
+  takes-short h = rw (lt-leb 4 (length pool) h)
 
-    part : (c x : ℕ) → Under (cells (length pool)) rects (id + 1) c x
-        → withRows S (cells (length pool)) r id (span (r .low) (r .high)) c x
-    part c x U =
-        ⊎-elim
-        (λ same.
-        let w : Within r (U .i) (U .j) = subst (λ (q : Rect). Within q (U .i) (U .j)) (ap rects same ∙ e) (U .within) in
-        let first : U .i ≡ r .left + (U .i - r .left) = omega (arith, w .left) in
-        let second : U .j ≡ r .low + (U .j - r .low) = omega (arith, w .low) in
-        inr (
-          U .j - r .low,
-          U .i - r .left,
-          omega (arith, w .low, w .high),
-          omega (arith, w .left, w .right),
-          U .cell ∙ ap₂ (cellOf (cells (length pool))) first second,
-          same,
-        ))
-        (λ other. inl (record { i = U .i; j = U .j; counted = less-other (omega (arith, U .counted)) other; within = U .within; cell = U .cell }))
-        (same-or-not x id)
+  pub takes-other : 4 ≤ length pool → (filed pool ≡ own → ⊥) → takes r own pool ≡ false
+  unfolding takes
+  takes-other h other = rw (le-leb 4 (length pool) h, ne-eqb (filed pool) own other)
 
-    by : (b : Bool) → live pool ≡ b
-        → live (cond b (forUp (span (r .low) (r .high)) (fileLine r id) pool) pool) ≡ true
-        → Holds (length pool) (cond b (forUp (span (r .low) (r .high)) (fileLine r id) pool) pool) (id + 1)
-        (Under (cells (length pool)) rects (id + 1))
-    by true f on =
-        holds-less part
-        (rect-kept (length pool) (id + 1) r id (span (r .low) (r .high)) pool (live-some pool f) (omega arith) (refl, λ was. wider (I was)) .1 on)
-    by false f on = absurd (true≢false (sym on ∙ f))
+  module _ (some : 4 ≤ length pool) (same : filed pool ≡ own) where
+    pub takes-next : takes r own pool ≡ leb (used pool + keyCount r) (capacity (length pool))
+    unfolding takes
+    takes-next = rw (le-leb 4 (length pool) some, eq-eqb (filed pool) own same)
 
--- an item with no key need not be filed
-pub indexed-skip : (pool : List ℕ) (rects : ℕ → Rect) (id : ℕ) → ((i j : ℕ) → Within (rects id) i j → ⊥) → Indexed pool rects id
-    → Indexed pool rects (id + 1)
-unfolding Indexed Filed
-indexed-skip pool rects id empty I on =
-    let H = I on in
+    -- the third as the code has it, where `limit` is the capacity
+    pub takes-over : {limit : ℕ} → limit ≡ capacity (length pool) → limit < used pool → takes r own pool ≡ false
+    takes-over e over = takes-next ∙ lt-leb (used pool + keyCount r) (capacity (length pool)) (omega arith)
+
+    pub takes-room : {limit w h : ℕ} → limit ≡ capacity (length pool) → used pool ≤ limit → w ≡ span (r .left) (r .right) → h ≡ span (r .low) (r .high)
+        → takes r own pool ≡ leb (w * h) (limit - used pool)
+    takes-room {limit} {w} {h} e le ew eh =
+        let area : w * h ≡ keyCount r = rw (ew, eh) refl in
+        takes-next ∙ same-leb (used pool + keyCount r) (capacity (length pool)) (w * h) (limit - used pool)
+        (λ l. omega (arith, area)) (λ l. omega (arith, area))
+
+  -- what is known of a pool that takes an item
+  pub takes-some : takes r own pool ≡ true → (4 ≤ length pool) × (filed pool ≡ own) × (used pool + keyCount r ≤ capacity (length pool))
+  unfolding takes
+  takes-some e =
+      let first = both (leb 4 (length pool)) _ e in
+      let rest = both (eqb (filed pool) own) _ (first .1) in
+      (leb-true 4 (length pool) (first .0), eqb-true (filed pool) own (rest .0), leb-true _ _ (rest .1))
+
+-- ---- the second number, how many items are filed, is read for nothing else
+
+module _ (pool : List ℕ) (v : ℕ) where
+  abbrev noted : List ℕ
+  noted = set pool 1 v
+
+  first-kept : used noted ≡ used pool
+  first-kept = getD-set-other pool 1 0 v 0 (λ e. omega arith)
+
+  head-kept : (c : ℕ) → headAt noted c ≡ headAt pool c
+  head-kept c = getD-set-other pool 1 (2 + c) v 0 (λ e. omega arith)
+
+  own-kept : (n : ℕ) → ownAt n noted ≡ ownAt n pool
+  own-kept n = fun-ext (λ t. getD-set-other pool 1 (ownPlace n t) v 0 (λ e. omega arith))
+
+  link-kept : (n : ℕ) → linkAt n noted ≡ linkAt n pool
+  link-kept n = fun-ext (λ t. getD-set-other pool 1 (linkPlace n t) v 0 (λ e. omega arith))
+
+  noted-holds : {S : ℕ → ℕ → Type 0} {n count : ℕ} → Holds n pool count S → Holds n noted count S
+  unfolding chain
+  noted-holds {S} {n} {count} H =
+      record {
+        fits = rw first-kept (H .fits);
+        heads = λ c h. rw (first-kept, head-kept c) (H .heads c h);
+        owners = λ t h. rw (ap (λ (f : ℕ → ℕ). f t) (own-kept n)) (H .owners t (rw first-kept at h));
+        has = λ c x h s. rw (head-kept c, own-kept n, link-kept n) (H .has c x h s);
+      }
+
+-- ---- the next item
+
+module _ (pool : List ℕ) (rects : ℕ → Rect) (id : ℕ) (r : Rect) (e : rects id ≡ r) where
+  -- an item's keys are those of the items before it, or its own
+  part : (c x : ℕ) → Under (cells (length pool)) rects (id + 1) c x
+      → withRows (Under (cells (length pool)) rects id) (cells (length pool)) r id (span (r .low) (r .high)) c x
+  part c x U =
+      ⊎-elim
+      (λ same.
+      let w : Within r (U .i) (U .j) = subst (λ (q : Rect). Within q (U .i) (U .j)) (ap rects same ∙ e) (U .within) in
+      let first : U .i ≡ r .left + (U .i - r .left) = omega (arith, w .left) in
+      let second : U .j ≡ r .low + (U .j - r .low) = omega (arith, w .low) in
+      inr (
+        U .j - r .low,
+        U .i - r .left,
+        omega (arith, w .low, w .high),
+        omega (arith, w .left, w .right),
+        U .cell ∙ ap₂ (cellOf (cells (length pool))) first second,
+        same,
+      ))
+      (λ other. inl (record { i = U .i; j = U .j; counted = less-other (omega (arith, U .counted)) other; within = U .within; cell = U .cell }))
+      (same-or-not x id)
+
+  next-sum : keySum rects (id + 1) ≡ keySum rects id + keyCount r
+  next-sum = rw (add-one, sum-suc, e) refl
+
+  abbrev lines : List ℕ
+  lines = forUp (span (r .low) (r .high)) (fileLine r id) pool
+
+  lines-filed : 4 ≤ length pool → used pool + keyCount r ≤ capacity (length pool) → Filed pool rects id → Filed (set lines 1 (id + 1)) rects (id + 1)
+  lines-filed some room F =
+      let H = F .holds in
+      let K = rect-kept (length pool) (id + 1) (used pool) r id (span (r .low) (r .high)) pool some (omega arith) room
+      (record {
+        long = refl;
+        places = refl;
+        holds = record { fits = H .fits; heads = H .heads; owners = λ t h. omega (arith, H .owners t h); has = H .has };
+      }) in
+      record {
+        exact = first-kept lines (id + 1) ∙ K .places ∙ ap (λ (u : ℕ). u + keyCount r) (F .exact) ∙ sym next-sum;
+        holds =
+            subst (λ (k : ℕ). Holds k (set lines 1 (id + 1)) (id + 1) (Under (cells k) rects (id + 1)))
+            (sym (length-set lines 1 (id + 1) ∙ K .long)) (noted-holds lines (id + 1) (holds-less part (K .holds)));
+      }
+
+  -- it is filed, where the pool takes it
+  taken-indexed : takes r id pool ≡ true → Indexed pool rects id → Indexed (set lines 1 (id + 1)) rects (id + 1)
+  taken-indexed f I =
+      let t = takes-some r id pool f in
+      let long : length (set lines 1 (id + 1)) ≡ length pool = length-set lines 1 (id + 1) ∙ lines-length r id (span (r .low) (r .high)) pool in
+      let all : filed (set lines 1 (id + 1)) ≡ id + 1 =
+      filed-some _ (omega (arith, long, t .0)) ∙ getD-set-same lines 1 (id + 1) 0 (omega (arith, lines-length r id (span (r .low) (r .high)) pool, t .0)) in
+      record {
+        within = omega (arith, all);
+        first = λ some. subst (λ (k : ℕ). Filed (set lines 1 (id + 1)) rects k) (sym all)
+            (lines-filed (t .0) (t .2) (subst (λ (k : ℕ). Filed pool rects k) (t .1) (I .first (t .0))));
+        full = λ some less. absurd (omega (arith, all));
+      }
+
+  -- otherwise the pool is full, now or before, or has no cell
+  left-indexed : takes r id pool ≡ false → id < 4294967295 → Indexed pool rects id → Indexed pool rects (id + 1)
+  left-indexed f small I =
+      record {
+        within = omega (arith, I .within);
+        first = I .first;
+        full = λ some less. ⊎-elim (last some) (λ before. I .full some (omega arith)) (eq-or-lt-of-le (I .within));
+      }
+    where
+      last : 4 ≤ length pool → filed pool ≡ id → capacity (length pool) < keySum rects (filed pool + 1)
+      last some same =
+          rw (same, next-sum, ← subst (λ (k : ℕ). Filed pool rects k) same (I .first some) .exact)
+          (leb-false (used pool + keyCount r) (capacity (length pool)) (sym (takes-next r id pool some same) ∙ f))
+
+  pub indexed-file : id < 4294967295 → Indexed pool rects id → Indexed (file r id pool) rects (id + 1)
+  unfolding file
+  indexed-file small I = by (takes r id pool) refl
+    where
+      by : (b : Bool) → takes r id pool ≡ b → Indexed (cond b (set lines 1 (id + 1)) pool) rects (id + 1)
+      by true f = taken-indexed f I
+      by false f = left-indexed f small I
+
+-- ---- the laws of an index
+
+-- items beyond those that a pool can number
+pub indexed-past : {pool : List ℕ} {rects : ℕ → Rect} {count more : ℕ} → min more 4294967295 ≤ count → count ≤ more → Indexed pool rects count
+    → Indexed pool rects more
+indexed-past past le I =
     record {
-      fits = H .fits;
-      heads = H .heads;
-      owners = λ t h. omega (arith, H .owners t h);
-      has = λ c x h U. H .has c x h (record { i = U .i; j = U .j; counted = below x U (same-or-not x id); within = U .within; cell = U .cell });
+      within = omega (arith, I .within);
+      first = I .first;
+      full = λ some less. I .full some (omega arith);
     }
-  where
-    below : (x : ℕ) {c : ℕ} → Under (cells (length pool)) rects (id + 1) c x → (x ≡ id) ⊎ (x ≡ id → ⊥) → x < id
-    below x U =
-        ⊎-elim (λ same. absurd (empty (U .i) (U .j) (subst (λ (y : ℕ). Within (rects y) (U .i) (U .j)) same (U .within))))
-        (λ other. less-other (omega (arith, U .counted)) other)
 
--- nothing is said of a pool that isn't in use
-pub indexed-closed : (pool : List ℕ) (rects : ℕ → Rect) (count : ℕ) → live pool ≡ false → Indexed pool rects count
-unfolding Indexed
-indexed-closed pool rects count off on = absurd (true≢false (sym on ∙ off))
+sum-same : (rects rects' : ℕ → Rect) (n : ℕ) → ((id : ℕ) → id < n → rects id ≡ rects' id) → keySum rects n ≡ keySum rects' n
+unfolding sumUp
+sum-same rects rects' n same =
+    forUp-same n (sumTurn (λ id. keyCount (rects id))) (sumTurn (λ id. keyCount (rects' id))) 0
+    (λ i sum less. ap (λ (q : Rect). sum + keyCount q) (same i less))
 
 -- it depends on the rectangles below the count alone
 pub indexed-same : (pool : List ℕ) (rects rects' : ℕ → Rect) (count : ℕ) → ((id : ℕ) → id < count → rects id ≡ rects' id) → Indexed pool rects count
     → Indexed pool rects' count
-unfolding Indexed Filed
-indexed-same pool rects rects' count same I on =
-    holds-less
-    (λ c x U.
+indexed-same pool rects rects' count same I =
     record {
-      i = U .i;
-      j = U .j;
-      counted = U .counted;
-      within = subst (λ (q : Rect). Within q (U .i) (U .j)) (sym (same x (U .counted))) (U .within);
-      cell = U .cell;
-    })
-    (I on)
+      within = I .within;
+      first = λ some.
+          let F = I .first some in
+          record {
+            exact = F .exact ∙ sum-same rects rects' (filed pool) (λ id h. same id (omega (arith, I .within)));
+            holds = holds-less
+                (λ c x U.
+                record {
+                  i = U .i;
+                  j = U .j;
+                  counted = U .counted;
+                  within = subst (λ (q : Rect). Within q (U .i) (U .j)) (sym (same x (omega (arith, U .counted, I .within)))) (U .within);
+                  cell = U .cell;
+                })
+                (F .holds);
+          };
+      full = λ some less. rw (← sum-same rects rects' (filed pool + 1) (λ id h. same id (omega arith))) (I .full some less);
+    }
 
 -- a pool with no place in use and no head
 empty-filed : (pool : List ℕ) (rects : ℕ → Rect) → used pool ≡ 0 → ((c : ℕ) → c < cells (length pool) → headAt pool c ≡ none) → Filed pool rects 0
-unfolding Filed capacity
+unfolding capacity
 empty-filed pool rects e heads =
     record {
-      fits = omega arith;
-      heads = λ c h. inr (omega (arith, heads c h));
-      owners = λ t h. absurd (omega arith);
-      has = λ c x h U. absurd (omega (arith, U .counted));
+      exact = e ∙ sym (sum-zero (λ id. keyCount (rects id)));
+      holds =
+          record {
+            fits = omega arith;
+            heads = λ c h. inr (omega (arith, heads c h));
+            owners = λ t h. absurd (omega arith);
+            has = λ c x h U. absurd (omega (arith, U .counted));
+          };
     }
 
 -- a pool that has been emptied
 pub indexed-none : (pool : List ℕ) (rects : ℕ → Rect) → Indexed (cleared pool) rects 0
-unfolding Indexed Filed cleared
-indexed-none pool rects on = by (leb 4 (length pool)) refl on
+unfolding cleared
+indexed-none pool rects = by (leb 4 (length pool)) refl
   where
-    Empty : ℕ → List ℕ → Type 0
-    Empty k p = (length p ≡ length pool) × (used p ≡ 0) × ((c : ℕ) → c < k → headAt p c ≡ none)
+    p : List ℕ
+    p = forUp (cells (length pool)) clearCell (set (set pool 0 0) 1 0)
 
-    emptied : 4 ≤ length pool → Empty (cells (length pool)) (forUp (cells (length pool)) clearCell (set pool 0 0))
+    Empty : ℕ → List ℕ → Type 0
+    Empty k p = (length p ≡ length pool) × (used p ≡ 0) × (getD p 1 0 ≡ 0) × ((c : ℕ) → c < k → headAt p c ≡ none)
+
+    emptied : 4 ≤ length pool → Empty (cells (length pool)) p
     emptied some =
-        forUp-keeps Empty (cells (length pool)) clearCell (set pool 0 0)
-        (length-set pool 0 0, getD-set-same pool 0 0 0 (omega arith), λ c h. absurd (omega arith)) more
+        forUp-keeps Empty (cells (length pool)) clearCell (set (set pool 0 0) 1 0) (
+          length-set (set pool 0 0) 1 0 ∙ length-set pool 0 0,
+          getD-set-other (set pool 0 0) 1 0 0 0 (λ e. omega arith) ∙ getD-set-same pool 0 0 0 (omega arith),
+          getD-set-same (set pool 0 0) 1 0 0 (simp length-set (omega arith)),
+          λ c h. absurd (omega arith),
+        ) more
       where
-        more : (k : ℕ) (p : List ℕ) → k < cells (length pool) → Empty k p → Empty (suc k) (set p (1 + k) none)
-        more k p h E = (
-          length-set p (1 + k) none ∙ E .0,
-          getD-set-other p (1 + k) 0 none 0 (λ e. omega arith) ∙ E .1,
-          λ c less. ⊎-elim (λ same. ap (headAt (set p (1 + k) none)) same
-              ∙ getD-set-same p (1 + k) none 0 (omega (arith, E .0, cells-fit (length pool) some)))
-              (λ other. getD-set-other p (1 + k) (1 + c) none 0 (λ e. other (omega arith)) ∙ E .2 c (less-other less other)) (same-or-not c k),
+        more : (k : ℕ) (q : List ℕ) → k < cells (length pool) → Empty k q → Empty (suc k) (set q (2 + k) none)
+        more k q h E = (
+          length-set q (2 + k) none ∙ E .0,
+          getD-set-other q (2 + k) 0 none 0 (λ e. omega arith) ∙ E .1,
+          getD-set-other q (2 + k) 1 none 0 (λ e. omega arith) ∙ E .2,
+          λ c less. ⊎-elim (λ same. ap (headAt (set q (2 + k) none)) same
+              ∙ getD-set-same q (2 + k) none 0 (omega (arith, E .0, cells-fit (length pool) some)))
+              (λ other. getD-set-other q (2 + k) (2 + c) none 0 (λ e. other (omega arith)) ∙ E .3 c (less-other less other)) (same-or-not c k),
         )
 
-    by : (b : Bool) → leb 4 (length pool) ≡ b
-        → live (cond b (forUp (cells (length pool)) clearCell (set pool 0 0)) pool) ≡ true
-        → Filed (cond b (forUp (cells (length pool)) clearCell (set pool 0 0)) pool) rects 0
-    by true f on =
-        let some = leb-true 4 (length pool) f in
-        let E = emptied some in
-        let p = forUp (cells (length pool)) clearCell (set pool 0 0) in
-        empty-filed p rects (E .1) (subst (λ (n : ℕ). (c : ℕ) → c < cells n → headAt p c ≡ none) (sym (E .0)) (E .2))
-    by false f on = absurd (let some = live-some pool on in true≢false (sym (le-leb 4 (length pool) some) ∙ f))
+    none-filed : (q : List ℕ) → filed q ≡ 0 → (4 ≤ length q → Filed q rects 0) → Indexed q rects 0
+    none-filed q e F =
+        record {
+          within = omega (arith, e);
+          first = λ some. subst (λ (k : ℕ). Filed q rects k) (sym e) (F some);
+          full = λ some less. absurd (omega arith);
+        }
+
+    by : (b : Bool) → leb 4 (length pool) ≡ b → Indexed (cond b p pool) rects 0
+    by true f =
+        let E = emptied (leb-true 4 (length pool) f) in
+        none-filed p (filed-some p (omega (arith, E .0, leb-true 4 (length pool) f)) ∙ E .2)
+        (λ some. empty-filed p rects (E .1) (subst (λ (n : ℕ). (c : ℕ) → c < cells n → headAt p c ≡ none) (sym (E .0)) (E .3)))
+    by false f =
+        let short = leb-false 4 (length pool) f in
+        none-filed pool (filed-short pool short) (λ some. absurd (omega arith))
 
 -- ---- the loops of the code
 
@@ -462,6 +612,7 @@ indexed-none pool rects on = by (leb 4 (length pool)) refl on
 pub record RowFiling (left j own : ℕ) (pool₀ : List ℕ) (w : ℕ) (pool : List ℕ) (cell k : ℕ) : Type 0 where
   pub loop : Loop (fileColumn (cells (length pool₀)) left j own) pool₀ w k pool
   pub size : length pool ≡ length pool₀
+  pub places : used pool ≡ used pool₀ + k
   pub here : cell ≡ cellOf (cells (length pool₀)) (left + k) j
 
 module _ {left j own : ℕ} {pool₀ : List ℕ} {w : ℕ} where
@@ -471,6 +622,7 @@ module _ {left j own : ℕ} {pool₀ : List ℕ} {w : ℕ} where
       record {
         loop = loop-start (fileColumn (cells (length pool₀)) left j own) pool₀ w;
         size = refl;
+        places = omega arith;
         here = e ∙ ap (λ (i : ℕ). cellOf (cells (length pool₀)) i j) same;
       }
 
@@ -478,9 +630,9 @@ module _ {left j own : ℕ} {pool₀ : List ℕ} {w : ℕ} where
     pub row-inside : 4 ≤ length pool₀ → cell < cells (length pool)
     row-inside some = rw (f .here, f .size) (cell-in (length pool₀) (left + k) j some)
 
-    pub row-next : {next : List ℕ} {after : ℕ} → k < w → next ≡ push cell own pool → after ≡ (cell + 1) % cells (length pool₀)
+    pub row-next : {next : List ℕ} {after : ℕ} → 4 ≤ length pool₀ → k < w → next ≡ push cell own pool → after ≡ (cell + 1) % cells (length pool₀)
         → RowFiling left j own pool₀ w next after (k + 1)
-    row-next {next} {after} less e step =
+    row-next {next} {after} some less e step =
         let m = cells (length pool₀) in
         let same : left + k + 1 ≡ left + (k + 1) = omega arith in
         record {
@@ -488,6 +640,7 @@ module _ {left j own : ℕ} {pool₀ : List ℕ} {w : ℕ} where
               subst (λ (p : List ℕ). Loop (fileColumn m left j own) pool₀ w (k + 1) p) (sym (e ∙ ap (λ (c : ℕ). push c own pool) (f .here)))
               (loop-next (fileColumn m left j own) pool₀ (f .loop) less);
           size = ap length e ∙ push-length cell own pool ∙ f .size;
+          places = omega (arith, ap used e, push-used cell own pool (omega (arith, f .size)), f .places);
           here = step ∙ ap (λ (c : ℕ). (c + 1) % m) (f .here) ∙ sym (next-column m (left + k) j) ∙ ap (λ (i : ℕ). cellOf m i j) same;
         }
 
@@ -496,3 +649,37 @@ module _ {left j own : ℕ} {pool₀ : List ℕ} {w : ℕ} where
     row-end right past e =
         let turn = fileColumn (cells (length pool₀)) left j own in
         loop-end turn pool₀ (f .loop) past ∙ ap (λ (w : ℕ). forUp w turn pool₀) e
+
+-- of a rectangle: k rows are filed
+pub record RectFiling (r : Rect) (own : ℕ) (pool₀ : List ℕ) (h : ℕ) (pool : List ℕ) (k : ℕ) : Type 0 where
+  pub loop : Loop (fileLine r own) pool₀ h k pool
+  pub size : length pool ≡ length pool₀
+  pub places : used pool ≡ used pool₀ + span (r .left) (r .right) * k
+
+module _ {r : Rect} {own : ℕ} {pool₀ : List ℕ} {h : ℕ} where
+  pub rect-start : RectFiling r own pool₀ h pool₀ 0
+  rect-start =
+      record {
+        loop = loop-start (fileLine r own) pool₀ h;
+        size = refl;
+        places = omega (arith, mul-zero (span (r .left) (r .right)));
+      }
+
+  module _ {pool : List ℕ} {k : ℕ} (f : RectFiling r own pool₀ h pool k) where
+    -- the next row finds places
+    pub rect-room : k < h → used pool₀ + span (r .left) (r .right) * h ≤ capacity (length pool₀)
+        → used pool + span (r .left) (r .right) ≤ capacity (length pool)
+    rect-room less room =
+        let w = span (r .left) (r .right) in
+        rw (f .size) (omega (arith, f .places, mul-suc w k, mul-le-mul-left w less))
+
+    pub rect-next : {next : List ℕ} → 4 ≤ length pool₀ → k < h → next ≡ fileLine r own k pool → RectFiling r own pool₀ h next (k + 1)
+    rect-next {next} some less e =
+        let w = span (r .left) (r .right) in
+        record {
+          loop = subst (λ (p : List ℕ). Loop (fileLine r own) pool₀ h (k + 1) p) (sym e) (loop-next (fileLine r own) pool₀ (f .loop) less);
+          size = ap length e ∙ row-length (r .left) (r .right) (r .low + k) own pool ∙ f .size;
+          places =
+              ap used e ∙ row-used (r .left) (r .right) (r .low + k) own pool (omega (arith, f .size)) ∙ ap (λ (u : ℕ). u + w) (f .places)
+              ∙ omega (arith, mul-suc w k, ap (λ (i : ℕ). w * i) (add-one k));
+        }

@@ -9,23 +9,23 @@ use native.Mathlib.Omega.{arith}
 use borrow.Author.Tests.{eq-eqb, ne-eqb, eqb-false}
 use lib.Dec.{eqb}
 use lib.ListN.{length, getD}
-use Rattle.laws.specs.Loop.{anyUp, any-found, any-none}
+use Rattle.laws.specs.Loop.{forUp, anyUp, any-found, any-none}
 use Rattle.index.specs.declared.Rect.{Rect}
 use Rattle.index.specs.declared.Cursor.{Cursor}
-use Rattle.index.specs.Pool.{none, cells, capacity, ownAt, linkAt, headAt, used, falling, chain, anyOf, cellOf, chainAt, span, live}
+use Rattle.index.specs.Pool.{none, cells, capacity, ownAt, linkAt, headAt, used, falling, chain, anyOf, cellOf, chainAt, span, filed}
 use Rattle.index.specs.Pool.{Filed, Indexed}
 use Rattle.index.specs.Rects.{Meets}
 use Rattle.index.specs.Walk.{across, columns, rows, visited, over, rowAhead, ahead, At, InRow, Stands, After}
 use Rattle.index.specs.ChainLaws.{any-has, any-left, falling-high, falling-step, falling-on, falling-last, falling-keeps}
-use Rattle.index.specs.ChainLaws.{across-from, across-more, across-end, across-none, across-some}
-use Rattle.index.specs.FileLaws.{live-some, cell-in, place-small, next-column}
+use Rattle.index.specs.ChainLaws.{across-from, across-more, across-end, across-empty, across-none, across-some, below-or-not}
+use Rattle.index.specs.FileLaws.{filed-short, cell-in, place-small, next-column}
 
 -- ---- a search by the visited owners is the scan
 
 module _ (pool : List ℕ) (rects : ℕ → Rect) (count : ℕ) (r : Rect) (test : ℕ → Bool) (some : 4 ≤ length pool) (F : Filed pool rects count) where
   -- no item below the count passes: so no owner does
   none-visited : ((id : ℕ) → id < count → test id ≡ false) → anyOf test (visited pool r) ≡ false
-  unfolding visited Filed chainAt chain anyOf
+  unfolding visited chainAt chain anyOf
   none-visited fails =
       across-none test (λ j. columns pool j (span (r .left) (r .right)) (r .left))
       (λ j. across-none test (λ i. chainAt (length pool) pool i j) (λ i. in-chain (cellOf (cells (length pool)) i j) (cell-in (length pool) i j some))
@@ -36,14 +36,14 @@ module _ (pool : List ℕ) (rects : ℕ → Rect) (count : ℕ) (r : Rect) (test
       in-chain c h =
           ⊎-elim
           (falling-keeps (ownAt (length pool) pool) (linkAt (length pool) pool) (λ l. anyOf test l ≡ false) (used pool) refl
-          (λ t l less e. ap₂ (λ (b c : Bool). b || c) (fails (ownAt (length pool) pool t) (F .owners t less)) e)
+          (λ t l less e. ap₂ (λ (b c : Bool). b || c) (fails (ownAt (length pool) pool t) (F .holds .owners t less)) e)
           (capacity (length pool)) (headAt pool c))
           (λ past. ap (anyOf test) (falling-high (ownAt (length pool) pool) (linkAt (length pool) pool) (capacity (length pool)) (headAt pool c) past))
-          (F .heads c h)
+          (F .holds .heads c h)
 
   -- an item that passes and meets the rectangle is visited
   some-visited : (id : ℕ) → id < count → test id ≡ true → Meets (rects id) r → anyOf test (visited pool r) ≡ true
-  unfolding visited Filed chainAt
+  unfolding visited chainAt
   some-visited id small e M =
       let m = M .second in
       across-some test (λ j. columns pool j (span (r .left) (r .right)) (r .left)) (span (r .low) (r .high)) (r .low) (M .j) (m .low)
@@ -51,7 +51,7 @@ module _ (pool : List ℕ) (rects : ℕ → Rect) (count : ℕ) (r : Rect) (test
       (across-some test (λ i. chainAt (length pool) pool i (M .j)) (span (r .left) (r .right)) (r .left) (M .i) (m .left)
       (omega (arith, m .left, m .right))
       (any-has test id (chainAt (length pool) pool (M .i) (M .j))
-      (F .has (cellOf (cells (length pool)) (M .i) (M .j)) id (cell-in (length pool) (M .i) (M .j) some)
+      (F .holds .has (cellOf (cells (length pool)) (M .i) (M .j)) id (cell-in (length pool) (M .i) (M .j) some)
       (record { i = M .i; j = M .j; counted = small; within = M .first; cell = refl })) e))
 
   -- the law: where every item that passes the test has a rectangle that meets r, the visited owners answer for all items
@@ -62,6 +62,13 @@ module _ (pool : List ℕ) (rects : ℕ → Rect) (count : ℕ) (r : Rect) (test
       by true e = let f = any-found test count e in some-visited (f .0) (f .1) (f .2) (hits (f .0) (f .1) (f .2))
       by false e = none-visited (any-none test count e)
 
+-- a pool with no cell has nothing to visit
+pub visited-short : (pool : List ℕ) (r : Rect) → length pool < 4 → visited pool r ≡ []
+unfolding visited chainAt chain capacity cells
+visited-short pool r short =
+    across-empty (λ j. columns pool j (span (r .left) (r .right)) (r .left))
+    (λ j. across-empty (λ i. chainAt (length pool) pool i j) (λ i. falling-high _ _ (capacity (length pool)) _ (omega arith)) _ _) _ _
+
 -- ---- the invariant of a search: what is left of the walk answers
 
 pub record Walk (pool : List ℕ) (r : Rect) (test : ℕ → Bool) (answer : Bool) (c : Cursor) : Type 0 where
@@ -69,12 +76,17 @@ pub record Walk (pool : List ℕ) (r : Rect) (test : ℕ → Bool) (answer : Boo
   pub same : anyOf test (ahead pool r c) ≡ answer
 
 module _ {pool : List ℕ} {r : Rect} {test : ℕ → Bool} where
-  -- `first`: every item that passes the test has a rectangle that meets r
-  pub walk-start : {rects : ℕ → Rect} {count : ℕ} {c : Cursor} → live pool ≡ true → Indexed pool rects count
-      → ((id : ℕ) → id < count → test id ≡ true → Meets (rects id) r) → Stands pool r (visited pool r) c → Walk pool r test (anyUp count test) c
-  unfolding Indexed
-  walk-start {rects} {count} on I hits s =
-      record { at = s .at; same = ap (anyOf test) (s .all) ∙ visited-answers pool rects count r test (live-some pool on) (I on) hits }
+  -- `first`: every item filed that passes the test has a rectangle that meets r
+  pub walk-start : {rects : ℕ → Rect} {count : ℕ} {c : Cursor} → Indexed pool rects count
+      → ((id : ℕ) → test id ≡ true → Meets (rects id) r) → Stands pool r (visited pool r) c → Walk pool r test (anyUp (filed pool) test) c
+  unfolding anyUp forUp anyOf
+  walk-start {rects} I hits s =
+      record {
+        at = s .at;
+        same = ap (anyOf test) (s .all) ∙ ⊎-elim (λ short. ap (anyOf test) (visited-short pool r short)
+            ∙ sym (ap (λ (k : ℕ). anyUp k test) (filed-short pool short)))
+            (λ some. visited-answers pool rects (filed pool) r test some (I .first some) (λ id less. hits id)) (below-or-not (length pool) 4);
+      }
 
   module _ {answer : Bool} {c : Cursor} (w : Walk pool r test answer c) where
     -- the walk is over: no item passes

@@ -1,11 +1,13 @@
 // Items (nodes, edges) filed under cells of keys in one lent list, the pool, so that those whose key rectangle meets a query's are found without a scan.
 // A search by a walk is proved to give the scan's answer: `visited-answers` and the laws of `Walk` in specs/WalkLaws.antt. The list is scratch: all
-// that a caller needs of its contents is that each item is in the chain of every cell of its rectangle (`Indexed`), where the places have not run out.
+// that a caller needs of its contents is that each of the first items is in the chain of every cell of its rectangle, and that these are all items, unless
+// the places have run out (`Indexed`); those that came after that are left to a scan.
 ghost use mathlib.Core.Path.{_≡_};
-ghost use mathlib.Core.Bool.{true, false};
+ghost use mathlib.Core.Bool.{true};
 ghost use Prim.Native.Nat.{_+_, _-_, _*_, _%_, _≤_, _<_};
+ghost use lib.Dec.{leb};
 ghost use lib.ListN.{length};
-ghost use Rattle.index.specs.Pool.{cells, capacity, ownAt, live, cellOf, span, cleared, push, fileRow, file};
+ghost use Rattle.index.specs.Pool.{cells, capacity, used, filed, ownAt, cellOf, span, cleared, push, fileRow, takes, file};
 ghost use Rattle.index.specs.Rects.{shifted, rectOf, rectAt, rectAround, rectEmpty, nodeRect, edgeRect};
 ghost use Rattle.index.specs.Walk.{columns, rows, visited, over, At, InRow, Stands, After};
 use domain::Point;
@@ -45,7 +47,7 @@ fn capacity_of(n: usize) -> usize
     requires { ⌜ 4 ≤ n ⌝ }
     ensures { λ r. ⌜ r ≡ capacity n ⌝ }
 {
-    let places = (n - 1 - n / 4) / 2;
+    let places = (n - 2 - n / 4) / 2;
     if places < 4294967294 {
         places
     } else {
@@ -53,15 +55,11 @@ fn capacity_of(n: usize) -> usize
     }
 }
 
-// Whether the pool can be searched: it has a cell, and its places haven't run out.
-pub fn is_live(pool: &[u32]) -> bool
-    ensures { λ r. ⌜ r ≡ live (now (pool .entry)) ⌝ }
+// How many items are filed.
+pub fn filed(pool: &[u32]) -> u32
+    ensures { λ r. ⌜ r ≡ filed (now (pool .entry)) ⌝ }
 {
-    if pool.len() < 4 {
-        return false;
-    }
-    let used = pool[0];
-    used != NONE
+    if pool.len() < 4 { 0 } else { pool[1] }
 }
 
 fn cell_of(m: usize, i: usize, j: usize) -> usize
@@ -92,7 +90,7 @@ fn span(a: u32, b: u32) -> usize
     (b - a) as usize + 1
 }
 
-// Empties the pool, and puts it in use where it has a cell.
+// Empties the pool, where it has a cell.
 pub fn clear(pool: &mut [u32])
     ensures { λ r. ⌜ now (pool .exit) ≡ cleared (now (pool .entry)) ⌝ }
 {
@@ -102,47 +100,31 @@ pub fn clear(pool: &mut [u32])
     }
     let m = n / 4;
     pool[0] = 0;
+    pool[1] = 0;
     let mut c = 0;
     while c < m {
-        pool[1 + c] = NONE;
+        pool[2 + c] = NONE;
         c += 1;
     }
 }
 
-// Takes the pool out of use.
-pub fn close(pool: &mut [u32])
-    ensures { λ r. ⌜ live (now (pool .exit)) ≡ false ⌝ }
-{
-    if pool.len() < 4 {
-        return;
-    }
-    pool[0] = NONE;
-}
-
-// Puts `own` at the head of a cell's chain. Where the places have run out, the pool is in use no more.
+// Puts `own` at the head of a cell's chain.
 fn push(pool: &mut [u32], cell: usize, own: u32)
-    requires { ⌜ (4 ≤ length (now pool)) × (cell < cells (length (now pool))) ⌝ }
+    requires { ⌜ (cell < cells (length (now pool))) × (used (now pool) < capacity (length (now pool))) ⌝ }
     ensures { λ r. ⌜ now (pool .exit) ≡ push cell own (now (pool .entry)) ⌝ }
 {
-    let n = pool.len();
-    let limit = capacity_of(n);
     let used = pool[0];
-    let u = used as usize;
-    if u < limit {
-        let at = 1 + cells_of(n) + 2 * u;
-        let head = pool[1 + cell];
-        pool[at] = own;
-        pool[at + 1] = head;
-        pool[1 + cell] = used;
-        pool[0] = used + 1;
-    } else {
-        pool[0] = NONE;
-    }
+    let at = 2 + cells_of(pool.len()) + 2 * (used as usize);
+    let head = pool[2 + cell];
+    pool[at] = own;
+    pool[at + 1] = head;
+    pool[2 + cell] = used;
+    pool[0] = used + 1;
 }
 
 // Files `own` under the columns `left` to `right` of row j.
 fn file_row(pool: &mut [u32], left: u32, right: u32, j: usize, own: u32)
-    requires { ⌜ (4 ≤ length (now pool)) × (j < 4294967296) ⌝ }
+    requires { ⌜ (4 ≤ length (now pool)) × (j < 4294967296) × (used (now pool) + span left right ≤ capacity (length (now pool))) ⌝ }
     ensures { λ r. ⌜ now (pool .exit) ≡ fileRow left right j own (now (pool .entry)) ⌝ }
 {
     let m = cells_of(pool.len());
@@ -156,11 +138,41 @@ fn file_row(pool: &mut [u32], left: u32, right: u32, j: usize, own: u32)
     }
 }
 
-// Files `own` under every key of the rectangle.
+// Whether w by h keys find as many places.
+fn is_room(w: usize, h: usize, places: usize) -> bool
+    ensures { λ r. ⌜ r ≡ leb (w * h) places ⌝ }
+{
+    if h == 0 {
+        return true;
+    }
+    w <= places / h
+}
+
+// Whether `own` is the next item, and there are places for the keys of its rectangle.
+fn takes(pool: &[u32], r: Rect, own: u32) -> bool
+    ensures { λ t. ⌜ t ≡ takes r own (now (pool .entry)) ⌝ }
+{
+    let n = pool.len();
+    if n < 4 {
+        return false;
+    }
+    if filed(pool) != own {
+        return false;
+    }
+    let limit = capacity_of(n);
+    let u = pool[0] as usize;
+    if limit < u {
+        return false;
+    }
+    is_room(span(r.left, r.right), span(r.low, r.high), limit - u)
+}
+
+// Files `own` under every key of the rectangle, where the pool takes it.
 pub fn file(pool: &mut [u32], r: Rect, own: u32)
+    requires { ⌜ own < 4294967295 ⌝ }
     ensures { λ r'. ⌜ now (pool .exit) ≡ file r own (now (pool .entry)) ⌝ }
 {
-    if !is_live(pool) {
+    if !takes(pool, r, own) {
         return;
     }
     let h = span(r.low, r.high);
@@ -170,6 +182,7 @@ pub fn file(pool: &mut [u32], r: Rect, own: u32)
         file_row(pool, r.left, r.right, low + k, own);
         k += 1;
     }
+    pool[1] = own + 1;
 }
 
 // ---- walking
@@ -198,7 +211,7 @@ pub fn own_at(pool: &[u32], c: Cursor) -> u32
     requires { ⌜ At (now pool) c ⌝ }
     ensures { λ r. ⌜ r ≡ ownAt (length (now (pool .entry))) (now (pool .entry)) (c .t) ⌝ }
 {
-    let at = 1 + cells_of(pool.len()) + 2 * (c.t as usize);
+    let at = 2 + cells_of(pool.len()) + 2 * (c.t as usize);
     pool[at]
 }
 
@@ -216,7 +229,7 @@ fn later_columns(pool: &[u32], right: u32, i: usize, j: usize, cell: usize) -> C
     while i < last {
         i += 1;
         cell = next_cell(m, cell);
-        let t = pool[1 + cell];
+        let t = pool[2 + cell];
         if (t as usize) < limit {
             return Cursor { i, j, cell, t };
         }
@@ -235,7 +248,7 @@ fn in_row(pool: &[u32], left: u32, right: u32, j: usize) -> Cursor
     let n = pool.len();
     let i = left as usize;
     let cell = cell_of(cells_of(n), i, j);
-    let t = pool[1 + cell];
+    let t = pool[2 + cell];
     if (t as usize) < capacity_of(n) {
         return Cursor { i, j, cell, t };
     }
@@ -261,9 +274,11 @@ fn later_rows(pool: &[u32], r: Rect, j: usize) -> Cursor
 
 // The first place under the rectangle's keys.
 pub fn first(pool: &[u32], r: Rect) -> Cursor
-    requires { ⌜ live (now pool) ≡ true ⌝ }
     ensures { λ c. ⌜ Stands (now (pool .entry)) r (visited (now (pool .entry)) r) c ⌝ }
 {
+    if pool.len() < 4 {
+        return nowhere();
+    }
     if r.high < r.low {
         return nowhere();
     }
@@ -281,7 +296,7 @@ pub fn after(pool: &[u32], r: Rect, c: Cursor) -> Cursor
     ensures { λ d. ⌜ After (now (pool .entry)) r c d ⌝ }
 {
     let t = c.t;
-    let at = 1 + cells_of(pool.len()) + 2 * (t as usize);
+    let at = 2 + cells_of(pool.len()) + 2 * (t as usize);
     let link = pool[at + 1];
     if link < t {
         return Cursor {

@@ -1,14 +1,14 @@
 -- Laws of the loops that file items one after the other, and of the tests as the code has them at hand.
-use mathlib.Core.Bool.{Bool, true, not}
-use mathlib.Core.List.{List}
+use mathlib.Core.Bool.{Bool, true, false, not}
+use mathlib.Core.List.{List, []}
 use mathlib.Core.Path.{_≡_, refl, sym, ap, _∙_, subst}
-use Prim.Native.Nat.{ℕ, _+_, _*_, _<_, _≤_}
-use native.Mathlib.Nat.{le-antisymm}
+use Prim.Native.Nat.{ℕ, _+_, _*_, _<_, _≤_, min}
 use native.Mathlib.Omega.{arith}
 use borrow.Author.Tests.{eqb-true}
 use lib.Dec.{eqb}
 use lib.ListN.{length, getD}
 use lib.Ieee.{Float}
+use Rattle.laws.specs.Loop.{forUp, anyUp, any-found, any-none, Scan}
 use Rattle.laws.specs.Tests.{both}
 use Rattle.numbers.specs.Float.{_⊗_}
 use Rattle.domain.specs.declared.Point.{Point}
@@ -16,13 +16,13 @@ use Rattle.geometry.specs.declared.Key.{Key}
 use Rattle.geometry.specs.declared.Corners.{Corners}
 use Rattle.geometry.specs.Keys.{keyOf, edgeBucket, spansKept, clearance, isTooClose, tooCloseAt, lowest, highest, isInBox, isCandidate}
 use Rattle.index.specs.declared.Rect.{Rect}
-use Rattle.index.specs.Pool.{file, Indexed}
-use Rattle.index.specs.FileLaws.{file-length, indexed-file}
+use Rattle.index.specs.Pool.{filed, file, Indexed}
+use Rattle.index.specs.FileLaws.{file-length, indexed-file, indexed-past}
 use Rattle.index.specs.Rects.{rectOf, rectAt, edgeRect, Meets}
 use Rattle.index.specs.KeyLaws.{box-meets, candidate-meets, end-meets}
-use Rattle.front.specs.State.{State, nodeIn, edgeIs}
-use Rattle.paving.specs.Checks.{shareEnd, closeNode, blocks, crossesEdge}
-use Rattle.indexed.specs.Rects.{nodeRects, edgeRects, closeAt, blocksAt, insideAt, crossesAt, crossingAt}
+use Rattle.front.specs.State.{nodeIn, edgeIs}
+use Rattle.paving.specs.Checks.{shareEnd, blocksAt, crossesAt}
+use Rattle.indexed.specs.Rects.{nodeRects, edgeRects, Unfound, listed, closeAt, insideAt, crossingAt}
 
 -- ---- filing one item after the other: those before id are filed
 
@@ -32,16 +32,43 @@ pub record Filing (rects : ℕ → Rect) (to : ℕ) (pool₀ pool : List ℕ) (i
   pub filed : Indexed pool rects id
 
 module _ {rects : ℕ → Rect} {to : ℕ} {pool₀ pool : List ℕ} {id : ℕ} (f : Filing rects to pool₀ pool id) where
-  pub filing-next : {r : Rect} {next : List ℕ} → id < to → r ≡ rects id → next ≡ file r id pool → Filing rects to pool₀ next (id + 1)
+  pub filing-next : {r : Rect} {next : List ℕ} → id < min to 4294967295 → r ≡ rects id → next ≡ file r id pool
+      → Filing rects to pool₀ next (id + 1)
   filing-next {r} less e n =
       record {
         size = ap length n ∙ file-length r id pool ∙ f .size;
         within = omega arith;
-        filed = subst (λ (p : List ℕ). Indexed p rects (id + 1)) (sym n) (indexed-file pool rects id r (sym e) (f .filed));
+        filed = subst (λ (p : List ℕ). Indexed p rects (id + 1)) (sym n) (indexed-file pool rects id r (sym e) (omega arith) (f .filed));
       }
 
-  pub filing-end : to ≤ id → Indexed pool rects to
-  filing-end past = subst (λ (k : ℕ). Indexed pool rects k) (le-antisymm (f .within) past) (f .filed)
+  pub filing-end : min to 4294967295 ≤ id → Indexed pool rects to
+  filing-end past = indexed-past past (f .within) (f .filed)
+
+-- ---- a search: a walk for the items that are filed, and then a scan from there on
+
+module _ {from count : ℕ} where
+  pub scan-from : {test : ℕ → Bool} → Unfound test from count → Scan test count from
+  unfolding anyUp
+  scan-from u = record { within = u .within; same = sym (u .none) }
+
+  -- what is found before `from` is found
+  pub found-before : (test : ℕ → Bool) → from ≤ count → true ≡ anyUp from test → true ≡ anyUp count test
+  found-before test le e =
+      let f = any-found test from (sym e) in
+      by (anyUp count test) refl (f .0) (omega (arith, f .1)) (f .2)
+    where
+      by : (b : Bool) → anyUp count test ≡ b → (i : ℕ) → i < count → test i ≡ true → true ≡ b
+      by true e i h t = refl
+      by false e i h t = sym t ∙ any-none test count e i h
+
+-- the walk has found nothing
+pub unfound : {test : ℕ → Bool} {from count : ℕ} {pool : List ℕ} {rects : ℕ → Rect} → from ≡ filed pool → Indexed pool rects count
+    → false ≡ anyUp (filed pool) test → Unfound test from count
+unfound {test} e I none = record { within = omega (arith, I .within); none = ap (λ (k : ℕ). anyUp k test) e ∙ sym none }
+
+pub unfound-none : (test : ℕ → Bool) (count : ℕ) → Unfound test 0 count
+unfolding anyUp forUp
+unfound-none test count = record { within = omega arith; none = refl }
 
 -- ---- the tests, by what the code has at hand: r is the test's answer
 
@@ -56,7 +83,7 @@ pub inside-is : (size : Float) (xs ys : List Float) (p : Corners) (a b d c : ℕ
 inside-is size xs ys p a b d c o e t = rw (← o, ← e) (sym t)
 
 pub crossing-is : (size : Float) (xs ys : List Float) (edges : List ℕ) (p q : Point) (u v : ℕ) {k own c d : ℕ} {r : Bool}
-    → own ≡ k → c ≡ getD edges (2 * own) 0 → d ≡ getD edges (2 * own + 1) 0 → r ≡ crossesAt size xs ys p q u v c d
+    → own ≡ k → c ≡ getD edges (2 * own) 0 → d ≡ getD edges (2 * own + 1) 0 → r ≡ crossesAt size (listed xs ys []) p q u v c d
     → crossingAt size xs ys edges p q u v k ≡ r
 crossing-is size xs ys edges p q u v o ec ed t = rw (← o, ← ec, ← ed) (sym t)
 
@@ -82,15 +109,3 @@ known-meets size xs ys edges u v k kept e =
     let ends = both (eqb (getD edges (2 * k) 0) u) (eqb (getD edges (2 * k + 1) 0) v) e in
     rw (eqb-true (getD edges (2 * k) 0) u (ends .0), eqb-true (getD edges (2 * k + 1) 0) v (ends .1))
     (end-meets size (nodeIn xs ys u) (nodeIn xs ys v) kept)
-
--- ---- the tests are the paving's
-
-pub close-node : (size : Float) (s : State) (p : Point) → closeNode size s p ≡ closeAt size (s .xs) (s .ys) p
-close-node size s p = refl
-
-pub blocks-node : (size : Float) (s : State) (p : Corners) (a b d c : ℕ) → blocks size s p a b d c ≡ insideAt size (s .xs) (s .ys) p a b d c
-blocks-node size s p a b d c = refl
-
-pub crosses-edge : (size : Float) (s : State) (p q : Point) (u v : ℕ)
-    → crossesEdge size s p q u v ≡ crossingAt size (s .xs) (s .ys) (s .edges) p q u v
-crosses-edge size s p q u v = refl

@@ -1,18 +1,22 @@
-// The nodes and edges of a paving's state (src/alt_crossfield.rs: `NodeIndex` and `EdgeIndex`), filed in pools of `index`, and the searches that go by them.
+// The nodes and edges of a paving's state (src/alt_crossfield.rs: `NodeIndex` and `EdgeIndex`), filed in pools of `index`, and the searches that go by them:
+// a walk for those that are filed, and a scan of those that came after the pool was full.
 ghost use mathlib.Core.Path.{_≡_};
-ghost use mathlib.Core.Bool.{true};
-ghost use Prim.Native.Nat.{_*_, _≤_};
+ghost use mathlib.Core.List.{[]};
+ghost use Prim.Native.Nat.{_*_, _≤_, min};
 ghost use lib.ListN.{length, getD};
 ghost use Rattle.laws.specs.Loop.{anyUp};
-ghost use Rattle.index.specs.Pool.{live, Indexed};
+ghost use Rattle.index.specs.Pool.{Indexed};
 ghost use Rattle.front.specs.State.{edgeIs};
 ghost use Rattle.front.specs.Stores.{knownAcross};
-ghost use Rattle.paving.specs.Checks.{isCorner, shareEnd};
-ghost use Rattle.indexed.specs.Rects.{nodeRects, edgeRects, NodesFiled, EdgesFiled, closeAt, blocksAt, insideAt, crossesAt, crossingAt};
+ghost use Rattle.paving.specs.Checks.{isCorner, shareEnd, blocksAt, crossesAt};
+ghost use Rattle.indexed.specs.Rects.{nodeRects, edgeRects, NodesFiled, EdgesFiled, Unfound, listed, closeAt, insideAt, crossingAt};
 use domain::Point;
 use domain::Settings;
 use front::Corner;
 use geometry::Corners;
+
+// How many items a pool can number.
+const MOST: usize = 4294967295;
 
 // ---- reading
 
@@ -37,7 +41,14 @@ fn is_edge(edges: &[u32], k: u32, u: u32, v: u32) -> bool
 
 // ---- filing
 
-// Files the nodes `from` to `to` - 1, where those before are filed.
+// How many of the first `count` edges a pool can number.
+fn numbered(count: usize) -> usize
+    ensures { λ r. ⌜ r ≡ min count 4294967295 ⌝ }
+{
+    if count < MOST { count } else { MOST }
+}
+
+// Files the nodes `from` to `to` - 1, where those before are filed: all that find places, up to the first that doesn't.
 pub fn file_nodes(pool: &mut [u32], size: f64, xs: &[f64], ys: &[f64], from: u32, to: u32)
     requires { ⌜ NodesFiled (now pool) size (now xs) (now ys) from to ⌝ }
     ensures { λ r. ⌜ Indexed (now (pool .exit)) (nodeRects size (now (xs .entry)) (now (ys .entry))) to ⌝ }
@@ -50,7 +61,7 @@ pub fn file_nodes(pool: &mut [u32], size: f64, xs: &[f64], ys: &[f64], from: u32
     }
 }
 
-// Files the edges `from` to `to` - 1, where those before are filed. With more edges than 32 bits can number, the pool is taken out of use.
+// Files the edges `from` to `to` - 1, as `file_nodes`, and none that 32 bits can't number.
 pub fn file_edges(
     pool: &mut [u32],
     size: f64,
@@ -63,12 +74,9 @@ pub fn file_edges(
     requires { ⌜ EdgesFiled (now pool) size (now xs) (now ys) (now edges) from to ⌝ }
     ensures { λ r. ⌜ Indexed (now (pool .exit)) (edgeRects size (now (xs .entry)) (now (ys .entry)) (now (edges .entry))) to ⌝ }
 {
-    if 4294967295 < to {
-        index::close(pool);
-        return;
-    }
+    let last = numbered(to);
     let mut k = from;
-    while k < to {
+    while k < last {
         let c = front::node_at(xs, ys, edges[2 * k]);
         let d = front::node_at(xs, ys, edges[2 * k + 1]);
         let r = index::edge_rect(size, c, d);
@@ -96,7 +104,7 @@ fn is_corner(a: u32, b: u32, d: u32, c: u32, id: u32) -> bool
 }
 
 // Whether the node q of number id, not a corner, lies in the quad p and in its key rectangle.
-pub fn blocks_at(size: f64, p: Corners, a: u32, b: u32, d: u32, c: u32, id: u32, q: Point) -> bool
+fn blocks_at(size: f64, p: Corners, a: u32, b: u32, d: u32, c: u32, id: u32, q: Point) -> bool
     ensures { λ r. ⌜ r ≡ blocksAt size p a b d c id q ⌝ }
 {
     if is_corner(a, b, d, c, id) {
@@ -126,7 +134,7 @@ fn share_end(c: u32, d: u32, u: u32, v: u32) -> bool
 }
 
 // Whether the edge c to d is a candidate for the new edge a to b, whose ends are the nodes u and v, shares no end with it, and crosses it.
-pub fn crosses_at(
+fn crosses_at(
     size: f64,
     xs: &[f64],
     ys: &[f64],
@@ -137,7 +145,7 @@ pub fn crosses_at(
     c: u32,
     d: u32,
 ) -> bool
-    ensures { λ r. ⌜ r ≡ crossesAt size (now (xs .entry)) (now (ys .entry)) a b u v c d ⌝ }
+    ensures { λ r. ⌜ r ≡ crossesAt size (listed (now (xs .entry)) (now (ys .entry)) []) a b u v c d ⌝ }
 {
     if share_end(c, d, u, v) {
         return false;
@@ -151,11 +159,97 @@ pub fn crosses_at(
     }
 }
 
+// ---- scans: of the items from `from` on, where none before passes the test
+
+fn close_from(size: f64, xs: &[f64], ys: &[f64], from: u32, nodes: u32, p: Point) -> bool
+    requires { ⌜ Unfound (closeAt size (now xs) (now ys) p) from nodes ⌝ }
+    ensures { λ r. ⌜ r ≡ anyUp nodes (closeAt size (now (xs .entry)) (now (ys .entry)) p) ⌝ }
+{
+    let radius = Settings::CLEARANCE * size;
+    let radius2 = radius * radius;
+    let key = geometry::key_of(size, p);
+    let mut id = from;
+    while id < nodes {
+        if geometry::too_close_at(key, p, radius2, size, front::node_at(xs, ys, id)) {
+            return true;
+        }
+        id += 1;
+    }
+    false
+}
+
+fn inside_from(
+    size: f64,
+    xs: &[f64],
+    ys: &[f64],
+    from: u32,
+    nodes: u32,
+    p: Corners,
+    a: u32,
+    b: u32,
+    d: u32,
+    c: u32,
+) -> bool
+    requires { ⌜ Unfound (insideAt size (now xs) (now ys) p a b d c) from nodes ⌝ }
+    ensures { λ r. ⌜ r ≡ anyUp nodes (insideAt size (now (xs .entry)) (now (ys .entry)) p a b d c) ⌝ }
+{
+    let mut id = from;
+    while id < nodes {
+        if blocks_at(size, p, a, b, d, c, id, front::node_at(xs, ys, id)) {
+            return true;
+        }
+        id += 1;
+    }
+    false
+}
+
+fn crossing_from(
+    size: f64,
+    xs: &[f64],
+    ys: &[f64],
+    edges: &[u32],
+    from: usize,
+    count: usize,
+    a: Point,
+    b: Point,
+    u: u32,
+    v: u32,
+) -> bool
+    requires { ⌜ Unfound (crossingAt size (now xs) (now ys) (now edges) a b u v) from count × (2 * count ≤ length (now edges)) ⌝ }
+    ensures { λ r. ⌜ r ≡ anyUp count (crossingAt size (now (xs .entry)) (now (ys .entry)) (now (edges .entry)) a b u v) ⌝ }
+{
+    let mut k = from;
+    while k < count {
+        if crosses_at(size, xs, ys, a, b, u, v, edges[2 * k], edges[2 * k + 1]) {
+            return true;
+        }
+        k += 1;
+    }
+    false
+}
+
+// Edge k joins u and v, u the smaller.
+fn known_from(edges: &[u32], from: usize, count: usize, u: u32, v: u32) -> bool
+    requires { ⌜ Unfound (edgeIs (now edges) u v) from count × (2 * count ≤ length (now edges)) ⌝ }
+    ensures { λ r. ⌜ r ≡ anyUp count (edgeIs (now (edges .entry)) u v) ⌝ }
+{
+    let mut k = from;
+    while k < count {
+        if edges[2 * k] == u {
+            if edges[2 * k + 1] == v {
+                return true;
+            }
+        }
+        k += 1;
+    }
+    false
+}
+
 // ---- searching
 
-// Whether some node is too close to p, by a walk round its key.
+// Whether some node is too close to p: a walk round its key.
 pub fn any_close(pool: &[u32], size: f64, xs: &[f64], ys: &[f64], nodes: u32, p: Point) -> bool
-    requires { ⌜ (live (now pool) ≡ true) × Indexed (now pool) (nodeRects size (now xs) (now ys)) nodes ⌝ }
+    requires { ⌜ Indexed (now pool) (nodeRects size (now xs) (now ys)) nodes ⌝ }
     ensures { λ r. ⌜ r ≡ anyUp nodes (closeAt size (now (xs .entry)) (now (ys .entry)) p) ⌝ }
 {
     let radius = Settings::CLEARANCE * size;
@@ -170,10 +264,10 @@ pub fn any_close(pool: &[u32], size: f64, xs: &[f64], ys: &[f64], nodes: u32, p:
         }
         c = index::after(pool, r, c);
     }
-    false
+    close_from(size, xs, ys, index::filed(pool), nodes, p)
 }
 
-// Whether some node other than the corners a, b, d, c lies in the quad p, by a walk of its key rectangle.
+// Whether some node other than the corners a, b, d, c lies in the quad p: a walk of its key rectangle.
 pub fn any_inside(
     pool: &[u32],
     size: f64,
@@ -186,7 +280,7 @@ pub fn any_inside(
     d: u32,
     c: u32,
 ) -> bool
-    requires { ⌜ (live (now pool) ≡ true) × Indexed (now pool) (nodeRects size (now xs) (now ys)) nodes ⌝ }
+    requires { ⌜ Indexed (now pool) (nodeRects size (now xs) (now ys)) nodes ⌝ }
     ensures { λ r. ⌜ r ≡ anyUp nodes (insideAt size (now (xs .entry)) (now (ys .entry)) p a b d c) ⌝ }
 {
     let low = geometry::key_of(size, geometry::lowest(p));
@@ -200,10 +294,10 @@ pub fn any_inside(
         }
         t = index::after(pool, r, t);
     }
-    false
+    inside_from(size, xs, ys, index::filed(pool), nodes, p, a, b, d, c)
 }
 
-// Whether some edge crosses the new edge a to b, whose ends are the nodes u and v, by a walk of its key rectangle: none, where its spans are above 4,096.
+// Whether some edge crosses the new edge a to b, whose ends are the nodes u and v: a walk of its key rectangle, of no key where its spans are above 4,096.
 pub fn any_crossing(
     pool: &[u32],
     size: f64,
@@ -216,7 +310,7 @@ pub fn any_crossing(
     u: u32,
     v: u32,
 ) -> bool
-    requires { ⌜ (live (now pool) ≡ true) × Indexed (now pool) (edgeRects size (now xs) (now ys) (now edges)) count ⌝ }
+    requires { ⌜ (2 * count ≤ length (now edges)) × Indexed (now pool) (edgeRects size (now xs) (now ys) (now edges)) count ⌝ }
     ensures { λ r. ⌜ r ≡ anyUp count (crossingAt size (now (xs .entry)) (now (ys .entry)) (now (edges .entry)) a b u v) ⌝ }
 {
     let r = index::edge_rect(size, a, b);
@@ -230,7 +324,8 @@ pub fn any_crossing(
         }
         t = index::after(pool, r, t);
     }
-    false
+    let filed = index::filed(pool) as usize;
+    crossing_from(size, xs, ys, edges, filed, count, a, b, u, v)
 }
 
 // Whether one of the first `count` edges joins u and v, u the smaller: a walk of the cell of u. Where the spans of such an edge are above 4,096 it is
@@ -245,14 +340,14 @@ pub fn is_known(
     u: u32,
     v: u32,
 ) -> bool
-    requires { ⌜ (live (now pool) ≡ true) × (2 * count ≤ length (now edges)) × Indexed (now pool) (edgeRects size (now xs) (now ys) (now edges)) count ⌝ }
+    requires { ⌜ (2 * count ≤ length (now edges)) × Indexed (now pool) (edgeRects size (now xs) (now ys) (now edges)) count ⌝ }
     ensures { λ r. ⌜ r ≡ anyUp count (edgeIs (now (edges .entry)) u v) ⌝ }
 {
     let bucket = 2.0 * size;
     let m = geometry::key_of(bucket, front::node_at(xs, ys, u));
     let n = geometry::key_of(bucket, front::node_at(xs, ys, v));
     if !geometry::spans_kept(m, n) {
-        return front::scan_edges(edges, count, u, v);
+        return known_from(edges, 0, count, u, v);
     }
     let r = index::rect_at(m);
     let mut t = index::first(pool, r);
@@ -262,10 +357,10 @@ pub fn is_known(
         }
         t = index::after(pool, r, t);
     }
-    false
+    known_from(edges, index::filed(pool) as usize, count, u, v)
 }
 
-// Whether the far corners are joined already, as `front::is_known_across`: by a walk where the pool is live.
+// Whether the far corners are joined already. Only two reused ones can be: they alone are searched for.
 pub fn is_known_across(
     pool: &[u32],
     size: f64,
@@ -279,9 +374,6 @@ pub fn is_known_across(
     requires { ⌜ (2 * n ≤ length (now edges)) × Indexed (now pool) (edgeRects size (now xs) (now ys) (now edges)) n ⌝ }
     ensures { λ r. ⌜ r ≡ knownAcross (now (edges .entry)) n c d ⌝ }
 {
-    if !index::is_live(pool) {
-        return front::is_known_across(edges, n, c, d);
-    }
     let Corner::Reused(u) = c else {
         return false;
     };

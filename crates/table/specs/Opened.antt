@@ -15,7 +15,7 @@ use Rattle.topology.specs.Listing.{addLoop, listing}
 use Rattle.domain.specs.Outline.{holeStart, holeAt, loopAt, pointAt, pointAfter, anyFloat, misshapen, loopRefusal, loopsRefusal, farRefusal}
 use Rattle.domain.specs.Outline.{outlineRefusal, pointRefusal, queryRefusal}
 use Rattle.domain.specs.Queries.{rayCrosses, pointInPolygon, contains, squaredDistance, footOf, pointSegmentDistance, nearer, nearestInLoop}
-use Rattle.domain.specs.Queries.{nearestSegment, containsAnswer, nearestAnswer, distanceAnswer}
+use Rattle.domain.specs.Queries.{nearestSegment}
 use Rattle.geometry.specs.Plane.{distance, tangent, areaTerm, cross2, doubledArea, leftOf, pointInConvex, onSegment, opposite, touches, segmentsCross}
 use Rattle.geometry.specs.Plane.{centroid, convexCcw}
 use Rattle.geometry.specs.Keys.{keyOf, spansKept, rangesMeet, rectanglesMeet, candidateAt, isCandidate, nearKeys, tooCloseAt, isTooClose, leastOf}
@@ -27,6 +27,7 @@ use Rattle.crossfield.specs.Seeds.{gridPoint, seed, isFixed, setValue, seedNode
 use Rattle.crossfield.specs.Sweeps.{plusIf, neighbourSum, neighbourCount, normalised, average, change, relaxed, sweepNode, sweepRow, sweep, sweeps}
 use Rattle.crossfield.specs.Field.{placesRefusal, fieldRefusal, fieldOf}
 use Rattle.front.specs.State.{nodePlaces, quadPlaces, edgePlaces, nodeIn, hasEdge, pushNode, addFront, removeFront, pushEdge, addEdge, pushQuad, cleared}
+use Rattle.front.specs.Neighbours.{neighbourOf}
 use Rattle.front.specs.Sampling.{partsOf, parts, loopParts, loopNodes, sampledCount, frontRefusal, cut, sampleSegment, sampleLoop, signedArea}
 use Rattle.front.specs.Sampling.{edgeLength, longestEdge, ringOf, ringAt, midpoint, splitLongest, joinRing, closeLoop, boundaryTurn, fromBoundary}
 use Rattle.front.specs.Sampling.{ringIds, boundaryLoops}
@@ -62,8 +63,7 @@ openedTopology = tt
 
 unfoldable pub openedDomain : Unit {0}
 unfolding holeStart holeAt loopAt pointAt pointAfter anyFloat misshapen loopRefusal loopsRefusal farRefusal outlineRefusal pointRefusal queryRefusal
-    rayCrosses pointInPolygon contains squaredDistance footOf pointSegmentDistance nearer nearestInLoop nearestSegment containsAnswer
-    nearestAnswer distanceAnswer
+    rayCrosses pointInPolygon contains squaredDistance footOf pointSegmentDistance nearer nearestInLoop nearestSegment
 openedDomain = tt
 
 unfoldable pub openedGeometry : Unit {0}
@@ -79,7 +79,7 @@ unfolding widened loopBounds bounds gridCount tooManyNodes spacing gridOf sizeRe
 openedCrossfield = tt
 
 unfoldable pub openedFront : Unit {0}
-unfolding nodePlaces quadPlaces edgePlaces nodeIn hasEdge pushNode addFront removeFront pushEdge addEdge pushQuad cleared partsOf parts loopParts
+unfolding nodePlaces quadPlaces edgePlaces nodeIn neighbourOf hasEdge pushNode addFront removeFront pushEdge addEdge pushQuad cleared partsOf parts loopParts
     loopNodes sampledCount frontRefusal cut sampleSegment sampleLoop signedArea edgeLength longestEdge ringOf ringAt midpoint splitLongest
     joinRing closeLoop boundaryTurn fromBoundary tabulate ringIds boundaryLoops addEdges moveFront place edgesAdded isFull
 openedFront = tt

@@ -25,10 +25,10 @@ use Rattle.paving.specs.Loops.{frontLoops}
 use Rattle.table.specs.Opened.{opened}
 
 -- the point (x, y) of whole numbers
-abbrev at : ℕ → ℕ → Point
+abbrev pub at : ℕ → ℕ → Point
 at x y = point (toFloat x) (toFloat y)
 
-abbrev up : Point
+abbrev pub up : Point
 up = at 0 1
 
 -- n nodes, each with its links, and no quad or edge

@@ -23,6 +23,9 @@ returns c = rw (lt-leb 4 _ (c .if1 .taken))
 slice-write-pool : tie.Need-slice-write-pool Inv-loop μ-loop
 slice-write-pool c = search needs
 
+slice-write-pool-2 : tie.Need-slice-write-pool-2 Inv-loop μ-loop
+slice-write-pool-2 c = simp length-set (omega arith)
+
 loop-holds : tie.Need-loop-holds Inv-loop μ-loop
 loop-holds c = (loop-start _ _ _, refl)
 
@@ -32,8 +35,8 @@ add-pool c = search needs
 mul-pool : tie.Need-mul-pool Inv-loop μ-loop
 mul-pool c = search needs
 
-slice-write-pool-2 : tie.Need-slice-write-pool-2 Inv-loop μ-loop
-slice-write-pool-2 c = omega (arith, simp length-set at (c .before .loop .inv .1))
+slice-write-pool-3 : tie.Need-slice-write-pool-3 Inv-loop μ-loop
+slice-write-pool-3 c = omega (arith, simp length-set at (c .before .loop .inv .1))
 
 add-c : tie.Need-add-c Inv-loop μ-loop
 add-c c = search needs
@@ -59,10 +62,11 @@ clear-spec =
     μ-loop
     returns
     slice-write-pool
+    slice-write-pool-2
     loop-holds
     add-pool
     mul-pool
-    slice-write-pool-2
+    slice-write-pool-3
     add-c
     loop-less
     loop-again

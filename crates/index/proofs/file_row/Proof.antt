@@ -35,7 +35,7 @@ push-requires : tie.Need-push-requires Inv-loop μ-loop
 push-requires c κs =
     let at = c .before .before in
     let start = at .before .before .before .before .before in
-    (omega (arith, at .loop .inv .size, start .pre .0), row-inside (at .loop .inv) (start .pre .0))
+    (row-inside (at .loop .inv) (start .pre .0), rw (at .loop .inv .size) (omega (arith, at .loop .inv .places, start .pre .2, c .before .loop-test .taken, at .before .before .span .ensures)))
 
 next-cell-requires : tie.Need-next-cell-requires Inv-loop μ-loop
 next-cell-requires c κs =
@@ -52,7 +52,7 @@ loop-less c = search needs
 loop-again : tie.Need-loop-again Inv-loop μ-loop
 loop-again c =
     let at = c .before .before .before .before .before .before in
-    row-next (at .loop .inv) (c .before .before .before .before .before .loop-test .taken) (c .before .before .before .push .ensures)
+    row-next (at .loop .inv) (at .before .before .before .before .before .pre .0) (c .before .before .before .before .before .loop-test .taken) (c .before .before .before .push .ensures)
     (c .next-cell .ensures ∙ ap (λ (m : ℕ). (at .loop .cell + 1) % m) (at .before .before .before .cells-of .ensures))
 
 same-length : tie.Need-same-length Inv-loop μ-loop

@@ -19,7 +19,7 @@ here c =
     let args = c .before .before .before .before .args in
     c .cell-of .ensures ∙ ap (λ (m : ℕ). cellOf m (args .left) (args .j)) (c .before .cells-of .ensures)
 
-inside : (c : tie.After-cell-of) → 1 + c .cell-of .result < length (c .before .before .before .before .args .pool .now)
+inside : (c : tie.After-cell-of) → 2 + c .cell-of .result < length (c .before .before .before .before .args .pool .now)
 inside c =
     let start = c .before .before .before .before in
     let n = length (start .args .pool .now) in
@@ -49,7 +49,7 @@ shared-slice-read-t : tie.Need-shared-slice-read-t
 shared-slice-read-t c = omega (arith, inside (c .before))
 
 cast-if2 : tie.Need-cast-if2
-cast-if2 c = omega (arith, c .shared-slice-known2 .given (1 + c .before .cell-of .result))
+cast-if2 c = omega (arith, c .shared-slice-known2 .given (2 + c .before .cell-of .result))
 
 capacity-of-requires : tie.Need-capacity-of-requires
 capacity-of-requires c κs = search needs

@@ -23,7 +23,7 @@ step c = c .next-cell .ensures ∙ ap (λ (m : ℕ). (c .before .before .loop .c
 
 -- the next column's cell has its head in the list
 inside : (c : tie.After-next-cell Inv-loop μ-loop)
-    → 1 + c .next-cell .result < length (c .before .before .before .before .before .before .args .pool .now)
+    → 2 + c .next-cell .result < length (c .before .before .before .before .before .before .args .pool .now)
 inside c =
     let at = c .before .before in
     let start = at .before .before .before .before in
@@ -67,7 +67,7 @@ shared-slice-read-t : tie.Need-shared-slice-read-t Inv-loop μ-loop
 shared-slice-read-t c = omega (arith, inside (c .before))
 
 cast-if1 : tie.Need-cast-if1 Inv-loop μ-loop
-cast-if1 c = omega (arith, c .shared-slice-known2 .given (1 + c .before .next-cell .result))
+cast-if1 c = omega (arith, c .shared-slice-known2 .given (2 + c .before .next-cell .result))
 
 returns : tie.Need-returns Inv-loop μ-loop
 returns c =

@@ -1,32 +1,22 @@
--- `index::push` meets its contract: a pair of places is left, or none.
+-- `index::push` meets its contract: a pair of places is left.
 use Prim.Native.Nat.{_<_}
 use native.Mathlib.Omega.{arith}
-use borrow.Author.Tests.{lt-ltb, le-ltb}
 use lib.ListN.{length, length-set}
-use Rattle.index.specs.Pool.{capacity, linkPlace, used, push}
+use Rattle.index.specs.Pool.{cells, linkPlace, used, push}
 use Rattle.index.specs.FileLaws.{place-fits, place-small}
 use borrow.Author.Needs.{needs}
 use Rattle.index.proofs.push.Statement.{statement}
 use Rattle.index.proofs.push.Tie as tie
 
 -- there is a place left, and its pair stands in the list
-within : (c : tie.After-cells-of) → let pool = c .before .before .before .before .before .args .pool .now in used pool < capacity (length pool)
-within c = rw (c .before .before .before .capacity-of .ensures) at (c .before .if1 .taken)
+room : (c : tie.After-cells-of) → let pool = c .before .before .before .args .pool .now in linkPlace (length pool) (used pool) < length pool
+room c = place-fits _ _ (c .before .before .before .pre .1)
 
-room : (c : tie.After-cells-of) → let pool = c .before .before .before .before .before .args .pool .now in linkPlace (length pool) (used pool) < length pool
-room c = place-fits _ _ (within c)
-
-small : (c : tie.After-cells-of) → used (c .before .before .before .before .before .args .pool .now) < 4294967294
-small c = place-small _ _ (within c)
-
-capacity-of-requires : tie.Need-capacity-of-requires
-capacity-of-requires c κs = search needs
+small : (c : tie.After-cells-of) → used (c .before .before .before .args .pool .now) < 4294967294
+small c = place-small _ _ (c .before .before .before .pre .1)
 
 slice-read-used : tie.Need-slice-read-used
-slice-read-used c = search needs
-
-cast-u : tie.Need-cast-u
-cast-u c = omega (arith, c .slice-known2 .given 0)
+slice-read-used c = omega (arith, place-fits _ _ (c .before .before .pre .1))
 
 cells-of-requires : tie.Need-cells-of-requires
 cells-of-requires c κs = search needs
@@ -34,14 +24,17 @@ cells-of-requires c κs = search needs
 add-at : tie.Need-add-at
 add-at c = omega (arith, room c, c .cells-of .ensures)
 
+cast-at : tie.Need-cast-at
+cast-at c = omega (arith, small c)
+
 mul-at : tie.Need-mul-at
-mul-at c = omega (arith, room c, c .cells-of .ensures)
+mul-at c = omega (arith, small c)
 
 add-at-2 : tie.Need-add-at-2
 add-at-2 c = omega (arith, room c, c .cells-of .ensures)
 
 add-head : tie.Need-add-head
-add-head c = search needs
+add-head c = omega (arith, room c, c .cells-of .ensures)
 
 mul-head : tie.Need-mul-head
 mul-head c = omega (arith, room c, c .cells-of .ensures)
@@ -65,7 +58,7 @@ slice-write-pool-2 : tie.Need-slice-write-pool-2
 slice-write-pool-2 c = simp length-set (omega (arith, room (c .before), c .before .cells-of .ensures))
 
 add-pool-2 : tie.Need-add-pool-2
-add-pool-2 c = search needs
+add-pool-2 c = omega (arith, room (c .before), c .before .cells-of .ensures)
 
 mul-pool-3 : tie.Need-mul-pool-3
 mul-pool-3 c = omega (arith, room (c .before), c .before .cells-of .ensures)
@@ -74,37 +67,26 @@ slice-write-pool-3 : tie.Need-slice-write-pool-3
 slice-write-pool-3 c = simp length-set (omega (arith, room (c .before), c .before .cells-of .ensures))
 
 add-pool-3 : tie.Need-add-pool-3
-add-pool-3 c = omega (arith, room (c .before), small (c .before))
+add-pool-3 c = omega (arith, small (c .before))
 
 slice-write-pool-4 : tie.Need-slice-write-pool-4
 slice-write-pool-4 c = simp length-set (omega (arith, room (c .before), c .before .cells-of .ensures))
-
-slice-write-pool-5 : tie.Need-slice-write-pool-5
-slice-write-pool-5 c = search needs
 
 same-length : tie.Need-same-length
 same-length c = search needs
 
 returns : tie.Need-returns
 unfolding push
-returns c = rw (lt-ltb _ _ (within (c .before)), c .before .cells-of .ensures)
-
-same-length-2 : tie.Need-same-length-2
-same-length-2 c = search needs
-
-returns-2 : tie.Need-returns-2
-unfolding push
-returns-2 c = rw (le-ltb _ _ (rw (c .before .before .capacity-of .ensures) at (c .if1 .left)))
+returns c = rw (c .before .cells-of .ensures)
 
 pub push-spec : {M : Type 1} → statement M
 push-spec =
     tie.close
     (tie.spec
-    capacity-of-requires
     slice-read-used
-    cast-u
     cells-of-requires
     add-at
+    cast-at
     mul-at
     add-at-2
     add-head
@@ -120,8 +102,5 @@ push-spec =
     slice-write-pool-3
     add-pool-3
     slice-write-pool-4
-    slice-write-pool-5
     same-length
-    returns
-    same-length-2
-    returns-2)
+    returns)

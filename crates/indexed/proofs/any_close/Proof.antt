@@ -1,4 +1,4 @@
--- `indexed::any_close` meets its contract: what is left of the walk answers.
+-- `indexed::any_close` meets its contract: what is left of the walk answers for the items filed, and a scan for the others.
 use mathlib.Core.Path.{_≡_, sym, _∙_}
 use mathlib.Core.Bool.{false}
 use borrow.Author.Needs.{needs}
@@ -6,17 +6,17 @@ use borrow.Author.Tests.{not-true, not-false}
 use lib.ListN.{length}
 use Rattle.laws.specs.Loop.{anyUp}
 use Rattle.front.specs.State.{nodeIn}
-use Rattle.index.specs.Pool.{ownAt}
+use Rattle.index.specs.Pool.{filed, ownAt}
 use Rattle.index.specs.Walk.{over, ahead}
 use Rattle.index.specs.WalkLaws.{Walk, walk-start, walk-next, walk-hit, walk-none, walk-less}
 use Rattle.index.specs.KeyLaws.{close-meets}
 use Rattle.indexed.specs.Rects.{closeAt}
-use Rattle.indexed.specs.Laws.{close-is}
+use Rattle.indexed.specs.Laws.{close-is, found-before, unfound}
 use Rattle.indexed.proofs.any_close.Statement.{statement}
 use Rattle.indexed.proofs.any_close.Tie as tie
 
 abbrev Inv-loop : tie.InvT-loop
-Inv-loop pool size xs ys nodes p radius radius2 key r c₀ c = Walk pool r (closeAt size xs ys p) (anyUp nodes (closeAt size xs ys p)) c
+Inv-loop pool size xs ys nodes p radius radius2 key r c₀ c = Walk pool r (closeAt size xs ys p) (anyUp (filed pool) (closeAt size xs ys p)) c
 
 abbrev μ-loop : tie.MeasureT-loop
 μ-loop pool size xs ys nodes p radius radius2 key r c₀ c = length (ahead pool r c)
@@ -44,15 +44,15 @@ rect-around-requires : tie.Need-rect-around-requires Inv-loop μ-loop
 rect-around-requires c κs = search needs
 
 first-requires : tie.Need-first-requires Inv-loop μ-loop
-first-requires c κs = c .before .before .before .before .before .pre .0
+first-requires c κs = search needs
 
 loop-holds : tie.Need-loop-holds Inv-loop μ-loop
 loop-holds c =
     let rect = c .before in
     let start = rect .before .before .before .before .before in
     let args = start .args in
-    walk-start (start .pre .0) (start .pre .1)
-    (λ id less e.
+    walk-start (start .pre)
+    (λ id e.
     rw (rect .rect-around .ensures, rect .before .key-of .ensures)
     (close-meets (args .size) (args .p) (nodeIn (args .xs .now) (args .ys .now) id) e))
     (c .first .ensures)
@@ -72,7 +72,8 @@ too-close-at-requires c κs = search needs
 returns : tie.Need-returns Inv-loop μ-loop
 returns c =
     let own = c .before .before .before in
-    walk-hit (own .before .before .before .loop .inv) (going (own .before)) (tested (c .before) ∙ c .if2 .taken)
+    let at = own .before .before .before in
+    found-before _ (at .before .before .before .before .before .before .before .pre .within) (walk-hit (at .loop .inv) (going (own .before)) (tested (c .before) ∙ c .if2 .taken))
 
 after-requires : tie.Need-after-requires Inv-loop μ-loop
 after-requires c κs =
@@ -87,8 +88,17 @@ loop-again c =
     let close = c .before .before in
     walk-next (close .before .before .before .before .before .loop .inv) (tested close ∙ c .before .if2 .left) (c .after .ensures)
 
+filed-requires : tie.Need-filed-requires Inv-loop μ-loop
+filed-requires c κs = search needs
+
+close-from-requires : tie.Need-close-from-requires Inv-loop μ-loop
+close-from-requires c κs =
+    let at = c .before .before .before in
+    let pre = at .before .before .before .before .before .before .before .pre in
+    unfound (c .filed .ensures) (pre) (walk-none (at .loop .inv) (sym (c .before .before .is-over .ensures) ∙ not-false _ (c .before .if1 .left)))
+
 returns-2 : tie.Need-returns-2 Inv-loop μ-loop
-returns-2 c = walk-none (c .before .before .loop .inv) (sym (c .before .is-over .ensures) ∙ not-false _ (c .if1 .left))
+returns-2 c = c .close-from .ensures
 
 pub any-close-spec : {M : Type 1} → statement M
 any-close-spec =
@@ -108,4 +118,6 @@ any-close-spec =
     after-requires
     loop-less
     loop-again
+    filed-requires
+    close-from-requires
     returns-2)

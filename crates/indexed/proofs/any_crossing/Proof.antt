@@ -1,21 +1,21 @@
--- `indexed::any_crossing` meets its contract: what is left of the walk answers.
+-- `indexed::any_crossing` meets its contract: what is left of the walk answers for the items filed, and a scan for the others.
 use mathlib.Core.Path.{_≡_, sym, _∙_}
 use mathlib.Core.Bool.{false}
 use borrow.Author.Needs.{needs}
 use borrow.Author.Tests.{not-true, not-false}
 use lib.ListN.{length}
 use Rattle.laws.specs.Loop.{anyUp}
-use Rattle.index.specs.Pool.{ownAt}
+use Rattle.index.specs.Pool.{filed, ownAt}
 use Rattle.index.specs.Walk.{over, ahead}
 use Rattle.index.specs.WalkLaws.{Walk, walk-start, walk-next, walk-hit, walk-none, walk-less}
 use Rattle.indexed.specs.Rects.{crossingAt}
-use Rattle.indexed.specs.Laws.{crossing-is, crossing-meets}
+use Rattle.indexed.specs.Laws.{crossing-is, crossing-meets, found-before, unfound}
 use Rattle.indexed.proofs.any_crossing.Statement.{statement}
 use Rattle.indexed.proofs.any_crossing.Tie as tie
 
 abbrev Inv-loop : tie.InvT-loop
 Inv-loop pool size xs ys edges count a b u v r t₀ t =
-    Walk pool r (crossingAt size xs ys edges a b u v) (anyUp count (crossingAt size xs ys edges a b u v)) t
+    Walk pool r (crossingAt size xs ys edges a b u v) (anyUp (filed pool) (crossingAt size xs ys edges a b u v)) t
 
 abbrev μ-loop : tie.MeasureT-loop
 μ-loop pool size xs ys edges count a b u v r t₀ t = length (ahead pool r t)
@@ -40,15 +40,15 @@ edge-rect-requires : tie.Need-edge-rect-requires Inv-loop μ-loop
 edge-rect-requires c κs = search needs
 
 first-requires : tie.Need-first-requires Inv-loop μ-loop
-first-requires c κs = c .before .before .before .before .before .pre .0
+first-requires c κs = search needs
 
 loop-holds : tie.Need-loop-holds Inv-loop μ-loop
 loop-holds c =
     let rect = c .before in
     let start = rect .before .before .before .before .before in
     let args = start .args in
-    walk-start (start .pre .0) (start .pre .1)
-    (λ k less e.
+    walk-start (start .pre .1)
+    (λ k e.
     rw (rect .edge-rect .ensures)
     (crossing-meets (args .size) (args .xs .now) (args .ys .now) (args .edges .now) (args .a) (args .b) (args .u) (args .v) k e))
     (c .first .ensures)
@@ -80,7 +80,8 @@ crosses-at-requires c κs = search needs
 returns : tie.Need-returns Inv-loop μ-loop
 returns c =
     let own = c .before .before .before .before in
-    walk-hit (own .before .before .before .loop .inv) (going (own .before)) (tested (c .before) ∙ c .if2 .taken)
+    let at = own .before .before .before in
+    found-before _ (at .before .before .before .before .before .before .before .pre .1 .within) (walk-hit (at .loop .inv) (going (own .before)) (tested (c .before) ∙ c .if2 .taken))
 
 after-requires : tie.Need-after-requires Inv-loop μ-loop
 after-requires c κs =
@@ -95,8 +96,20 @@ loop-again c =
     let test = c .before .before in
     walk-next (test .before .before .before .before .before .before .loop .inv) (tested test ∙ c .before .if2 .left) (c .after .ensures)
 
+filed-requires : tie.Need-filed-requires Inv-loop μ-loop
+filed-requires c κs = search needs
+
+cast-filed : tie.Need-cast-filed Inv-loop μ-loop
+cast-filed c = search needs
+
+crossing-from-requires : tie.Need-crossing-from-requires Inv-loop μ-loop
+crossing-from-requires c κs =
+    let at = c .before .before .before in
+    let pre = at .before .before .before .before .before .before .before .pre in
+    (unfound (c .filed .ensures) (pre .1) (walk-none (at .loop .inv) (sym (c .before .before .is-over .ensures) ∙ not-false _ (c .before .if1 .left))), pre .0)
+
 returns-2 : tie.Need-returns-2 Inv-loop μ-loop
-returns-2 c = walk-none (c .before .before .loop .inv) (sym (c .before .is-over .ensures) ∙ not-false _ (c .if1 .left))
+returns-2 c = c .crossing-from .ensures
 
 pub any-crossing-spec : {M : Type 1} → statement M
 any-crossing-spec =
@@ -119,4 +132,7 @@ any-crossing-spec =
     after-requires
     loop-less
     loop-again
+    filed-requires
+    cast-filed
+    crossing-from-requires
     returns-2)

@@ -1,20 +1,20 @@
--- `indexed::any_inside` meets its contract: what is left of the walk answers.
+-- `indexed::any_inside` meets its contract: what is left of the walk answers for the items filed, and a scan for the others.
 use mathlib.Core.Path.{_≡_, sym, _∙_}
 use mathlib.Core.Bool.{false}
 use borrow.Author.Needs.{needs}
 use borrow.Author.Tests.{not-true, not-false}
 use lib.ListN.{length}
 use Rattle.laws.specs.Loop.{anyUp}
-use Rattle.index.specs.Pool.{ownAt}
+use Rattle.index.specs.Pool.{filed, ownAt}
 use Rattle.index.specs.Walk.{over, ahead}
 use Rattle.index.specs.WalkLaws.{Walk, walk-start, walk-next, walk-hit, walk-none, walk-less}
 use Rattle.indexed.specs.Rects.{insideAt}
-use Rattle.indexed.specs.Laws.{inside-is, inside-meets}
+use Rattle.indexed.specs.Laws.{inside-is, inside-meets, found-before, unfound}
 use Rattle.indexed.proofs.any_inside.Statement.{statement}
 use Rattle.indexed.proofs.any_inside.Tie as tie
 
 abbrev Inv-loop : tie.InvT-loop
-Inv-loop pool size xs ys nodes p a b d c r t₀ t = Walk pool r (insideAt size xs ys p a b d c) (anyUp nodes (insideAt size xs ys p a b d c)) t
+Inv-loop pool size xs ys nodes p a b d c r t₀ t = Walk pool r (insideAt size xs ys p a b d c) (anyUp (filed pool) (insideAt size xs ys p a b d c)) t
 
 abbrev μ-loop : tie.MeasureT-loop
 μ-loop pool size xs ys nodes p a b d c r t₀ t = length (ahead pool r t)
@@ -51,7 +51,7 @@ rect-of-requires : tie.Need-rect-of-requires Inv-loop μ-loop
 rect-of-requires c κs = search needs
 
 first-requires : tie.Need-first-requires Inv-loop μ-loop
-first-requires c κs = c .before .before .before .before .before .before .before .before .pre .0
+first-requires c κs = search needs
 
 loop-holds : tie.Need-loop-holds Inv-loop μ-loop
 loop-holds c =
@@ -60,8 +60,8 @@ loop-holds c =
     let low = high .before .before in
     let start = low .before .before .before .before .before in
     let args = start .args in
-    walk-start (start .pre .0) (start .pre .1)
-    (λ id less e.
+    walk-start (start .pre)
+    (λ id e.
     rw (rect .rect-of .ensures, low .key-of .ensures, low .before .lowest .ensures, high .key-of2 .ensures, high .before .highest .ensures)
     (inside-meets (args .size) (args .xs .now) (args .ys .now) (args .p) (args .a) (args .b) (args .d) (args .c) id e))
     (c .first .ensures)
@@ -81,7 +81,8 @@ blocks-at-requires c κs = search needs
 returns : tie.Need-returns Inv-loop μ-loop
 returns c =
     let own = c .before .before .before in
-    walk-hit (own .before .before .before .loop .inv) (going (own .before)) (tested (c .before) ∙ c .if2 .taken)
+    let at = own .before .before .before in
+    found-before _ (at .before .before .before .before .before .before .before .before .before .before .pre .within) (walk-hit (at .loop .inv) (going (own .before)) (tested (c .before) ∙ c .if2 .taken))
 
 after-requires : tie.Need-after-requires Inv-loop μ-loop
 after-requires c κs =
@@ -96,8 +97,17 @@ loop-again c =
     let test = c .before .before in
     walk-next (test .before .before .before .before .before .loop .inv) (tested test ∙ c .before .if2 .left) (c .after .ensures)
 
+filed-requires : tie.Need-filed-requires Inv-loop μ-loop
+filed-requires c κs = search needs
+
+inside-from-requires : tie.Need-inside-from-requires Inv-loop μ-loop
+inside-from-requires c κs =
+    let at = c .before .before .before in
+    let pre = at .before .before .before .before .before .before .before .before .before .before .pre in
+    unfound (c .filed .ensures) (pre) (walk-none (at .loop .inv) (sym (c .before .before .is-over .ensures) ∙ not-false _ (c .before .if1 .left)))
+
 returns-2 : tie.Need-returns-2 Inv-loop μ-loop
-returns-2 c = walk-none (c .before .before .loop .inv) (sym (c .before .is-over .ensures) ∙ not-false _ (c .if1 .left))
+returns-2 c = c .inside-from .ensures
 
 pub any-inside-spec : {M : Type 1} → statement M
 any-inside-spec =
@@ -120,4 +130,6 @@ any-inside-spec =
     after-requires
     loop-less
     loop-again
+    filed-requires
+    inside-from-requires
     returns-2)

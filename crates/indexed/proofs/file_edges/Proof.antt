@@ -1,35 +1,27 @@
 -- `indexed::file_edges` meets its contract: one edge more a turn.
 use mathlib.Core.Path.{refl, ap₂, _∙_}
-use Prim.Native.Nat.{_-_, _*_, _+_}
+use Prim.Native.Nat.{_-_}
 use native.Mathlib.Omega.{arith}
 use borrow.Author.Needs.{needs}
-use Rattle.domain.specs.declared.Point.{Point}
 use Rattle.index.specs.Rects.{edgeRect}
-use Rattle.index.specs.FileLaws.{indexed-closed}
 use Rattle.indexed.specs.Rects.{edgeRects}
 use Rattle.indexed.specs.Laws.{Filing, filing-next, filing-end}
 use Rattle.indexed.proofs.file_edges.Statement.{statement}
 use Rattle.indexed.proofs.file_edges.Tie as tie
 
 abbrev Inv-loop : tie.InvT-loop
-Inv-loop pool₀ size xs ys edges from to k₀ pool k = Filing (edgeRects size xs ys edges) to pool₀ pool k
+Inv-loop pool₀ size xs ys edges from to last k₀ pool k = Filing (edgeRects size xs ys edges) to pool₀ pool k
 
 abbrev μ-loop : tie.MeasureT-loop
-μ-loop pool₀ size xs ys edges from to k₀ pool k = to - k
+μ-loop pool₀ size xs ys edges from to last k₀ pool k = last - k
 
-close-requires : tie.Need-close-requires Inv-loop μ-loop
-close-requires c κs = search needs
-
-same-length : tie.Need-same-length Inv-loop μ-loop
-same-length c = search needs
-
-returns : tie.Need-returns Inv-loop μ-loop
-returns c = indexed-closed _ _ _ (c .before .before .close .ensures)
+numbered-requires : tie.Need-numbered-requires Inv-loop μ-loop
+numbered-requires c κs = search needs
 
 loop-holds : tie.Need-loop-holds Inv-loop μ-loop
 loop-holds c =
-    let start = c .before .before .before .before .before in
-    record { size = refl; within = start .pre .more; filed = start .pre .filed }
+    let pre = c .before .before .before .before .before .pre in
+    record { size = refl; within = pre .more; filed = pre .filed }
 
 mul-node-at : tie.Need-mul-node-at Inv-loop μ-loop
 mul-node-at c = search needs
@@ -79,16 +71,16 @@ loop-again c =
     let second = rect .before in
     let first = second .before .before in
     let at = first .before .before .before in
-    filing-next (at .loop .inv) (first .before .before .loop-test .taken)
+    filing-next (at .loop .inv) (omega (arith, first .before .before .loop-test .taken, at .before .numbered .ensures))
     (rect .edge-rect .ensures
     ∙ ap₂ (edgeRect (at .before .before .before .before .before .before .args .size)) (first .node-at .ensures) (second .node-at2 .ensures))
     (c .before .before .file .ensures)
 
-same-length-2 : tie.Need-same-length-2 Inv-loop μ-loop
-same-length-2 c = c .before .loop .inv .size
+same-length : tie.Need-same-length Inv-loop μ-loop
+same-length c = c .before .loop .inv .size
 
-returns-2 : tie.Need-returns-2 Inv-loop μ-loop
-returns-2 c = filing-end (c .before .loop .inv) (c .loop-test .left)
+returns : tie.Need-returns Inv-loop μ-loop
+returns c = filing-end (c .before .loop .inv) (omega (arith, c .loop-test .left, c .before .before .numbered .ensures))
 
 pub file-edges-spec : {M : Type 1} → statement M
 file-edges-spec =
@@ -96,9 +88,7 @@ file-edges-spec =
     (tie.spec
     Inv-loop
     μ-loop
-    close-requires
-    same-length
-    returns
+    numbered-requires
     loop-holds
     mul-node-at
     mul-node-at-2
@@ -115,5 +105,5 @@ file-edges-spec =
     add-k
     loop-less
     loop-again
-    same-length-2
-    returns-2)
+    same-length
+    returns)

@@ -37,7 +37,7 @@ loop-again : tie.Need-loop-again Inv-loop μ-loop
 loop-again c =
     let rect = c .before .before .before .before in
     let at = rect .before .before .before in
-    filing-next (at .loop .inv) (rect .before .before .loop-test .taken)
+    filing-next (at .loop .inv) (omega (arith, rect .before .before .loop-test .taken))
     (rect .node-rect .ensures ∙ ap (nodeRect (at .before .before .before .before .args .size)) (rect .before .node-at .ensures))
     (c .before .before .file .ensures)
 
@@ -45,7 +45,7 @@ same-length : tie.Need-same-length Inv-loop μ-loop
 same-length c = c .before .loop .inv .size
 
 returns : tie.Need-returns Inv-loop μ-loop
-returns c = filing-end (c .before .loop .inv) (c .loop-test .left)
+returns c = filing-end (c .before .loop .inv) (omega (arith, c .loop-test .left))
 
 pub file-nodes-spec : {M : Type 1} → statement M
 file-nodes-spec =

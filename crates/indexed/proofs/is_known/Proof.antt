@@ -1,4 +1,4 @@
--- `indexed::is_known` meets its contract: what is left of the walk answers. Every edge that joins u and v has the rectangle of that edge, and u's key is in it.
+-- `indexed::is_known` meets its contract: what is left of the walk answers for the edges filed, and a scan for the others. Every edge that joins u and v has the rectangle of that edge, and u's key is in it.
 use mathlib.Core.Path.{_≡_, sym, _∙_}
 use mathlib.Core.Bool.{true, false}
 use borrow.Author.Needs.{needs}
@@ -7,16 +7,16 @@ use lib.ListN.{length}
 use Rattle.laws.specs.Loop.{anyUp}
 use Rattle.geometry.specs.TestLaws.{passed}
 use Rattle.geometry.specs.Keys.{keyOf, edgeBucket, spansKept}
-use Rattle.index.specs.Pool.{ownAt}
+use Rattle.index.specs.Pool.{filed, ownAt}
 use Rattle.index.specs.Walk.{over, ahead}
 use Rattle.index.specs.WalkLaws.{Walk, walk-start, walk-next, walk-hit, walk-none, walk-less}
 use Rattle.front.specs.State.{nodeIn, edgeIs}
-use Rattle.indexed.specs.Laws.{known-meets}
+use Rattle.indexed.specs.Laws.{known-meets, found-before, unfound, unfound-none}
 use Rattle.indexed.proofs.is_known.Statement.{statement}
 use Rattle.indexed.proofs.is_known.Tie as tie
 
 abbrev Inv-loop : tie.InvT-loop
-Inv-loop pool size xs ys edges count u v bucket r t₀ t = Walk pool r (edgeIs edges u v) (anyUp count (edgeIs edges u v)) t
+Inv-loop pool size xs ys edges count u v bucket r t₀ t = Walk pool r (edgeIs edges u v) (anyUp (filed pool) (edgeIs edges u v)) t
 
 abbrev μ-loop : tie.MeasureT-loop
 μ-loop pool size xs ys edges count u v bucket r t₀ t = length (ahead pool r t)
@@ -47,17 +47,17 @@ key-of-requires-2 c κs = search needs
 spans-kept-requires : tie.Need-spans-kept-requires Inv-loop μ-loop
 spans-kept-requires c κs = search needs
 
-scan-edges-requires : tie.Need-scan-edges-requires Inv-loop μ-loop
-scan-edges-requires c κs = search needs
+known-from-requires : tie.Need-known-from-requires Inv-loop μ-loop
+known-from-requires c κs = (unfound-none _ _, c .before .before .before .before .before .before .before .before .before .before .pre .0)
 
 returns : tie.Need-returns Inv-loop μ-loop
-returns c = c .scan-edges .ensures
+returns c = c .known-from .ensures
 
 rect-at-requires : tie.Need-rect-at-requires Inv-loop μ-loop
 rect-at-requires c κs = search needs
 
 first-requires : tie.Need-first-requires Inv-loop μ-loop
-first-requires c κs = c .before .before .before .before .before .before .before .before .before .before .before .pre .0
+first-requires c κs = search needs
 
 loop-holds : tie.Need-loop-holds Inv-loop μ-loop
 loop-holds c =
@@ -71,8 +71,8 @@ loop-holds c =
     let kept : spansKept (keyOf (edgeBucket (args .size)) (nodeIn (args .xs .now) (args .ys .now) (args .u)))
     (keyOf (edgeBucket (args .size)) (nodeIn (args .xs .now) (args .ys .now) (args .v))) ≡ true =
     rw (← from .before .node-at .ensures, ← to .before .node-at2 .ensures, ← from .key-of .ensures, ← to .key-of2 .ensures) spans in
-    walk-start (start .pre .0) (start .pre .2)
-    (λ k less e.
+    walk-start (start .pre .1)
+    (λ k e.
     rw (rect .rect-at .ensures, from .key-of .ensures, from .before .node-at .ensures)
     (known-meets (args .size) (args .xs .now) (args .ys .now) (args .edges .now) (args .u) (args .v) k kept e))
     (c .first .ensures)
@@ -89,7 +89,8 @@ is-edge-requires c κs = search needs
 returns-2 : tie.Need-returns-2 Inv-loop μ-loop
 returns-2 c =
     let own = c .before .before in
-    walk-hit (own .before .before .before .loop .inv) (going (own .before)) (tested (c .before) ∙ c .if3 .taken)
+    let at = own .before .before .before in
+    found-before _ (at .before .before .before .before .before .before .before .before .before .before .before .before .before .pre .1 .within) (walk-hit (at .loop .inv) (going (own .before)) (tested (c .before) ∙ c .if3 .taken))
 
 after-requires : tie.Need-after-requires Inv-loop μ-loop
 after-requires c κs =
@@ -104,8 +105,20 @@ loop-again c =
     let test = c .before .before in
     walk-next (test .before .before .before .before .loop .inv) (tested test ∙ c .before .if3 .left) (c .after .ensures)
 
+filed-requires : tie.Need-filed-requires Inv-loop μ-loop
+filed-requires c κs = search needs
+
+cast-known-from : tie.Need-cast-known-from Inv-loop μ-loop
+cast-known-from c = search needs
+
+known-from-requires-2 : tie.Need-known-from-requires-2 Inv-loop μ-loop
+known-from-requires-2 c κs =
+    let at = c .before .before .before in
+    let pre = at .before .before .before .before .before .before .before .before .before .before .before .before .before .pre in
+    (unfound (c .filed .ensures) (pre .1) (walk-none (at .loop .inv) (sym (c .before .before .is-over .ensures) ∙ not-false _ (c .before .if2 .left))), pre .0)
+
 returns-3 : tie.Need-returns-3 Inv-loop μ-loop
-returns-3 c = walk-none (c .before .before .loop .inv) (sym (c .before .is-over .ensures) ∙ not-false _ (c .if2 .left))
+returns-3 c = c .known-from2 .ensures
 
 pub is-known-spec : {M : Type 1} → statement M
 is-known-spec =
@@ -118,7 +131,7 @@ is-known-spec =
     node-at-requires-2
     key-of-requires-2
     spans-kept-requires
-    scan-edges-requires
+    known-from-requires
     returns
     rect-at-requires
     first-requires
@@ -130,4 +143,7 @@ is-known-spec =
     after-requires
     loop-less
     loop-again
+    filed-requires
+    cast-known-from
+    known-from-requires-2
     returns-3)

@@ -1,18 +1,8 @@
 -- `indexed::is_known_across` meets its contract: two reused corners are searched for.
 use mathlib.Core.Path.{refl}
 use borrow.Author.Needs.{needs}
-use Rattle.geometry.specs.TestLaws.{passed}
 use Rattle.indexed.proofs.is_known_across.Statement.{statement}
 use Rattle.indexed.proofs.is_known_across.Tie as tie
-
-is-live-requires : tie.Need-is-live-requires
-is-live-requires c κs = search needs
-
-is-known-across-requires : tie.Need-is-known-across-requires
-is-known-across-requires c κs = search needs
-
-returns : tie.Need-returns
-returns c = search needs
 
 enum-known-c : tie.Need-enum-known-c
 enum-known-c c = search needs
@@ -20,8 +10,8 @@ enum-known-c c = search needs
 enum-told : tie.Need-enum-told
 enum-told c = search needs
 
-returns-2 : tie.Need-returns-2
-returns-2 c = rw (c .enum-told .given .1) refl
+returns : tie.Need-returns
+returns c = rw (c .enum-told .given .1) refl
 
 enum-known-d : tie.Need-enum-known-d
 enum-known-d c = search needs
@@ -29,8 +19,8 @@ enum-known-d c = search needs
 enum-told-2 : tie.Need-enum-told-2
 enum-told-2 c = search needs
 
-returns-3 : tie.Need-returns-3
-returns-3 c = rw (c .before .before .before .c .given .1, c .enum-told2 .given .1) refl
+returns-2 : tie.Need-returns-2
+returns-2 c = rw (c .before .before .before .c .given .1, c .enum-told2 .given .1) refl
 
 smaller-requires : tie.Need-smaller-requires
 smaller-requires c κs = search needs
@@ -39,13 +29,10 @@ larger-requires : tie.Need-larger-requires
 larger-requires c κs = search needs
 
 is-known-requires : tie.Need-is-known-requires
-is-known-requires c κs =
-    let else1 = c .before .before .before .before .before .before .before .before in
-    let pre = else1 .before .before .before .before .before .before .pre in
-    (passed (else1 .before .is-live .ensures) (else1 .if1 .left), pre .0, pre .1)
+is-known-requires c κs = search needs
 
-returns-4 : tie.Need-returns-4
-returns-4 c =
+returns-3 : tie.Need-returns-3
+returns-3 c =
     let d = c .before .before .before .before in
     let e = d .before .before .before in
     rw (e .c .given .1, d .d .given .1, ← c .before .before .smaller .ensures, ← c .before .larger .ensures) (c .is-known .ensures)
@@ -54,16 +41,13 @@ pub is-known-across-spec : {M : Type 1} → statement M
 is-known-across-spec =
     tie.close
     (tie.spec
-    is-live-requires
-    is-known-across-requires
-    returns
     enum-known-c
     enum-told
-    returns-2
+    returns
     enum-known-d
     enum-told-2
-    returns-3
+    returns-2
     smaller-requires
     larger-requires
     is-known-requires
-    returns-4)
+    returns-3)

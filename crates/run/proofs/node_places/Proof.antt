@@ -1,6 +1,5 @@
 -- `run::node_places` meets its contract. Assumes nothing.
 use mathlib.Core.Path.{refl, _∙_}
-use Rattle.run.specs.Run.{fewest}
 use borrow.Author.Needs.{needs}
 use Rattle.run.proofs.node_places.Statement.{statement}
 use Rattle.run.proofs.node_places.Tie as tie
@@ -17,17 +16,11 @@ min-usize-requires-3 c κs = search needs
 min-usize-requires-4 : tie.Need-min-usize-requires-4
 min-usize-requires-4 c κs = search needs
 
-min-usize-requires-5 : tie.Need-min-usize-requires-5
-min-usize-requires-5 c κs = search needs
-
 returns : tie.Need-returns
-unfolding fewest
 returns c =
-    let at-min-usize4 = c .before in
-    let at-min-usize3 = at-min-usize4 .before in
+    let at-min-usize3 = c .before in
     let at-min-usize2 = at-min-usize3 .before in
-    let at-min-usize = at-min-usize2 .before in
-    c .min-usize5 .ensures ∙ rw (at-min-usize4 .min-usize4 .ensures, at-min-usize .min-usize .ensures, at-min-usize2 .min-usize2 .ensures, at-min-usize3 .min-usize3 .ensures) refl
+    c .min-usize4 .ensures ∙ rw (at-min-usize3 .min-usize3 .ensures, at-min-usize2 .before .min-usize .ensures, at-min-usize2 .min-usize2 .ensures) refl
 
 pub node-places-spec : {M : Type 1} → statement M
 node-places-spec =
@@ -37,5 +30,4 @@ node-places-spec =
     min-usize-requires-2
     min-usize-requires-3
     min-usize-requires-4
-    min-usize-requires-5
     returns)

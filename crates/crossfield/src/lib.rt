@@ -421,14 +421,20 @@ fn normalised(v: Point) -> Point
     }
 }
 
-// The sum divided by the count. Most nodes have four neighbours, and a division by the literal is compiled to a multiplication.
+// The sum divided by the count. By four or two, as at nearly all nodes and the corners, it is the product with a quarter or a half.
 fn divided(sum: Point, count: u32) -> Point
     ensures { λ r. ⌜ r ≡ divided sum count ⌝ }
 {
     if count == 4 {
         return Point {
-            x: sum.x / 4.0,
-            y: sum.y / 4.0,
+            x: sum.x * 0.25,
+            y: sum.y * 0.25,
+        };
+    }
+    if count == 2 {
+        return Point {
+            x: sum.x * 0.5,
+            y: sum.y * 0.5,
         };
     }
     let n = count as f64;

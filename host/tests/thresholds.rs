@@ -248,7 +248,8 @@ fn events_on_hostile_meshes_are_the_models() {
 #[test]
 fn events_on_a_run_are_the_models() {
     let drawing = Drawing::square(16.0);
-    let mut memory = Memory::new(Places { field_nodes: 2_000, nodes: 800, quads: 800, edges: 2_400, points: 4 });
+    let mut memory =
+        Memory::new(Places { field_nodes: 2_000, nodes: 800, quads: 800, edges: 2_400, points: 4 }).unwrap();
     let mesh = memory.pave(&drawing.outline(), &Settings { size: 1.0, sweeps: 400, passes: 600 }).unwrap();
     let (nodes, quads) = (mesh.node_count() as u32, mesh.quad_count() as u32);
     let mut thresholds = Thresholds::begin(&mesh);

@@ -555,7 +555,13 @@ fn example() -> (Outcome, Outcome, Sampled, Answered) {
     let mut asked = generated("lattice", 1, 5);
     let run = asked.of_oracle(&AMPLE).expect("it is accepted");
     let reference = Outcome::of_oracle(run, asked.field.as_ref().expect("the run has made it"));
-    let mut lists = RunPlaces::new(cases::lengths(&mut Rng(9), &AMPLE, 1 + asked.drawing.hole_lengths.len(), AMPLE.pools(), AMPLE.blocks()));
+    let mut lists = RunPlaces::new(cases::lengths(
+        &mut Rng(9),
+        &AMPLE,
+        1 + asked.drawing.hole_lengths.len(),
+        AMPLE.pools(),
+        AMPLE.blocks(),
+    ));
     let mesh = lists.pave(&asked.drawing.outline(), &asked.settings).expect("it is accepted");
     (Outcome::of_library(&mesh), reference, asked.sampled().clone(), answered(&mesh))
 }

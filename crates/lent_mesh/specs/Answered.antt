@@ -1,9 +1,7 @@
 -- A mesh that a run answered is read as it was answered: its count of quads doesn't stop earlier, and quad k is front's `quadAt`.
 use mathlib.Core.Path.{_≡_, refl}
-use mathlib.Core.List.{List}
-use Prim.Native.Nat.{ℕ, _/_, _≤_}
+use Prim.Native.Nat.{ℕ, _≤_}
 use native.Mathlib.Omega.{arith}
-use lib.ListN.{length}
 use Rattle.front.specs.State.{Quad, State, quadAt, quadPlaces}
 use Rattle.lent_mesh.specs.declared.QuadIds.{QuadIds}
 use Rattle.lent_mesh.specs.Mesh.{quadCount, quadIn}

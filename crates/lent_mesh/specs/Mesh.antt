@@ -1,5 +1,4 @@
 -- A mesh as it is lent: nodes and quads count from 0, a count beyond its list stops at its last whole node or quad, and quads stop at 250,000.
-use mathlib.Core.Path.{_≡_}
 use mathlib.Core.List.{List}
 use Prim.Native.Nat.{ℕ, _+_, _*_, _/_, _≤_, _<_, min}
 use native.Mathlib.Nat.{mul-div-le}

@@ -1,6 +1,6 @@
 -- THE FIGURES KEPT: after an exam has begun and after any list of events, refused ones among them, both figures are those worked out afresh.
 use Prim.Native.Nat.{ℕ, zero, suc, _≤_, _<_}
-use mathlib.Core.Path.{_≡_, refl, sym}
+use mathlib.Core.Path.{_≡_, refl}
 use mathlib.Core.Bool.{false}
 use mathlib.Core.List.{List, [], _∷_}
 use native.Mathlib.Omega.{arith}

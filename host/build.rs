@@ -6,7 +6,7 @@ use std::{env, process};
 fn main() {
     let host = env::var_os("CARGO_MANIFEST_DIR").expect("cargo sets CARGO_MANIFEST_DIR");
     let repository = Path::new(&host).parent().expect("host/ stands in the repository");
-    link("native", &repository.join("target/staticlib"), "libmesher.a", "rt staticlib mesher");
+    link("native", &repository.join("target/staticlib"), "libsitjorbe.a", "tools/archive");
     if env::var_os("CARGO_FEATURE_ORACLE").is_some() {
         link("crate", &repository.join("oracle/target"), "liboracle.rlib", "oracle/build");
     }

@@ -102,7 +102,7 @@ struct Bench {
 
 impl Bench {
     fn new(outer: Vec<f64>, places: Places, rounds: usize) -> Bench {
-        Bench { outer, places, memory: Memory::new(places), rounds }
+        Bench { outer, places, memory: Memory::new(places).unwrap(), rounds }
     }
 
     /// With a tenth more places than the run uses, where 250,000 quads are enough.

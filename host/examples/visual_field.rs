@@ -39,7 +39,8 @@ fn main() -> ExitCode {
         return ExitCode::FAILURE;
     };
     println!("A visual field of 14 points, in degrees, with a blind spot of 8.");
-    match Memory::new(PLACES).pave(&FIELD, &EXAM) {
+    let mut memory = Memory::new(PLACES).expect("less than a megabyte");
+    match memory.pave(&FIELD, &EXAM) {
         Ok(mesh) => say(&mesh),
         Err(refusal) => println!("\n{refusal}"),
     }

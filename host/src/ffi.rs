@@ -1,5 +1,5 @@
-//! The library's entries as they cross: crates/mesher/src/lib.rt, with each slice as two parameters, pointer and length, in
-//! the order of the Rattle signature. tests/signatures.rs holds this file against that one.
+//! The library's entries as they cross: the `extern "C"` functions of all crates, with each slice as two parameters, pointer and
+//! length, in the order of the Rattle signature. tests/signatures.rs holds this file against their source.
 //!
 //! A pointer and its length must be those of one slice; that is all an entry asks. The wrappers in the crate's root see to it.
 
@@ -70,7 +70,7 @@ pub struct PaveAnswer {
     pub ids: usize,
 }
 
-#[link(name = "mesher", kind = "static")]
+#[link(name = "sitjorbe", kind = "static")]
 extern "C" {
     pub fn sitjorbe_contains(
         outer: *const f64,

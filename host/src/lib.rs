@@ -33,7 +33,7 @@
 //! assert_eq!(toward, [0.0, -1.0]);
 //!
 //! // The whole run, in memory that is kept for one run after the other: the outline paved with quads of size 1.
-//! let mut memory = Memory::new(Places { field_nodes: 1_600, nodes: 800, quads: 800, edges: 2_400, points: 8 });
+//! let mut memory = Memory::new(Places { field_nodes: 1_600, nodes: 800, quads: 800, edges: 2_400, points: 8 })?;
 //! let mesh = memory.pave(&outline, &Settings { size: 1.0, sweeps: 400, passes: 600 })?;
 //! assert_eq!((mesh.node_count(), mesh.quad_count(), mesh.end()), (80, 44, End::Still));
 //! assert_eq!(mesh.quads().next(), Some([0, 1, 40, 31]));
@@ -43,7 +43,7 @@
 //! let refusal = contains(&outline, [f64::NAN, 0.0]).unwrap_err();
 //! assert_eq!(refusal, Refusal::NotFinite);
 //! println!("{refusal}");
-//! # Ok::<(), Refusal>(())
+//! # Ok::<(), Box<dyn std::error::Error>>(())
 //! ```
 
 pub mod ffi;
@@ -53,6 +53,6 @@ mod queries;
 mod refusal;
 
 pub use field::{direction, field, FieldRecord};
-pub use pave::{pave, pave_numbers, End, Lists, Memory, Mesh, Places, Settings, OFF};
+pub use pave::{pave, pave_numbers, End, Lists, Memory, Mesh, Places, Settings, TooManyPlaces, OFF};
 pub use queries::{contains, distance_to_boundary, nearest_segment, NearestSegment, Outline};
 pub use refusal::Refusal;

@@ -1,6 +1,6 @@
 //! The whole run: the field, the sampled outline, the paving, and the loops of the front that is left.
 
-use std::fmt;
+use std::{array, error, fmt};
 
 use crate::ffi;
 use crate::{FieldRecord, Outline, Refusal};
@@ -39,7 +39,7 @@ pub struct Lists<'a> {
     pub edges: &'a mut [u32],
     /// The ids of the listed loops, one loop after the other; a place a node.
     pub loops: &'a mut [u32],
-    /// The lengths of the listed loops; a place a node.
+    /// The lengths of the listed loops; a place a loop of the outline.
     pub lengths: &'a mut [u32],
     /// For the run's own use: it files nodes there, so as not to search them all. Those that find no place are searched one by one: with few places
     /// or none it takes longer, and answers the same.
@@ -312,16 +312,38 @@ pub struct Places {
 
 impl Places {
     /// Lengths of `node_pool` and `edge_pool` that are enough: eight numbers hold three places, a node takes one place, and an edge seldom
-    /// more than five.
+    /// more than five. Where a length is beyond a `usize` it is [`usize::MAX`], and no list is so long; here and in `blocks`.
     pub fn pools(&self) -> [usize; 2] {
-        [4 * self.nodes, 16 * self.edges]
+        [self.nodes.saturating_mul(4), self.edges.saturating_mul(16)]
     }
 
     /// A length of `blocks` that is always enough: 16 points take four numbers, and each loop, which has at least three points, four more.
     pub fn blocks(&self) -> usize {
-        2 * self.points
+        self.points.saturating_mul(2)
     }
 }
+
+/// Lists of zeros, so long.
+fn zeros<T: Clone + Default, const N: usize>(lengths: [usize; N]) -> Result<[Vec<T>; N], TooManyPlaces> {
+    let mut lists = array::from_fn(|_| Vec::new());
+    for (list, length) in lists.iter_mut().zip(lengths) {
+        list.try_reserve_exact(length).map_err(|_| TooManyPlaces)?;
+        list.resize(length, T::default());
+    }
+    Ok(lists)
+}
+
+/// Why there is no [`Memory`] for so many [`Places`].
+#[derive(Clone, Copy, Debug, PartialEq, Eq)]
+pub struct TooManyPlaces;
+
+impl fmt::Display for TooManyPlaces {
+    fn fmt(&self, f: &mut fmt::Formatter<'_>) -> fmt::Result {
+        f.write_str("there isn't memory for so many places: ask for fewer")
+    }
+}
+
+impl error::Error for TooManyPlaces {}
 
 /// The lists of a run, owned, for one run after the other.
 #[derive(Clone, Debug)]
@@ -334,15 +356,21 @@ pub struct Memory {
 
 impl Memory {
     /// Lists with so many places. Nothing is allocated later.
-    pub fn new(places: Places) -> Memory {
+    ///
+    /// # Errors
+    ///
+    /// [`TooManyPlaces`] where a list would be longer than any can be, or its memory can't be had.
+    pub fn new(places: Places) -> Result<Memory, TooManyPlaces> {
         let Places { field_nodes, nodes: n, quads, edges, .. } = places;
         let [node_pool, edge_pool] = places.pools();
-        let numbers = [n, n, n, 4 * quads, 2 * edges, n, n, node_pool, edge_pool, places.blocks()];
-        Memory {
-            floats: [2 * field_nodes, n, n].map(|length| vec![0.0; length]),
-            marks: vec![0; field_nodes],
-            numbers: numbers.map(|length| vec![0; length]),
-        }
+        let (values, quads, edges) = (field_nodes.saturating_mul(2), quads.saturating_mul(4), edges.saturating_mul(2));
+        // A loop is sampled with four nodes at least: where `n` has places for these, a quarter of it has one for each loop.
+        let [marks] = zeros([field_nodes])?;
+        Ok(Memory {
+            floats: zeros([values, n, n])?,
+            marks,
+            numbers: zeros([n, n, n, quads, edges, n, n / 4, node_pool, edge_pool, places.blocks()])?,
+        })
     }
 
     /// The lists, to lend them.

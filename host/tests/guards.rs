@@ -104,7 +104,7 @@ fn a_field_is_written_and_read_within_its_lists() {
 
 #[test]
 fn the_guards_of_a_run_show_a_write() {
-    let lengths = list_lengths(Places { field_nodes: 4, nodes: 5, quads: 6, edges: 7, points: 8 });
+    let lengths = list_lengths(Places { field_nodes: 4, nodes: 20, quads: 6, edges: 7, points: 8 });
     let nothing = RunPlaces::new(lengths);
     assert_eq!(nothing.written_past([0; 14]), [""; 0]);
     let mut places = RunPlaces::new(lengths);
@@ -122,7 +122,8 @@ fn the_guards_of_a_run_show_a_write() {
 fn a_run_is_written_and_read_within_its_lists() {
     let drawing = finer();
     let settings = Settings { size: 0.5, sweeps: 400, passes: 600 };
-    let mut memory = Memory::new(Places { field_nodes: 1_600, nodes: 800, quads: 800, edges: 2_400, points: 0 });
+    let mut memory =
+        Memory::new(Places { field_nodes: 1_600, nodes: 800, quads: 800, edges: 2_400, points: 0 }).unwrap();
     let mesh = memory.pave(&drawing.outline(), &settings).unwrap();
     let (field_nodes, nodes) = (mesh.record().nodes(), mesh.node_count());
     let points = Block::needed(&drawing) / 2;

@@ -6,7 +6,7 @@ use std::fmt::Write;
 
 use common::blocks::{listed, Block};
 use common::{list_lengths, refused, said, used, Drawing, Lengths, Lent, RunPlaces, LISTS};
-use sitjorbe::{contains, ffi, field, pave_numbers, End, Memory, Mesh, Places, Refusal, Settings};
+use sitjorbe::{contains, ffi, field, pave_numbers, End, Memory, Mesh, Places, Refusal, Settings, TooManyPlaces};
 
 /// The places that document 01's program lends; a file has at most 248 points.
 const PROGRAM: Places = Places { field_nodes: 1_600, nodes: 800, quads: 800, edges: 2_400, points: 248 };
@@ -30,7 +30,7 @@ fn listing(mesh: &Mesh<'_>) -> String {
 
 #[test]
 fn the_worked_square_is_document_01s() {
-    let mut memory = Memory::new(PROGRAM);
+    let mut memory = Memory::new(PROGRAM).unwrap();
     let mesh = memory.pave(&Drawing::square(2.0).outline(), &USUAL).unwrap();
     // What the program must print for it.
     let expected = include_str!("../../crates/pave/stdout");
@@ -45,7 +45,7 @@ fn the_worked_square_is_document_01s() {
 #[test]
 fn a_triangle_gets_the_midpoint_of_its_last_longest_edge() {
     let triangle = Drawing::of_loops(&[vec![[0.0, 0.0], [2.0, 0.0], [1.0, 2.0]]]);
-    let mut memory = Memory::new(PROGRAM);
+    let mut memory = Memory::new(PROGRAM).unwrap();
     let mesh = memory.pave(&triangle.outline(), &Settings { size: 3.0, ..USUAL }).unwrap();
     assert!(mesh.nodes().eq([[0.0, 0.0], [2.0, 0.0], [1.0, 2.0], [0.5, 1.0]]));
     assert_eq!((mesh.quad_count(), mesh.front_count(), mesh.end(), mesh.is_whole()), (0, 4, End::Still, false));
@@ -54,7 +54,7 @@ fn a_triangle_gets_the_midpoint_of_its_last_longest_edge() {
 
 #[test]
 fn a_square_of_side_four_gets_its_25_nodes() {
-    let mut memory = Memory::new(PROGRAM);
+    let mut memory = Memory::new(PROGRAM).unwrap();
     let mesh = memory.pave(&Drawing::square(4.0).outline(), &USUAL).unwrap();
     assert_eq!((mesh.node_count(), mesh.quad_count(), mesh.front_count()), (25, 16, 2));
     assert_eq!((mesh.end(), mesh.is_whole(), mesh.loop_count()), (End::Still, true, 0));
@@ -86,7 +86,7 @@ fn ring() -> Drawing {
 
 #[test]
 fn what_stays_open_is_listed() {
-    let (ring, mut memory) = (ring(), Memory::new(PROGRAM));
+    let (ring, mut memory) = (ring(), Memory::new(PROGRAM).unwrap());
     // A row of quads along the outer loop; the hole's loop and the row's inner side stay, a size apart.
     let mesh = memory.pave(&ring.outline(), &USUAL).unwrap();
     assert_eq!((mesh.node_count(), mesh.quad_count(), mesh.front_count()), (24 + 8 + 16, 20, 8 + 16));
@@ -103,7 +103,7 @@ fn what_stays_open_is_listed() {
 
 #[test]
 fn a_runs_field_is_the_fields_own() {
-    let (ring, mut memory) = (ring(), Memory::new(PROGRAM));
+    let (ring, mut memory) = (ring(), Memory::new(PROGRAM).unwrap());
     let (mut values, mut marks, mut blocks) = (vec![0.0; 3_200], vec![0; 1_600], vec![0; 16]);
     let record = field(&ring.outline(), 1.0, 400, &mut values, &mut marks, &mut blocks).unwrap();
     let mesh = memory.pave(&ring.outline(), &USUAL).unwrap();
@@ -113,7 +113,7 @@ fn a_runs_field_is_the_fields_own() {
 
 #[test]
 fn a_run_ends_by_its_passes() {
-    let (square, mut memory) = (Drawing::square(2.0), Memory::new(PROGRAM));
+    let (square, mut memory) = (Drawing::square(2.0), Memory::new(PROGRAM).unwrap());
     let mut ends = |passes| {
         let mesh = memory.pave(&square.outline(), &Settings { passes, ..USUAL }).unwrap();
         (mesh.end(), mesh.node_count(), mesh.quad_count(), mesh.front_count(), mesh.loop_count())
@@ -128,7 +128,7 @@ fn a_run_ends_by_its_passes() {
 #[test]
 fn a_run_ends_where_the_lists_are_full() {
     let square = Drawing::square(2.0);
-    let mut memory = Memory::new(PROGRAM);
+    let mut memory = Memory::new(PROGRAM).unwrap();
     let all: Vec<[u32; 4]> = memory.pave(&square.outline(), &USUAL).unwrap().quads().collect();
     let ends = |lengths: Lengths, quads: usize, end: End, what: &str| {
         let mut places = RunPlaces::new(lengths);
@@ -145,7 +145,7 @@ fn a_run_ends_where_the_lists_are_full() {
     };
     ends(list_lengths(SQUARE), 4, End::Still, "just enough");
     // The first quad needs node 8, each has a place, and the new edges are 1 8 and 7 8, then 3 8, then 5 8, then none.
-    for list in ["xs", "ys", "next", "prev", "snapshot", "loops", "lengths"] {
+    for list in ["xs", "ys", "next", "prev", "snapshot", "loops"] {
         ends(shorter(list, 1), 0, End::Full, list);
     }
     for (by, quads) in [(1, 3), (4, 3), (5, 2), (8, 2), (9, 1), (13, 0), (16, 0)] {
@@ -170,7 +170,7 @@ fn no_run_writes_past_what_it_counts() {
         for (size, passes, nodes) in [(1.0, 600, 800), (0.7, 1, 800), (0.5, 600, 85), (1.3, 600, 800), (2.0, 0, 800)] {
             let (settings, room) = (Settings { size, passes, ..USUAL }, Places { nodes, ..PROGRAM });
             let (lent, mut places, mut memory) =
-                (Lent::new(&drawing), RunPlaces::new(list_lengths(room)), Memory::new(room));
+                (Lent::new(&drawing), RunPlaces::new(list_lengths(room)), Memory::new(room).unwrap());
             let mesh = places.pave(&lent.outline(), &settings).unwrap();
             let usual = memory.pave(&drawing.outline(), &settings).unwrap();
             assert_eq!(said(&mesh), said(&usual), "the lists' old contents don't count");
@@ -186,7 +186,7 @@ fn no_run_writes_past_what_it_counts() {
 #[test]
 fn memory_serves_one_run_after_the_other() {
     let (square, ring) = (Drawing::square(2.0), ring());
-    let mut memory = Memory::new(PROGRAM);
+    let mut memory = Memory::new(PROGRAM).unwrap();
     let first = said(&memory.pave(&ring.outline(), &USUAL).unwrap());
     memory.pave(&square.outline(), &USUAL).unwrap();
     assert!(memory.pave(&square.outline(), &Settings { size: 0.0, ..USUAL }).is_err());
@@ -197,7 +197,7 @@ fn memory_serves_one_run_after_the_other() {
 #[test]
 fn a_mesh_does_not_depend_on_the_pools() {
     let settings = Settings { size: 0.4, ..USUAL };
-    let expected = said(&Memory::new(PROGRAM).pave(&ring().outline(), &settings).unwrap());
+    let expected = said(&Memory::new(PROGRAM).unwrap().pave(&ring().outline(), &settings).unwrap());
     for (node_pool, edge_pool) in [(0, 0), (3, 3), (4, 4), (100, 40), (40, 100), (500, 9_000), (4_000, 1_000)] {
         let mut lengths = list_lengths(PROGRAM);
         [lengths[11], lengths[12]] = [node_pool, edge_pool];
@@ -214,7 +214,7 @@ fn a_mesh_does_not_depend_on_the_pools() {
 fn a_mesh_does_not_depend_on_the_blocks() {
     let drawing = ring().cut(12);
     let (needed, all) = (Block::needed(&drawing), Block::all(&drawing).len());
-    let mut memory = Memory::new(Places { points: 0, ..PROGRAM });
+    let mut memory = Memory::new(Places { points: 0, ..PROGRAM }).unwrap();
     let mesh = memory.pave(&drawing.outline(), &USUAL).unwrap();
     assert!(mesh.quad_count() > 20, "{} quads are few", mesh.quad_count());
     let expected = said(&mesh);
@@ -317,7 +317,8 @@ fn every_cause_is_refused_alone() {
 #[test]
 fn the_shortest_list_counts() {
     let square = || Drawing::square(2.0);
-    let needed = list_lengths(Places { nodes: 8, quads: 0, edges: 8, ..SQUARE });
+    let mut needed = list_lengths(Places { nodes: 8, quads: 0, edges: 8, ..SQUARE });
+    needed[10] = 1;
     let just = Asked { drawing: square(), settings: USUAL, lengths: needed };
     assert_eq!((just.raw().0.refusal, just.raw().0.end), (0, End::Full as u32));
     let numbers = [9, 9, 10, 10, 10, 10, 10, 0, 10, 10, 10, 0, 0, 0];
@@ -328,4 +329,49 @@ fn the_shortest_list_counts() {
             Asked { drawing: square(), settings: USUAL, lengths }.assert_refused(number, LISTS[k]);
         }
     }
+}
+
+/// `lengths` needs a place for each loop of the outline and no more: with so many the mesh is that of ample lists, with fewer it is refused.
+#[test]
+fn lengths_has_a_place_for_each_loop() {
+    for (drawing, loops) in [(Drawing::square(2.0), 1), (ring(), 2)] {
+        let asked = |places| {
+            let mut lengths = list_lengths(PROGRAM);
+            lengths[10] = places;
+            Asked { drawing: drawing.clone(), settings: USUAL, lengths }
+        };
+        let ample = said(&RunPlaces::new(list_lengths(PROGRAM)).pave(&drawing.outline(), &USUAL).unwrap());
+        for places in [loops, loops + 1, 7, 800] {
+            let mut lists = RunPlaces::new(asked(places).lengths);
+            assert_eq!(said(&lists.pave(&drawing.outline(), &USUAL).unwrap()), ample, "{places} places, {loops} loops");
+        }
+        (0..loops).for_each(|places| asked(places).assert_refused(10, &format!("{places} places, {loops} loops")));
+    }
+    // Nothing paved: every loop is listed, and each has its length.
+    let mut lengths = list_lengths(PROGRAM);
+    lengths[10] = 2;
+    let mut lists = RunPlaces::new(lengths);
+    let mesh = lists.pave(&ring().outline(), &Settings { passes: 0, ..USUAL }).unwrap();
+    assert_eq!((mesh.loop_count(), mesh.is_whole()), (2, false));
+    assert!(mesh.front_loops().all(|ids| ids.len() % 2 == 0 && ids.iter().all(|id| *id >= ids[0])));
+}
+
+#[test]
+fn more_places_than_there_can_be_are_an_error() {
+    let none = Places { field_nodes: 0, nodes: 0, quads: 0, edges: 0, points: 0 };
+    assert!(Memory::new(none).is_ok());
+    // Lengths wrap to 0 or few for most of these: 4 times 2^62 is 0, and 16 times 2^60 + 1 is 16.
+    for count in [1 << 60, (1 << 60) + 1, 1 << 62, (1 << 62) + 1, 1 << 63, (1 << 63) + 1, usize::MAX] {
+        let each = [
+            Places { field_nodes: count, ..none },
+            Places { nodes: count, ..none },
+            Places { quads: count, ..none },
+            Places { edges: count, ..none },
+            Places { points: count, ..none },
+        ];
+        for places in each {
+            assert_eq!(Memory::new(places).err(), Some(TooManyPlaces), "{places:?}");
+        }
+    }
+    assert_eq!(TooManyPlaces.to_string(), "there isn't memory for so many places: ask for fewer");
 }

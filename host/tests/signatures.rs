@@ -41,6 +41,23 @@ impl Declared {
         declared
     }
 
+    /// A function exported under another name, as those of `numbers` that a benchmark calls, is no entry.
+    fn entries_only(mut self) -> Declared {
+        self.functions.retain(|name, _| name.starts_with("sitjorbe_"));
+        self
+    }
+
+    /// Takes in what another source declares. No name stands twice: one of the two would go unread.
+    fn add(&mut self, other: Declared) {
+        let pairs = [(&mut self.functions, other.functions), (&mut self.structs, other.structs)];
+        for (mine, others) in pairs {
+            for (name, typed) in others {
+                assert!(!mine.contains_key(&name), "{name} stands twice");
+                mine.insert(name, typed);
+            }
+        }
+    }
+
     /// Structs that no function answers or takes don't cross.
     fn crossing_only(mut self) -> Declared {
         let used = |typed: &Typed| typed.iter().map(|(_, kind)| kind.clone()).collect::<Vec<_>>();
@@ -186,20 +203,15 @@ fn structs(tokens: &[String]) -> BTreeMap<String, Typed> {
     found
 }
 
-/// What the archive has: the functions that crate mesher exports, and the structs of any crate that cross with them.
+/// What the archive has: the entries of all crates, and the structs of any crate that cross with them.
 fn archive() -> Declared {
     let crates = Path::new(env!("CARGO_MANIFEST_DIR")).join("../crates");
     let mut all = Declared::default();
     for folder in fs::read_dir(crates).expect("crates/ is there") {
-        let folder = folder.unwrap();
-        for file in fs::read_dir(folder.path().join("src")).expect("a crate has src/") {
+        for file in fs::read_dir(folder.unwrap().path().join("src")).expect("a crate has src/") {
             let path = file.unwrap().path();
             if path.extension().is_some_and(|extension| extension == "rt") {
-                let declared = Declared::of_rattle(&fs::read_to_string(path).unwrap());
-                all.structs.extend(declared.structs);
-                if folder.file_name() == "mesher" {
-                    all.functions.extend(declared.functions);
-                }
+                all.add(Declared::of_rattle(&fs::read_to_string(path).unwrap()).entries_only());
             }
         }
     }
@@ -272,6 +284,17 @@ fn a_difference_is_found() {
     }
     let layouts = "#[repr(C)]";
     assert!(differ(&RATTLE.replace(layouts, ""), RUST) && differ(RATTLE, &RUST.replace(layouts, "")));
+}
+
+#[test]
+#[should_panic(expected = "sitjorbe_entry stands twice")]
+fn an_entry_that_stands_twice_is_found() {
+    let source = RATTLE.replace("fn entry<", "fn sitjorbe_entry<");
+    let mut all = Declared::of_rattle(&source).entries_only();
+    assert!(all.functions.contains_key("sitjorbe_entry"));
+    let other = source.replace("struct Answer", "struct Other");
+    all.add(Declared::of_rattle(&RATTLE.replace("struct Answer", "struct Third")).entries_only());
+    all.add(Declared::of_rattle(&other).entries_only());
 }
 
 #[test]

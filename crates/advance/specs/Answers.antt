@@ -7,7 +7,7 @@ use lib.ListN.{getD}
 use lib.Ieee.{Float}
 use Rattle.laws.specs.Loop.{Turn, go, out}
 use Rattle.domain.specs.Outline.{Outline}
-use Rattle.crossfield.specs.Field.{FieldRecord}
+use Rattle.direction.specs.Record.{FieldRecord}
 use Rattle.front.specs.declared.Counts.{Counts}
 use Rattle.front.specs.State.{State}
 use Rattle.paving.specs.declared.Attempt.{Attempt}

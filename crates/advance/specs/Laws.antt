@@ -12,8 +12,8 @@ use borrow.Author.Tests.{eq-eqb, ne-eqb}
 use Rattle.laws.specs.Loop.{Loop, loop-next, Turn, go, out, onwards, forUp-keeps, Run, run-end, Kept, run}
 use Rattle.topology.specs.Links.{off, link-in, link-read}
 use Rattle.domain.specs.Outline.{Outline}
-use Rattle.crossfield.specs.declared.Grid.{Grid}
-use Rattle.crossfield.specs.Field.{FieldRecord}
+use Rattle.direction.specs.declared.Grid.{Grid}
+use Rattle.direction.specs.Record.{FieldRecord}
 use Rattle.front.specs.declared.Corner.{Corner}
 use Rattle.front.specs.declared.Counts.{Counts}
 use Rattle.front.specs.declared.Placed.{Placed}

@@ -8,8 +8,8 @@ use lib.ListN.{length}
 use lib.Ieee.{Float}
 use Rattle.domain.specs.Outline.{Outline}
 use Rattle.blocks.specs.Blocks.{Drawn}
-use Rattle.crossfield.specs.declared.Grid.{Grid}
-use Rattle.crossfield.specs.Places.{Lent}
+use Rattle.direction.specs.declared.Grid.{Grid}
+use Rattle.direction.specs.Cells.{FieldLent}
 use Rattle.front.specs.declared.Corner.{Corner}
 use Rattle.front.specs.State.{State, nodePlaces, edgePlaces, hasEdge}
 use Rattle.front.specs.Place.{place, isFull}
@@ -31,7 +31,7 @@ use Rattle.attempts.specs.Seen.{TryLent}
 -- the outline isn't refused and its blocks are filed, the field is lent, and the state is one that a run can be in
 pub record Paveable (o : Outline) (blocks : List ℕ) (g : Grid) (values : List Float) (s : State) : Type 0 where
   pub drawn : Drawn o blocks
-  pub field : Lent g values
+  pub field : FieldLent g values
   pub sampled : ℕ
   pub loops : List (List ℕ)
   pub sound : Sound sampled s loops

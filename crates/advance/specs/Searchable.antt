@@ -12,7 +12,7 @@ use Rattle.index.specs.Rects.{nodeRect}
 use Rattle.index.specs.FileLaws.{indexed-same, indexed-none}
 use Rattle.domain.specs.declared.Point.{Point}
 use Rattle.domain.specs.Outline.{Outline}
-use Rattle.crossfield.specs.declared.Grid.{Grid}
+use Rattle.direction.specs.declared.Grid.{Grid}
 use Rattle.front.specs.declared.Corner.{Corner}
 use Rattle.front.specs.declared.Counts.{Counts}
 use Rattle.front.specs.declared.Placed.{Placed}

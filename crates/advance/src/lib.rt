@@ -8,7 +8,7 @@ ghost use Prim.Native.Nat.{_*_, _≤_, _<_, min};
 ghost use lib.ListN.{length};
 ghost use Rattle.laws.specs.Loop.{run};
 ghost use Rattle.domain.specs.Outline.{outline};
-ghost use Rattle.crossfield.specs.Field.{fieldRecord};
+ghost use Rattle.direction.specs.Record.{fieldRecord};
 ghost use Rattle.front.specs.State.{stateOf};
 ghost use Rattle.indexed.specs.Rects.{NodesFiled, EdgesFiled};
 ghost use Rattle.attempts.specs.Seen.{TryLent};
@@ -16,9 +16,10 @@ ghost use Rattle.paving.specs.Advance.{copied, passing, passTurn, afterPass, pa
 ghost use Rattle.advance.specs.Answers.{edgeAttempt, Settles, settledCounts, quadSettled, passed, passedCounts, passAnswer};
 ghost use Rattle.advance.specs.Paveable.{Paveable};
 ghost use Rattle.advance.specs.Searchable.{Searchable};
-use crossfield::Grid;
+use direction::Grid;
 use domain::Settings;
 use front::Counts;
+use front::Neighbour;
 use front::OFF;
 use front::Placed;
 use paving::Attempt;
@@ -87,7 +88,11 @@ fn edge_attempt<'a>(
     if b == OFF {
         return Attempt::Nothing;
     }
-    if attempts::link_at(next, k.nodes, a) != b {
+    let neighbour = attempts::link_at(next, k.nodes, a);
+    let Neighbour::At(v) = neighbour else {
+        return Attempt::Nothing;
+    };
+    if v != b {
         return Attempt::Nothing;
     }
     attempts::try_edge(

@@ -1,2 +1,4 @@
 pub mod Seen
+pub mod FarCorners
 pub mod SeenLaws
+pub mod AttemptLaws

@@ -5,9 +5,9 @@ use lib.ListN.{length}
 use lib.Ieee.{Float}
 use Rattle.domain.specs.Outline.{Outline}
 use Rattle.blocks.specs.Blocks.{Drawn}
-use Rattle.crossfield.specs.declared.Grid.{Grid}
-use Rattle.crossfield.specs.Places.{Lent}
 use Rattle.index.specs.Pool.{Indexed}
+use Rattle.direction.specs.declared.Grid.{Grid}
+use Rattle.direction.specs.Cells.{FieldLent}
 use Rattle.front.specs.declared.Counts.{Counts}
 use Rattle.front.specs.State.{State, counted}
 use Rattle.indexed.specs.Rects.{nodeRects, edgeRects}
@@ -34,7 +34,17 @@ seenPoints xs ys = seenNodes xs ys (counted 0 0 0 0)
 abbrev pub seenEdges : List Float → List Float → List ℕ → Counts → State
 seenEdges xs ys edges counts = seen xs ys [] [] edges counts
 
+-- points, and the links of so many nodes
+abbrev pub seenLinks : List Float → List Float → List ℕ → List ℕ → ℕ → State
+seenLinks xs ys next prev nodes = seen xs ys next prev [] (counted nodes 0 0 0)
+
 -- ---- what the code asks
+
+-- two new nodes have numbers, and the links of the nodes counted are lent
+pub record LinksLent (next prev : List ℕ) (nodes : ℕ) : Type 0 where
+  pub nodes-few : nodes ≤ 4294967294
+  pub next-fit : nodes ≤ length next
+  pub prev-fit : nodes ≤ length prev
 
 -- the outline isn't refused and its blocks are filed, and so are the nodes counted
 pub record NodesLent (o : Outline) (blocks : List ℕ) (size : Float) (xs ys : List Float) (node-pool : List ℕ) (counts : Counts) : Type 0 where
@@ -67,4 +77,4 @@ pub record AttemptLent (o : Outline) (blocks : List ℕ) (size : Float) (xs ys :
 pub record TryLent (o : Outline) (blocks : List ℕ) (g : Grid) (values : List Float) (size : Float) (xs ys : List Float)
     (next prev edges node-pool edge-pool : List ℕ) (counts : Counts) : Type 0 where
   pub attempt : AttemptLent o blocks size xs ys next prev edges node-pool edge-pool counts
-  pub field : Lent g values
+  pub field : FieldLent g values

@@ -36,17 +36,17 @@ module _ {A : Type 0} (turn : ℕ → A → A) where
 -- ---- a loop from `from` up to `to`
 
 -- the turns from `from` up to i have been taken from a, and left s
-pub record Between {A : Type 0} (turn : ℕ → A → A) (a : A) (from to i : ℕ) (s : A) : Type 0 where
+pub record LoopBetween {A : Type 0} (turn : ℕ → A → A) (a : A) (from to i : ℕ) (s : A) : Type 0 where
   pub begun : from ≤ i
   pub within : i ≤ to
   pub same : s ≡ forBetween from i turn a
 
 module _ {A : Type 0} (turn : ℕ → A → A) (a : A) where
-  pub between-start : (from to : ℕ) → from ≤ to → Between turn a from to from a
+  pub between-start : (from to : ℕ) → from ≤ to → LoopBetween turn a from to from a
   between-start from to h =
       record { begun = omega arith; within = h; same = sym (between-none turn from from a (λ i l m. absurd (omega arith))) }
 
-  pub between-next : {from to i : ℕ} {s : A} → Between turn a from to i s → i < to → Between turn a from to (i + 1) (turn i s)
+  pub between-next : {from to i : ℕ} {s : A} → LoopBetween turn a from to i s → i < to → LoopBetween turn a from to (i + 1) (turn i s)
   unfolding forBetween forUp
   between-next {from} {to} {i} {s} b h =
       record {
@@ -63,7 +63,7 @@ module _ {A : Type 0} (turn : ℕ → A → A) (a : A) where
       one : (from i : ℕ) → from ≤ i → suc (i - from) ≡ i + 1 - from
       one from i h = omega arith
 
-  pub between-end : {from to i : ℕ} {s : A} → Between turn a from to i s → to ≤ i → s ≡ forBetween from to turn a
+  pub between-end : {from to i : ℕ} {s : A} → LoopBetween turn a from to i s → to ≤ i → s ≡ forBetween from to turn a
   between-end {from} {to} {i} b h = b .same ∙ ap (λ (k : ℕ). forBetween from k turn a) (reached i to (b .within) h)
     where
       reached : (i to : ℕ) → i ≤ to → to ≤ i → i ≡ to

@@ -1,5 +1,5 @@
 -- What a query has of an outline's blocks: each loop's are filed (`drawn-loop`), a block that is listed is there (`block-there`), and its box covers its
--- segments (`block-covers`). Assumes nothing.
+-- segments (`block-covers`). No blocks do as well (`drawn-none`). Assumes nothing.
 use mathlib.Core.Bool.{false}
 use mathlib.Core.List.{List}
 use mathlib.Core.Path.{_≡_, refl, sym, ap, _∙_, subst}
@@ -8,13 +8,14 @@ use native.Mathlib.Omega.{arith}
 use lib.Dec.{T}
 use lib.ListN.{length, drop, length-take, length-drop}
 use lib.Ieee.{Float, binary64, fits}
-use Rattle.domain.specs.Outline.{Outline, holeLength, holeStart, holeAt, loopAt, points, pointAt, pointAfter, misshapen, outlineRefusal, LoopPlace}
-use Rattle.domain.specs.OutlineLaws.{start-over, shaped, Passed, passed-place, passed-few}
-use Rattle.domain.specs.Accepted.{Accepted, accepted, each, loop-within}
+use Rattle.domain.specs.Outline.{Outline, holeLength, holeStart, holeAt, loopAt, points, pointAt, pointAfter, mostPoints}
+use Rattle.domain.specs.Outline.{misshapen, outlineRefusal, LoopPlace}
+use Rattle.domain.specs.OutlineLaws.{start-over, shaped, HolesPassed, passed-place, passed-few}
+use Rattle.domain.specs.Accepted.{OutlineFits, Accepted, accepted, each, loop-within}
 use Rattle.blocks.specs.Blocks.{reach, blockSize, blockEnd, BlockThere, BlockFiled, LoopFiled, LoopDrawn, pointsBefore, firstBlock, firstBlockAt}
 use Rattle.blocks.specs.Blocks.{Drawn, segmentExtent, blockExtent, Covers}
 use Rattle.blocks.specs.BetweenLaws.{BlockPlace}
-use Rattle.blocks.specs.OrderLaws.{beyond-self}
+use Rattle.blocks.specs.OrderLaws.{farther-self}
 
 -- ---- a block
 
@@ -32,10 +33,10 @@ module _ {s : List Float} {blocks : List ℕ} {b from : ℕ} (f : BlockFiled s b
 
 pub segment-covers : (s : List Float) (i : ℕ) → Covers (segmentExtent s i) (pointAt s i) (pointAfter s i)
 segment-covers s i = record {
-  xmin = beyond-self 0 (reach 0 s i);
-  xmax = beyond-self 1 (reach 1 s i);
-  ymin = beyond-self 2 (reach 2 s i);
-  ymax = beyond-self 3 (reach 3 s i);
+  xmin = farther-self 0 (reach 0 s i);
+  xmax = farther-self 1 (reach 1 s i);
+  ymin = farther-self 2 (reach 2 s i);
+  ymax = farther-self 3 (reach 3 s i);
 }
 
 -- the block at which a loop by blocks stands
@@ -59,7 +60,7 @@ loopLength o (suc k) = holeLength (o .lens) k
 
 record LoopLong (o : Outline) (k : ℕ) : Type 0 where
   long : length (loopAt o k) ≡ 2 * loopLength o k
-  few : pointsBefore o k + loopLength o k ≤ 65535
+  few : pointsBefore o k + loopLength o k ≤ mostPoints
 
 loop-long : (o : Outline) → misshapen o ≡ false → (k : ℕ) → k ≤ length (o .lens) → LoopLong o k
 unfolding loopAt holeAt
@@ -102,7 +103,7 @@ before-most o a (suc k) h =
       before-over o k (suc k) (omega arith),
     )
 
-pub first-few : (o : Outline) → outlineRefusal o ≡ 0 → (k : ℕ) → k ≤ length (o .lens) → (k ≤ 65535) × (firstBlock o k ≤ 131070)
+pub first-few : (o : Outline) → outlineRefusal o ≡ 0 → (k : ℕ) → k ≤ length (o .lens) → (k ≤ mostPoints) × (firstBlock o k ≤ 2 * mostPoints)
 unfolding firstBlock
 first-few o e k h =
     let a = accepted o e in
@@ -110,7 +111,7 @@ first-few o e k h =
     let few = loop-long o (a .shape) k h .few in
     (omega arith, omega arith)
 
-pub loop-few : (o : Outline) → outlineRefusal o ≡ 0 → (k : ℕ) → k ≤ length (o .lens) → points (loopAt o k) ≤ 65535
+pub loop-few : (o : Outline) → outlineRefusal o ≡ 0 → (k : ℕ) → k ≤ length (o .lens) → points (loopAt o k) ≤ mostPoints
 loop-few o e k h =
     let l = loop-long o (accepted o e .shape) k h in
     let long = l .long in
@@ -145,6 +146,10 @@ module _ {o : Outline} {blocks : List ℕ} (d : Drawn o blocks) where
         filed = d .filed k h;
       }
 
+-- a list of blocks that has none serves every outline that isn't refused
+pub drawn-none : {o : Outline} {blocks : List ℕ} → outlineRefusal o ≡ 0 → OutlineFits o → length blocks ≡ 0 → Drawn o blocks
+drawn-none {o} e f none = record { taken = e; fits = f; filed = λ k h c l m. absurd (omega arith) }
+
 -- ---- a loop over the holes
 
 -- the outer loop's first block
@@ -152,9 +157,9 @@ pub outer-first : (o : Outline) → firstBlock o 0 ≡ 0
 unfolding firstBlock
 outer-first o = refl
 
-module _ {o : Outline} {k start : ℕ} (p : Passed o k start) (h : k < length (o .lens)) where
+module _ {o : Outline} {k start : ℕ} (p : HolesPassed o k start) (h : k < length (o .lens)) where
   -- what `first_block` asks
-  pub hole-asks : outlineRefusal o ≡ 0 → (points (o .outer) ≤ 65535) × (start ≤ 65535) × (k + 1 ≤ 65535)
+  pub hole-asks : outlineRefusal o ≡ 0 → (points (o .outer) ≤ mostPoints) × (start ≤ mostPoints) × (k + 1 ≤ mostPoints)
   hole-asks e =
       let few = shaped o (p .shape) .few in
       let passed = passed-few p h in
@@ -164,11 +169,11 @@ module _ {o : Outline} {k start : ℕ} (p : Passed o k start) (h : k < length (o
   hole-first e = e ∙ first-at (k + 1) (passed-place p h)
 
   -- what a function over the loop's blocks asks of the first one's number
-  pub hole-most : {first : ℕ} → outlineRefusal o ≡ 0 → first ≡ firstBlockAt (o .outer) (k + 1) start → first ≤ 1152921504606846976
+  pub hole-most : {first : ℕ} → outlineRefusal o ≡ 0 → first ≡ firstBlockAt (o .outer) (k + 1) start → first ≤ 2 * mostPoints
   hole-most e f = let few = first-few o e (k + 1) (omega arith) .1 in omega (arith, hole-first f)
 
   pub hole-drawn : {blocks : List ℕ} {s : List Float} {first : ℕ} → Drawn o blocks → s ≡ loopAt o (k + 1) → first ≡ firstBlockAt (o .outer) (k + 1) start
-      → LoopDrawn s blocks first × (first ≤ 1152921504606846976)
+      → LoopDrawn s blocks first × (first ≤ 2 * mostPoints)
   hole-drawn {blocks} d e f =
       (rw e (subst (LoopDrawn (loopAt o (k + 1)) blocks) (sym (hole-first f)) (drawn-loop d (k + 1) (omega arith))), hole-most (d .taken) f)
 

@@ -12,7 +12,7 @@ use Rattle.laws.specs.Loop.{forUp}
 use Rattle.numbers.specs.Float.{_⊕_, _⊖_, minF, maxF}
 use Rattle.exact.specs.Units.{Within}
 use Rattle.domain.specs.declared.Point.{Point}
-use Rattle.domain.specs.Outline.{Outline, holeStart, loopAt, points, pointAt, pointAfter, outlineRefusal}
+use Rattle.domain.specs.Outline.{Outline, holeStart, loopAt, points, pointAt, pointAfter, mostPoints, outlineRefusal}
 use Rattle.domain.specs.Accepted.{AllFit, OutlineFits, LoopWithin}
 use Rattle.blocks.specs.declared.Extent.{Extent}
 
@@ -41,13 +41,13 @@ abbrev pub reach : ℕ → List Float → ℕ → Float
 reach d s i = reachOf d (pointAt s i) (pointAfter s i)
 
 -- x is farther out than y on side d
-unfoldable pub isBeyond : ℕ → Float → Float → Bool
-isBeyond d x y = cond (eqb (d % 2) 1) (lt y x) (lt x y)
+unfoldable pub isFarther : ℕ → Float → Float → Bool
+isFarther d x y = cond (eqb (d % 2) 1) (lt y x) (lt x y)
 
 -- of the segments `from` up to `to`, none reaches farther out on side d than segment `far`
 pub record Farthest (s : List Float) (d from to far : ℕ) : Type 0 where
   pub there : far < points s
-  pub most : (i : ℕ) → from ≤ i → i < to → isBeyond d (reach d s i) (reach d s far) ≡ false
+  pub most : (i : ℕ) → from ≤ i → i < to → isFarther d (reach d s i) (reach d s far) ≡ false
 
 -- ---- the blocks of a loop
 
@@ -96,7 +96,7 @@ pub record LoopDrawn (s : List Float) (blocks : List ℕ) (first : ℕ) : Type 0
   pub fits : AllFit s
   pub within : LoopWithin s
   pub even : 2 * points s ≡ length s
-  pub few : points s ≤ 65535
+  pub few : points s ≤ mostPoints
   pub filed : LoopFiled s blocks first
 
 -- ---- the blocks of an outline
@@ -144,10 +144,10 @@ pub record ExtentWithin (K : ℕ) (e : Extent) : Type 0 where
 
 -- The segment a to b lies in the box. (A side that is a NaN bounds nothing: `ExtentWithin` rules it out.)
 pub record Covers (e : Extent) (a b : Point) : Type 0 where
-  pub xmin : isBeyond 0 (reachOf 0 a b) (e .xmin) ≡ false
-  pub xmax : isBeyond 1 (reachOf 1 a b) (e .xmax) ≡ false
-  pub ymin : isBeyond 2 (reachOf 2 a b) (e .ymin) ≡ false
-  pub ymax : isBeyond 3 (reachOf 3 a b) (e .ymax) ≡ false
+  pub xmin : isFarther 0 (reachOf 0 a b) (e .xmin) ≡ false
+  pub xmax : isFarther 1 (reachOf 1 a b) (e .xmax) ≡ false
+  pub ymin : isFarther 2 (reachOf 2 a b) (e .ymin) ≡ false
+  pub ymax : isFarther 3 (reachOf 3 a b) (e .ymax) ≡ false
 
 -- the ray from p to the right can't change sides at a segment in the box: the box is above p, not above p, or not to the right of p
 unfoldable pub rayMisses : Point → Extent → Bool

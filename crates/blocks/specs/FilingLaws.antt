@@ -10,13 +10,13 @@ use lib.ListN.{length, getD, set, length-set}
 use lib.Seq.{getD-set-same, getD-set-other}
 use lib.Ieee.{Float}
 use Rattle.domain.specs.Outline.{Outline, loopAt, points, misshapen, outlineRefusal}
-use Rattle.domain.specs.OutlineLaws.{Passed}
+use Rattle.domain.specs.OutlineLaws.{HolesPassed}
 use Rattle.domain.specs.Accepted.{OutlineFits}
-use Rattle.blocks.specs.Blocks.{reach, isBeyond, Farthest, blockSize, blockEnd, sideAt, BlockFiled, LoopFiled, BlockFiles, LoopFiles}
+use Rattle.blocks.specs.Blocks.{reach, isFarther, Farthest, blockSize, blockEnd, sideAt, BlockFiled, LoopFiled, BlockFiles, LoopFiles}
 use Rattle.blocks.specs.Blocks.{firstBlock, firstBlockAt, Drawn}
 use Rattle.blocks.specs.BetweenLaws.{BlockPlace}
 use Rattle.blocks.specs.BlockLaws.{first-over, outer-first, hole-first}
-use Rattle.blocks.specs.OrderLaws.{beyond-self, beyond-through}
+use Rattle.blocks.specs.OrderLaws.{farther-self, farther-through}
 
 -- a number up to n is n or below it
 last-or-less : (i n : ℕ) → i < n + 1 → (i ≡ n) ⊎ (i < n)
@@ -31,7 +31,7 @@ module _ {s : List Float} {d from : ℕ} where
   pub far-start : from < points s → Farthest s d from (from + 1) from
   far-start h = record {
     there = h;
-    most = λ i g l. subst (λ (j : ℕ). isBeyond d (reach d s j) (reach d s from) ≡ false) (own i g l) (beyond-self d (reach d s from));
+    most = λ i g l. subst (λ (j : ℕ). isFarther d (reach d s j) (reach d s from) ≡ false) (own i g l) (farther-self d (reach d s from));
   }
     where
       own : (i : ℕ) → from ≤ i → i < from + 1 → from ≡ i
@@ -39,22 +39,22 @@ module _ {s : List Float} {d from : ℕ} where
 
   module _ {i far : ℕ} (f : Farthest s d from i far) where
     -- the next segment reaches no farther
-    pub far-stays : isBeyond d (reach d s i) (reach d s far) ≡ false → Farthest s d from (i + 1) far
+    pub far-stays : isFarther d (reach d s i) (reach d s far) ≡ false → Farthest s d from (i + 1) far
     far-stays e = record {
       there = f .there;
       most = λ j g l. elim (last-or-less j i l) [
-        | inl last ↦ subst (λ (k : ℕ). isBeyond d (reach d s k) (reach d s far) ≡ false) (sym last) e
+        | inl last ↦ subst (λ (k : ℕ). isFarther d (reach d s k) (reach d s far) ≡ false) (sym last) e
         | inr less ↦ f .most j g less
       ];
     }
 
     -- the next segment reaches farther
-    pub far-moves : i < points s → isBeyond d (reach d s i) (reach d s far) ≡ true → Farthest s d from (i + 1) i
+    pub far-moves : i < points s → isFarther d (reach d s i) (reach d s far) ≡ true → Farthest s d from (i + 1) i
     far-moves h e = record {
       there = h;
       most = λ j g l. elim (last-or-less j i l) [
-        | inl last ↦ subst (λ (k : ℕ). isBeyond d (reach d s k) (reach d s i) ≡ false) (sym last) (beyond-self d (reach d s i))
-        | inr less ↦ beyond-through d (reach d s i) (reach d s far) (reach d s j) e (f .most j g less)
+        | inl last ↦ subst (λ (k : ℕ). isFarther d (reach d s k) (reach d s i) ≡ false) (sym last) (farther-self d (reach d s i))
+        | inr less ↦ farther-through d (reach d s i) (reach d s far) (reach d s j) e (f .most j g less)
       ];
     }
 
@@ -206,7 +206,7 @@ outer-filed {o} {before} {after} {s} e same f =
     loops-next e zero-le (loops-none o before)
     (subst (LoopFiles (loopAt o 0) before after) (sym (outer-first o)) (subst (λ (l : List Float). LoopFiles l before after 0) same f))
 
-module _ {o : Outline} {k start : ℕ} (p : Passed o k start) (h : k < length (o .lens)) where
+module _ {o : Outline} {k start : ℕ} (p : HolesPassed o k start) (h : k < length (o .lens)) where
   pub hole-filed : {before after : List ℕ} {s : List Float} {first : ℕ} → LoopsFiled o before (k + 1) → s ≡ loopAt o (k + 1)
       → first ≡ firstBlockAt (o .outer) (k + 1) start → LoopFiles s before after first → LoopsFiled o after (k + 1 + 1)
   hole-filed {before} {after} {s} {first} l e f n =

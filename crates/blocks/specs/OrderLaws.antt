@@ -10,7 +10,7 @@ use lib.Dec.{T, ltb, eqb, ltb→lt, lt→ltb}
 use lib.IntN.{ℤ}
 use lib.Ieee.{Float, nan, inf, fin, up, down, isNan, lt, below}
 use lib.Ieee.Fits.{down-pos, and-i, and-r}
-use Rattle.blocks.specs.Blocks.{isBeyond}
+use Rattle.blocks.specs.Blocks.{isFarther}
 
 -- ---- `<` goes through
 
@@ -187,18 +187,18 @@ not-lt x y z h k = decide (lt x z) refl
 -- ---- farther out on a side
 
 -- nothing is farther out than itself
-pub beyond-self : (d : ℕ) (x : Float) → isBeyond d x x ≡ false
-unfolding isBeyond
-beyond-self d x = either (eqb (d % 2) 1) (lt-self x)
+pub farther-self : (d : ℕ) (x : Float) → isFarther d x x ≡ false
+unfolding isFarther
+farther-self d x = either (eqb (d % 2) 1) (lt-self x)
   where
     either : {b : Bool} (c : Bool) → b ≡ false → cond c b b ≡ false
     either true e = e
     either false e = e
 
 -- x is farther out than y, and z isn't: so z isn't farther out than x
-pub beyond-through : (d : ℕ) (x y z : Float) → isBeyond d x y ≡ true → isBeyond d z y ≡ false → isBeyond d z x ≡ false
-unfolding isBeyond
-beyond-through d x y z = either (eqb (d % 2) 1)
+pub farther-through : (d : ℕ) (x y z : Float) → isFarther d x y ≡ true → isFarther d z y ≡ false → isFarther d z x ≡ false
+unfolding isFarther
+farther-through d x y z = either (eqb (d % 2) 1)
   where
     either : (c : Bool) → cond c (lt y x) (lt x y) ≡ true → cond c (lt y z) (lt z y) ≡ false → cond c (lt x z) (lt z x) ≡ false
     either true = not-lt x y z

@@ -21,7 +21,7 @@ use Rattle.domain.specs.Outline.{points, pointAt, pointAfter}
 use Rattle.domain.specs.Queries.{rayCrosses, polygonTurn}
 use Rattle.domain.specs.Accepted.{PointFits, PointWithin, after-within}
 use Rattle.blocks.specs.declared.Extent.{Extent}
-use Rattle.blocks.specs.Blocks.{reachOf, isBeyond, blockEnd, LoopDrawn, ExtentWithin, blockExtent, Covers, rayMisses}
+use Rattle.blocks.specs.Blocks.{reachOf, isFarther, blockEnd, LoopDrawn, ExtentWithin, blockExtent, Covers, rayMisses}
 use Rattle.blocks.specs.BetweenLaws.{BlockPlace}
 use Rattle.blocks.specs.BlockLaws.{block-there, block-covers, block-filed}
 use Rattle.blocks.specs.OrderLaws.{lt-cut}
@@ -94,7 +94,7 @@ module _ (p a b : Point) (e : Extent) {K : ℕ} (f : PointFits p) (F : PointFits
 
   -- the box is above p: so both ends are
   all-above : T (lt (p .y) (e .ymin)) → (above-a ≡ true) × (above-b ≡ true)
-  unfolding isBeyond
+  unfolding isFarther
   all-above h =
       let r = reach-2 A B in
       let low = lt-cut (p .y) (e .ymin) (reachOf 2 a b) (within-number _ (r .within)) h (c .ymin) in (
@@ -104,7 +104,7 @@ module _ (p a b : Point) (e : Extent) {K : ℕ} (f : PointFits p) (F : PointFits
 
   -- the box isn't above p: so neither end is
   none-higher : lt (p .y) (e .ymax) ≡ false → (above-a ≡ false) × (above-b ≡ false)
-  unfolding isBeyond
+  unfolding isFarther
   none-higher h =
       let r = reach-3 A B in
       let R = within-number _ (r .within) in
@@ -115,7 +115,7 @@ module _ (p a b : Point) (e : Extent) {K : ℕ} (f : PointFits p) (F : PointFits
 
   -- the box isn't to the right of p: so an edge that straddles p's height isn't
   none-right : lt (p .x) (e .xmax) ≡ false → T (unlike above-a above-b) → lt (p .x) meet ≡ false
-  unfolding isBeyond
+  unfolding isFarther
   none-right h s =
       let r = reach-1 A B in
       let t = slope-part (straddled-within (p .y) (a .y) (b .y) (f .y) (A .y) (B .y) s) (A .y) (B .y) s in

@@ -1,12 +1,12 @@
-// Blocks of the outline's segments, so that a query passes over those that can't matter; and `contains` by blocks, whose answer is proved to be the plain one's
-// (crate domain). The lent list may have any length: a block that it doesn't have is looked through.
+// Blocks of the outline's segments, so that a search passes over those that can't matter; and `contains` by blocks, whose answer is proved to be that of the
+// definition in crate domain, which asks every segment. The lent list may have any length: a block that it doesn't have is looked through.
 ghost use mathlib.Core.Path.{_≡_};
 ghost use Prim.Native.Nat.{_+_, _*_, _≤_, _<_};
 ghost use lib.ListN.{length};
 ghost use Rattle.laws.specs.Loop.{anyUp};
-ghost use Rattle.domain.specs.Outline.{outline, points, outlineRefusal};
+ghost use Rattle.domain.specs.Outline.{outline, points, mostPoints, outlineRefusal};
 ghost use Rattle.domain.specs.Queries.{polygonTurn, pointInPolygon, inHole, contains};
-ghost use Rattle.blocks.specs.Blocks.{forBetween, coordinate, reach, isBeyond, Farthest, blockEnd, isListed, BlockThere, BlockFiles, LoopFiles};
+ghost use Rattle.blocks.specs.Blocks.{forBetween, coordinate, reach, isFarther, Farthest, blockEnd, isListed, BlockThere, BlockFiles, LoopFiles};
 ghost use Rattle.blocks.specs.Blocks.{LoopDrawn, firstBlockAt, Drawn, blockExtent, rayMisses};
 use domain::Point;
 
@@ -44,8 +44,8 @@ pub fn reach(d: usize, s: &[f64], i: usize) -> f64
     }
 }
 
-fn is_beyond(d: usize, x: f64, y: f64) -> bool
-    ensures { λ r. ⌜ r ≡ isBeyond d x y ⌝ }
+fn is_farther(d: usize, x: f64, y: f64) -> bool
+    ensures { λ r. ⌜ r ≡ isFarther d x y ⌝ }
 {
     if d % 2 == 1 { y < x } else { x < y }
 }
@@ -53,7 +53,7 @@ fn is_beyond(d: usize, x: f64, y: f64) -> bool
 // ---- filing
 
 pub fn block_end(n: usize, from: usize) -> usize
-    requires { ⌜ from ≤ 65535 ⌝ }
+    requires { ⌜ from ≤ mostPoints ⌝ }
     ensures { λ r. ⌜ r ≡ blockEnd n from ⌝ }
 {
     let to = from + BLOCK;
@@ -62,13 +62,13 @@ pub fn block_end(n: usize, from: usize) -> usize
 
 // Of the segments `from` up to `to` one that reaches farthest out on side d.
 fn farthest(d: usize, s: &[f64], from: usize, to: usize) -> u32
-    requires { ⌜ (from < to) × (to ≤ points (now s)) × (points (now s) ≤ 65535) ⌝ }
+    requires { ⌜ (from < to) × (to ≤ points (now s)) × (points (now s) ≤ mostPoints) ⌝ }
     ensures { λ r. ⌜ Farthest (now (s .entry)) d from to r ⌝ }
 {
     let mut far = from;
     let mut i = from + 1;
     while i < to {
-        if is_beyond(d, reach(d, s, i), reach(d, s, far)) {
+        if is_farther(d, reach(d, s, i), reach(d, s, far)) {
             far = i;
         }
         i += 1;
@@ -78,7 +78,7 @@ fn farthest(d: usize, s: &[f64], from: usize, to: usize) -> u32
 
 // The number of the first block of loop k, before which `start` hole points stand.
 pub fn first_block(outer: &[f64], k: usize, start: usize) -> usize
-    requires { ⌜ (points (now outer) ≤ 65535) × (start ≤ 65535) × (k ≤ 65535) ⌝ }
+    requires { ⌜ (points (now outer) ≤ mostPoints) × (start ≤ mostPoints) × (k ≤ mostPoints) ⌝ }
     ensures { λ r. ⌜ r ≡ firstBlockAt (now (outer .entry)) k start ⌝ }
 {
     if k == 0 {
@@ -89,7 +89,7 @@ pub fn first_block(outer: &[f64], k: usize, start: usize) -> usize
 
 // Whether the list has the numbers of block b.
 pub fn is_listed(blocks: &[u32], b: usize) -> bool
-    requires { ⌜ b ≤ 2305843009213693952 ⌝ }
+    requires { ⌜ b ≤ 3 * mostPoints ⌝ }
     ensures { λ r. ⌜ r ≡ isListed (now (blocks .entry)) b ⌝ }
 {
     4 * b + 3 < blocks.len()
@@ -97,7 +97,7 @@ pub fn is_listed(blocks: &[u32], b: usize) -> bool
 
 // The four numbers of block b, which begins with segment `from`.
 fn file_block(s: &[f64], from: usize, b: usize, blocks: &mut [u32])
-    requires { ⌜ (from < points (now s)) × (points (now s) ≤ 65535) × (4 * b + 3 < length (now blocks)) ⌝ }
+    requires { ⌜ (from < points (now s)) × (points (now s) ≤ mostPoints) × (4 * b + 3 < length (now blocks)) ⌝ }
     ensures { λ r. ⌜ BlockFiles (now (s .entry)) (now (blocks .entry)) (now (blocks .exit)) b from ⌝ }
 {
     let to = block_end(s.len() / 2, from);
@@ -114,7 +114,7 @@ fn file_block(s: &[f64], from: usize, b: usize, blocks: &mut [u32])
 
 // The blocks of a loop, the first of which has the number `first`, as far as the list goes.
 fn file_loop(s: &[f64], first: usize, blocks: &mut [u32])
-    requires { ⌜ (points (now s) ≤ 65535) × (first ≤ 1152921504606846976) ⌝ }
+    requires { ⌜ (points (now s) ≤ mostPoints) × (first ≤ 2 * mostPoints) ⌝ }
     ensures { λ r. ⌜ LoopFiles (now (s .entry)) (now (blocks .entry)) (now (blocks .exit)) first ⌝ }
 {
     let n = s.len() / 2;
@@ -181,7 +181,7 @@ fn crossings(p: Point, s: &[f64], from: usize, to: usize, inside: bool) -> bool
 }
 
 fn point_in_polygon(p: Point, s: &[f64], blocks: &[u32], first: usize) -> bool
-    requires { ⌜ LoopDrawn (now s) (now blocks) first × (first ≤ 1152921504606846976) ⌝ }
+    requires { ⌜ LoopDrawn (now s) (now blocks) first × (first ≤ 2 * mostPoints) ⌝ }
     ensures { λ r. ⌜ r ≡ pointInPolygon p (now (s .entry)) ⌝ }
 {
     let n = s.len() / 2;

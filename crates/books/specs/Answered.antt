@@ -13,7 +13,9 @@ use Rattle.domain.specs.Outline.{Outline}
 use Rattle.topology.specs.Links.{off}
 use Rattle.front.specs.declared.Corner.{Corner}
 use Rattle.front.specs.declared.Corner.the-variants.{Reused, Fresh}
+use Rattle.front.specs.declared.Neighbour.the-variants.{At, Off}
 use Rattle.front.specs.State.{State, nextOf, prevOf}
+use Rattle.front.specs.Neighbours.{neighbourOf}
 use Rattle.front.specs.Place.{idC, idD}
 use Rattle.front.specs.Ready.{Chosen, Choice, Fits, fits}
 use Rattle.paving.specs.declared.Attempt.the-variants.{Quad}
@@ -39,20 +41,23 @@ pub record Answered (o : Outline) (size : Float) (s : State) (a b : ℕ) (c d : 
 
 -- ---- the corners
 
-chosen : (size : Float) (s : State) (other v : ℕ) (p : Point) (c : Corner) → cornerAt size s other v p ≡ c → Chosen c other v
-unfolding cornerAt isReused
-chosen size s other v p c = by (isReused size s other v p) refl c
+chosen : (size : Float) (s : State) (other v : ℕ) (p : Point) (c : Corner) → cornerAt size s other (neighbourOf v) p ≡ c → Chosen c other v
+unfolding cornerAt isReused neighbourOf
+chosen size s other v p c = by (eqb v off) refl c
   where
-    by : (t : Bool) → isReused size s other v p ≡ t → (c : Corner) → cond t (Reused v) (Fresh (p .x) (p .y)) ≡ c → Chosen c other v
-    by true e (Reused id) h =
+    at : v ≢ off → (t : Bool) → isReused size s other v p ≡ t → (c : Corner) → cond t (Reused v) (Fresh (p .x) (p .y)) ≡ c → Chosen c other v
+    at on true e (Reused id) h =
         let q : v ≡ id = cc in
-        let test = both (not (eqb v off)) _ e in
-        let on = differ v off (test .0) in
-        let away = differ v other (both _ _ (test .1) .0) in
+        let away = differ v other (both (not (eqb v other)) _ e .0) in
         (q, (λ z. on (q ∙ z)), (λ z. away (q ∙ z)))
+    at on true e (Fresh x y) h = tt
+    at on false e (Reused id) h = absurd (let z : _≡_ {A = ℕ} 0 1 = cc in omega arith)
+    at on false e (Fresh x y) h = tt
+
+    by : (b : Bool) → eqb v off ≡ b → (c : Corner) → cornerAt size s other (cond b Off (At v)) p ≡ c → Chosen c other v
+    by true e (Reused id) h = absurd (let z : _≡_ {A = ℕ} 0 1 = cc in omega arith)
     by true e (Fresh x y) h = tt
-    by false e (Reused id) h = absurd (let z : _≡_ {A = ℕ} 0 1 = cc in omega arith)
-    by false e (Fresh x y) h = tt
+    by false e c h = at (eqb-false v off e) (isReused size s other v p) refl c h
 
 -- ---- the theorems
 

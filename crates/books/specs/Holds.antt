@@ -1,8 +1,9 @@
 -- Demand 3: what holds of a run's books before the first quad, after each one, and where the run stops. Statements only.
 use mathlib.Core.Path.{_≡_}
-use mathlib.Core.Bool.{cond, not}
+use mathlib.Core.Bool.{Bool, true, cond, not}
+use mathlib.Core.Logic.{_↔_}
 use mathlib.Core.Option.{Option, some}
-use mathlib.Core.List.{List, [], _∷_}
+use mathlib.Core.List.{List, [], _∷_, map, flatten}
 use Prim.Native.Nat.{ℕ, _+_, _*_, _<_, _≤_}
 use lib.IntN.{ℤ, _+ℤ_}
 use lib.Dec.{T}
@@ -12,7 +13,7 @@ use Rattle.domain.specs.Outline.{Outline}
 use Rattle.front.specs.State.{State, nextOf}
 use Rattle.front.specs.Sampling.{loopCount, sampledCount}
 use Rattle.topology.specs.Sums.{All, Even}
-use Rattle.topology.specs.Listing.{walks}
+use Rattle.topology.specs.LongLoops.{LongLoops}
 use Rattle.paving.specs.Loops.{frontLoops}
 use Rattle.exact.specs.Corner.{Vector, step, sineAboveThird, isShort}
 use Rattle.books.specs.Book.{Edge, edge, Book, Quad, startBook, quadAt, bookAfter, xOf, yOf, loopEdges, frontArea, quadsArea, follow, isEdge}
@@ -60,15 +61,35 @@ pub record HoldsAfter (o : Outline) (size : Float) (s : State) (k : ℕ) : Type 
   pub counts : length (book .front) + 2 * k + sampledCount o size ≡ 2 * length (book .xs)
 
 -- where the run stops: its nodes bit for bit, its front edge for edge and its counts are the book's, and `front_loops` lists the book's loops of three or more
-pub record Closes (s : State) (b : Book) : Type 0 where
+pub record Closes (o : Outline) (s : State) (b : Book) : Type 0 where
   pub xs : take (s .counts .nodes) (s .xs) ≡ b .xs
   pub ys : take (s .counts .nodes) (s .ys) ≡ b .ys
   pub front : (u : ℕ) → nextOf s u ≡ follow (b .front) u
   pub nodes : s .counts .nodes ≡ length (b .xs)
   pub edges : s .counts .front ≡ length (b .front)
-  pub loops : frontLoops s ≡ walks 3 (length (b .xs)) (length (b .front)) (follow (b .front))
+  pub loops : (L : LoopsHold o b) → LongLoops (L .loops) (frontLoops s)
 
 -- demand 3 of a run that left the state s: before the first quad and after each one, and at the end
 pub record BooksHold (o : Outline) (size : Float) (s : State) : Type 0 where
   pub each : (k : ℕ) → k ≤ s .counts .quads → HoldsAfter o size s k
-  pub closes : (b : Book) → bookAfter o size s (s .counts .quads) ≡ some b → Closes s b
+  pub closes : (b : Book) → bookAfter o size s (s .counts .quads) ≡ some b → Closes o s b
+
+-- ---- what is answered of the loops
+
+-- n loops are listed, with m ids in all of them, in the lists `loops` and `lengths`, and it is said whether the front is whole
+pub record LoopsAnswered (o : Outline) (b : Book) (n m : ℕ) (loops lengths : List ℕ) (said : Bool) : Type 0 where
+  -- the loops listed are the book's of three or more
+  pub listed : List (List ℕ)
+  pub long : (L : LoopsHold o b) → LongLoops (L .loops) listed
+  pub count : n ≡ length listed
+  pub ids : m ≡ length (flatten listed)
+  -- their ids one after the other, and the length of each
+  pub nodes : take m loops ≡ flatten listed
+  pub each : take n lengths ≡ map length listed
+  -- whole exactly if every loop of the book has two nodes
+  pub whole : (L : LoopsHold o b) → (said ≡ true) ↔ All (λ l. length l ≡ 2) (L .loops)
+
+-- demand 3 of a run that left the state s and answered so of its loops
+pub record BooksAnswered (o : Outline) (size : Float) (s : State) (n m : ℕ) (loops lengths : List ℕ) (said : Bool) : Type 0 where
+  pub books : BooksHold o size s
+  pub front : (b : Book) → bookAfter o size s (s .counts .quads) ≡ some b → LoopsAnswered o b n m loops lengths said

@@ -30,11 +30,12 @@ module _ (o : Outline) (size : Float) (s : State) (ls : List (List ℕ)) (S : St
       }
 
   -- the book that the last quad leaves is the one that the stage has
-  closes-at : (k : ℕ) (t : State) → Stage o size s ls t k t → (b : Book) → bookAfter o size t (t .counts .quads) ≡ some b → Closes t b
+  closes-at : (k : ℕ) (t : State) → Stage o size s ls t k t → (b : Book) → bookAfter o size t (t .counts .quads) ≡ some b
+      → Closes o t b
   closes-at k t Y b e =
       let last : some (Y .book) ≡ some b = sym (Y .steps) ∙ (ap (bookAfter o size t) (sym (Y .quads)) ∙ e) in
       let same : Y .book ≡ b = cc in
-      subst (λ (c : Book). Closes t c) same (closes (sampledCount o size) t (Y .loops) (Y .book) (Y .sound) (Y .matches))
+      subst (λ (c : Book). Closes o t c) same (closes (sampledCount o size) t (Y .loops) (Y .book) (Y .sound) (Y .matches) o)
 
   -- where each quad placed turns left, the books of every state that is reached hold
   pub reached-hold : (turns : QuadsTurn o size s) {k : ℕ} {t : State} → Reaches o size s k t → BooksHold o size t

@@ -48,7 +48,7 @@ pub record DemandedAfter (o : Outline) (size : Float) (s : State) (k : ℕ) : Ty
 -- before the first quad, after each one, and wherever the run stops
 pub record Demanded (o : Outline) (size : Float) (s : State) : Type 0 where
   pub each : (k : ℕ) → k ≤ s .counts .quads → DemandedAfter o size s k
-  pub closes : (b : Book) → bookAfter o size s (s .counts .quads) ≡ some b → Closes s b
+  pub closes : (b : Book) → bookAfter o size s (s .counts .quads) ≡ some b → Closes o s b
 
 corner-demanded : (b : Book) (n u v w : ℕ) → CornerHolds b u v w → CornerDemanded b n u v w
 corner-demanded b n u v w H = turns (H .sine)

@@ -13,8 +13,8 @@ use lib.Ieee.{Float}
 use borrow.Author.Tests.{leb-true, leb-false, eq-eqb, ne-eqb, ltb-true, ltb-false}
 use Rattle.laws.specs.Loop.{Turn, go, out, forUp-keeps, Kept, run-keeps-at}
 use Rattle.domain.specs.Outline.{Outline}
-use Rattle.crossfield.specs.Field.{FieldRecord}
 use Rattle.topology.specs.Links.{off, linkOf, link-in, link-out}
+use Rattle.direction.specs.Record.{FieldRecord}
 use Rattle.front.specs.declared.Corner.{Corner}
 use Rattle.front.specs.State.{State, nextOf, nodePlaces}
 use Rattle.front.specs.Place.{place, isFull}

@@ -6,8 +6,8 @@ use Prim.Native.Nat.{ℕ, suc, min, _<_}
 use lib.Ieee.{Float}
 use Rattle.laws.specs.Loop.{go, out}
 use Rattle.domain.specs.Outline.{Outline}
-use Rattle.crossfield.specs.Field.{FieldRecord}
 use Rattle.topology.specs.Links.{off}
+use Rattle.direction.specs.Record.{FieldRecord}
 use Rattle.front.specs.declared.Corner.{Corner}
 use Rattle.front.specs.State.{State, nextOf}
 use Rattle.front.specs.Place.{isFull}

@@ -2,19 +2,19 @@
 -- edge, its counts and its listed loops.
 use Prim.Native.Nat.{ℕ, zero, suc, _+_, _*_, _<_, _≤_}
 use mathlib.Core.List.{List, [], _∷_}
-use mathlib.Core.Path.{_≡_, refl, sym, _∙_, ap, fun-ext}
+use mathlib.Core.Path.{_≡_, refl, sym, _∙_}
 use mathlib.Core.Bool.{Bool, true, false}
 use native.Mathlib.Omega.{arith}
 use lib.Dec.{eqb}
 use lib.ListN.{length}
 use borrow.Author.Tests.{eqb-true, eqb-false}
 use Rattle.domain.specs.Outline.{Outline}
-use Rattle.topology.specs.Sums.{frontSum}
+use Rattle.topology.specs.Sums.{frontSum, front-one}
 use Rattle.topology.specs.Links.{off, at, at-self, at-other, linkOf}
-use Rattle.topology.specs.Front.{Loops, target, edge-next, edge-once}
+use Rattle.topology.specs.Front.{Loops, loops-same, target, edge-next, edge-once}
 use Rattle.topology.specs.Follow as topology
 use Rattle.topology.specs.Follow.{Follows, follows-links}
-use Rattle.topology.specs.Listing.{walks}
+use Rattle.topology.specs.LongLoops.{walks-long}
 use Rattle.front.specs.State.{State, nextOf}
 use Rattle.front.specs.Sampling.{loopCount, sampledCount}
 use Rattle.front.specs.Sound.{Sound}
@@ -97,16 +97,21 @@ module _ (n : ℕ) (s : State) (ls : List (List ℕ)) (b : Book) (S : Sound n s 
   front-same : (u : ℕ) → nextOf s u ≡ follow (b .front) u
   front-same u = sym (follows-links nodes (nextOf s) (follow (b .front)) ls L u (follows u))
 
-  pub closes : Closes s b
+  -- whichever loops hold of the book are loops of the links
+  book-loops : (o : Outline) (H : LoopsHold o b) → Loops nodes (nextOf s) (H .loops)
+  book-loops o H =
+      loops-same nodes (nextOf s) ls (H .loops)
+      (λ u v. sym (book-count u v) ∙ (sym (H .edges u v) ∙ (count-sum u v (loopEdges (H .loops)) ∙ sum-loops (at u v) (H .loops)))) (H .even) L
+
+  pub closes : (o : Outline) → Closes o s b
   unfolding frontLoops
-  closes =
-      let number = matches-nodes n s ls b S M in
-      let edges = matches-edges n s ls b S M in
+  closes o =
       record {
         xs = M .xs;
         ys = M .ys;
         front = front-same;
-        nodes = sym number;
-        edges = sym edges;
-        loops = rw (number, edges) (ap (λ (f : ℕ → ℕ). walks 3 nodes (s .counts .front) f) (fun-ext front-same));
+        nodes = sym (matches-nodes n s ls b S M);
+        edges = sym (matches-edges n s ls b S M);
+        loops = λ H.
+            walks-long nodes (nextOf s) ls L (s .counts .front) (omega (arith, S .edges, front-one ls)) (H .loops) (book-loops o H);
       }

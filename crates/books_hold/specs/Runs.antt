@@ -7,8 +7,8 @@ use lib.Ieee.{Float}
 use Rattle.domain.specs.declared.Settings.{Settings}
 use Rattle.domain.specs.Outline.{Outline, outlineRefusal}
 use Rattle.domain.specs.Accepted.{OutlineFits, first-zero}
-use Rattle.crossfield.specs.Seeds.{FieldLists}
-use Rattle.crossfield.specs.Field.{FieldRecord, fieldRefusal, fieldOf}
+use Rattle.direction.specs.Record.{FieldLists, FieldRecord}
+use Rattle.crossfield.specs.Field.{fieldRefusal, fieldOf}
 use Rattle.front.specs.State.{State, cleared}
 use Rattle.front.specs.Sampling.{sampledCount, frontRefusal, fromBoundary, boundaryLoops}
 use Rattle.front.specs.Sound.{Frame}
@@ -17,7 +17,7 @@ use Rattle.paving.specs.declared.End.{End}
 use Rattle.paving.specs.declared.End.the-variants.{Still, Passes, Cap, Full}
 use Rattle.paving.specs.Advance.{Paved, mostQuads, advance}
 use Rattle.paving.specs.ReachLaws.{Reached, advance-reaches}
-use Rattle.paving.specs.Run.{runRefusal, runOf}
+use Rattle.whole_run.specs.Run.{runRefusal, runOf}
 use Rattle.books.specs.Holds.{BooksHold}
 use Rattle.sampled.specs.Outlines.{outline-three}
 use Rattle.sampled.specs.Begun.{Begun, begun}

@@ -198,26 +198,33 @@ module _ (o : Outline) (size : Float) (s : State) (ls : List (List ℕ)) (final 
 
 -- ---- every state of a run
 
--- a state of a run, sound and after the one that the run began with
-pub record Standing (n : ℕ) (s t : State) : Type 0 where
+-- a state t of a run, sound and after the one that the run began with, whose front had the loops `begun`
+pub record Standing (n : ℕ) (s : State) (begun : List (List ℕ)) (t : State) : Type 0 where
   pub loops : List (List ℕ)
   pub sound : Sound n t loops
+  pub number : length loops ≡ length begun
   pub frame : Frame s t
 
 pub standing : {n : ℕ} {o : Outline} {size : Float} {s : State} {ls : List (List ℕ)} {k : ℕ} {t : State} → Sound n s ls → Reaches o size s k t
-    → Standing n s t
-standing {s = s} {ls = ls} S begin = record { loops = ls; sound = S; frame = frame-same s }
+    → Standing n s ls t
+standing {s = s} {ls = ls} S begin = record { loops = ls; sound = S; number = refl; frame = frame-same s }
 standing {n = n} {s = s} S (snapshot {t = t} r) =
     let Y = standing S r in
     record {
       loops = Y .loops;
       sound = snapshot-sound n t (Y .loops) (Y .sound);
+      number = Y .number;
       frame = frame-trans s t (withSnapshot t) (Y .frame) (snapshot-frame t);
     }
 standing {n = n} {o = o} {size = size} {s = s} S (placed {t = t} {a = a} {b = b} {c = c} {d = d} r P) =
     let Y = standing S r in
     let X = step n t (Y .loops) o size a b c d (Y .sound) P in
-    record { loops = X .loops; sound = X .sound; frame = frame-trans s t (place a b c d t) (Y .frame) (X .frame) }
+    record {
+      loops = X .loops;
+      sound = X .sound;
+      number = X .number ∙ Y .number;
+      frame = frame-trans s t (place a b c d t) (Y .frame) (X .frame);
+    }
 
 -- each quad that is placed turns left
 abbrev pub QuadsTurn : Outline → Float → State → Type 0

@@ -4,10 +4,10 @@ use mathlib.Core.Path.{_≡_}
 use Rattle.domain.specs.declared.Settings.{Settings}
 use Rattle.domain.specs.Outline.{Outline}
 use Rattle.domain.specs.Accepted.{OutlineFits}
-use Rattle.crossfield.specs.Seeds.{FieldLists}
+use Rattle.direction.specs.Record.{FieldLists}
 use Rattle.crossfield.specs.Field.{fieldOf}
 use Rattle.front.specs.State.{State}
-use Rattle.paving.specs.Run.{runRefusal, runOf}
+use Rattle.whole_run.specs.Run.{runRefusal, runOf}
 use Rattle.books.specs.Holds.{BooksHold}
 use Rattle.books_hold.specs.Demanded.{Demanded, as-demanded}
 use Rattle.books_hold.specs.Runs.{accepted, advance-holds}

@@ -13,8 +13,8 @@ use Rattle.laws.specs.Loop.{sumUp}
 use Rattle.laws.specs.Sums.{sum-zero, sum-suc}
 use Rattle.domain.specs.Outline.{Outline, loopAt, loopStart, holeStart, holeLength, misshapen}
 use Rattle.domain.specs.OutlineLaws.{start-first, start-next, start-grows, shaped}
-use Rattle.front.specs.State.{State, nodePlaces, edgePlaces}
-use Rattle.front.specs.Sampling.{loopParts, loopNodes, sampledCount, frontRefusal}
+use Rattle.front.specs.State.{mostNodes}
+use Rattle.front.specs.Sampling.{loopParts, loopNodes, sampledCount, sampledRefusal}
 
 -- 2^40
 abbrev pub most : ℕ
@@ -56,29 +56,22 @@ loop-added o size {n} {k} s parts A h p e =
 
 -- ---- the refusal
 
-module _ (o : Outline) (size : Float) (s : State) (count : ℕ) (e : count ≡ min (sampledCount o size) most) where
-  few-places : nodePlaces s ≤ 4294967294
-  unfolding nodePlaces
-  few-places = omega arith
+module _ (o : Outline) (size : Float) (nodes edges : ℕ) (count : ℕ) (e : count ≡ min (sampledCount o size) most) where
+  pub refused-nodes : min nodes mostNodes < count → 10 ≡ sampledRefusal o size (min nodes mostNodes) edges
+  refused-nodes h = rw (lt-ltb (min nodes mostNodes) (sampledCount o size) (omega arith))
 
-  pub refused-nodes : nodePlaces s < count → 10 ≡ frontRefusal o size s
-  unfolding frontRefusal
-  refused-nodes h = rw (lt-ltb (nodePlaces s) (sampledCount o size) (omega arith))
-
-  module _ (h : count ≤ nodePlaces s) where
+  module _ (h : count ≤ min nodes mostNodes) where
     exact : count ≡ sampledCount o size
-    exact = omega (arith, few-places)
+    exact = omega arith
 
-    enough : ltb (nodePlaces s) (sampledCount o size) ≡ false
-    enough = le-ltb (nodePlaces s) (sampledCount o size) (omega (arith, exact))
+    enough : ltb (min nodes mostNodes) (sampledCount o size) ≡ false
+    enough = le-ltb (min nodes mostNodes) (sampledCount o size) (omega (arith, exact))
 
-    pub refused-edges : edgePlaces s < count → 10 ≡ frontRefusal o size s
-    unfolding frontRefusal
-    refused-edges g = rw (enough, lt-ltb (edgePlaces s) (sampledCount o size) (omega (arith, exact)))
+    pub refused-edges : edges < count → 10 ≡ sampledRefusal o size (min nodes mostNodes) edges
+    refused-edges g = rw (enough, lt-ltb edges (sampledCount o size) (omega (arith, exact)))
 
-    pub not-refused : count ≤ edgePlaces s → 0 ≡ frontRefusal o size s
-    unfolding frontRefusal
-    not-refused g = rw (enough, le-ltb (edgePlaces s) (sampledCount o size) (omega (arith, exact)))
+    pub not-refused : count ≤ edges → 0 ≡ sampledRefusal o size (min nodes mostNodes) edges
+    not-refused g = rw (enough, le-ltb edges (sampledCount o size) (omega (arith, exact)))
 
 -- ---- the points before a loop
 

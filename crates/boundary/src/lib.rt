@@ -2,13 +2,13 @@
 ghost use mathlib.Core.Path.{_≡_};
 ghost use mathlib.Core.Bool.{false};
 ghost use mathlib.Core.List.{List};
-ghost use Prim.Native.Nat.{ℕ, _+_, _*_, _<_, _≤_, min, max};
+ghost use Prim.Native.Nat.{ℕ, _+_, _*_, _<_, _≤_, min};
 ghost use lib.Ieee.{Float};
 ghost use lib.ListN.{length};
 ghost use Rattle.domain.specs.Outline.{outline, misshapen, loopStart, after};
 ghost use Rattle.front.specs.declared.Counts.{Counts};
-ghost use Rattle.front.specs.State.{State, stateOf, nodePlaces, edgePlaces, pushNode};
-ghost use Rattle.front.specs.Sampling.{partsOf, loopParts, sampledCount, frontRefusal, cut, sampleSegment, sampleLoop, fromBoundary};
+ghost use Rattle.front.specs.State.{State, stateOf, mostNodes, pushNode};
+ghost use Rattle.front.specs.Sampling.{partsOf, loopParts, sampledCount, sampledRefusal, frontRefusal, cut, sampleSegment, sampleLoop, fromBoundary};
 ghost use Rattle.front.specs.Sampling.{signedArea, orderedAt, edgeLength, longestEdge, ringOf, ringCount, sampledAt, ringAt, midpoint, splitLongest};
 ghost use Rattle.sampled.specs.Joins.{withLink};
 ghost use Rattle.boundary.specs.Counting.{most, evenUp};
@@ -83,7 +83,7 @@ pub fn sampled_count<'a>(outer: &'a [f64], holes: &'a [f64], lens: &[usize], siz
     sum
 }
 
-// Refusal 10, where there are so many node places and edge places.
+// Refusal 10, where so many node places and edge places are lent; node places past 4,294,967,294 count as not lent.
 pub fn front_refusal<'a>(
     outer: &'a [f64],
     holes: &'a [f64],
@@ -93,10 +93,13 @@ pub fn front_refusal<'a>(
     edge_places: usize,
 ) -> u32
     requires { ⌜ misshapen (outline (now outer) (now holes) (now lens)) ≡ false ⌝ }
-    ensures { λ r. ⌜ ((s : State) → nodePlaces s ≡ «node_places» → edgePlaces s ≡ «edge_places»
-        → r ≡ frontRefusal (outline (now (outer .entry)) (now (holes .entry)) (now (lens .entry))) size s) ⌝ }
+    ensures { λ r. ⌜ r ≡ sampledRefusal (outline (now (outer .entry)) (now (holes .entry)) (now (lens .entry))) size (min «node_places» mostNodes)
+        «edge_places» ⌝ }
 {
     let count = sampled_count(outer, holes, lens, size) as usize;
+    if count > 4294967294 {
+        return 10;
+    }
     if node_places < count {
         return 10;
     }
@@ -334,18 +337,6 @@ fn split_longest(
 
 // ---- the front
 
-fn lesser(u: u32, v: u32) -> u32
-    ensures { λ r. ⌜ r ≡ min u v ⌝ }
-{
-    if u < v { u } else { v }
-}
-
-fn greater(u: u32, v: u32) -> u32
-    ensures { λ r. ⌜ r ≡ max u v ⌝ }
-{
-    if u < v { v } else { u }
-}
-
 // v comes after u, and their edge is edge e.
 fn link(next: &mut [u32], prev: &mut [u32], edges: &mut [u32], u: u32, v: u32, e: usize)
     requires { ⌜ (u < length (now next)) × (v < length (now prev)) × (2 * e + 1 < length (now edges)) ⌝ }
@@ -354,8 +345,8 @@ fn link(next: &mut [u32], prev: &mut [u32], edges: &mut [u32], u: u32, v: u32, e
 {
     next[u as usize] = v;
     prev[v as usize] = u;
-    edges[2 * e] = lesser(u, v);
-    edges[2 * e + 1] = greater(u, v);
+    edges[2 * e] = numbers::min_u32(u, v);
+    edges[2 * e + 1] = numbers::max_u32(u, v);
 }
 
 // Each id of the ring is joined to the next. Its edges are new, so none is looked for: they are written from edge e on.

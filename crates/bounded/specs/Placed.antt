@@ -21,7 +21,10 @@ use Rattle.domain.specs.Inside.{inside}
 use Rattle.geometry.specs.Plane.{convexCcw}
 use Rattle.front.specs.declared.Corner.{Corner}
 use Rattle.front.specs.declared.Corner.the-variants.{Reused, Fresh}
-use Rattle.front.specs.State.{State, nodeIn, node, nodePlaces, nextOf, prevOf}
+use Rattle.front.specs.declared.Neighbour.{Neighbour}
+use Rattle.front.specs.declared.Neighbour.the-variants.{At, Off}
+use Rattle.front.specs.State.{State, nodeIn, node, nodePlaces}
+use Rattle.front.specs.Neighbours.{nextAt, prevAt, isAt}
 use Rattle.front.specs.Place.{added, idC, idD, place, isFull}
 use Rattle.front.specs.Sound.{Sound, Frame}
 use Rattle.front.specs.FrameLaws.{frame-node}
@@ -53,7 +56,7 @@ checked o size s a b c d e =
     let t₂ = both (cornerFree o size s c) _ t₁ in
     let t₃ = both (cornerFree o size s d) _ (t₂ .1) in
     let t₄ = both (cornersApart size c d) _ (t₃ .1) .1 in
-    let t₅ = both (not (eqb (nextOf s (idC s c)) (idD s c d))) _ t₄ .1 in
+    let t₅ = both (not (isAt (nextAt s (idC s c)) (idD s c d))) _ t₄ .1 in
     record { free-c = t₂ .0; free-d = t₃ .0; convex = both _ _ t₅ .0 }
 
 -- ---- a book that matches a state has its nodes
@@ -67,13 +70,20 @@ matched-node t book M id l =
 -- ---- a new corner
 
 -- a new corner is computed as a sum, so it is a double
-corner-fits : (size : Float) (s : State) (other v : ℕ) (p d : Point) → IfNew PointFits (cornerAt size s other v (ideal size p d))
+corner-fits : (size : Float) (s : State) (other : ℕ) (n : Neighbour) (p d : Point) → IfNew PointFits (cornerAt size s other n (ideal size p d))
 unfolding cornerAt ideal
-corner-fits size s other v p d = go (isReused size s other v (ideal size p d))
+corner-fits size s other n p d = by n
   where
-    go : (t : Bool) → IfNew PointFits (cond t (Reused v) (Fresh (ideal size p d .x) (ideal size p d .y)))
-    go true = tt
-    go false = record { x = add-fits binary64 (p .x) (size ⊗ d .x); y = add-fits binary64 (p .y) (size ⊗ d .y) }
+    sums : PointFits (ideal size p d)
+    sums = record { x = add-fits binary64 (p .x) (size ⊗ d .x); y = add-fits binary64 (p .y) (size ⊗ d .y) }
+
+    go : (v : ℕ) (t : Bool) → IfNew PointFits (cond t (Reused v) (Fresh (ideal size p d .x) (ideal size p d .y)))
+    go v true = tt
+    go v false = sums
+
+    by : (n : Neighbour) → IfNew PointFits (cornerAt size s other n (ideal size p d))
+    by Off = sums
+    by (At v) = go v (isReused size s other v (ideal size p d))
 
 module _ (o : Outline) (fits : OutlineFits o) (taken : outlineRefusal o ≡ 0) where
   node-bounded : (size : Float) (s : State) (p : Point) → PointFits p → nodeOk o size s p ≡ true → Bounded p
@@ -99,12 +109,12 @@ module _ (o : Outline) (fits : OutlineFits o) (taken : outlineRefusal o ≡ 0) w
     new-c : IfNew Bounded c
     unfolding cornerC
     new-c =
-        corner-bounded size s c (subst (IfNew PointFits) (chosen .at-c) (corner-fits size s b (prevOf s a) (node s a) (P .da))) (checks .free-c)
+        corner-bounded size s c (subst (IfNew PointFits) (chosen .at-c) (corner-fits size s b (prevAt s a) (node s a) (P .da))) (checks .free-c)
 
     new-d : IfNew Bounded d
     unfolding cornerD
     new-d =
-        corner-bounded size s d (subst (IfNew PointFits) (chosen .at-d) (corner-fits size s a (nextOf s b) (node s b) (P .db))) (checks .free-d)
+        corner-bounded size s d (subst (IfNew PointFits) (chosen .at-d) (corner-fits size s a (nextAt s b) (node s b) (P .db))) (checks .free-d)
 
     room : AllNodes Bounded s → Roomy Bounded (added c + added d) s
     unfolding isFull nodePlaces

@@ -8,15 +8,15 @@ use borrow.Author.Tests.{le-ltb}
 use Rattle.domain.specs.declared.Settings.{Settings}
 use Rattle.domain.specs.Outline.{Outline}
 use Rattle.domain.specs.Accepted.{first-zero}
-use Rattle.crossfield.specs.Seeds.{FieldLists}
-use Rattle.crossfield.specs.Field.{FieldRecord, fieldRefusal, fieldOf}
+use Rattle.direction.specs.Record.{FieldLists, FieldRecord}
+use Rattle.crossfield.specs.Field.{fieldRefusal, fieldOf}
 use Rattle.topology.specs.Sums.{one}
 use Rattle.front.specs.State.{State, node, nextOf, nodePlaces, edgePlaces}
 use Rattle.front.specs.Sampling.{sampledCount, frontRefusal, fromBoundary}
 use Rattle.front.specs.FrameLaws.{frame-node}
 use Rattle.paving.specs.declared.End.the-variants.{Full}
 use Rattle.paving.specs.Advance.{Paved}
-use Rattle.paving.specs.Run.{runRefusal, runOf}
+use Rattle.whole_run.specs.Run.{runRefusal, runOf}
 use Rattle.books.specs.Book.{quadAt}
 use Rattle.books.specs.BookLaws.{frame-quad}
 use Rattle.sampled.specs.Outlines.{outline-three}

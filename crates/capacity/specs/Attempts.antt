@@ -2,11 +2,11 @@
 use Prim.Native.Nat.{ℕ, _+_, _*_, _<_, _≤_}
 use mathlib.Core.List.{List}
 use mathlib.Core.Path.{_≡_, refl, sym, _∙_, ap, ap₂}
-use mathlib.Core.Bool.{Bool, true, false, not, cond, _&&_}
+use mathlib.Core.Bool.{Bool, true, false, cond}
 use mathlib.Core.Logic.{_≢_}
 use native.Mathlib.Omega.{arith}
 use lib.Dec.{eqb}
-use lib.Ieee.{Float, le}
+use lib.Ieee.{Float}
 use borrow.Author.Tests.{eqb-false}
 use Rattle.laws.specs.Loop.{anyUp}
 use Rattle.laws.specs.Sums.{any-same}
@@ -14,20 +14,21 @@ use Rattle.numbers.specs.Float.{_⊖_, _⊗_, tolerance}
 use Rattle.domain.specs.declared.Point.{Point}
 use Rattle.domain.specs.Outline.{Outline, point}
 use Rattle.geometry.specs.declared.Corners.{Corners}
-use Rattle.geometry.specs.Plane.{distance}
-use Rattle.crossfield.specs.Field.{FieldRecord}
 use Rattle.topology.specs.Links.{off}
 use Rattle.topology.specs.Front.{next-in, prev-in}
+use Rattle.direction.specs.Record.{FieldRecord}
 use Rattle.front.specs.declared.Corner.{Corner}
 use Rattle.front.specs.declared.Corner.the-variants.{Reused, Fresh}
+use Rattle.front.specs.declared.Neighbour.the-variants.{At, Off}
 use Rattle.front.specs.State.{State, node, nextOf, prevOf}
+use Rattle.front.specs.Neighbours.{neighbourOf}
 use Rattle.front.specs.Place.{cornerPoint, cornerId, idC, idD, added}
 use Rattle.front.specs.Sound.{Sound}
 use Rattle.front.specs.Pushed.{IsNode}
 use Rattle.paving.specs.declared.Attempt.{Attempt}
 use Rattle.paving.specs.Checks.{closeNode, tooClose, nodeOk, cornerFree, cornersApart, blocks, nodeInside, crossesEdge, edgeCrosses, sideCrosses}
 use Rattle.paving.specs.Checks.{edgesFree, cornersOf, quadOk, quadFits}
-use Rattle.paving.specs.Attempt.{reuse, isReused, cornerAt, ideal, cornerC, cornerD, quadIf, attemptQuad, tryToward, tryEdge}
+use Rattle.paving.specs.Attempt.{isReused, cornerAt, ideal, cornerC, cornerD, quadIf, attemptQuad, tryToward, tryEdge}
 use Rattle.capacity.specs.Alike.{EdgesAlike, Alike, next-alike, prev-alike}
 
 -- ---- what an attempt reads
@@ -59,39 +60,37 @@ module _ (s t : State) (R : ReadsAlike s t) where
 
   -- ---- the choice of corners
 
-  reused-alike : (size : Float) (other v : ℕ) (p : Point) → (v ≢ off → v < N) → isReused size t other v p ≡ isReused size s other v p
-  unfolding isReused
-  reused-alike size other v p inside = by (eqb v off) refl
+  corner-alike : (size : Float) (other v : ℕ) (p : Point) → (v ≢ off → v < N)
+      → cornerAt size t other (neighbourOf v) p ≡ cornerAt size s other (neighbourOf v) p
+  unfolding cornerAt isReused neighbourOf
+  corner-alike size other v p inside = by (eqb v off) refl
     where
-      by : (b : Bool) → eqb v off ≡ b
-          → (not b && (not (eqb v other) && le (distance (node t v) p) (reuse ⊗ size)))
-          ≡ (not b && (not (eqb v other) && le (distance (node s v) p) (reuse ⊗ size)))
+      by : (b : Bool) → eqb v off ≡ b → cornerAt size t other (cond b Off (At v)) p ≡ cornerAt size s other (cond b Off (At v)) p
       by true e = refl
-      by false e = ap (λ (q : Point). not (eqb v other) && le (distance q p) (reuse ⊗ size)) (R .points v (inside (eqb-false v off e)))
+      by false e = rw (R .points v (inside (eqb-false v off e)))
 
-  corner-alike : (size : Float) (other v : ℕ) (p : Point) → (v ≢ off → v < N) → cornerAt size t other v p ≡ cornerAt size s other v p
-  unfolding cornerAt
-  corner-alike size other v p inside = rw (reused-alike size other v p inside)
-
-  corner-in : (size : Float) (other v : ℕ) (p : Point) → (v ≢ off → v < N) → IsNode N (cornerAt size s other v p)
-  unfolding cornerAt isReused
-  corner-in size other v p inside = by (eqb v off) refl (not (eqb v other) && le (distance (node s v) p) (reuse ⊗ size))
+  corner-in : (size : Float) (other v : ℕ) (p : Point) → (v ≢ off → v < N) → IsNode N (cornerAt size s other (neighbourOf v) p)
+  unfolding cornerAt neighbourOf
+  corner-in size other v p inside = by (eqb v off) refl
     where
-      by : (b : Bool) → eqb v off ≡ b → (c : Bool) → IsNode N (cond (not b && c) (Reused v) (Fresh (p .x) (p .y)))
-      by true e c = tt
-      by false e true = inside (eqb-false v off e)
-      by false e false = tt
+      at : v < N → (b : Bool) → IsNode N (cond b (Reused v) (Fresh (p .x) (p .y)))
+      at h true = h
+      at h false = tt
+
+      by : (b : Bool) → eqb v off ≡ b → IsNode N (cornerAt size s other (cond b Off (At v)) p)
+      by true e = tt
+      by false e = at (inside (eqb-false v off e)) (isReused size s other v p)
 
   corner-c : (size : Float) (a b : ℕ) (d : Point) → a < N → cornerC size t a b d ≡ cornerC size s a b d
   unfolding cornerC
   corner-c size a b d h =
-      ap₂ (λ (v : ℕ) (p : Point). cornerAt size t b v (ideal size p d)) (R .prev a) (R .points a h)
+      ap₂ (λ (v : ℕ) (p : Point). cornerAt size t b (neighbourOf v) (ideal size p d)) (R .prev a) (R .points a h)
       ∙ corner-alike size b (prevOf s a) (ideal size (node s a) d) (R .prev-node a)
 
   corner-d : (size : Float) (a b : ℕ) (d : Point) → b < N → cornerD size t a b d ≡ cornerD size s a b d
   unfolding cornerD
   corner-d size a b d h =
-      ap₂ (λ (v : ℕ) (p : Point). cornerAt size t a v (ideal size p d)) (R .next b) (R .points b h)
+      ap₂ (λ (v : ℕ) (p : Point). cornerAt size t a (neighbourOf v) (ideal size p d)) (R .next b) (R .points b h)
       ∙ corner-alike size a (nextOf s b) (ideal size (node s b) d) (R .next-node b)
 
   -- ---- the checks

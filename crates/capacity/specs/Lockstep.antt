@@ -8,7 +8,7 @@ use lib.ListN.{getD}
 use lib.Ieee.{Float}
 use Rattle.laws.specs.Loop.{forUp, Turn, go, out, onwards, answer, run, Kept}
 use Rattle.domain.specs.Outline.{Outline}
-use Rattle.crossfield.specs.Field.{FieldRecord}
+use Rattle.direction.specs.Record.{FieldRecord}
 use Rattle.front.specs.declared.Corner.{Corner}
 use Rattle.front.specs.State.{State}
 use Rattle.front.specs.Place.{place, isFull}

@@ -11,9 +11,9 @@ use lib.ListN.{getD}
 use lib.Ieee.{Float}
 use borrow.Author.Tests.{ltb-false, le-ltb, eqb-true, eqb-false}
 use Rattle.domain.specs.Outline.{Outline}
-use Rattle.crossfield.specs.Field.{FieldRecord}
 use Rattle.topology.specs.Links.{off, link-in}
 use Rattle.topology.specs.Front.{source, target, next-edge}
+use Rattle.direction.specs.Record.{FieldRecord}
 use Rattle.front.specs.declared.Corner.{Corner}
 use Rattle.front.specs.State.{State, nextOf, nodePlaces, quadPlaces, edgePlaces}
 use Rattle.front.specs.Place.{idC, idD, added, edgesAdded, isFull, place}

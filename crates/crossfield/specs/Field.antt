@@ -9,11 +9,12 @@ use lib.Ieee.{Float}
 use Rattle.domain.specs.Outline.{Outline, firstOf, outlineRefusal}
 use Rattle.domain.specs.Queries.{answerBy}
 use Rattle.blocks.specs.Blocks.{Drawn}
-use Rattle.crossfield.specs.declared.Grid.{Grid}
+use Rattle.direction.specs.declared.Grid.{Grid}
+use Rattle.direction.specs.Record.{gridNodes, FieldLists, fieldLists, FieldRecord, fieldRecord}
 use Rattle.crossfield.specs.declared.FieldAnswer.{FieldAnswer}
 use Rattle.crossfield.specs.declared.FieldAnswer.the-variants as answer-is
-use Rattle.crossfield.specs.Grid.{bounds, gridOf, gridNodes, sizeRefusal, boundsRefusal, sweepsRefusal}
-use Rattle.crossfield.specs.Seeds.{FieldLists, fieldLists, seeded}
+use Rattle.crossfield.specs.Grid.{bounds, gridOf, sizeRefusal, boundsRefusal, sweepsRefusal}
+use Rattle.crossfield.specs.Seeds.{seeded}
 use Rattle.crossfield.specs.Sweeps.{sweeps}
 
 -- how many field nodes are lent: of the two lists the one with the fewer places counts
@@ -32,14 +33,6 @@ refusalFor o size n places =
 
 unfoldable pub fieldRefusal : Outline → Float → ℕ → FieldLists → ℕ
 fieldRefusal o size n f = refusalFor o size n (fieldPlaces f)
-
--- a field record: the grid, and the lists beside it
-pub record FieldRecord : Type 0 where
-  pub grid : Grid
-  pub lists : FieldLists
-
-abbrev pub fieldRecord : Grid → List Float → List ℕ → FieldRecord
-fieldRecord g values marks = record { grid = g; lists = fieldLists values marks }
 
 -- `new_with_options`: seeds and marks, then at most n sweeps
 unfoldable pub fieldOf : Outline → Float → ℕ → FieldLists → FieldRecord

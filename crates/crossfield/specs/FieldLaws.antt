@@ -13,11 +13,12 @@ use Rattle.numbers.specs.Float.{_⊖_, _⊗_, halfF}
 use Rattle.domain.specs.Outline.{Outline, firstOf, loopAt, outlineRefusal}
 use Rattle.domain.specs.Accepted.{cond-zero, first-zero, OutlineFits, accepted}
 use Rattle.blocks.specs.Blocks.{Drawn}
+use Rattle.direction.specs.declared.Grid.{Grid}
+use Rattle.direction.specs.Record.{gridNodes, mostFieldNodes}
 use Rattle.crossfield.specs.declared.Bounds.{Bounds}
-use Rattle.crossfield.specs.declared.Grid.{Grid}
-use Rattle.crossfield.specs.Grid.{bounds, spacing, gridOf, gridNodes, mostFieldNodes, sizeRefusal, boundsRefusal, sweepsRefusal}
+use Rattle.crossfield.specs.Grid.{bounds, spacing, gridOf, sizeRefusal, boundsRefusal, sweepsRefusal}
 use Rattle.crossfield.specs.Field.{placesRefusal, refusalFor}
-use Rattle.crossfield.specs.Places.{Room, count-pos}
+use Rattle.crossfield.specs.Places.{FieldRoom, count-pos}
 use Rattle.crossfield.specs.Box.{Box, box}
 use Rattle.crossfield.specs.Spacing.{few-enough}
 
@@ -52,7 +53,7 @@ few o size b doubles held outline e same none =
     few-enough b size (subst Box (sym same) (box o doubles (accepted o outline) (ap boundsRefusal (sym same) ∙ none))) held e
 
 -- room for each node in both lists
-pub room-for : (g : Grid) (floats bytes : ℕ) → gridNodes g ≤ min (floats / 2) bytes → Room (g .nx) (g .ny) floats bytes
+pub room-for : (g : Grid) (floats bytes : ℕ) → gridNodes g ≤ min (floats / 2) bytes → FieldRoom (g .nx) (g .ny) floats bytes
 room-for g floats bytes h = record {
   values = let e = mul-comm (g .nx) (g .ny) in omega arith;
   marks =
@@ -89,19 +90,21 @@ few-made o size n places {b} doubles held none same =
     let u = unrefused o size n places none in
     few o size b doubles held (u .outline) (u .size) same (ap boundsRefusal same ∙ u .box)
 
-pub room-made : (o : Outline) (size : Float) (n places floats bytes : ℕ) {b : Bounds} {g : Grid} → refusalFor o size n places ≡ 0
-    → places ≡ min (floats / 2) bytes → b ≡ bounds o → g ≡ gridOf b size → Room (g .nx) (g .ny) floats bytes
-room-made o size n places floats bytes {b} {g} none lent same made =
+pub room-made : (o : Outline) (size : Float) (n floats bytes : ℕ) {b : Bounds} {g : Grid} → refusalFor o size n (min (floats / 2) bytes) ≡ 0
+    → b ≡ bounds o → g ≡ gridOf b size → FieldRoom (g .nx) (g .ny) floats bytes
+room-made o size n floats bytes {b} {g} none same made =
     room-for g floats bytes
     (le-trans (le-of-eq (ap gridNodes (made ∙ ap (λ (b : Bounds). gridOf b size) same)))
-    (le-trans (unrefused o size n places none .room) (le-of-eq lent)))
+    (unrefused o size n (min (floats / 2) bytes) none .room))
 
 -- what the seeds ask besides
-pub seeds-ask : (o : Outline) (size : Float) (n places floats bytes : ℕ) {b : Bounds} {g : Grid} → OutlineFits o → T (fits binary64 size)
-    → refusalFor o size n places ≡ 0 → places ≡ min (floats / 2) bytes → b ≡ bounds o → g ≡ gridOf b size
-    → Room (g .nx) (g .ny) floats bytes × ((g .nx ≤ mostFieldNodes) × (g .ny ≤ mostFieldNodes))
-seeds-ask o size n places floats bytes {b} {g} doubles held none lent same made =
-    (room-made o size n places floats bytes none lent same made, short-sides b size g made (few-made o size n places doubles held none same))
+pub seeds-ask : (o : Outline) (size : Float) (n floats bytes : ℕ) {b : Bounds} {g : Grid} → OutlineFits o → T (fits binary64 size)
+    → refusalFor o size n (min (floats / 2) bytes) ≡ 0 → b ≡ bounds o → g ≡ gridOf b size
+    → FieldRoom (g .nx) (g .ny) floats bytes × ((g .nx ≤ mostFieldNodes) × (g .ny ≤ mostFieldNodes))
+seeds-ask o size n floats bytes {b} {g} doubles held none same made = (
+  room-made o size n floats bytes none same made,
+  short-sides b size g made (few-made o size n (min (floats / 2) bytes) doubles held none same),
+)
 
 -- the outer loop has a first segment
 pub two-points : {o : Outline} {blocks : List ℕ} → Drawn o blocks → 3 < length (o .outer)

@@ -10,8 +10,9 @@ use Rattle.numbers.specs.Float.{_⊖_, _⊗_, _⊘_, bits, zeroF, halfF, infini
 use Rattle.numbers.specs.Whole.{ceilCount}
 use Rattle.domain.specs.declared.Point.{Point}
 use Rattle.domain.specs.Outline.{Outline, holeAt, points, pointAt}
+use Rattle.direction.specs.declared.Grid.{Grid}
+use Rattle.direction.specs.Record.{mostFieldNodes}
 use Rattle.crossfield.specs.declared.Bounds.{Bounds}
-use Rattle.crossfield.specs.declared.Grid.{Grid}
 
 -- ---- the bounding box, over all loops
 
@@ -46,10 +47,6 @@ bounds o = forUp (length (o .lens)) (holeBounds o) (loopBounds (o .outer) noBoun
 abbrev pub growth : Float
 growth = bits 0x3ff4_0000_0000_0000
 
--- the most nodes of a field
-abbrev pub mostFieldNodes : ℕ
-mostFieldNodes = 250000
-
 -- max(ceil(width/h), 2) + 3
 unfoldable pub gridCount : Float → Float → ℕ
 gridCount width h = max (ceilCount (width ⊘ h)) 2 + 3
@@ -75,9 +72,6 @@ gridOf b size =
     let height = b .ymax ⊖ b .ymin in
     let h = spacing width height (halfF ⊗ size) in
     record { xmin = b .xmin ⊖ h; ymin = b .ymin ⊖ h; h = h; nx = gridCount width h; ny = gridCount height h }
-
-abbrev pub gridNodes : Grid → ℕ
-gridNodes g = g .nx * g .ny
 
 -- ---- refusals
 

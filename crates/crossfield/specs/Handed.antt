@@ -18,14 +18,15 @@ use Rattle.exact.specs.Operations.{sub-law}
 use Rattle.exact.specs.SineBounds.{rel}
 use Rattle.domain.specs.Outline.{Outline, anyFloat}
 use Rattle.domain.specs.Accepted.{OutlineFits, accepted}
+use Rattle.direction.specs.Record.{gridNodes, mostFieldNodes, FieldLists, FieldRecord}
+use Rattle.direction.specs.Direction.{leastSpacing, mostSpacing, mostOrigin, within, countsSound, gridSound, valueUnsound}
+use Rattle.direction.specs.Direction.{recordRefusal}
+use Rattle.direction.specs.RecordLaws.{true-of}
 use Rattle.crossfield.specs.declared.Bounds.{Bounds}
-use Rattle.crossfield.specs.Grid.{bounds, gridOf, gridNodes, mostFieldNodes, sizeRefusal}
-use Rattle.crossfield.specs.Seeds.{FieldLists, seeded}
+use Rattle.crossfield.specs.Grid.{bounds, gridOf, sizeRefusal}
+use Rattle.crossfield.specs.Seeds.{seeded}
 use Rattle.crossfield.specs.Sweeps.{sweeps}
-use Rattle.crossfield.specs.Field.{FieldRecord, fieldPlaces, fieldRefusal, fieldOf}
-use Rattle.crossfield.specs.Direction.{leastSpacing, mostSpacing, mostOrigin, within, countsSound, gridSound, valueUnsound}
-use Rattle.crossfield.specs.Direction.{recordRefusal}
-use Rattle.crossfield.specs.RecordLaws.{true-of}
+use Rattle.crossfield.specs.Field.{fieldPlaces, fieldRefusal, fieldOf}
 use Rattle.crossfield.specs.Box.{Box, box}
 use Rattle.crossfield.specs.Spacing.{Grown, spacing-held, start-size}
 use Rattle.crossfield.specs.FieldLaws.{unrefused, few-made, sides}

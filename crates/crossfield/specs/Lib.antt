@@ -3,9 +3,7 @@ pub mod Seeds
 pub mod Sweeps
 pub mod TwoRows
 pub mod Field
-pub mod Direction
 pub mod Places
-pub mod RecordLaws
 pub mod Box
 pub mod Spacing
 pub mod FieldLaws

@@ -12,22 +12,23 @@ use lib.Ieee.{Float}
 use Rattle.laws.specs.Loop.{Turn, go, out, onwards, answer, forUp, forUp-keeps, run}
 use Rattle.domain.specs.declared.Point.{Point}
 use Rattle.domain.specs.Outline.{Outline}
-use Rattle.crossfield.specs.declared.Grid.{Grid}
-use Rattle.crossfield.specs.Grid.{bounds, gridOf, gridNodes}
-use Rattle.crossfield.specs.Seeds.{FieldLists, nodeAt, setValue, seedNode, seedRow, seeded}
-use Rattle.crossfield.specs.Sweeps.{Swept, swept, relaxed, sweepNode, sweepRow, sweep, sweepTurn, sweeps}
+use Rattle.direction.specs.declared.Grid.{Grid}
+use Rattle.direction.specs.Record.{gridNodes, FieldLists, nodeAt}
+use Rattle.direction.specs.Cells.{row-in}
+use Rattle.crossfield.specs.Grid.{bounds, gridOf}
+use Rattle.crossfield.specs.Seeds.{setValue, seedNode, seedRow, seeded}
+use Rattle.crossfield.specs.Sweeps.{SweptField, swept, relaxed, sweepNode, sweepRow, sweep, sweepTurn, sweeps}
 use Rattle.crossfield.specs.Field.{fieldOf}
-use Rattle.crossfield.specs.Places.{row-in}
 
 -- ---- what a node's visit keeps of the values, every number of sweeps keeps
 
 module _ (P : List Float → Type 0) (g : Grid) (marks : List ℕ)
-    (visit : (j i : ℕ) (s : Swept) → i < g .nx → j < g .ny → P (s .values) → P (sweepNode g marks j i s .values)) where
+    (visit : (j i : ℕ) (s : SweptField) → i < g .nx → j < g .ny → P (s .values) → P (sweepNode g marks j i s .values)) where
   sweep-keeps : (values : List Float) → P values → P (sweep g marks values .values)
   unfolding sweep sweepRow
   sweep-keeps values p =
-      forUp-keeps (λ (j : ℕ) (s : Swept). P (s .values)) (g .ny) (sweepRow g marks) (swept values true) p
-      (λ j s l p. forUp-keeps (λ (i : ℕ) (s : Swept). P (s .values)) (g .nx) (sweepNode g marks j) s p (λ i s h p. visit j i s h l p))
+      forUp-keeps (λ (j : ℕ) (s : SweptField). P (s .values)) (g .ny) (sweepRow g marks) (swept values true) p
+      (λ j s l p. forUp-keeps (λ (i : ℕ) (s : SweptField). P (s .values)) (g .nx) (sweepNode g marks j) s p (λ i s h p. visit j i s h l p))
 
   abbrev Held : Turn (List Float) (List Float) → Type 0
   Held (go values) = P values
@@ -39,7 +40,7 @@ module _ (P : List Float → Type 0) (g : Grid) (marks : List ℕ)
       last (forUp n (onwards (sweepTurn g marks)) (go values))
       (forUp-keeps (λ (k : ℕ) (t : Turn (List Float) (List Float)). Held t) n (onwards (sweepTurn g marks)) (go values) p keeps)
     where
-      after : (s : Swept) (quiet : Bool) → P (s .values) → Held (cond quiet (out (s .values)) (go (s .values)))
+      after : (s : SweptField) (quiet : Bool) → P (s .values) → Held (cond quiet (out (s .values)) (go (s .values)))
       after s true p = p
       after s false p = p
 
@@ -87,7 +88,7 @@ module _ (g : Grid) where
 
   -- ---- sweeps
 
-  visit-past : (marks : List ℕ) (before : List Float) (j i : ℕ) (s : Swept) → i < g .nx → j < g .ny → ValuesPast g before (s .values)
+  visit-past : (marks : List ℕ) (before : List Float) (j i : ℕ) (s : SweptField) → i < g .nx → j < g .ny → ValuesPast g before (s .values)
       → ValuesPast g before (sweepNode g marks j i s .values)
   unfolding sweepNode relaxed
   visit-past marks before j i s h l p = pick (eqb (getD marks (nodeAt g i j) 0) 0)

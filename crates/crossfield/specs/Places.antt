@@ -1,29 +1,21 @@
 -- Where the nodes of a grid lie in the lent lists: what the functions over them ask. Assumes nothing.
 use mathlib.Core.Path.{_≡_, ap}
 use mathlib.Core.Bool.{true}
-use mathlib.Core.List.{List}
 use Prim.Native.Nat.{ℕ, _+_, _*_, _≤_, _<_}
-use native.Mathlib.Nat.{le-max-left, mul-comm, mul-le-mul-left, mul-le-mul-right, mul-le-mul}
+use native.Mathlib.Nat.{le-max-left, mul-le-mul-left, mul-le-mul-right}
 use native.Mathlib.Omega.{arith}
 use borrow.Author.Tests.{ltb-true}
 use lib.Dec.{ltb}
-use lib.ListN.{length}
 use lib.Ieee.{Float}
 use Rattle.numbers.specs.Float.{_⊖_, _⊗_, _⊘_, halfF}
 use Rattle.numbers.specs.Whole.{ceilCount}
+use Rattle.direction.specs.Record.{mostFieldNodes, gridNodes}
+use Rattle.direction.specs.Cells.{row-in, row-over, more-columns, more-rows}
 use Rattle.crossfield.specs.declared.Bounds.{Bounds}
-use Rattle.crossfield.specs.declared.Grid.{Grid}
-use Rattle.crossfield.specs.Grid.{mostFieldNodes, gridNodes, gridCount, spacing, gridOf}
-
--- a grid of at least two nodes and at most 250,000, and a list that holds their values: what refusal 11 leaves
-pub record Lent (g : Grid) (values : List Float) : Type 0 where
-  pub columns : 2 ≤ g .nx
-  pub rows : 2 ≤ g .ny
-  pub few : gridNodes g ≤ mostFieldNodes
-  pub room : 2 * gridNodes g ≤ length values
+use Rattle.crossfield.specs.Grid.{gridCount, spacing, gridOf}
 
 -- n rows of w nodes: room for two floats and a mark each
-pub record Room (w n floats bytes : ℕ) : Type 0 where
+pub record FieldRoom (w n floats bytes : ℕ) : Type 0 where
   pub values : 2 * (n * w) ≤ floats
   pub marks : n * w ≤ bytes
 
@@ -41,7 +33,7 @@ pub record Row (w n j base floats : ℕ) : Type 0 where
   pub room : 2 * (n * w) ≤ floats
 
 -- a mark for node id, and counts that a float holds
-pub record Counts (w n id bytes : ℕ) : Type 0 where
+pub record NodeMark (w n id bytes : ℕ) : Type 0 where
   pub mark : id < bytes
   pub columns : w ≤ mostFieldNodes
   pub rows : n ≤ mostFieldNodes
@@ -52,13 +44,7 @@ pub record RowMarks (w n base bytes : ℕ) : Type 0 where
   pub columns : w ≤ mostFieldNodes
   pub rows : n ≤ mostFieldNodes
 
--- row j of n lies within them, and so does the row above; the row below begins at 0 or later
-pub row-in : (j n w : ℕ) → j < n → j * w + w ≤ n * w
-row-in j n w h = omega (arith, mul-le-mul-right w h)
-
-pub row-over : (j n w : ℕ) → j + 1 < n → j * w + w + w ≤ n * w
-row-over j n w h = omega (arith, mul-le-mul-right w h)
-
+-- the row below begins at 0 or later
 row-under : (j w : ℕ) → 0 < j → w ≤ j * w
 row-under j w h = omega (arith, mul-le-mul-right w h)
 
@@ -85,38 +71,13 @@ node-of i h t e = record { at = ap (λ (z : ℕ). z + i) (h .at); column = t; ro
 pub row-of : {w n base floats now : ℕ} (j : ℕ) → base ≡ j * w → j < n → 2 * (n * w) ≤ floats → now ≡ floats → Row w n j base now
 row-of j a t r e = record { at = a; row = t; room = omega (arith, r, e) }
 
--- ---- counts: one above the most has too many nodes by itself, where the other is above 0
-pub more-columns : (w n most : ℕ) → most < w → 2 ≤ n → most < w * n
-more-columns w n most h t = omega (arith, mul-le-mul-left w t)
-
-pub more-rows : (w n most : ℕ) → most < n → 2 ≤ w → most < w * n
-more-rows w n most h t = omega (arith, mul-le-mul-right n t)
-
-pub product-small : (w n : ℕ) → w ≤ mostFieldNodes → n ≤ mostFieldNodes → w * n ≤ mostFieldNodes * mostFieldNodes
-product-small w n h t = mul-le-mul h t
-
--- ---- the cell of columns i and i + 1 and of rows j and j + 1
-pub corner-in : {g : Grid} {values : List Float} (i j : ℕ) → Lent g values → i + 2 ≤ g .nx → j + 2 ≤ g .ny
-    → 2 * (j * g .nx + i + g .nx + 1) + 1 < length values
-corner-in {g} i j h columns rows = omega (arith, h .room, mul-comm (g .nx) (g .ny), row-over j (g .ny) (g .nx) (omega arith))
-
-pub corner-small : {g : Grid} {values : List Float} (i j : ℕ) → Lent g values → i + 2 ≤ g .nx → j + 2 ≤ g .ny
-    → j * g .nx + i + g .nx + 1 < mostFieldNodes
-corner-small {g} i j h columns rows = omega (arith, h .few, mul-comm (g .nx) (g .ny), row-over j (g .ny) (g .nx) (omega arith))
-
-pub column-small : {g : Grid} {values : List Float} (i : ℕ) → Lent g values → i + 2 ≤ g .nx → i < 4294967296
-column-small {g} i h t = omega (arith, h .few, mul-le-mul-left (g .nx) (h .rows))
-
-pub row-small : {g : Grid} {values : List Float} (j : ℕ) → Lent g values → j + 2 ≤ g .ny → j < 4294967296
-row-small {g} j h t = omega (arith, h .few, mul-le-mul-right (g .ny) (h .columns))
-
-pub room-of : {w n floats bytes floats' bytes' : ℕ} → Room w n floats bytes → floats' ≡ floats → bytes' ≡ bytes → Room w n floats' bytes'
+pub room-of : {w n floats bytes floats' bytes' : ℕ} → FieldRoom w n floats bytes → floats' ≡ floats → bytes' ≡ bytes → FieldRoom w n floats' bytes'
 room-of h e f = record { values = omega (arith, h .values, e); marks = omega (arith, h .marks, f) }
 
-pub mark-of : {w n base bytes now : ℕ} (i : ℕ) → RowMarks w n base bytes → i < w → now ≡ bytes → Counts w n (base + i) now
+pub mark-of : {w n base bytes now : ℕ} (i : ℕ) → RowMarks w n base bytes → i < w → now ≡ bytes → NodeMark w n (base + i) now
 mark-of i h t e = record { mark = omega (arith, h .marks, e); columns = h .columns; rows = h .rows }
 
-pub row-marks : {w n base floats bytes now : ℕ} (j : ℕ) → Room w n floats bytes → w ≤ mostFieldNodes → n ≤ mostFieldNodes
+pub row-marks : {w n base floats bytes now : ℕ} (j : ℕ) → FieldRoom w n floats bytes → w ≤ mostFieldNodes → n ≤ mostFieldNodes
     → base ≡ j * w → j < n → now ≡ bytes → RowMarks w n base now
 row-marks {w} {n} j h columns rows a t e = record { marks = omega (arith, h .marks, e, row-in j n w t); columns = columns; rows = rows }
 

@@ -11,23 +11,12 @@ use Rattle.domain.specs.declared.Near.{Near}
 use Rattle.domain.specs.Outline.{Outline, point}
 use Rattle.domain.specs.Queries.{contains, nearestSegment}
 use Rattle.geometry.specs.Plane.{tangent}
-use Rattle.crossfield.specs.declared.Grid.{Grid}
-
--- the lent lists: two floats a node, and a mark a node
-pub record FieldLists : Type 0 where
-  pub values : List Float
-  pub marks : List ℕ
-
-abbrev pub fieldLists : List Float → List ℕ → FieldLists
-fieldLists values marks = record { values = values; marks = marks }
+use Rattle.direction.specs.declared.Grid.{Grid}
+use Rattle.direction.specs.Record.{FieldLists, fieldLists, nodeAt}
 
 -- where node (i, j) of the grid stands
 unfoldable pub gridPoint : Grid → ℕ → ℕ → Point
 gridPoint g i j = point (g .xmin ⊕ toFloat i ⊗ g .h) (g .ymin ⊕ toFloat j ⊗ g .h)
-
--- the number of node (i, j)
-abbrev pub nodeAt : Grid → ℕ → ℕ → ℕ
-nodeAt g i j = j * g .nx + i
 
 -- seed of tangent (s, t): p = s·s − t·t, q = 2·(s·t), value (p·p − q·q, 2·(p·q))
 unfoldable pub seed : Point → Point

@@ -22,9 +22,10 @@ use Rattle.domain.specs.Outline.{Outline, holeAt, points, point, pointAt, point
 use Rattle.domain.specs.Queries.{pointSegmentDistance, near, nowhere, nearer, segmentTurn, nearestInLoop, holeTurn, nearestSegment}
 use Rattle.domain.specs.Accepted.{OutlineFits, PointWithin, Accepted, LoopWithin, after-within}
 use Rattle.geometry.specs.Plane.{norm, tangent}
-use Rattle.crossfield.specs.declared.Grid.{Grid}
-use Rattle.crossfield.specs.Seeds.{FieldLists, nodeAt, gridPoint, seed, setValue, seedNode, seedRow, seeded}
-use Rattle.crossfield.specs.Sweeps.{plusIf, oneIf, neighbourSum, neighbourCount, normalised, average, Swept, relaxed}
+use Rattle.direction.specs.declared.Grid.{Grid}
+use Rattle.direction.specs.Record.{FieldLists, nodeAt}
+use Rattle.crossfield.specs.Seeds.{gridPoint, seed, setValue, seedNode, seedRow, seeded}
+use Rattle.crossfield.specs.Sweeps.{plusIf, oneIf, neighbourSum, neighbourCount, normalised, average, SweptField, relaxed}
 use Rattle.crossfield.specs.Sweeps.{sweepNode, sweeps}
 use Rattle.crossfield.specs.Places.{Node, here-in, right-in, over-in}
 use Rattle.crossfield.specs.Box.{side, outer-near, hole-near}
@@ -299,7 +300,7 @@ pub record SoundList (floats : ℕ) (values : List Float) : Type 0 where
   pub sound : (k : ℕ) → k < floats → Most 4000 (getD values k nan)
 
 module _ (g : Grid) (marks : List ℕ) (floats : ℕ) (wide : 2 ≤ g .nx) (room : 2 * (g .ny * g .nx) ≤ floats) where
-  visit-sound : (j i : ℕ) (s : Swept) → i < g .nx → j < g .ny → SoundList floats (s .values)
+  visit-sound : (j i : ℕ) (s : SweptField) → i < g .nx → j < g .ny → SoundList floats (s .values)
       → SoundList floats (sweepNode g marks j i s .values)
   unfolding sweepNode relaxed
   visit-sound j i s h l p = pick (eqb (getD marks (nodeAt g i j) 0) 0)

@@ -16,13 +16,14 @@ use Rattle.laws.specs.Tests.{neither}
 use Rattle.numbers.specs.Float.{_⊖_, _⊗_, _⊘_, halfF, zeroF, isFinite}
 use Rattle.numbers.specs.Whole.{ceilDiv, ceilCount}
 use Rattle.exact.specs.Units.{W, W-pos, W-big, Val, val-of, signOf, sizeOf, Within}
+use Rattle.exact.specs.Constants.{zero-val}
 use Rattle.exact.specs.Order.{not-lt-val, above-of-not-le}
 use Rattle.exact.specs.Operations.{mul-law, div-law}
 use Rattle.domain.specs.Accepted.{cond-zero}
+use Rattle.direction.specs.Record.{gridNodes, mostFieldNodes}
 use Rattle.crossfield.specs.declared.Bounds.{Bounds}
-use Rattle.crossfield.specs.Unit.{zero-val}
 use Rattle.crossfield.specs.Box.{Box}
-use Rattle.crossfield.specs.Grid.{growth, gridCount, tooManyNodes, growTurn, growths, spacing, gridOf, gridNodes, mostFieldNodes}
+use Rattle.crossfield.specs.Grid.{growth, gridCount, tooManyNodes, growTurn, growths, spacing, gridOf}
 use Rattle.crossfield.specs.Grid.{leastSize, mostSize, sizeRefusal}
 
 -- ---- counts

@@ -10,8 +10,9 @@ use Rattle.numbers.specs.Float.{_⊕_, _⊖_, _⊘_, bits, zeroF, oneF, toleran
 use Rattle.domain.specs.declared.Point.{Point}
 use Rattle.domain.specs.Outline.{point, pointAt}
 use Rattle.geometry.specs.Plane.{norm}
-use Rattle.crossfield.specs.declared.Grid.{Grid}
-use Rattle.crossfield.specs.Seeds.{nodeAt, setValue}
+use Rattle.direction.specs.declared.Grid.{Grid}
+use Rattle.direction.specs.Record.{nodeAt}
+use Rattle.crossfield.specs.Seeds.{setValue}
 
 -- 1e-7
 abbrev pub steady : Float
@@ -51,11 +52,11 @@ unfoldable pub average : Grid → List Float → ℕ → ℕ → Point
 average g values j i = normalised (divided (neighbourSum g values j i) (neighbourCount g j i))
 
 -- a sweep's values so far, and whether no node's two values have changed by 1e-7 or more in sum
-pub record Swept : Type 0 where
+pub record SweptField : Type 0 where
   pub values : List Float
   pub quiet : Bool
 
-abbrev pub swept : List Float → Bool → Swept
+abbrev pub swept : List Float → Bool → SweptField
 swept values quiet = record { values = values; quiet = quiet }
 
 -- how much a value changes, in sum
@@ -63,24 +64,24 @@ unfoldable pub change : Point → Point → Float
 change old new = absF (new .x ⊖ old .x) ⊕ absF (new .y ⊖ old .y)
 
 -- the visit of a node that is not fixed
-unfoldable pub relaxed : Grid → ℕ → ℕ → Swept → Swept
+unfoldable pub relaxed : Grid → ℕ → ℕ → SweptField → SweptField
 relaxed g j i s =
     let id = nodeAt g i j in
     let v = average g (s .values) j i in
     swept (setValue (s .values) id v) (s .quiet && not (le steady (change (pointAt (s .values) id) v)))
 
-unfoldable pub sweepNode : Grid → List ℕ → ℕ → ℕ → Swept → Swept
+unfoldable pub sweepNode : Grid → List ℕ → ℕ → ℕ → SweptField → SweptField
 sweepNode g marks j i s = cond (eqb (getD marks (nodeAt g i j) 0) 0) (relaxed g j i s) s
 
-unfoldable pub sweepRow : Grid → List ℕ → ℕ → Swept → Swept
+unfoldable pub sweepRow : Grid → List ℕ → ℕ → SweptField → SweptField
 sweepRow g marks j s = forUp (g .nx) (sweepNode g marks j) s
 
 -- one sweep: rows from the bottom, left to right
-unfoldable pub sweep : Grid → List ℕ → List Float → Swept
+unfoldable pub sweep : Grid → List ℕ → List Float → SweptField
 sweep g marks values = forUp (g .ny) (sweepRow g marks) (swept values true)
 
 -- a quiet sweep is the last
-abbrev pub afterSweep : Swept → Turn (List Float) (List Float)
+abbrev pub afterSweep : SweptField → Turn (List Float) (List Float)
 afterSweep s = cond (s .quiet) (out (s .values)) (go (s .values))
 
 abbrev pub sweepTurn : Grid → List ℕ → ℕ → List Float → Turn (List Float) (List Float)

@@ -14,9 +14,10 @@ use lib.Ieee.{Float, nan, le}
 use Rattle.laws.specs.Loop.{forUp, forUp-keeps}
 use Rattle.domain.specs.declared.Point.{Point}
 use Rattle.domain.specs.Outline.{point, pointAt}
-use Rattle.crossfield.specs.declared.Grid.{Grid}
-use Rattle.crossfield.specs.Seeds.{nodeAt, setValue}
-use Rattle.crossfield.specs.Sweeps.{steady, plusIf, neighbourSum, average, Swept, swept, change, relaxed, sweepNode, sweepRow}
+use Rattle.direction.specs.declared.Grid.{Grid}
+use Rattle.direction.specs.Record.{nodeAt}
+use Rattle.crossfield.specs.Seeds.{setValue}
+use Rattle.crossfield.specs.Sweeps.{steady, plusIf, neighbourSum, average, SweptField, swept, change, relaxed, sweepNode, sweepRow}
 
 -- ---- one node's value set, seen at another node
 
@@ -40,7 +41,7 @@ values-swap l p q u v h =
 -- ---- two visits commute where neither reads what the other writes
 
 -- the visit of a node that is not fixed, by its number and by what it takes from the values
-abbrev visit : ℕ → (List Float → Point) → Swept → Swept
+abbrev visit : ℕ → (List Float → Point) → SweptField → SweptField
 visit p take s =
     let v = take (s .values) in
     swept (setValue (s .values) p v) (s .quiet && not (le steady (change (pointAt (s .values) p) v)))
@@ -56,7 +57,7 @@ and-swap true true false = refl
 and-swap true false true = refl
 and-swap true false false = refl
 
-visits-commute : (p q : ℕ) (f h : List Float → Point) → p ≢ q → Unread q f → Unread p h → (s : Swept)
+visits-commute : (p q : ℕ) (f h : List Float → Point) → p ≢ q → Unread q f → Unread p h → (s : SweptField)
     → visit p f (visit q h s) ≡ visit q h (visit p f s)
 visits-commute p q f h apart unread-q unread-p s =
     let l = s .values in
@@ -111,13 +112,13 @@ module _ (g : Grid) (marks : List ℕ) (j a b : ℕ) (behind : a + 1 < b) (colum
     over = λ t e. omega arith;
   }
 
-  free-commute : (s : Swept) → relaxed g j b (relaxed g (j + 1) a s) ≡ relaxed g (j + 1) a (relaxed g j b s)
+  free-commute : (s : SweptField) → relaxed g j b (relaxed g (j + 1) a s) ≡ relaxed g (j + 1) a (relaxed g j b s)
   unfolding relaxed
   free-commute s =
       visits-commute (nodeAt g b j) (nodeAt g a (j + 1)) (λ l. average g l j b) (λ l. average g l (j + 1) a) (λ e. omega arith)
       (average-unread g j b (nodeAt g a (j + 1)) lower-apart) (average-unread g (j + 1) a (nodeAt g b j) upper-apart) s
 
-  nodes-commute : (s : Swept) → sweepNode g marks j b (sweepNode g marks (j + 1) a s) ≡ sweepNode g marks (j + 1) a (sweepNode g marks j b s)
+  nodes-commute : (s : SweptField) → sweepNode g marks j b (sweepNode g marks (j + 1) a s) ≡ sweepNode g marks (j + 1) a (sweepNode g marks j b s)
   unfolding sweepNode
   nodes-commute s = pick (eqb (getD marks (nodeAt g b j) 0) 0) (eqb (getD marks (nodeAt g a (j + 1)) 0) 0)
     where
@@ -130,29 +131,29 @@ module _ (g : Grid) (marks : List ℕ) (j a b : ℕ) (behind : a + 1 < b) (colum
 
 -- ---- two loops, `lower` and then `upper`, taken as one in which `upper` is a turn behind
 
-module _ (lower upper : ℕ → Swept → Swept) (n : ℕ)
-    (commute : (a b : ℕ) → a + 1 < b → b < n → (s : Swept) → lower b (upper a s) ≡ upper a (lower b s)) (s : Swept) where
+module _ (lower upper : ℕ → SweptField → SweptField) (n : ℕ)
+    (commute : (a b : ℕ) → a + 1 < b → b < n → (s : SweptField) → lower b (upper a s) ≡ upper a (lower b s)) (s : SweptField) where
   -- a lower turn commutes with all upper turns that are more than one behind
-  past : (i : ℕ) → i + 1 < n → (t : Swept) → lower (i + 1) (forUp i upper t) ≡ forUp i upper (lower (i + 1) t)
+  past : (i : ℕ) → i + 1 < n → (t : SweptField) → lower (i + 1) (forUp i upper t) ≡ forUp i upper (lower (i + 1) t)
   unfolding forUp
   past i h t =
-      forUp-keeps (λ (k : ℕ) (u : Swept). lower (i + 1) u ≡ forUp k upper (lower (i + 1) t)) i upper t refl
+      forUp-keeps (λ (k : ℕ) (u : SweptField). lower (i + 1) u ≡ forUp k upper (lower (i + 1) t)) i upper t refl
       (λ k u l e. commute k (i + 1) (omega arith) h u ∙ ap (upper k) e)
 
   behind : (m : ℕ) → m < n → forUp m (λ i t. upper i (lower (i + 1) t)) (lower 0 s) ≡ forUp m upper (forUp (suc m) lower s)
   unfolding forUp
   behind m h =
-      forUp-keeps (λ (i : ℕ) (t : Swept). t ≡ forUp i upper (forUp (suc i) lower s)) m (λ i t. upper i (lower (i + 1) t)) (lower 0 s) refl
+      forUp-keeps (λ (i : ℕ) (t : SweptField). t ≡ forUp i upper (forUp (suc i) lower s)) m (λ i t. upper i (lower (i + 1) t)) (lower 0 s) refl
       (λ i t l e. ap (upper i) (ap (lower (i + 1)) e ∙ past i (omega arith) (forUp (suc i) lower s) ∙ rw add-one))
 
 -- ---- two rows
 
 -- a turn of the code: the next node of row j, and of row j + 1 the one that is a column behind
-abbrev pub rowsTurn : Grid → List ℕ → ℕ → ℕ → Swept → Swept
+abbrev pub rowsTurn : Grid → List ℕ → ℕ → ℕ → SweptField → SweptField
 rowsTurn g marks j i s = sweepNode g marks (j + 1) i (sweepNode g marks j (i + 1) s)
 
 -- the first node of row j, then the turns, then the last node of row j + 1: row j and then row j + 1
-pub two-rows : (g : Grid) (marks : List ℕ) (j : ℕ) (s : Swept) → 0 < g .nx
+pub two-rows : (g : Grid) (marks : List ℕ) (j : ℕ) (s : SweptField) → 0 < g .nx
     → sweepNode g marks (j + 1) (g .nx - 1) (forUp (g .nx - 1) (rowsTurn g marks j) (sweepNode g marks j 0 s))
     ≡ sweepRow g marks (j + 1) (sweepRow g marks j s)
 unfolding sweepRow forUp
@@ -164,6 +165,6 @@ two-rows g marks j s h =
     ∙ ap (λ (n : ℕ). forUp n upper (forUp n lower s)) whole
 
 -- rows with no node
-pub no-columns : (g : Grid) (marks : List ℕ) (j : ℕ) (s : Swept) → g .nx ≡ 0 → s ≡ sweepRow g marks (j + 1) (sweepRow g marks j s)
+pub no-columns : (g : Grid) (marks : List ℕ) (j : ℕ) (s : SweptField) → g .nx ≡ 0 → s ≡ sweepRow g marks (j + 1) (sweepRow g marks j s)
 unfolding sweepRow forUp
 no-columns g marks j s e = ap (λ (n : ℕ). forUp n (sweepNode g marks (j + 1)) (forUp n (sweepNode g marks j) s)) (sym e)

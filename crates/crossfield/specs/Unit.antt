@@ -9,14 +9,16 @@ use native.Mathlib.Omega.{arith}
 use borrow.Author.Tests.{leb-true, leb-false}
 use lib.Dec.{T, leb, lit≤}
 use lib.IntN.{ℤ, _+ℤ_, _-ℤ_}
-use lib.Ieee.{Float, binary64, unlike, lt, le, ofBits}
+use lib.Ieee.{Float, binary64, unlike, lt, le}
 use lib.Ieee.Fits.{add-fits}
 use Rattle.numbers.specs.Float.{_⊕_, _⊖_, _⊗_, _⊘_, zeroF, oneF, twoF, tolerance}
 use Rattle.exact.specs.Units.{W, W-pos, W-big, Val, units, Within, unlike-self}
+use Rattle.exact.specs.Constants.{zero-val, one-val, two-val, tolerance-units, tolerance-val}
 use Rattle.exact.specs.Order.{lt-val, above-pos, above-of-not-le}
 use Rattle.exact.specs.Operations.{product-small, mul-law, Sum, add-law, sub-law, add-law-pos, div-law}
 use Rattle.exact.specs.Root.{root-law}
 use Rattle.exact.specs.SineBounds.{le-of-sq, Rel, RelAnd, rel, rel-and, Long, length-law}
+use Rattle.exact.specs.Sine.{long-of}
 use Rattle.exact.specs.Corner.{norm}
 use Rattle.domain.specs.declared.Point.{Point}
 use Rattle.crossfield.specs.Seeds.{seed}
@@ -120,20 +122,6 @@ record Length (l : Float) (a b : ℕ) : Type 0 where
 same-rel : (a : ℕ) → Rel a a
 same-rel a = (omega arith, omega arith)
 
-tolerance-units : ℕ
-tolerance-units = 4951760157141521 * 2 ^ 982
-
-tolerance-val : Val tolerance false tolerance-units
-unfolding W ofBits tolerance-units
-tolerance-val = (refl, refl)
-
-tolerance-long : W ≤ 10 ^ 13 * tolerance-units
-unfolding W tolerance-units
-tolerance-long = lit≤ tt
-
-long-of : (L : ℕ) → tolerance-units < L → Long L
-long-of L h = le-trans tolerance-long (mul-le-mul-left (10 ^ 13) (le-of-lt h))
-
 square : {x : Float} (p : Within 4000 x) → (n : ℕ) × (Val (x ⊗ x) false n) × (n ≤ 2 ^ 200 * W) × RelAnd (n * W) (p .size * p .size) W
 square {x} p =
     let r = mul-law p p tt tt in
@@ -144,10 +132,10 @@ square {x} p =
       rel-and (r .size * W) (p .size * p .size) W (r .near),
     )
 
-length : {x y : Float} (p : Within 4000 x) (q : Within 4000 y) → ((L : ℕ) → Val (norm x y) false L → tolerance-units < L)
+norm-length : {x y : Float} (p : Within 4000 x) (q : Within 4000 y) → ((L : ℕ) → Val (norm x y) false L → tolerance-units < L)
     → Length (norm x y) (p .size) (q .size)
 unfolding norm
-length {x} {y} p q above =
+norm-length {x} {y} p q above =
     let a = square p in
     let b = square q in
     let s = add-law-pos (x ⊗ x) (y ⊗ y) (a .0) (b .0) (a .1) (b .1) (a .2) (b .2) in
@@ -277,22 +265,14 @@ unit-of {x} {y} p q l =
 -- divided by a norm that passes the test `1e-12 < n`, or fails the test `n <= 1e-12`
 pub unit-lt : {x y : Float} → Within 4000 x → Within 4000 y → lt tolerance (norm x y) ≡ true → UnitPair (x ⊘ norm x y) (y ⊘ norm x y)
 unit-lt {x} {y} p q t =
-    unit-of p q (length p q (λ L v. above-pos false L tolerance-units
+    unit-of p q (norm-length p q (λ L v. above-pos false L tolerance-units
     (lt-val tolerance (norm x y) false false tolerance-units L tolerance-val v .0 (rw t tt)) .1))
 
 pub unit-not-le : {x y : Float} → Within 4000 x → Within 4000 y → le (norm x y) tolerance ≡ false → UnitPair (x ⊘ norm x y) (y ⊘ norm x y)
 unit-not-le {x} {y} p q t =
-    unit-of p q (length p q (λ L v. above-of-not-le (norm x y) tolerance false L tolerance-units v tolerance-val (rw t tt) .1))
+    unit-of p q (norm-length p q (λ L v. above-of-not-le (norm x y) tolerance false L tolerance-units v tolerance-val (rw t tt) .1))
 
 -- (1, 0)
-one-val : Val oneF false W
-unfolding W ofBits
-one-val = (refl, refl)
-
-pub zero-val : Val zeroF false 0
-unfolding W ofBits
-zero-val = (refl, refl)
-
 pub unit-one : UnitPair oneF zeroF
 unit-one = record { signs = (false, false); a = W; b = 0; u-val = one-val; v-val = zero-val; squares = go (W * W) }
   where
@@ -398,10 +378,6 @@ product {s} {t} p =
   where
     bound : (n m q ww w : ℕ) → 10000 * n ≤ 10001 * m + 10000 * w → 2 * m ≤ q → 1000 * q ≤ 1003 * ww → 1000000 * w ≤ ww → 1000 * n ≤ 502 * ww
     bound n m q ww w h k s l = omega arith
-
-two-val : Val twoF false (2 * W)
-unfolding W ofBits
-two-val = (refl, refl)
 
 two-most : Most 2000 twoF
 two-most = record { sign = false; size = 2 * W; val = two-val; most = le-of-eq (sym (mul-assoc 1000 2 W)) }

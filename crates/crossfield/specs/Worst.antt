@@ -18,31 +18,32 @@ use Rattle.exact.specs.Units.{W, Val, val-of, sizeOf}
 use Rattle.exact.specs.Order.{lt-val, le-val, not-le-val}
 use Rattle.domain.specs.declared.Point.{Point}
 use Rattle.domain.specs.Outline.{pointAt}
-use Rattle.crossfield.specs.declared.Grid.{Grid}
-use Rattle.crossfield.specs.RecordLaws.{true-of}
-use Rattle.crossfield.specs.Seeds.{nodeAt, setValue}
-use Rattle.crossfield.specs.Sweeps.{steady, average, Swept, swept, change, relaxed, sweepNode, sweepRow, sweep}
+use Rattle.direction.specs.declared.Grid.{Grid}
+use Rattle.direction.specs.RecordLaws.{true-of}
+use Rattle.direction.specs.Record.{nodeAt}
+use Rattle.crossfield.specs.Seeds.{setValue}
+use Rattle.crossfield.specs.Sweeps.{steady, average, SweptField, swept, change, relaxed, sweepNode, sweepRow, sweep}
 
 -- ---- a sweep as the Rust has it
 
 -- the values so far, and the greatest change
-pub record Changed : Type 0 where
+pub record SweptWorst : Type 0 where
   pub values : List Float
   pub worst : Float
 
-abbrev changed : List Float → Float → Changed
+abbrev changed : List Float → Float → SweptWorst
 changed values worst = record { values = values; worst = worst }
 
-unfoldable pub changedNode : Grid → List ℕ → ℕ → ℕ → Changed → Changed
+unfoldable pub changedNode : Grid → List ℕ → ℕ → ℕ → SweptWorst → SweptWorst
 changedNode g marks j i s =
     let id = nodeAt g i j in
     let v = average g (s .values) j i in
     cond (eqb (getD marks id 0) 0) (changed (setValue (s .values) id v) (maxF (s .worst) (change (pointAt (s .values) id) v))) s
 
-unfoldable pub changedRow : Grid → List ℕ → ℕ → Changed → Changed
+unfoldable pub changedRow : Grid → List ℕ → ℕ → SweptWorst → SweptWorst
 changedRow g marks j s = forUp (g .nx) (changedNode g marks j) s
 
-unfoldable pub changedSweep : Grid → List ℕ → List Float → Changed
+unfoldable pub changedSweep : Grid → List ℕ → List Float → SweptWorst
 changedSweep g marks values = forUp (g .ny) (changedRow g marks) (changed values zeroF)
 
 -- ---- one change
@@ -177,13 +178,13 @@ change-fits old new = add-fits binary64 (absF (new .x ⊖ old .x)) (absF (new .y
 
 -- ---- the sweeps
 
-record Same (s : Swept) (t : Changed) : Type 0 where
+record Same (s : SweptField) (t : SweptWorst) : Type 0 where
   values : s .values ≡ t .values
   quiet : s .quiet ≡ lt (t .worst) steady
   held : T (fits binary64 (t .worst))
   number : isNan (t .worst) ≡ false
 
-node-same : (g : Grid) (marks : List ℕ) (j i : ℕ) (s : Swept) (t : Changed) → Same s t
+node-same : (g : Grid) (marks : List ℕ) (j i : ℕ) (s : SweptField) (t : SweptWorst) → Same s t
     → Same (sweepNode g marks j i s) (changedNode g marks j i t)
 unfolding sweepNode relaxed changedNode
 node-same g marks j i s t r = pick (eqb (getD marks (nodeAt g i j) 0) 0)
@@ -194,7 +195,7 @@ node-same g marks j i s t r = pick (eqb (getD marks (nodeAt g i j) 0) 0)
     moved : List Float → Float
     moved values = change (pointAt values id) (average g values j i)
 
-    after : Changed
+    after : SweptWorst
     after = changed (setValue (t .values) id (average g (t .values) j i)) (maxF (t .worst) (moved (t .values)))
 
     pick : (x : Bool) → Same (cond x (relaxed g j i s) s) (cond x after t)

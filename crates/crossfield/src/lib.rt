@@ -1,23 +1,22 @@
-// The cross field of src/alt_crossfield.rs: grid, seeds, marks, sweeps, and the direction query.
+// The cross field of src/alt_crossfield.rs: grid, seeds, marks and sweeps.
 ghost use mathlib.Core.Path.{_≡_};
 ghost use mathlib.Core.Bool.{true, false};
-ghost use Prim.Native.Nat.{_+_, _-_, _*_, min, _≤_, _<_};
+ghost use Prim.Native.Nat.{_+_, _-_, _*_, _≤_, _<_};
 ghost use lib.ListN.{length};
 ghost use Rattle.numbers.specs.Float.{_⊘_};
-ghost use Rattle.numbers.specs.Whole.{floorQuotient, ceilCount};
-ghost use Rattle.domain.specs.Outline.{outline, misshapen, pointAt, anyFloat};
+ghost use Rattle.numbers.specs.Whole.{ceilCount};
+ghost use Rattle.domain.specs.Outline.{outline, misshapen, pointAt};
 ghost use Rattle.domain.specs.Queries.{nearestSegment};
 ghost use Rattle.blocks.specs.Blocks.{Drawn};
+ghost use Rattle.direction.specs.Record.{mostFieldNodes, gridNodes, fieldLists, fieldRecord};
 ghost use Rattle.crossfield.specs.Grid.{noBounds, widened, loopBounds, bounds, gridCount, tooManyNodes, spacing, gridOf, sizeRefusal};
-ghost use Rattle.crossfield.specs.Grid.{boundsRefusal, sweepsRefusal, mostFieldNodes, gridNodes};
-ghost use Rattle.crossfield.specs.Seeds.{fieldLists, gridPoint, seed, isFixed, markOf, seedNode, seedRow, seeded};
+ghost use Rattle.crossfield.specs.Grid.{boundsRefusal, sweepsRefusal};
+ghost use Rattle.crossfield.specs.Seeds.{gridPoint, seed, isFixed, markOf, seedNode, seedRow, seeded};
 ghost use Rattle.crossfield.specs.Sweeps.{plusIf, oneIf, neighbourSum, neighbourCount, normalised, divided, average, swept, change, relaxed};
 ghost use Rattle.crossfield.specs.Sweeps.{sweepNode, sweepRow, sweep, sweeps};
-ghost use Rattle.crossfield.specs.Field.{fieldRecord, placesRefusal, refusalFor, fieldResult, fieldAnswer, FieldDraws};
-ghost use Rattle.crossfield.specs.Direction.{within, valueUnsound, countsSound, gridSound, recordRefusal, cellOf, weighed, rawAt};
-ghost use Rattle.crossfield.specs.Direction.{scaled, half, directionOf, dot, closerOf, nearestOf, directionAt, directionRefusal};
-ghost use Rattle.crossfield.specs.Direction.{directionAnswer};
-ghost use Rattle.crossfield.specs.Places.{Node, Row, Counts, RowMarks, Lent, Room};
+ghost use Rattle.crossfield.specs.Field.{placesRefusal, refusalFor, fieldRefusal, fieldOf, fieldResult, fieldAnswer, FieldDraws};
+ghost use Rattle.crossfield.specs.Places.{Node, Row, NodeMark, RowMarks, FieldRoom};
+use direction::Grid;
 use domain::Near;
 use domain::Point;
 use domain::Settings;
@@ -30,34 +29,9 @@ pub struct Bounds {
     pub ymax: f64,
 }
 
-// A field record's three floats and two counts; its values and marks are lent beside it.
-pub struct Grid {
-    pub xmin: f64,
-    pub ymin: f64,
-    pub h: f64,
-    pub nx: usize,
-    pub ny: usize,
-}
-
 pub enum FieldAnswer {
     Refused(u32),
     Made(Grid),
-}
-
-pub enum Direction {
-    Refused(u32),
-    Toward(Point),
-}
-
-// The limits of refusal 11.
-impl Grid {
-    pub const LEAST_SPACING: f64 = 0.001;
-
-    pub const MOST_SPACING: f64 = 1000.0;
-
-    pub const MOST_ORIGIN: f64 = 2000.0;
-
-    pub const MOST_VALUE: f64 = 4.0;
 }
 
 // ---- the bounding box, over all loops
@@ -121,17 +95,17 @@ fn grid_count(width: f64, h: f64) -> usize
     ensures { λ r. ⌜ r ≤ mostFieldNodes + 3 ⌝ }
 {
     let cells = numbers::ceil_count(width / h) as usize;
-    if cells < 2 { 5 } else { cells + 3 }
+    numbers::max_usize(cells, 2) + 3
 }
 
 // Whether a grid of this spacing has more than 250,000 nodes. A side of more than that has too many by itself, so that no product overflows.
 fn too_many_nodes(width: f64, height: f64, h: f64) -> bool
     ensures { λ r. ⌜ r ≡ tooManyNodes width height h ⌝ }
 {
-    if 250000 < numbers::ceil_count(width / h) {
+    if Settings::MOST_FIELD_NODES < numbers::ceil_count(width / h) as usize {
         return true;
     }
-    if 250000 < numbers::ceil_count(height / h) {
+    if Settings::MOST_FIELD_NODES < numbers::ceil_count(height / h) as usize {
         return true;
     }
     Settings::MOST_FIELD_NODES < grid_count(width, h) * grid_count(height, h)
@@ -279,7 +253,7 @@ fn seed_node<'a>(
 ) -> Near
     requires { ⌜ Drawn (outline (now outer) (now holes) (now lens)) (now blocks) ⌝ }
     requires { ⌜ Node (g .nx) (g .ny) j i id (length (now values)) ⌝ }
-    requires { ⌜ Counts (g .nx) (g .ny) id (length (now marks)) ⌝ }
+    requires { ⌜ NodeMark (g .nx) (g .ny) id (length (now marks)) ⌝ }
     ensures { λ r. ⌜ fieldLists (now (values .exit)) (now (marks .exit))
         ≡ seedNode (outline (now (outer .entry)) (now (holes .entry)) (now (lens .entry))) g j i
         (fieldLists (now (values .entry)) (now (marks .entry))) ⌝ }
@@ -351,7 +325,7 @@ fn seed_all<'a>(
     marks: &mut [u8],
 )
     requires { ⌜ Drawn (outline (now outer) (now holes) (now lens)) (now blocks) ⌝ }
-    requires { ⌜ Room (g .nx) (g .ny) (length (now values)) (length (now marks)) ⌝ }
+    requires { ⌜ FieldRoom (g .nx) (g .ny) (length (now values)) (length (now marks)) ⌝ }
     requires { ⌜ (g .nx ≤ mostFieldNodes) × (g .ny ≤ mostFieldNodes) ⌝ }
     ensures { λ r. ⌜ fieldLists (now (values .exit)) (now (marks .exit))
         ≡ seeded (outline (now (outer .entry)) (now (holes .entry)) (now (lens .entry))) g
@@ -437,7 +411,7 @@ fn normalised(v: Point) -> Point
     ensures { λ r. ⌜ r ≡ normalised v ⌝ }
 {
     let n = geometry::norm(v.x, v.y);
-    if 1.0e-12 < n {
+    if Settings::TOLERANCE < n {
         Point {
             x: v.x / n,
             y: v.y / n,
@@ -566,7 +540,7 @@ fn sweep_two_rows(
 
 // One sweep, two rows at a time; the answer is whether it was quiet.
 fn sweep(g: Grid, marks: &[u8], values: &mut [f64]) -> bool
-    requires { ⌜ Room (g .nx) (g .ny) (length (now values)) (length (now marks)) ⌝ }
+    requires { ⌜ FieldRoom (g .nx) (g .ny) (length (now values)) (length (now marks)) ⌝ }
     ensures { λ r. ⌜ swept (now (values .exit)) r ≡ sweep g (now (marks .entry)) (now (values .entry)) ⌝ }
 {
     let nx = g.nx;
@@ -588,7 +562,7 @@ fn sweep(g: Grid, marks: &[u8], values: &mut [f64]) -> bool
 
 // At most n sweeps: a quiet one is the last.
 fn sweeps(n: usize, g: Grid, marks: &[u8], values: &mut [f64])
-    requires { ⌜ Room (g .nx) (g .ny) (length (now values)) (length (now marks)) ⌝ }
+    requires { ⌜ FieldRoom (g .nx) (g .ny) (length (now values)) (length (now marks)) ⌝ }
     ensures { λ r. ⌜ now (values .exit) ≡ sweeps n g (now (marks .entry)) (now (values .entry)) ⌝ }
 {
     let mut k = 0;
@@ -633,10 +607,28 @@ pub fn field_refusal<'a>(
     places_refusal(grid_of(b, size), places)
 }
 
-pub fn lesser(a: usize, b: usize) -> usize
-    ensures { λ r. ⌜ r ≡ min a b ⌝ }
+// The field where none of 1 to 9 refuses it, in the lists lent; and the outline's blocks.
+pub fn make_field<'a>(
+    outer: &'a [f64],
+    holes: &'a [f64],
+    lens: &[usize],
+    size: f64,
+    limit: usize,
+    values: &mut [f64],
+    marks: &mut [u8],
+    blocks: &mut [u32],
+) -> Grid
+    requires { ⌜ fieldRefusal (outline (now outer) (now holes) (now lens)) size limit (fieldLists (now values) (now marks)) ≡ 0 ⌝ }
+    ensures { λ r. ⌜ fieldRecord r (now (values .exit)) (now (marks .exit))
+        ≡ fieldOf (outline (now (outer .entry)) (now (holes .entry)) (now (lens .entry))) size limit
+        (fieldLists (now (values .entry)) (now (marks .entry)))
+        × Drawn (outline (now (outer .entry)) (now (holes .entry)) (now (lens .entry))) (now (blocks .exit)) ⌝ }
 {
-    if a < b { a } else { b }
+    let g = grid_of(bounds_of(outer, holes, lens), size);
+    blocks::file(outer, holes, lens, blocks);
+    seed_all(outer, holes, lens, blocks, g, values, marks);
+    sweeps(limit, g, marks, values);
+    g
 }
 
 // The field of an outline, in the lists lent; on a refusal nothing is written. The list of blocks may have any length, and has the outline's blocks after.
@@ -655,234 +647,10 @@ pub fn field<'a>(
         (fieldLists (now (values .entry)) (now (marks .entry))) ⌝ }
     ensures { λ r. ⌜ FieldDraws (outline (now (outer .entry)) (now (holes .entry)) (now (lens .entry))) r (now (blocks .entry)) (now (blocks .exit)) ⌝ }
 {
-    let places = lesser(values.len() / 2, marks.len());
+    let places = numbers::min_usize(values.len() / 2, marks.len());
     let refusal = field_refusal(outer, holes, lens, size, limit, places);
     if refusal != 0 {
         return FieldAnswer::Refused(refusal);
     }
-    let g = grid_of(bounds_of(outer, holes, lens), size);
-    blocks::file(outer, holes, lens, blocks);
-    seed_all(outer, holes, lens, blocks, g, values, marks);
-    sweeps(limit, g, marks, values);
-    FieldAnswer::Made(g)
-}
-
-// ---- refusal 11
-
-// Finite, and at most m either way.
-fn is_within(m: f64, x: f64) -> bool
-    ensures { λ r. ⌜ r ≡ within m x ⌝ }
-{
-    if numbers::is_finite_f64(x) {
-        numbers::abs_f64(x) <= m
-    } else {
-        false
-    }
-}
-
-fn any_unsound(values: &[f64]) -> bool
-    ensures { λ r. ⌜ r ≡ anyFloat valueUnsound (now (values .entry)) ⌝ }
-{
-    let mut i = 0;
-    while i < values.len() {
-        if !is_within(Grid::MOST_VALUE, values[i]) {
-            return true;
-        }
-        i += 1;
-    }
-    false
-}
-
-// The counts' part of 11. A count above the most nodes is one too many by itself, so that no product overflows.
-fn counts_sound(g: Grid, values: &[f64], marks: &[u8]) -> bool
-    ensures { λ r. ⌜ r ≡ countsSound (fieldRecord g (now (values .entry)) (now (marks .entry))) ⌝ }
-{
-    let nx = g.nx;
-    let ny = g.ny;
-    if nx < 2 {
-        return false;
-    }
-    if ny < 2 {
-        return false;
-    }
-    if Settings::MOST_FIELD_NODES < nx {
-        return false;
-    }
-    if Settings::MOST_FIELD_NODES < ny {
-        return false;
-    }
-    let nodes = nx * ny;
-    if Settings::MOST_FIELD_NODES < nodes {
-        return false;
-    }
-    if nodes != marks.len() {
-        return false;
-    }
-    2 * nodes == values.len()
-}
-
-// The floats' part of 11, but for the values.
-fn grid_sound(g: Grid) -> bool
-    ensures { λ r. ⌜ r ≡ gridSound g ⌝ }
-{
-    if !numbers::is_finite_f64(g.h) {
-        return false;
-    }
-    if !(Grid::LEAST_SPACING <= g.h) {
-        return false;
-    }
-    if !(g.h <= Grid::MOST_SPACING) {
-        return false;
-    }
-    if !is_within(Grid::MOST_ORIGIN, g.xmin) {
-        return false;
-    }
-    is_within(Grid::MOST_ORIGIN, g.ymin)
-}
-
-// Refusal 11, or 0.
-pub fn record_refusal(g: Grid, values: &[f64], marks: &[u8]) -> u32
-    ensures { λ r. ⌜ r ≡ recordRefusal (fieldRecord g (now (values .entry)) (now (marks .entry))) ⌝ }
-{
-    if !counts_sound(g, values, marks) {
-        return 11;
-    }
-    if !grid_sound(g) {
-        return 11;
-    }
-    if any_unsound(values) { 11 } else { 0 }
-}
-
-// ---- the direction
-
-// `((d / h).floor() as i64).clamp(0, n - 2)`
-fn cell_of(d: f64, h: f64, n: usize) -> usize
-    requires { ⌜ 2 ≤ n ⌝ }
-    ensures { λ r. ⌜ r ≡ cellOf (floorQuotient d h) n ⌝ }
-    ensures { λ r. ⌜ r + 2 ≤ n ⌝ }
-{
-    let z = numbers::floor_quotient(d, h);
-    if z < 0 {
-        return 0;
-    }
-    let k = z as usize;
-    let last = n - 2;
-    if k < last { k } else { last }
-}
-
-fn weighed(tx: f64, ty: f64, v00: f64, v10: f64, v01: f64, v11: f64) -> f64
-    ensures { λ r. ⌜ r ≡ weighed tx ty v00 v10 v01 v11 ⌝ }
-{
-    (1.0 - tx) * (1.0 - ty) * v00 + tx * (1.0 - ty) * v10 + (1.0 - tx) * ty * v01 + tx * ty * v11
-}
-
-// The values at the corners of p's cell, interpolated.
-fn raw_at(g: Grid, values: &[f64], p: Point) -> Point
-    requires { ⌜ Lent g (now values) ⌝ }
-    ensures { λ r. ⌜ r ≡ rawAt g (now (values .entry)) p ⌝ }
-{
-    let nx = g.nx;
-    let dx = p.x - g.xmin;
-    let dy = p.y - g.ymin;
-    let i = cell_of(dx, g.h, nx);
-    let j = cell_of(dy, g.h, g.ny);
-    let tx = numbers::clamp_f64(dx / g.h - numbers::to_f64(i), 0.0, 1.0);
-    let ty = numbers::clamp_f64(dy / g.h - numbers::to_f64(j), 0.0, 1.0);
-    let id = j * nx + i;
-    let p00 = domain::point_at(values, id);
-    let p10 = domain::point_at(values, id + 1);
-    let p01 = domain::point_at(values, id + nx);
-    let p11 = domain::point_at(values, id + nx + 1);
-    Point {
-        x: weighed(tx, ty, p00.x, p10.x, p01.x, p11.x),
-        y: weighed(tx, ty, p00.y, p10.y, p01.y, p11.y),
-    }
-}
-
-// Both divided by the norm of the pair.
-fn scaled(a: f64, b: f64) -> Point
-    ensures { λ r. ⌜ r ≡ scaled a b ⌝ }
-{
-    let n = geometry::norm(a, b);
-    Point { x: a / n, y: b / n }
-}
-
-// Half the angle of v.
-fn half(v: Point) -> Point
-    ensures { λ r. ⌜ r ≡ half v ⌝ }
-{
-    let n = geometry::norm(v.x, v.y);
-    if 0.0 <= v.x {
-        return scaled(v.x + n, v.y);
-    }
-    let up = n - v.x;
-    let side = numbers::abs_f64(v.y);
-    if v.y < 0.0 {
-        return scaled(side, -up);
-    }
-    scaled(side, up)
-}
-
-fn direction_of(v: Point) -> Point
-    ensures { λ r. ⌜ r ≡ directionOf v ⌝ }
-{
-    if geometry::norm(v.x, v.y) <= 1.0e-12 {
-        Point { x: 1.0, y: 0.0 }
-    } else {
-        half(half(v))
-    }
-}
-
-fn dot(u: Point, v: Point) -> f64
-    ensures { λ r. ⌜ r ≡ dot u v ⌝ }
-{
-    u.x * v.x + u.y * v.y
-}
-
-// The other one where its dot product with the target is greater.
-fn closer_of(target: Point, best: Point, other: Point) -> Point
-    ensures { λ r. ⌜ r ≡ closerOf target best other ⌝ }
-{
-    if dot(best, target) < dot(other, target) {
-        other
-    } else {
-        best
-    }
-}
-
-// Of the four directions of d the one closest to the target, the first of equals.
-fn nearest_of(target: Point, d: Point) -> Point
-    ensures { λ r. ⌜ r ≡ nearestOf target d ⌝ }
-{
-    let first = closer_of(target, d, Point { x: -d.y, y: d.x });
-    let second = closer_of(target, first, Point { x: -d.x, y: -d.y });
-    closer_of(target, second, Point { x: d.y, y: -d.x })
-}
-
-pub fn nearest_direction(g: Grid, values: &[f64], p: Point, target: Point) -> Point
-    requires { ⌜ Lent g (now values) ⌝ }
-    ensures { λ r. ⌜ r ≡ directionAt g (now (values .entry)) p target ⌝ }
-{
-    nearest_of(target, direction_of(raw_at(g, values, p)))
-}
-
-fn direction_refusal(g: Grid, values: &[f64], marks: &[u8], p: Point) -> u32
-    ensures { λ r. ⌜ r ≡ directionRefusal (fieldRecord g (now (values .entry)) (now (marks .entry))) p ⌝ }
-{
-    let refusal = record_refusal(g, values, marks);
-    if refusal != 0 {
-        return refusal;
-    }
-    domain::point_refusal(p)
-}
-
-// The direction query, refusals first.
-pub fn query_direction(g: Grid, values: &[f64], marks: &[u8], p: Point, target: Point) -> Direction
-    ensures { λ r. ⌜ r ≡ directionAnswer (fieldRecord g (now (values .entry)) (now (marks .entry))) p target ⌝ }
-{
-    let refusal = direction_refusal(g, values, marks, p);
-    if refusal != 0 {
-        return Direction::Refused(refusal);
-    }
-    Direction::Toward(nearest_direction(g, values, p, target))
+    FieldAnswer::Made(make_field(outer, holes, lens, size, limit, values, marks, blocks))
 }

@@ -77,11 +77,15 @@ farthest = bits 0x408f_4000_0000_0000
 abbrev pub beyond : Float → Bool
 beyond x = lt farthest (absF x)
 
--- 1: a coordinate list of odd length, hole lengths that don't add up to the hole points, or more than 65,535 points in all
+-- how many points an outline has at most, in all its loops together
+abbrev pub mostPoints : ℕ
+mostPoints = 65535
+
+-- 1: a coordinate list of odd length, hole lengths that don't add up to the hole points, or too many points
 unfoldable pub misshapen : Outline → Bool
 misshapen o =
     eqb (length (o .outer) % 2) 1 || (eqb (length (o .holes) % 2) 1
-    || (not (eqb (holeStart (o .lens) (length (o .lens))) (points (o .holes))) || ltb 65535 (points (o .outer) + points (o .holes))))
+    || (not (eqb (holeStart (o .lens) (length (o .lens))) (points (o .holes))) || ltb mostPoints (points (o .outer) + points (o .holes))))
 
 -- 2 and 3 of one loop: fewer than three points, then a coordinate not finite
 unfoldable pub loopRefusal : List Float → ℕ

@@ -12,7 +12,7 @@ use lib.ListN.{length, take, drop}
 use lib.Ieee.{Float}
 use Rattle.laws.specs.Loop.{forUp, sumUp}
 use Rattle.laws.specs.Tests.{neither}
-use Rattle.domain.specs.Outline.{Outline, holeLength, holeStart, holeAt, loopAt, points, misshapen, LoopPlace}
+use Rattle.domain.specs.Outline.{Outline, holeLength, holeStart, holeAt, loopAt, points, mostPoints, misshapen, LoopPlace}
 
 -- ---- the points before a hole
 
@@ -45,12 +45,12 @@ start-over lens k n h =
 
 -- ---- an outline that refusal 1 lets through
 
--- no list of odd length, lengths that add up, at most 65,535 points
+-- no list of odd length, lengths that add up, not too many points
 pub record Shaped (o : Outline) : Type 0 where
   pub outer-even : 2 * points (o .outer) ≡ length (o .outer)
   pub holes-even : 2 * points (o .holes) ≡ length (o .holes)
   pub sum : holeStart (o .lens) (length (o .lens)) ≡ points (o .holes)
-  pub few : points (o .outer) + points (o .holes) ≤ 65535
+  pub few : points (o .outer) + points (o .holes) ≤ mostPoints
 
 abbrev even : (n : ℕ) → eqb (n % 2) 1 ≡ false → 2 * (n / 2) ≡ n
 even n e = let h = eqb-false (n % 2) 1 e in two n h
@@ -76,7 +76,7 @@ shaped o e =
 -- loop k + 1's coordinates as the part that the code takes of the holes' list, which has few enough floats that no place overflows
 pub record HolePart (o : Outline) (k start : ℕ) : Type 0 where
   pub ends : 2 * start + 2 * holeLength (o .lens) (k - 1) ≤ length (o .holes)
-  pub few : length (o .holes) ≤ 131070
+  pub few : length (o .holes) ≤ 2 * mostPoints
   pub same : take (2 * start + 2 * holeLength (o .lens) (k - 1) - 2 * start) (drop (2 * start) (o .holes)) ≡ loopAt o k
 
 pub hole-part : {o : Outline} {start : ℕ} (k : ℕ) → LoopPlace o k start → (k ≡ 0 → ⊥) → HolePart o k start
@@ -111,22 +111,22 @@ pub outer-place : (o : Outline) → misshapen o ≡ false → LoopPlace o 0 0
 outer-place o e = record { shape = e; within = omega arith; at = refl }
 
 -- a loop over the holes: k of them are passed, with `start` points
-pub record Passed (o : Outline) (k start : ℕ) : Type 0 where
+pub record HolesPassed (o : Outline) (k start : ℕ) : Type 0 where
   pub shape : misshapen o ≡ false
   pub at : start ≡ holeStart (o .lens) k
 
 module _ {o : Outline} where
-  pub passed-none : misshapen o ≡ false → Passed o 0 0
+  pub passed-none : misshapen o ≡ false → HolesPassed o 0 0
   passed-none e = record { shape = e; at = sym (start-first (o .lens)) }
 
-  module _ {k start : ℕ} (p : Passed o k start) (h : k < length (o .lens)) where
-    pub passed-next : Passed o (k + 1) (start + holeLength (o .lens) k)
+  module _ {k start : ℕ} (p : HolesPassed o k start) (h : k < length (o .lens)) where
+    pub passed-next : HolesPassed o (k + 1) (start + holeLength (o .lens) k)
     passed-next = record { shape = p .shape; at = omega (arith, p .at, start-next (o .lens) k) }
 
     pub passed-place : LoopPlace o (k + 1) start
     passed-place = record { shape = p .shape; within = omega arith; at = rw add-one (p .at) }
 
-    pub passed-few : start + holeLength (o .lens) k ≤ 65535
+    pub passed-few : start + holeLength (o .lens) k ≤ mostPoints
     passed-few =
         let s = shaped o (p .shape) in
         omega (arith, p .at, start-over (o .lens) k (length (o .lens)) h)
@@ -134,27 +134,27 @@ module _ {o : Outline} where
 -- ---- lengths taken off a total
 
 -- k lengths have been taken off, and `left` is left
-pub record Left (lens : List ℕ) (total left k : ℕ) : Type 0 where
+pub record LengthsLeft (lens : List ℕ) (total left k : ℕ) : Type 0 where
   pub within : k ≤ length lens
   pub sum : left + holeStart lens k ≡ total
 
-pub left-start : (lens : List ℕ) (total : ℕ) → Left lens total total 0
-left-start lens total = record { within = omega arith; sum = omega (arith, start-first lens) }
+pub lengths-start : (lens : List ℕ) (total : ℕ) → LengthsLeft lens total total 0
+lengths-start lens total = record { within = omega arith; sum = omega (arith, start-first lens) }
 
-pub left-next : {lens : List ℕ} {total left k : ℕ} → Left lens total left k → k < length lens → holeLength lens k ≤ left
-    → Left lens total (left - holeLength lens k) (k + 1)
-left-next {lens} {total} {left} {k} l h e = record { within = omega arith; sum = omega (arith, start-next lens k) }
+pub lengths-next : {lens : List ℕ} {total left k : ℕ} → LengthsLeft lens total left k → k < length lens → holeLength lens k ≤ left
+    → LengthsLeft lens total (left - holeLength lens k) (k + 1)
+lengths-next {lens} {total} {left} {k} l h e = record { within = omega arith; sum = omega (arith, start-next lens k) }
 
 -- a length above what is left: the lengths add up to more
-pub left-short : {lens : List ℕ} {total left k : ℕ} → Left lens total left k → k < length lens → left < holeLength lens k
+pub lengths-short : {lens : List ℕ} {total left k : ℕ} → LengthsLeft lens total left k → k < length lens → left < holeLength lens k
     → false ≡ eqb (holeStart lens (length lens)) total
-left-short {lens} {total} {left} {k} l h e =
+lengths-short {lens} {total} {left} {k} l h e =
     let over = start-over lens k (length lens) h in
     sym (ne-eqb (holeStart lens (length lens)) total (λ same. omega arith))
 
-pub left-end : {lens : List ℕ} {total left k : ℕ} → Left lens total left k → length lens ≤ k
+pub lengths-end : {lens : List ℕ} {total left k : ℕ} → LengthsLeft lens total left k → length lens ≤ k
     → eqb left 0 ≡ eqb (holeStart lens (length lens)) total
-left-end {lens} {total} {left} {k} l h =
+lengths-end {lens} {total} {left} {k} l h =
     decide (eqb left 0) refl (omega (arith, ap (holeStart lens) (le-antisymm (l .within) h)))
   where
     decide : (b : Bool) → eqb left 0 ≡ b → left + holeStart lens (length lens) ≡ total → eqb left 0 ≡ eqb (holeStart lens (length lens)) total

@@ -8,13 +8,7 @@ use Rattle.laws.specs.Loop.{forUp, anyUp}
 use Rattle.numbers.specs.Float.{_⊕_, _⊖_, _⊗_, _⊘_, sqrt, zeroF, oneF, infinityF, clampF}
 use Rattle.domain.specs.declared.Point.{Point}
 use Rattle.domain.specs.declared.Near.{Near}
-use Rattle.domain.specs.declared.Contains.{Contains}
-use Rattle.domain.specs.declared.Contains.the-variants as contains-is
-use Rattle.domain.specs.declared.Nearest.{Nearest}
-use Rattle.domain.specs.declared.Nearest.the-variants as nearest-is
-use Rattle.domain.specs.declared.Distance.{Distance}
-use Rattle.domain.specs.declared.Distance.the-variants as distance-is
-use Rattle.domain.specs.Outline.{Outline, holeAt, points, point, pointAt, pointAfter, queryRefusal}
+use Rattle.domain.specs.Outline.{Outline, holeAt, points, point, pointAt, pointAfter}
 
 -- ---- `contains`
 
@@ -97,12 +91,3 @@ distanceToBoundary o p = nearestSegment o p .distance
 abbrev pub answerBy : {A : Type 0} → (ℕ → A) → A → ℕ → A
 answerBy refused answer zero = answer
 answerBy refused answer (suc n) = refused (suc n)
-
-unfoldable pub containsAnswer : Outline → Point → Contains
-containsAnswer o p = answerBy contains-is.Refused (contains-is.Inside (contains o p)) (queryRefusal o p)
-
-unfoldable pub nearestAnswer : Outline → Point → Nearest
-nearestAnswer o p = answerBy nearest-is.Refused (nearest-is.Segment (nearestSegment o p)) (queryRefusal o p)
-
-unfoldable pub distanceAnswer : Outline → Point → Distance
-distanceAnswer o p = answerBy distance-is.Refused (distance-is.Of (distanceToBoundary o p)) (queryRefusal o p)

@@ -1,13 +1,10 @@
--- Laws of the refusals: the first number that is not 0 is the answer, and the outline of a query that isn't refused has the shape asked for. Assumes nothing.
-use mathlib.Core.Bool.{Bool, true, false, cond}
-use mathlib.Core.Path.{_≡_, refl, sym, ap, _∙_, subst}
+-- Laws of the refusals: the first number that is not 0 is the answer. Assumes nothing.
+use mathlib.Core.Path.{_≡_, refl, sym, _∙_, subst}
 use Prim.Native.Nat.{ℕ, zero, suc, _+_, _≤_, _<_}
 use native.Mathlib.Omega.{arith}
 use lib.ListN.{length}
 use Rattle.laws.specs.Loop.{forUp, Loop, loop-start, loop-next, loop-end, forUp-stays}
-use Rattle.domain.specs.declared.Point.{Point}
-use Rattle.domain.specs.Outline.{Outline, holeAt, firstOf, misshapen, loopRefusal, holeRefusal, loopsRefusal}
-use Rattle.domain.specs.Outline.{farRefusal, outlineRefusal, pointRefusal, queryRefusal}
+use Rattle.domain.specs.Outline.{Outline, holeAt, firstOf, loopRefusal, holeRefusal, loopsRefusal}
 use Rattle.domain.specs.Queries.{answerBy}
 
 -- a refusal stays whatever follows
@@ -48,18 +45,7 @@ module _ (o : Outline) where
       (forUp-stays (length (o .lens)) (k + 1) (holeRefusal o) (loopRefusal (o .outer)) r (next .within) (sym (next .same) ∙ e)
       (λ j. first-stays r (loopRefusal (holeAt o j)) h))
 
--- ---- a query
-
-pub query-shaped : (o : Outline) (p : Point) → queryRefusal o p ≡ 0 → misshapen o ≡ false
-unfolding queryRefusal outlineRefusal
-query-shaped o p e = decide (misshapen o) refl
-  where
-    by : Bool → ℕ
-    by t = firstOf (cond t 1 (firstOf (loopsRefusal o) (farRefusal o))) (pointRefusal p)
-
-    decide : (b : Bool) → misshapen o ≡ b → b ≡ false
-    decide true m = let z : _≡_ {A = ℕ} 1 0 = sym (ap by m) ∙ e in absurd (omega arith)
-    decide false m = refl
+-- ---- an answer
 
 module _ {A : Type 0} (refused : ℕ → A) (answer : A) where
   pub answer-refused : (r : ℕ) → (r ≡ 0 → ⊥) → answerBy refused answer r ≡ refused r

@@ -36,5 +36,6 @@ searchLoop p s best = forUp (points s) (searchTurn p s) best
 abbrev pub searchHole : Outline → Point → ℕ → Search → Search
 searchHole o p k best = searchLoop p (holeAt o k) best
 
-unfoldable pub searchAll : Outline → Point → Search
-searchAll o p = forUp (length (o .lens)) (searchHole o p) (searchLoop p (o .outer) searchStart)
+-- the search over all loops, from the best so far
+unfoldable pub searchFrom : Outline → Point → Search → Search
+searchFrom o p best = forUp (length (o .lens)) (searchHole o p) (searchLoop p (o .outer) best)

@@ -17,7 +17,7 @@ use Rattle.domain.specs.declared.Search.{Search}
 use Rattle.domain.specs.Outline.{Outline, holeAt, points, pointAt, pointAfter}
 use Rattle.domain.specs.Queries.{squaredDistance, footOf, pointSegmentDistance, near, nowhere, nearer, segmentTurn, nearestInLoop, holeTurn}
 use Rattle.domain.specs.Queries.{nearestSegment}
-use Rattle.domain.specs.Search.{search, searchStart, searched, searchTurn, searchLoop, searchHole, searchAll}
+use Rattle.domain.specs.Search.{search, searchStart, searched, searchTurn, searchLoop, searchHole, searchFrom}
 
 -- the search has found n, whose distance is the root of the square kept
 pub record Finds (s : Search) (n : Near) : Type 0 where
@@ -51,7 +51,7 @@ finds-segment p a b s n f = rw (← f .same) (decide (lt y (s .squared)) refl (l
     decide false e true g = absurd (true≢false (sym g ∙ ap (lt (sqrt y)) (f .root) ∙ not-nearer (s .squared) y (f .held) (squared-fits p (footOf p a b)) e))
     decide false e false g = record { same = refl; held = f .held; root = f .root }
 
-pub finds-loop : (p : Point) (l : List Float) (s : Search) (n : Near) → Finds s n → Finds (searchLoop p l s) (nearestInLoop p l n)
+finds-loop : (p : Point) (l : List Float) (s : Search) (n : Near) → Finds s n → Finds (searchLoop p l s) (nearestInLoop p l n)
 unfolding searchLoop nearestInLoop
 finds-loop p l s n f =
     forUp-related Finds (points l) (searchTurn p l) (segmentTurn p l) s n f
@@ -61,13 +61,13 @@ finds-start : Finds searchStart nowhere
 unfolding root
 finds-start = record { same = refl; held = inf-fits binary64 false; root = refl }
 
-pub finds-all : (o : Outline) (p : Point) → Finds (searchAll o p) (nearestSegment o p)
-unfolding searchAll nearestSegment
+finds-all : (o : Outline) (p : Point) → Finds (searchFrom o p searchStart) (nearestSegment o p)
+unfolding searchFrom nearestSegment
 finds-all o p =
     forUp-related Finds (length (o .lens)) (searchHole o p) (holeTurn o p) (searchLoop p (o .outer) searchStart) (nearestInLoop p (o .outer) nowhere)
     (finds-loop p (o .outer) searchStart nowhere finds-start)
     (λ k s n f. finds-loop p (holeAt o k) s n f)
 
 -- both searches find the same segment, bit for bit
-pub search-same : (o : Outline) (p : Point) → searchAll o p .near ≡ nearestSegment o p
+pub search-same : (o : Outline) (p : Point) → searchFrom o p searchStart .near ≡ nearestSegment o p
 search-same o p = finds-all o p .same

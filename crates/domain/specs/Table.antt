@@ -9,7 +9,7 @@ use Rattle.domain.specs.Outline.{Outline, outline, point, pointAt, point
 use Rattle.domain.specs.Queries.{rayCrosses, pointInPolygon, contains}
 
 -- (0,0) (1,0) (1,1) (0,1)
-abbrev unitSquare : Outline
+abbrev pub unitSquare : Outline
 unitSquare = outline (zeroF ∷ zeroF ∷ oneF ∷ zeroF ∷ oneF ∷ oneF ∷ zeroF ∷ oneF ∷ []) [] []
 
 pub record Table : Type 0 where

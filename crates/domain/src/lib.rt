@@ -1,15 +1,13 @@
-// The outline as lent, its refusals 1 to 4, and the queries of src/two_d.rs's `Domain`.
+// The outline as lent, its refusals 1 to 4, and what `contains` and `nearest_segment` of src/two_d.rs's `Domain` do at one segment.
 ghost use mathlib.Core.Path.{_≡_};
 ghost use mathlib.Core.Bool.{false};
 ghost use Prim.Native.Nat.{_+_, _*_, _<_};
 ghost use lib.Dec.{eqb};
 ghost use lib.ListN.{length};
-ghost use Rattle.laws.specs.Loop.{anyUp};
 ghost use Rattle.domain.specs.Outline.{outline, holeStart, loopAt, pointAt, pointAfter, anyFloat, notFinite, beyond, misshapen, LoopPlace};
-ghost use Rattle.domain.specs.Outline.{loopRefusal, loopsRefusal, outlineRefusal, pointRefusal, queryRefusal};
-ghost use Rattle.domain.specs.Queries.{rayCrosses, pointInPolygon, inHole, contains, squaredDistance, footOf, nearestSegment, containsAnswer};
-ghost use Rattle.domain.specs.Queries.{nearestAnswer, distanceAnswer};
-ghost use Rattle.domain.specs.Search.{searchStart, searched, searchLoop, searchAll};
+ghost use Rattle.domain.specs.Outline.{loopRefusal, loopsRefusal, outlineRefusal, pointRefusal};
+ghost use Rattle.domain.specs.Queries.{rayCrosses, squaredDistance, footOf};
+ghost use Rattle.domain.specs.Search.{searchStart, searched};
 
 // `[f64; 2]`
 pub struct Point {
@@ -30,21 +28,6 @@ pub struct Search {
     pub squared: f64,
 }
 
-pub enum Contains {
-    Refused(u32),
-    Inside(bool),
-}
-
-pub enum Nearest {
-    Refused(u32),
-    Segment(Near),
-}
-
-pub enum Distance {
-    Refused(u32),
-    Of(f64),
-}
-
 // What an exam is set to. Its constants are document 01's limits and factors.
 pub struct Settings {
     pub size: f64,
@@ -60,12 +43,15 @@ impl Settings {
     pub const MOST_SWEEPS: usize = 1000;
 
     pub const MOST_FIELD_NODES: usize = 250000;
-    // A node this many spacings from the boundary is fixed.
+    // A node inside the outline and at most this many spacings from its boundary is fixed.
     pub const BAND: f64 = 1.5;
 
+    // Of all loops together.
     pub const MOST_POINTS: usize = 65535;
 
     pub const FARTHEST: f64 = 1000.0;
+    // Lengths, areas and orientations up to this count as none.
+    pub const TOLERANCE: f64 = 1.0e-12;
     // Of the size: no part of a segment is longer than this.
     pub const STRETCH: f64 = 1.05;
     // Of the size: two new nodes are farther apart than this, and no node is nearer to a new one.
@@ -243,17 +229,7 @@ pub fn point_refusal(p: Point) -> u32
     if is_beyond(p.y) { 4 } else { 0 }
 }
 
-fn query_refusal<'a>(outer: &'a [f64], holes: &'a [f64], lens: &[usize], p: Point) -> u32
-    ensures { λ r. ⌜ r ≡ queryRefusal (outline (now (outer .entry)) (now (holes .entry)) (now (lens .entry))) p ⌝ }
-{
-    let refusal = outline_refusal(outer, holes, lens);
-    if refusal != 0 {
-        return refusal;
-    }
-    point_refusal(p)
-}
-
-// ---- `contains`
+// ---- points, and `contains` at one segment
 
 pub fn point_at(s: &[f64], i: usize) -> Point
     requires { ⌜ 2 * i + 1 < length (now s) ⌝ }
@@ -288,49 +264,7 @@ pub fn ray_crosses(p: Point, a: Point, b: Point) -> bool
     }
 }
 
-pub fn point_in_polygon(p: Point, s: &[f64]) -> bool
-    ensures { λ r. ⌜ r ≡ pointInPolygon p (now (s .entry)) ⌝ }
-{
-    let n = s.len() / 2;
-    let mut inside = false;
-    let mut i = 0;
-    while i < n {
-        let a = point_at(s, i);
-        let b = point_after(s, i);
-        inside = inside != ray_crosses(p, a, b);
-        i += 1;
-    }
-    inside
-}
-
-fn in_some_hole<'a>(outer: &'a [f64], holes: &'a [f64], lens: &[usize], p: Point) -> bool
-    requires { ⌜ misshapen (outline (now outer) (now holes) (now lens)) ≡ false ⌝ }
-    ensures { λ r. ⌜ r ≡ anyUp (length (now (lens .entry))) (inHole (outline (now (outer .entry)) (now (holes .entry)) (now (lens .entry))) p) ⌝ }
-{
-    let mut k = 0;
-    let mut start = 0;
-    while k < lens.len() {
-        if point_in_polygon(p, loop_points(outer, holes, lens, k + 1, start)) {
-            return true;
-        }
-        start += lens[k];
-        k += 1;
-    }
-    false
-}
-
-pub fn contains_point<'a>(outer: &'a [f64], holes: &'a [f64], lens: &[usize], p: Point) -> bool
-    requires { ⌜ misshapen (outline (now outer) (now holes) (now lens)) ≡ false ⌝ }
-    ensures { λ r. ⌜ r ≡ contains (outline (now (outer .entry)) (now (holes .entry)) (now (lens .entry))) p ⌝ }
-{
-    if point_in_polygon(p, loop_points(outer, holes, lens, 0, 0)) {
-        !in_some_hole(outer, holes, lens, p)
-    } else {
-        false
-    }
-}
-
-// ---- `nearest_segment`, `distance_to_boundary`
+// ---- `nearest_segment` at one segment
 
 pub fn squared_distance(p: Point, q: Point) -> f64
     ensures { λ r. ⌜ r ≡ squaredDistance p q ⌝ }
@@ -373,21 +307,6 @@ pub fn search_segment(p: Point, a: Point, b: Point, best: Search) -> Search
     best
 }
 
-fn search_loop(p: Point, s: &[f64], best: Search) -> Search
-    ensures { λ r. ⌜ r ≡ searchLoop p (now (s .entry)) best ⌝ }
-{
-    let n = s.len() / 2;
-    let mut found = best;
-    let mut i = 0;
-    while i < n {
-        let a = point_at(s, i);
-        let b = point_after(s, i);
-        found = search_segment(p, a, b, found);
-        i += 1;
-    }
-    found
-}
-
 pub fn search_start() -> Search
     ensures { λ r. ⌜ r ≡ searchStart ⌝ }
 {
@@ -402,60 +321,4 @@ pub fn search_start() -> Search
         near,
         squared: infinity,
     }
-}
-
-fn search_all<'a>(outer: &'a [f64], holes: &'a [f64], lens: &[usize], p: Point) -> Search
-    requires { ⌜ misshapen (outline (now outer) (now holes) (now lens)) ≡ false ⌝ }
-    ensures { λ r. ⌜ r ≡ searchAll (outline (now (outer .entry)) (now (holes .entry)) (now (lens .entry))) p ⌝ }
-{
-    let mut best = search_loop(p, loop_points(outer, holes, lens, 0, 0), search_start());
-    let mut k = 0;
-    let mut start = 0;
-    while k < lens.len() {
-        best = search_loop(p, loop_points(outer, holes, lens, k + 1, start), best);
-        start += lens[k];
-        k += 1;
-    }
-    best
-}
-
-pub fn nearest_segment<'a>(outer: &'a [f64], holes: &'a [f64], lens: &[usize], p: Point) -> Near
-    requires { ⌜ misshapen (outline (now outer) (now holes) (now lens)) ≡ false ⌝ }
-    ensures { λ r. ⌜ r ≡ nearestSegment (outline (now (outer .entry)) (now (holes .entry)) (now (lens .entry))) p ⌝ }
-{
-    let found = search_all(outer, holes, lens, p);
-    found.near
-}
-
-// ---- the queries, refusals first
-
-pub fn query_contains<'a>(outer: &'a [f64], holes: &'a [f64], lens: &[usize], p: Point) -> Contains
-    ensures { λ r. ⌜ r ≡ containsAnswer (outline (now (outer .entry)) (now (holes .entry)) (now (lens .entry))) p ⌝ }
-{
-    let refusal = query_refusal(outer, holes, lens, p);
-    if refusal != 0 {
-        return Contains::Refused(refusal);
-    }
-    Contains::Inside(contains_point(outer, holes, lens, p))
-}
-
-pub fn query_nearest<'a>(outer: &'a [f64], holes: &'a [f64], lens: &[usize], p: Point) -> Nearest
-    ensures { λ r. ⌜ r ≡ nearestAnswer (outline (now (outer .entry)) (now (holes .entry)) (now (lens .entry))) p ⌝ }
-{
-    let refusal = query_refusal(outer, holes, lens, p);
-    if refusal != 0 {
-        return Nearest::Refused(refusal);
-    }
-    Nearest::Segment(nearest_segment(outer, holes, lens, p))
-}
-
-pub fn query_distance<'a>(outer: &'a [f64], holes: &'a [f64], lens: &[usize], p: Point) -> Distance
-    ensures { λ r. ⌜ r ≡ distanceAnswer (outline (now (outer .entry)) (now (holes .entry)) (now (lens .entry))) p ⌝ }
-{
-    let refusal = query_refusal(outer, holes, lens, p);
-    if refusal != 0 {
-        return Distance::Refused(refusal);
-    }
-    let found = nearest_segment(outer, holes, lens, p);
-    Distance::Of(found.distance)
 }

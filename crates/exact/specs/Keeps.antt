@@ -26,6 +26,7 @@ use Rattle.laws.specs.Certificate.{Nonneg, nonneg, of-≤ℤ, to-≤ℤ, hyp, _
 use Rattle.numbers.specs.Float.{_⊕_, _⊖_, _⊗_, _⊘_, isFinite, zeroF, oneF}
 use Rattle.numbers.specs.Nearest.{Digits, digits-of}
 use Rattle.exact.specs.Units.{W, W-pos, Val, signed, signed-not, units, sizeOf, val-of, neg-val, unlike-self, Within, within-units}
+use Rattle.exact.specs.Constants.{zero-val, one-val}
 use Rattle.exact.specs.Order.{le-val, le-units, not-lt-val}
 use Rattle.exact.specs.Operations.{mul-is, add-is, div-is, exact-sum, Moderate, mul-law, product-within, add-law, sub-law, sum-within}
 
@@ -296,14 +297,6 @@ zero-fits = ofBits-fits binary64 0x0000_0000_0000_0000
 
 pub one-fits : T (fits binary64 oneF)
 one-fits = ofBits-fits binary64 0x3ff0_0000_0000_0000
-
-pub zero-val : Val zeroF false 0
-unfolding ofBits W
-zero-val = (refl, refl)
-
-pub one-val : Val oneF false W
-unfolding ofBits W
-one-val = (refl, refl)
 
 abbrev pub zero-within : Within 0 zeroF
 zero-within = record { sign = false; size = 0; val = zero-val; small = zero-le }

@@ -1,4 +1,5 @@
 pub mod Blend
+pub mod Constants
 pub mod Corner
 pub mod Examples
 pub mod Keeps

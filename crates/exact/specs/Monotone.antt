@@ -1,18 +1,19 @@
 -- Rounding keeps the order: a sum or a quotient that is exactly at most a whole number K below 2 ^ 53 is at most K as it is rounded. So the mean
 -- of two doubles within K is within K, which no bound on the error gives. Assumes nothing.
-use mathlib.Core.Path.{_≡_, refl, sym, ap, _∙_, subst}
+use mathlib.Core.Path.{_≡_, refl, ap, _∙_}
 use mathlib.Core.Bool.{false}
 use Prim.Native.Nat.{ℕ, _+_, _*_, _^_, _≤_, _<_}
-use native.Mathlib.Nat.{le-trans, le-of-eq, le-of-lt, lt-of-le-of-lt, lt-of-lt-of-le, one-mul, mul-comm, mul-assoc, mul-right-comm, add-mul, mul-pos}
+use native.Mathlib.Nat.{le-trans, le-of-eq, le-of-lt, lt-of-le-of-lt, lt-of-lt-of-le, mul-comm, mul-assoc, mul-right-comm, add-mul, mul-pos}
 use native.Mathlib.Nat.{mul-le-mul-right, mul-lt-mul-of-pos-right, le-of-mul-le-mul-right, le-mul-of-pos-right}
 use native.Mathlib.Omega.{arith}
 use lib.Dec.{leb→le, lit<, lit≤}
-use lib.Ieee.{Float, binary64, round, ofBits, unlike}
+use lib.Ieee.{Float, binary64, round, unlike}
 use lib.Ieee.Exact.{round-exact}
 use lib.Ieee.Order.{round-mono}
 use Rattle.numbers.specs.Float.{_⊕_, _⊘_, twoF}
 use Rattle.exact.specs.Rounding.{Close, rounded, round-close}
 use Rattle.exact.specs.Units.{W, W-pos, Val, Within}
+use Rattle.exact.specs.Constants.{two-val}
 use Rattle.exact.specs.Order.{le-val}
 use Rattle.exact.specs.Operations.{round-val, add-law, div-law}
 
@@ -59,10 +60,6 @@ rounded-most a c K C h l =
         go x h = omega arith
 
 -- ---- the mean
-
-two-val : Val twoF false (2 * W)
-unfolding ofBits W
-two-val = (refl, refl)
 
 pub mean-within : {x y : Float} → Within 1001 x → Within 1001 y → Within 1001 ((x ⊕ y) ⊘ twoF)
 mean-within {x} {y} p q =

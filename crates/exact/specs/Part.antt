@@ -19,12 +19,13 @@ use Rattle.laws.specs.Certificate.{of-≤ℤ, to-≤ℤ, <ℤ-or-≤ℤ, <ℤ-w
 use Rattle.numbers.specs.Float.{_⊕_, _⊖_, _⊗_, _⊘_, zeroF, oneF, clampF}
 use Rattle.exact.specs.Rounding.{Close}
 use Rattle.exact.specs.Units.{W, W-pos, Val, signed, units, Within, within-units}
+use Rattle.exact.specs.Constants.{zero-val}
 use Rattle.exact.specs.Order.{above-of-not-le, within-le}
 use Rattle.exact.specs.Operations.{Moderate, sub-law, sum-within}
 use Rattle.exact.specs.Blend.{straddled}
 use Rattle.exact.specs.Keeps.{round-either, sizes-keep, rounds-keep, rounds-keep-over, sum-rounds, quotient-rounds, double-rounds}
 use Rattle.exact.specs.Keeps.{add-within, sub-within, mul-within, square-within}
-use Rattle.exact.specs.Keeps.{zero-fits, one-fits, zero-val, zero-within, one-within, zero-units, one-units, zero-times, one-times}
+use Rattle.exact.specs.Keeps.{zero-fits, one-fits, zero-within, one-within, zero-units, one-units, zero-times, one-times}
 use Rattle.exact.specs.Keeps.{le-within, le-self, le-chain, le-of-not-lt, nonneg-units, nonpos-units, add-keeps-right, mul-keeps, mul-turns}
 
 -- ---- t from 0 to 1

@@ -49,10 +49,10 @@ roots-mono : (x y : Float) (n k : ℕ) → T (fits binary64 x) → T (fits binar
 unfolding W
 roots-mono x y n k fx fy vx vy P h = not-T (lt (root y) (root x)) (λ t. clash (below-both (smaller t)))
   where
-    X : N.Nearest n (root x)
+    X : N.NearestFloat n (root x)
     X = N.nearest-root x n fx vx P
 
-    Y : N.Nearest k (root y)
+    Y : N.NearestFloat k (root y)
     Y = N.nearest-root y k fy vy (lt-of-lt-of-le P h)
 
     smaller : T (lt (root y) (root x)) → Y .r < X .r
@@ -73,8 +73,8 @@ roots-mono x y n k fx fy vx vy P h = not-T (lt (root y) (root x)) (λ t. clash (
     clash l = lt-irrefl (4 * (k * W)) (lt-of-lt-of-le l (mul-le-mul-left 4 (mul-le-mul-right W h)))
 
 -- a zero is no units, and a finite double with another significand is some
-zero-val : (s : Bool) (e : ℤ) → Val (fin s zero e) s 0
-zero-val s e = (refl, ap (λ (z : ℕ). z * W) (zero-mul (up e)) ∙ zero-mul W ∙ sym (zero-mul (down e)))
+signed-zero-val : (s : Bool) (e : ℤ) → Val (fin s zero e) s 0
+signed-zero-val s e = (refl, ap (λ (z : ℕ). z * W) (zero-mul (up e)) ∙ zero-mul W ∙ sym (zero-mul (down e)))
 
 some-val : (m : ℕ) (e : ℤ) → T (fits binary64 (fin false (suc m) e)) → Val (fin false (suc m) e) false (sizeOf (fin false (suc m) e))
 unfolding isFinite
@@ -87,7 +87,7 @@ above-zero : (s : Bool) (e : ℤ) (n : ℕ) (d : ℤ) → T (fits binary64 (fin 
 unfolding W
 above-zero s e n d f =
     let Y = N.nearest-root (fin false (suc n) d) (sizeOf (fin false (suc n) d)) f (some-val n d f) (some-pos n d f) in
-    not-lt-val (root (fin false (suc n) d)) (fin s zero e) false s (Y .r) 0 (Y .value) (zero-val s e) .1 (least s (Y .r))
+    not-lt-val (root (fin false (suc n) d)) (fin s zero e) false s (Y .r) 0 (Y .value) (signed-zero-val s e) .1 (least s (Y .r))
   where
     least : (s : Bool) (r : ℕ) → signed s 0 ≤ℤ pos r
     least true r = record { le = le→leb 0 r zero-le }
@@ -96,7 +96,7 @@ above-zero s e n d f =
 not-below-zero : (t : Bool) (d : ℤ) (m : ℕ) (e : ℤ) → T (fits binary64 (fin false (suc m) e)) → T (not (lt (fin t zero d) (fin false (suc m) e))) → ⊥
 not-below-zero t d m e f h =
     let n = sizeOf (fin false (suc m) e) in
-    go t (not-lt-val (fin t zero d) (fin false (suc m) e) t false 0 n (zero-val t d) (some-val m e f) .0 h) (some-pos m e f)
+    go t (not-lt-val (fin t zero d) (fin false (suc m) e) t false 0 n (signed-zero-val t d) (some-val m e f) .0 h) (some-pos m e f)
   where
     none : (n : ℕ) → n ≤ 0 → 0 < n → ⊥
     none n h k = omega arith

@@ -17,6 +17,7 @@ use Rattle.laws.specs.Ring.{var, num, _*ᵉ_, _-ᵉ_}
 use Rattle.laws.specs.Certificate.{Nonneg, nonneg, nonneg-is, to-le, hyp, nat, _⊞_, _⊠_, prove}
 use Rattle.numbers.specs.Float.{_⊕_, _⊖_, _⊗_, _⊘_, tolerance}
 use Rattle.exact.specs.Units.{W, W-pos, Val, signed, units, unlike-self, Within, within-units}
+use Rattle.exact.specs.Constants.{tolerance-units, tolerance-val}
 use Rattle.exact.specs.Order.{above-of-not-le}
 use Rattle.exact.specs.Operations.{mul-law, product-small, Sum, sub-law, sum-small, sum-within, add-law-pos, div-law}
 use Rattle.exact.specs.Root.{root-law}
@@ -27,11 +28,9 @@ use Rattle.exact.specs.Corner.{sin20, norm, cornerOk, Vector, step, cros
 -- ---- the constants of the test
 
 -- what is above 1e-12 is above 10 ^ -13
-long-of : (l : Float) (L : ℕ) → Val l false L → T (not (le l tolerance)) → Long L
-unfolding W ofBits
-long-of l L v t =
-    let above = above-of-not-le l tolerance false L (4951760157141521 * 2 ^ 982) v (refl, refl) t .1 in
-    le-trans (lit≤ {n = 10 ^ 13 * (4951760157141521 * 2 ^ 982)} tt) (mul-le-mul-left (10 ^ 13) (le-of-lt above))
+pub long-of : (L : ℕ) → tolerance-units < L → Long L
+unfolding W tolerance-units
+long-of L h = le-trans (lit≤ {n = 10 ^ 13 * tolerance-units} tt) (mul-le-mul-left (10 ^ 13) (le-of-lt h))
 
 -- sin 20 degrees in units
 Sin20 : ℕ
@@ -106,14 +105,14 @@ record Length (l : Float) (w₀ w₁ : ℕ) : Type 0 where
   near : 9985 * (w₀ * w₀ + w₁ * w₁) ≤ 10000 * (L * L)
   far : W * W ≤ 10 ^ 28 * (w₀ * w₀ + w₁ * w₁)
 
-length : {x y : Float} {X Y : ℤ} (p : Step x X) (q : Step y Y) → T (not (le (norm x y) tolerance)) → Length (norm x y) (p .exact) (q .exact)
+norm-near : {x y : Float} {X Y : ℤ} (p : Step x X) (q : Step y Y) → T (not (le (norm x y) tolerance)) → Length (norm x y) (p .exact) (q .exact)
 unfolding norm
-length {x} {y} p q t =
+norm-near {x} {y} p q t =
     let a = square p in
     let b = square q in
     let s = add-law-pos (x ⊗ x) (y ⊗ y) (a .size) (b .size) (a .val) (b .val) (moderate (a .size) (a .small)) (moderate (b .size) (b .small)) in
     let r = root-law (x ⊗ x ⊕ y ⊗ y) (add-fits binary64 (x ⊗ x) (y ⊗ y)) (s .size) (s .val) in
-    let l = long-of (norm x y) (r .L) (r .val) t in
+    let l = long-of (r .L) (above-of-not-le (norm x y) tolerance false (r .L) tolerance-units (r .val) tolerance-val t .1) in
     let sum = sum-small (a .size) (b .size) (s .size) (a .small) (b .small) (rel (s .size) (a .size + b .size) (s .near)) in
     record {
       L = r .L;
@@ -239,8 +238,8 @@ module _ {ux uy vx vy : Float} {X Y X' Y' : ℤ} (a₀ : Step ux X) (a₁ : Step
   turn : T (not (le (norm ux uy) tolerance)) → T (not (le (norm vx vy) tolerance)) → T (not (le (crossF ⊘ lengthsF) sin20))
       → Turn (product₁ -ℤ product₂) (a₀ .exact * a₀ .exact + a₁ .exact * a₁ .exact) (b₀ .exact * b₀ .exact + b₁ .exact * b₁ .exact)
   turn tu tv ts =
-      let p = length a₀ a₁ tu in
-      let q = length b₀ b₁ tv in
+      let p = norm-near a₀ a₁ tu in
+      let q = norm-near b₀ b₁ tv in
       let far = unit-below (p .L) (q .L) (p .long) (q .long) in
       let n = denominator p q in
       let c₁ = prod a₀ b₁ in
@@ -325,7 +324,7 @@ unfolding step
 side-long ax ay bx by Ax Ay Bx By t =
     let p = step-of Ax Bx in
     let q = step-of Ay By in
-    side-test (step ax ay bx by) (p .exact * p .exact + q .exact * q .exact) (exact-length {v = step ax ay bx by} p q) (length p q t .far)
+    side-test (step ax ay bx by) (p .exact * p .exact + q .exact * q .exact) (exact-length {v = step ax ay bx by} p q) (norm-near p q t .far)
 
 -- THE SINE THEOREM. For places a, b and c within 1,001: where the f64 test of the corner passes, the exact sine between the step from a to b
 -- and the step from b to c is above 1/3.

@@ -12,8 +12,7 @@ use Rattle.laws.specs.Tabulate.{tabulate, tabulate-length, tabulate-at}
 use Rattle.domain.specs.declared.Settings.{Settings}
 use Rattle.domain.specs.Outline.{Outline}
 use Rattle.domain.specs.Accepted.{AllFit, OutlineFits}
-use Rattle.books.specs.Holds.{BooksHold}
-use Rattle.run.specs.Run.{Lent, Ran, snapshotPlaces, narrowed, acceptedIn, refusalOf, refusedAnswer, runAnswer, answered, Paves}
+use Rattle.run.specs.Run.{Lent, Ran, snapshotPlaces, narrowed, acceptedIn, refusalOf, refusedAnswer, runAnswer, PavesBooks, Paves}
 use Rattle.run.specs.Laws.{paves-accepted, paves-refused}
 use Rattle.outline_file.specs.File.{coordinateAt, filePoints, requestOf, outlineOf}
 use Rattle.file_listing.specs.Program.{programLent}
@@ -68,5 +67,5 @@ ran-paves o set l doubles = go (refusalOf o set l) refl
 pub books-printed : (file : List ℕ)
     → let q = requestOf file in
     let r = runAnswer (outlineOf q) (q .settings) programLent in
-    r .answer .refusal ≡ 0 → BooksHold (outlineOf q) (q .settings .size) (answered (r .answer) (r .lists))
+    r .answer .refusal ≡ 0 → PavesBooks (outlineOf q) (q .settings) (r .answer) (r .lists)
 books-printed file = ran-paves _ _ programLent (outline-fits file) .books

@@ -52,7 +52,7 @@ pub record Long (l : Lent) : Type 0 where
   pub xs : length (l .xs) ≡ 800
   pub quads : length (l .quads) ≡ 3200
   pub loops : length (l .loops) ≡ 800
-  pub lengths : length (l .lengths) ≡ 800
+  pub lengths : length (l .lengths) ≡ 8
 
 module _ (o : Outline) (set : Settings) (r : Paved) (after : Lent) (p : Paves o set programLent r after) {h : Heading} (e : h ≡ headingOf r) where
   abbrev listed : List ℕ
@@ -130,20 +130,24 @@ module _ (q : Request) (a : Asked q) (points : List Float) (lens : List ℕ) whe
     lens-places = overlaid (q .lengths) lens (omega (arith, a .loops)) ∙ longs;
   }
 
--- ---- what was read, by cases
+-- ---- what was read
 
--- the listing of an answer of `read_file`
-abbrev pub readListing : FileAnswer → List Float → List ℕ → List ℕ
-readListing (Refused n) points lens = refusedListing n
-readListing (Read head) points lens = outlineListing (heldOutline points lens head) (head .settings)
+-- its listing, refused or not
+abbrev readListing : Reading → List ℕ
+readListing r =
+    let head = r .numbers .head in
+    answerBy refusedListing (outlineListing (heldOutline (r .points) (r .lens) head) (head .settings)) (r .numbers .refusal)
 
--- what it tells of the lists
-abbrev pub Told : FileAnswer → List Float → List ℕ → Type 0
-Told (Refused n) points lens = n ≡ 0 → ⊥
-Told (Read head) points lens = Held points lens head
+-- what it tells of the lists, by its number
+abbrev ToldBy : ℕ → Reading → Type 0
+ToldBy zero r = Held (r .points) (r .lens) (r .numbers .head)
+ToldBy (suc n) r = Unit {0}
+
+abbrev Told : Reading → Type 0
+Told r = ToldBy (r .numbers .refusal) r
 
 module _ (file : List ℕ) (points : List Float) (lens : List ℕ) where
-  listing-read : let r = readFile file points lens in readListing (r .answer) (r .points) (r .lens) ≡ programListing file
+  listing-read : readListing (readFile file points lens) ≡ programListing file
   unfolding readFile programListing headOf
   listing-read = go (fileRefusal file) refl
     where
@@ -151,33 +155,46 @@ module _ (file : List ℕ) (points : List Float) (lens : List ℕ) where
       q = requestOf file
 
       go : (n : ℕ) → fileRefusal file ≡ n
-          → readListing (readAs n q points lens .answer) (readAs n q points lens .points) (readAs n q points lens .lens)
-          ≡ answerBy refusedListing (outlineListing (outlineOf q) (q .settings)) n
+          → readListing (readAs n q points lens) ≡ answerBy refusedListing (outlineListing (outlineOf q) (q .settings)) n
       go zero e = ap (λ (o : Outline). outlineListing o (q .settings)) (lent-outline file e points lens)
       go (suc n) e = refl
 
-  told-read : length points ≡ 496 → length lens ≡ 8 → let r = readFile file points lens in Told (r .answer) (r .points) (r .lens)
+  told-read : length points ≡ 496 → length lens ≡ 8 → Told (readFile file points lens)
   unfolding readFile
   told-read long longs = go (fileRefusal file) refl
     where
       q : Request
       q = requestOf file
 
-      go : (n : ℕ) → fileRefusal file ≡ n → Told (readAs n q points lens .answer) (readAs n q points lens .points) (readAs n q points lens .lens)
+      go : (n : ℕ) → fileRefusal file ≡ n → Told (readAs n q points lens)
       go zero e = held q (asked file e) points lens long longs
-      go (suc n) e = λ z. absurd (omega arith)
+      go (suc n) e = tt
 
-  -- what the code has in hand: the answer r of `read_file`, which is one of the two cases
-  module _ {r : FileAnswer} {points′ : List Float} {lens′ : List ℕ} (e : reading r points′ lens′ ≡ readFile file points lens) {answer : FileAnswer}
-      (case : r ≡ answer) where
-    same : reading answer points′ lens′ ≡ readFile file points lens
-    same = ap (λ (a : FileAnswer). reading a points′ lens′) (sym case) ∙ e
+  -- what the code has in hand: the answer r of `read_file`
+  module _ {r : FileAnswer} {points′ : List Float} {lens′ : List ℕ} (e : reading r points′ lens′ ≡ readFile file points lens)
+      (long : length points ≡ 496) (longs : length lens ≡ 8) where
+    told : {answer : FileAnswer} → r ≡ answer → Told (reading answer points′ lens′)
+    told case =
+        subst Told (ap (λ (a : FileAnswer). reading a points′ lens′) case) (subst Told (sym e) (told-read long longs))
 
-    pub read-listed : readListing answer points′ lens′ ≡ programListing file
-    read-listed = ap (λ (r : Reading). readListing (r .answer) (r .points) (r .lens)) same ∙ listing-read
+    listed-as : {answer : FileAnswer} → r ≡ answer → readListing (reading answer points′ lens′) ≡ programListing file
+    listed-as case = ap (λ (a : FileAnswer). readListing (reading a points′ lens′)) (sym case) ∙ (ap readListing e ∙ listing-read)
 
-    pub read-told : length points ≡ 496 → length lens ≡ 8 → Told answer points′ lens′
-    read-told long longs = subst (λ (r : Reading). Told (r .answer) (r .points) (r .lens)) (sym same) (told-read long longs)
+    -- where it is read
+    pub read-held : {head : Head} → r ≡ Read head → Held points′ lens′ head
+    read-held case = told case
+
+    pub read-listed : {head : Head} → r ≡ Read head → outlineListing (heldOutline points′ lens′ head) (head .settings) ≡ programListing file
+    read-listed case = listed-as case
+
+    -- where it is refused: with a number, since no outline has no loop
+    pub refused-number : (n : ℕ) → r ≡ Refused n → n ≡ 0 → ⊥
+    refused-number zero case z = absurd (omega (arith, told case .some))
+    refused-number (suc n) case z = omega arith
+
+    pub refused-as : (n : ℕ) → r ≡ Refused n → refusedListing n ≡ programListing file
+    refused-as zero case = absurd (omega (arith, told case .some))
+    refused-as (suc n) case = listed-as case
 
 -- ---- a refusal
 
@@ -198,5 +215,5 @@ refused-listed {number} h e = lists-whole e (short number h)
 pub start-decides : (file : List ℕ) → programListing (take 4609 file) ≡ programListing file
 start-decides file =
     sym (listing-read (take 4609 file) [] [])
-    ∙ ap (λ (r : Reading). readListing (r .answer) (r .points) (r .lens)) (enough file [] [])
+    ∙ ap readListing (enough file [] [])
     ∙ listing-read file [] []

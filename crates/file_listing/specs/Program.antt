@@ -24,11 +24,11 @@ abbrev pub numbers : ℕ → List ℕ
 numbers n = replicate n 0
 
 -- a field node has two values and a mark; a node two coordinates, two links and a place in the snapshot, and it may be listed; a quad has four ids, an
--- edge two
+-- edge two; a file has 8 loops at most
 unfoldable pub programLent : Lent
 programLent =
     lent (floats 3200) (numbers 1600) (floats 800) (floats 800) (numbers 800) (numbers 800) (numbers 800) (numbers 3200) (numbers 4800) (numbers 800)
-    (numbers 800)
+    (numbers 8)
 
 -- ---- what it prints
 

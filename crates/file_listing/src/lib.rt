@@ -23,7 +23,7 @@ fn heading(r: Paved) -> Heading
     }
 }
 
-// The listing of an outline. The lists that the program lends are all here: 1,600 field nodes, 800 nodes, 800 quads, 2,400 edges.
+// The listing of an outline. The lists that the program lends are all here: 1,600 field nodes, 800 nodes, 800 quads, 2,400 edges, 8 loops.
 // The pools have room for each node, and for each edge six times; the list of blocks has four numbers for each of 23: one for 16 of up to 248
 // points, and one more for each of up to eight loops.
 fn list_outline<'a>(
@@ -46,7 +46,7 @@ fn list_outline<'a>(
     let mut quads = [0u32; 3200];
     let mut edges = [0u32; 4800];
     let mut loops = [0u32; 800];
-    let mut lengths = [0u32; 800];
+    let mut lengths = [0u32; 8];
     let mut node_pool = [0u32; 3200];
     let mut edge_pool = [0u32; 38400];
     let mut blocks = [0u32; 92];

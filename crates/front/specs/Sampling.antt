@@ -45,9 +45,13 @@ loopCount o = suc (length (o .lens))
 unfoldable pub sampledCount : Outline → Float → ℕ
 sampledCount o size = sumUp (loopCount o) (loopNodes o size)
 
--- 10: the sampled outline has more nodes than the lent node places or edge places
+-- 10: the sampled outline has more nodes than there are node places or edge places
+abbrev pub sampledRefusal : Outline → Float → ℕ → ℕ → ℕ
+sampledRefusal o size nodes edges = cond (ltb nodes (sampledCount o size) || ltb edges (sampledCount o size)) 10 0
+
+-- of those lent
 unfoldable pub frontRefusal : Outline → Float → State → ℕ
-frontRefusal o size s = cond (ltb (nodePlaces s) (sampledCount o size) || ltb (edgePlaces s) (sampledCount o size)) 10 0
+frontRefusal o size s = sampledRefusal o size (nodePlaces s) (edgePlaces s)
 
 -- ---- the nodes of a loop
 

@@ -36,9 +36,16 @@ counted nodes quads edges front = record { nodes = nodes; quads = quads; edges =
 
 -- ---- the places lent: of several lists the one with the fewest counts
 
+-- of so many places of the lists that hold a number a node
+abbrev pub fewest : ℕ → ℕ → ℕ → ℕ → ℕ → ℕ
+fewest xs ys next prev snapshot = min (min (min xs ys) (min next prev)) snapshot
+
+-- node places past this many count as not lent
+abbrev pub mostNodes : ℕ
+mostNodes = 4294967294
+
 unfoldable pub nodePlaces : State → ℕ
-nodePlaces s =
-    min (min (min (length (s .xs)) (length (s .ys))) (min (length (s .next)) (length (s .prev)))) (min (length (s .snapshot)) 4294967294)
+nodePlaces s = min (fewest (length (s .xs)) (length (s .ys)) (length (s .next)) (length (s .prev)) (length (s .snapshot))) mostNodes
 
 unfoldable pub quadPlaces : State → ℕ
 quadPlaces s = length (s .quads) / 4

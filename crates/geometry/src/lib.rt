@@ -61,7 +61,7 @@ pub fn tangent(a: Point, b: Point) -> Point
     let dx = b.x - a.x;
     let dy = b.y - a.y;
     let length = norm(dx, dy);
-    if length <= 1.0e-12 {
+    if length <= Settings::TOLERANCE {
         Point { x: 1.0, y: 0.0 }
     } else {
         Point {
@@ -114,11 +114,11 @@ fn turns(u: Side, v: Side) -> bool
     ensures { λ r. ⌜ r ≡ turnOk u v ⌝ }
 {
     let lu = u.length;
-    if lu <= 1.0e-12 {
+    if lu <= Settings::TOLERANCE {
         return false;
     }
     let lv = v.length;
-    if lv <= 1.0e-12 {
+    if lv <= Settings::TOLERANCE {
         return false;
     }
     let sine = (u.x * v.y - u.y * v.x) / (lu * lv);
@@ -185,7 +185,7 @@ fn corners_turn(p: Corners) -> bool
 pub fn convex_ccw(p: Corners) -> bool
     ensures { λ r. ⌜ r ≡ convexCcw p ⌝ }
 {
-    if doubled_area(p) <= 1.0e-12 {
+    if doubled_area(p) <= Settings::TOLERANCE {
         return false;
     }
     if lacks_left_turn(p) {
@@ -239,10 +239,10 @@ pub fn point_in_convex(p: Corners, q: Point) -> bool
 pub fn on_segment(a: Point, b: Point, p: Point) -> bool
     ensures { λ r. ⌜ r ≡ onSegment a b p ⌝ }
 {
-    if numbers::min_f64(a.x, b.x) - 1.0e-12 <= p.x {
-        if p.x <= numbers::max_f64(a.x, b.x) + 1.0e-12 {
-            if numbers::min_f64(a.y, b.y) - 1.0e-12 <= p.y {
-                return p.y <= numbers::max_f64(a.y, b.y) + 1.0e-12;
+    if numbers::min_f64(a.x, b.x) - Settings::TOLERANCE <= p.x {
+        if p.x <= numbers::max_f64(a.x, b.x) + Settings::TOLERANCE {
+            if numbers::min_f64(a.y, b.y) - Settings::TOLERANCE <= p.y {
+                return p.y <= numbers::max_f64(a.y, b.y) + Settings::TOLERANCE;
             }
         }
     }
@@ -253,19 +253,23 @@ pub fn on_segment(a: Point, b: Point, p: Point) -> bool
 pub fn opposite(o: f64, u: f64) -> bool
     ensures { λ r. ⌜ r ≡ opposite o u ⌝ }
 {
-    if o > 1.0e-12 {
-        if u < -1.0e-12 {
+    if o > Settings::TOLERANCE {
+        if u < -Settings::TOLERANCE {
             return true;
         }
     }
-    if o < -1.0e-12 { u > 1.0e-12 } else { false }
+    if o < -Settings::TOLERANCE {
+        u > Settings::TOLERANCE
+    } else {
+        false
+    }
 }
 
 // Whether p, of orientation o towards a to b, lies on it, by the tolerance 1e-12.
 pub fn touches(o: f64, a: Point, b: Point, p: Point) -> bool
     ensures { λ r. ⌜ r ≡ touches o a b p ⌝ }
 {
-    if numbers::abs_f64(o) <= 1.0e-12 {
+    if numbers::abs_f64(o) <= Settings::TOLERANCE {
         on_segment(a, b, p)
     } else {
         false

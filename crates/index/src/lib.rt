@@ -4,7 +4,7 @@
 // the places have run out (`Indexed`); those that came after that are left to a scan.
 ghost use mathlib.Core.Path.{_≡_};
 ghost use mathlib.Core.Bool.{true};
-ghost use Prim.Native.Nat.{_+_, _-_, _*_, _%_, _≤_, _<_, min, max};
+ghost use Prim.Native.Nat.{_+_, _-_, _*_, _%_, _≤_, _<_};
 ghost use lib.Dec.{leb};
 ghost use lib.ListN.{length};
 ghost use Rattle.index.specs.Pool.{cells, capacity, used, filed, ownAt, cellOf, span, cleared, push, fileRow, takes, file};
@@ -328,18 +328,6 @@ fn shifted(k: i64) -> u32
     (k + 1048578) as u32
 }
 
-fn lesser(a: u32, b: u32) -> u32
-    ensures { λ r. ⌜ r ≡ min a b ⌝ }
-{
-    if a < b { a } else { b }
-}
-
-fn greater(a: u32, b: u32) -> u32
-    ensures { λ r. ⌜ r ≡ max a b ⌝ }
-{
-    if a < b { b } else { a }
-}
-
 // The rectangle with the opposite corners k and l, either first.
 pub fn rect_of(k: Key, l: Key) -> Rect
     ensures { λ r. ⌜ r ≡ rectOf k l ⌝ }
@@ -349,10 +337,10 @@ pub fn rect_of(k: Key, l: Key) -> Rect
     let kj = shifted(k.j);
     let lj = shifted(l.j);
     Rect {
-        left: lesser(ki, li),
-        right: greater(ki, li),
-        low: lesser(kj, lj),
-        high: greater(kj, lj),
+        left: numbers::min_u32(ki, li),
+        right: numbers::max_u32(ki, li),
+        low: numbers::min_u32(kj, lj),
+        high: numbers::max_u32(kj, lj),
     }
 }
 

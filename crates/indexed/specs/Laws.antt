@@ -1,6 +1,6 @@
 -- Laws of the loops that file items one after the other, and of the tests as the code has them at hand.
 use mathlib.Core.Bool.{Bool, true, false, not}
-use mathlib.Core.List.{List}
+use mathlib.Core.List.{List, []}
 use mathlib.Core.Path.{_≡_, refl, sym, ap, _∙_, subst}
 use Prim.Native.Nat.{ℕ, _+_, _*_, _<_, _≤_, min}
 use native.Mathlib.Omega.{arith}
@@ -20,9 +20,9 @@ use Rattle.index.specs.Pool.{filed, file, Indexed}
 use Rattle.index.specs.FileLaws.{file-length, indexed-file, indexed-past}
 use Rattle.index.specs.Rects.{rectOf, rectAt, edgeRect, Meets}
 use Rattle.index.specs.KeyLaws.{box-meets, candidate-meets, end-meets}
-use Rattle.front.specs.State.{State, nodeIn, edgeIs}
-use Rattle.paving.specs.Checks.{shareEnd, closeNode, blocks, crossesEdge}
-use Rattle.indexed.specs.Rects.{nodeRects, edgeRects, Unfound, closeAt, blocksAt, insideAt, crossesAt, crossingAt}
+use Rattle.front.specs.State.{nodeIn, edgeIs}
+use Rattle.paving.specs.Checks.{shareEnd, blocksAt, crossesAt}
+use Rattle.indexed.specs.Rects.{nodeRects, edgeRects, Unfound, listed, closeAt, insideAt, crossingAt}
 
 -- ---- filing one item after the other: those before id are filed
 
@@ -83,7 +83,7 @@ pub inside-is : (size : Float) (xs ys : List Float) (p : Corners) (a b d c : ℕ
 inside-is size xs ys p a b d c o e t = rw (← o, ← e) (sym t)
 
 pub crossing-is : (size : Float) (xs ys : List Float) (edges : List ℕ) (p q : Point) (u v : ℕ) {k own c d : ℕ} {r : Bool}
-    → own ≡ k → c ≡ getD edges (2 * own) 0 → d ≡ getD edges (2 * own + 1) 0 → r ≡ crossesAt size xs ys p q u v c d
+    → own ≡ k → c ≡ getD edges (2 * own) 0 → d ≡ getD edges (2 * own + 1) 0 → r ≡ crossesAt size (listed xs ys []) p q u v c d
     → crossingAt size xs ys edges p q u v k ≡ r
 crossing-is size xs ys edges p q u v o ec ed t = rw (← o, ← ec, ← ed) (sym t)
 
@@ -109,15 +109,3 @@ known-meets size xs ys edges u v k kept e =
     let ends = both (eqb (getD edges (2 * k) 0) u) (eqb (getD edges (2 * k + 1) 0) v) e in
     rw (eqb-true (getD edges (2 * k) 0) u (ends .0), eqb-true (getD edges (2 * k + 1) 0) v (ends .1))
     (end-meets size (nodeIn xs ys u) (nodeIn xs ys v) kept)
-
--- ---- the tests are the paving's
-
-pub close-node : (size : Float) (s : State) (p : Point) → closeNode size s p ≡ closeAt size (s .xs) (s .ys) p
-close-node size s p = refl
-
-pub blocks-node : (size : Float) (s : State) (p : Corners) (a b d c : ℕ) → blocks size s p a b d c ≡ insideAt size (s .xs) (s .ys) p a b d c
-blocks-node size s p a b d c = refl
-
-pub crosses-edge : (size : Float) (s : State) (p q : Point) (u v : ℕ)
-    → crossesEdge size s p q u v ≡ crossingAt size (s .xs) (s .ys) (s .edges) p q u v
-crosses-edge size s p q u v = refl

@@ -1,20 +1,18 @@
 -- Under which keys the nodes and edges of a state are filed, and the tests of its scans. Definitions only.
-use mathlib.Core.Bool.{Bool, false, not, _&&_}
-use mathlib.Core.List.{List}
+use mathlib.Core.Bool.{Bool, false}
+use mathlib.Core.List.{List, []}
 use mathlib.Core.Path.{_≡_}
 use Prim.Native.Nat.{ℕ, _+_, _*_, _≤_}
 use lib.ListN.{length, getD}
 use lib.Ieee.{Float}
 use Rattle.domain.specs.declared.Point.{Point}
 use Rattle.geometry.specs.declared.Corners.{Corners}
-use Rattle.geometry.specs.Plane.{pointInConvex, segmentsCross}
-use Rattle.geometry.specs.Keys.{isTooClose, isInBox, isCandidate}
 use Rattle.index.specs.declared.Rect.{Rect}
 use Rattle.laws.specs.Loop.{anyUp}
 use Rattle.index.specs.Pool.{Indexed}
 use Rattle.index.specs.Rects.{nodeRect, edgeRect}
-use Rattle.front.specs.State.{nodeIn}
-use Rattle.paving.specs.Checks.{isCorner, shareEnd}
+use Rattle.front.specs.State.{State, stateOf, counted, nodeIn}
+use Rattle.paving.specs.Checks.{closeNode, blocks, crossesEdge}
 
 -- node id
 abbrev pub nodeRects : Float → List Float → List Float → ℕ → Rect
@@ -40,27 +38,20 @@ pub record Unfound (test : ℕ → Bool) (from count : ℕ) : Type 0 where
   pub within : from ≤ count
   pub none : anyUp from test ≡ false
 
--- ---- the tests of the scans: those of crates/paving/specs/Checks.antt (Laws.antt), over the lists that they read
+-- ---- the tests of the scans are those of crates/paving/specs/Checks.antt, over the lists that they read
+
+-- a state with these lists alone
+abbrev pub listed : List Float → List Float → List ℕ → State
+listed xs ys edges = stateOf xs ys [] [] [] [] edges (counted 0 0 0 0)
 
 -- node id is too close to p
 abbrev pub closeAt : Float → List Float → List Float → Point → ℕ → Bool
-closeAt size xs ys p id = isTooClose size p (nodeIn xs ys id)
+closeAt size xs ys p id = closeNode size (listed xs ys []) p id
 
--- the node q of number id, not a corner, lies in the quad and in its key rectangle
-abbrev pub blocksAt : Float → Corners → ℕ → ℕ → ℕ → ℕ → ℕ → Point → Bool
-blocksAt size p a b d c id q = isInBox size p q && (not (isCorner a b d c id) && pointInConvex p q)
-
--- node id does
+-- node id, not a corner, lies in the quad
 abbrev pub insideAt : Float → List Float → List Float → Corners → ℕ → ℕ → ℕ → ℕ → ℕ → Bool
-insideAt size xs ys p a b d c id = blocksAt size p a b d c id (nodeIn xs ys id)
+insideAt size xs ys p a b d c id = blocks size (listed xs ys []) p a b d c id
 
--- the edge c to d is a candidate for the new edge a to b, whose ends are the nodes u and v, shares no end with it, and crosses it
-abbrev pub crossesAt : Float → List Float → List Float → Point → Point → ℕ → ℕ → ℕ → ℕ → Bool
-crossesAt size xs ys a b u v c d =
-    let p = nodeIn xs ys c in
-    let q = nodeIn xs ys d in
-    not (shareEnd c d u v) && (isCandidate size a b p q && segmentsCross a b p q)
-
--- edge k does
+-- edge k crosses the new edge a to b
 abbrev pub crossingAt : Float → List Float → List Float → List ℕ → Point → Point → ℕ → ℕ → ℕ → Bool
-crossingAt size xs ys edges a b u v k = crossesAt size xs ys a b u v (getD edges (2 * k) 0) (getD edges (2 * k + 1) 0)
+crossingAt size xs ys edges a b u v k = crossesEdge size (listed xs ys edges) a b u v k

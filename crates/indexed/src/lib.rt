@@ -1,14 +1,15 @@
 // The nodes and edges of a paving's state (src/alt_crossfield.rs: `NodeIndex` and `EdgeIndex`), filed in pools of `index`, and the searches that go by them:
 // a walk for those that are filed, and a scan of those that came after the pool was full.
 ghost use mathlib.Core.Path.{_≡_};
+ghost use mathlib.Core.List.{[]};
 ghost use Prim.Native.Nat.{_*_, _≤_, min};
 ghost use lib.ListN.{length, getD};
 ghost use Rattle.laws.specs.Loop.{anyUp};
 ghost use Rattle.index.specs.Pool.{Indexed};
 ghost use Rattle.front.specs.State.{edgeIs};
 ghost use Rattle.front.specs.Stores.{knownAcross};
-ghost use Rattle.paving.specs.Checks.{isCorner, shareEnd};
-ghost use Rattle.indexed.specs.Rects.{nodeRects, edgeRects, NodesFiled, EdgesFiled, Unfound, closeAt, blocksAt, insideAt, crossesAt, crossingAt};
+ghost use Rattle.paving.specs.Checks.{isCorner, shareEnd, blocksAt, crossesAt};
+ghost use Rattle.indexed.specs.Rects.{nodeRects, edgeRects, NodesFiled, EdgesFiled, Unfound, listed, closeAt, insideAt, crossingAt};
 use domain::Point;
 use domain::Settings;
 use front::Corner;
@@ -144,7 +145,7 @@ fn crosses_at(
     c: u32,
     d: u32,
 ) -> bool
-    ensures { λ r. ⌜ r ≡ crossesAt size (now (xs .entry)) (now (ys .entry)) a b u v c d ⌝ }
+    ensures { λ r. ⌜ r ≡ crossesAt size (listed (now (xs .entry)) (now (ys .entry)) []) a b u v c d ⌝ }
 {
     if share_end(c, d, u, v) {
         return false;

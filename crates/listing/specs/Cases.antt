@@ -8,7 +8,7 @@ use native.Mathlib.Nat.{pow-suc}
 use native.Mathlib.Omega.{arith}
 use lib.Dec.{ltb}
 use lib.Ieee.{Float}
-use borrow.Author.Tests.{lt-ltb, le-ltb}
+use borrow.Author.Tests.{lt-ltb, le-ltb, ne-eqb}
 use Rattle.listing.specs.declared.Heading.{Heading}
 use Rattle.listing.specs.Listing.{decimalOf, decimal, hexOf, hexDigit, endWord, wholeWord, refusedListing, meshListing, listing}
 
@@ -50,8 +50,7 @@ end-full (suc (suc (suc n))) h₀ h₁ h₂ = refl
 
 pub word-open : (n : ℕ) → (n ≡ 0 → ⊥) → wholeWord n ≡ wholeWord 1
 unfolding wholeWord
-word-open zero h = absurd (h refl)
-word-open (suc n) h = refl
+word-open n h = rw (ne-eqb n 0 h)
 
 -- ---- refused, or a mesh
 

@@ -9,7 +9,9 @@ use lib.Dec.{ltb}
 use lib.Ieee.{Float, binary64, toBits}
 use lib.ListN.{length, take, drop, replicate, length-append, length-take, length-drop, length-replicate}
 use lib.Seq.{take-append-seam}
+use Rattle.topology.specs.LongLoops.{isWhole}
 use Rattle.listing.specs.declared.Heading.{Heading}
+use Rattle.listing.specs.Text.{ascii}
 use Rattle.listing.specs.Listing.{decimalOf, decimal, hexOf, hexDigit, hexBits, spaced, row, rows, nodeLine, nodeLines, quadLines, loopLines}
 use Rattle.listing.specs.Listing.{endWord, wholeWord, headLine, refusedListing, meshListing, listing}
 use Rattle.listing.specs.Buffer.{Buffer, buffer, written}
@@ -77,8 +79,11 @@ end-length (suc (suc (suc n))) = omega arith
 
 whole-length : (n : ℕ) → length (wholeWord n) ≤ 6
 unfolding wholeWord
-whole-length zero = omega arith
-whole-length (suc n) = omega arith
+whole-length n = by (isWhole n)
+  where
+    by : (b : Bool) → length (cond b (ascii " whole") (ascii " open")) ≤ 6
+    by true = omega arith
+    by false = omega arith
 
 head-length : (h : Heading) → length (headLine h) ≤ 81
 unfolding headLine

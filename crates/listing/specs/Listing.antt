@@ -7,6 +7,7 @@ use Prim.Native.Char.{code}
 use lib.Dec.{ltb}
 use lib.ListN.{length, take, drop, replicate}
 use lib.Ieee.{Float, binary64, toBits}
+use Rattle.topology.specs.LongLoops.{isWhole}
 use Rattle.listing.specs.declared.Heading.{Heading}
 use Rattle.listing.specs.Text.{ascii}
 
@@ -80,10 +81,9 @@ endWord (suc zero) = ascii " passes"
 endWord (suc (suc zero)) = ascii " cap"
 endWord (suc (suc (suc n))) = ascii " full"
 
--- whole exactly if no loop is listed
+-- whole or open, where so many loops are listed
 unfoldable pub wholeWord : ℕ → List ℕ
-wholeWord zero = ascii " whole"
-wholeWord (suc n) = ascii " open"
+wholeWord n = cond (isWhole n) (ascii " whole") (ascii " open")
 
 -- the counts of nodes, quads and front edges, the end, whole or open
 unfoldable pub headLine : Heading → List ℕ

@@ -2,7 +2,7 @@
 // goes, and answers the place after.
 ghost use mathlib.Core.Path.{_≡_};
 ghost use mathlib.Core.List.{[], _∷_, _++_};
-ghost use Prim.Native.Nat.{_<_, min};
+ghost use Prim.Native.Nat.{_<_};
 ghost use lib.ListN.{take};
 ghost use lib.Ieee.{binary64, toBits};
 ghost use Rattle.listing.specs.Text.{ascii};
@@ -147,16 +147,10 @@ fn put_nodes(out: &mut [u8], at: usize, n: usize, xs: &[f64], ys: &[f64]) -> usi
     to
 }
 
-fn lesser(a: usize, b: usize) -> usize
-    ensures { λ r. ⌜ r ≡ min a b ⌝ }
-{
-    if a < b { a } else { b }
-}
-
 fn put_quads(out: &mut [u8], at: usize, n: usize, quads: &[u32]) -> usize
     ensures { λ r. ⌜ Wrote (quadLines n (now (quads .entry))) (buffer (now (out .entry)) at) (buffer (now (out .exit)) r) ⌝ }
 {
-    let count = lesser(n, quads.len() / 4);
+    let count = numbers::min_usize(n, quads.len() / 4);
     let mut to = at;
     let mut k = 0;
     while k < count {
@@ -180,7 +174,7 @@ fn put_loops(out: &mut [u8], at: usize, n: usize, lengths: &[u32], loops: &[u32]
         if lengths.len() <= k {
             return to;
         }
-        let e = a + lesser(lengths[k] as usize, loops.len() - a);
+        let e = a + numbers::min_usize(lengths[k] as usize, loops.len() - a);
         to = put_row(out, to, b'l', &loops[a..e]);
         a = e;
         k += 1;

@@ -7,7 +7,7 @@ use Prim.Native.Nat.{ℕ, zero, suc, _+_, _<_, _≤_}
 use native.Mathlib.Omega.{arith}
 use lib.Dec.{eqb, ltb, leb}
 use lib.ListN.{length}
-use borrow.Author.Tests.{eqb-true, eqb-false, ltb-false, leb-true, le-leb}
+use borrow.Author.Tests.{eqb-true, eqb-false, ltb-false, le-leb}
 use Rattle.laws.specs.Loop.{forUp}
 use Rattle.topology.specs.Sums.{All, total, pathSum, loopSum}
 use Rattle.topology.specs.Links.{off, delta, delta-same}
@@ -47,14 +47,6 @@ if-le false x y h = omega arith
 listed-le : (k : ℕ) (r : List ℕ → ℕ) (l : List ℕ) → ifListed k r l ≤ r l
 unfolding ifListed
 listed-le k r l = if-le (leb k (length l)) (r l) (r l) (omega arith)
-
-listed-one : (k : ℕ) (l : List ℕ) → ifListed (suc k) (λ l. 1) l ≤ length l
-unfolding ifListed
-listed-one k l = by (leb (suc k) (length l)) refl
-  where
-    by : (b : Bool) → leb (suc k) (length l) ≡ b → cond {A = ℕ} b 1 0 ≤ length l
-    by true e = omega (arith, leb-true (suc k) (length l) e)
-    by false e = omega arith
 
 listed-long : (r : List ℕ → ℕ) (l : List ℕ) → 3 ≤ length l → ifListed 3 r l ≡ r l
 unfolding ifListed
@@ -122,13 +114,19 @@ module _ (n : ℕ) (f : ℕ → ℕ) (ls : List (List ℕ)) (L : Loops n f ls) (
             (λ l. if-le (ltb (least l) u) (ifListed (suc k) r l) (q l) (le l)) ls,
       )
 
-  -- their ids are no more than m, and so are they
+  -- their ids are no more than m
   pub found-ids : (k u : ℕ) → total length (walks (suc k) u m f) ≤ m
   found-ids k u = omega (arith, found-le k length length turn-length (listed-le (suc k) length) u)
 
-  pub found-number : (k u : ℕ) → length (walks (suc k) u m f) ≤ m
+  -- and they no more than the loops
+  pub found-number : (k u : ℕ) → length (walks (suc k) u m f) ≤ length ls
   found-number k u =
-      omega (arith, total-one (walks (suc k) u m f), found-le k (λ l. 1) length (λ v l. refl) (listed-one k) u)
+      omega (
+        arith,
+        total-one (walks (suc k) u m f),
+        total-one ls,
+        found-le k (λ l. 1) (λ l. 1) (λ v l. refl) (listed-le (suc k) (λ l. 1)) u,
+      )
 
   -- an id found is one of the loops
   pub found-count : (v u : ℕ) → total (count v) (walks 1 u m f) ≤ total (count v) ls

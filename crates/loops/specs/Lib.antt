@@ -2,7 +2,6 @@
 -- all nodes, the definition reached, and an example.
 pub mod Listed
 pub mod Walked
-pub mod Pigeonhole
 pub mod Found
 pub mod Visits
 pub mod ListedLaws

@@ -50,7 +50,8 @@ listedIn k next marks loops lengths =
     let n = k .nodes in
     written (overlay (tabulate n (frontMark (linkOf n next))) marks) loops lengths (loopsIn k next)
 
--- What `front_loops` asks: the links are those of loops, the count of front edges is theirs, and each list has a place for each node.
+-- What `front_loops` asks: the links are those of loops, the count of front edges is theirs, `lengths` has a place for each loop and each other list one
+-- for each node.
 pub record Listable (k : Counts) (next marks loops lengths : List ℕ) : Type 0 where
   pub front : List (List ℕ)
   pub links : Loops (k .nodes) (linkOf (k .nodes) next) front
@@ -58,4 +59,4 @@ pub record Listable (k : Counts) (next marks loops lengths : List ℕ) : Type 0 
   pub next-fits : k .nodes ≤ length next
   pub marks-fit : k .nodes ≤ length marks
   pub loops-fit : k .nodes ≤ length loops
-  pub lengths-fit : k .nodes ≤ length lengths
+  pub lengths-fit : length front ≤ length lengths

@@ -17,13 +17,14 @@ use Rattle.topology.specs.Links.{off, linkOf, link-in, link-out}
 use Rattle.topology.specs.Front.{Loops, target}
 use Rattle.topology.specs.Walk.{walkBy, count, nodes, cycles, link-count}
 use Rattle.topology.specs.Listing.{walks, ifListed, walks-list, walks-total}
+use Rattle.topology.specs.Pigeonhole.{ids-most}
+use Rattle.topology.specs.LongLoops.{isWhole}
 use Rattle.front.specs.State.{State, nextOf, nodePlaces}
 use Rattle.front.specs.Sound.{Sound}
 use Rattle.front.specs.declared.Counts.{Counts}
 use Rattle.paving.specs.Loops.{frontLoops, whole}
 use Rattle.loops.specs.Listed.{Lists, lists, counted, overlay, loopsIn, frontMark, written, listedIn, Listable}
 use Rattle.loops.specs.Walked.{linksIn}
-use Rattle.loops.specs.Pigeonhole.{ids-most}
 use Rattle.loops.specs.Found.{count-turn, listed-count, on-loop}
 use Rattle.loops.specs.Visits.{visit, visitAll, marksAfter, after-length, after-at, visits-written, Startable}
 
@@ -156,7 +157,7 @@ module _ (n : ℕ) (f : ℕ → ℕ) (ls : List (List ℕ)) (L : Loops n f ls) w
             mark v ∙ (rw (none-past v h) (cleared-past n marks fits v h ∙ sym (shown-past n marks fits (frontMark f) v h)))
 
     -- all nodes visited
-    visits-end : (loops lengths : List ℕ) → n ≤ length loops → n ≤ length lengths
+    visits-end : (loops lengths : List ℕ) → n ≤ length loops → length ls ≤ length lengths
         → forUp n (visit (λ u. walkBy f n u u)) (lists (cleared n marks) loops lengths (counted 0 0))
         ≡ written (overlay (tabulate n (frontMark f)) marks) loops lengths (walks 3 n n f)
     visits-end loops lengths loops-fit lengths-fit =
@@ -189,7 +190,7 @@ module _ {k : Counts} {next marks loops lengths : List ℕ} (p : Listable k next
             (subst (λ (f : ℕ → ℕ). Loops n f (p .front)) (sym same-links) (p .links));
         marks-fit = omega (arith, long, cleared-length n marks (p .marks-fit), p .marks-fit);
         loops-fit = omega (arith, long, p .loops-fit);
-        lengths-fit = omega (arith, long, p .lengths-fit);
+        lengths-fit = p .lengths-fit;
         clear = λ v h. cleared-at n marks (p .marks-fit) v (omega (arith, long, h));
       }
 
@@ -230,15 +231,15 @@ pub listed-front : (s : State) (marks loops lengths : List ℕ)
 unfolding listedIn loopsIn frontLoops
 listed-front s marks loops lengths = refl
 
--- whole: the count is 0
+-- whole, by the count
 pub listed-whole : (s : State) (marks loops lengths : List ℕ)
-    → whole s ≡ eqb (listedIn (s .counts) (s .next) marks loops lengths .listed .count) 0
+    → whole s ≡ isWhole (listedIn (s .counts) (s .next) marks loops lengths .listed .count)
 unfolding listedIn loopsIn written frontLoops whole
 listed-whole s marks loops lengths = refl
 
--- a sound state may be listed into lists with a place for each node
+-- a sound state may be listed into lists with a place for each node, and one for each loop
 pub sound-listable : (n : ℕ) (s : State) (ls : List (List ℕ)) → Sound n s ls → (loops lengths : List ℕ)
-    → s .counts .nodes ≤ length loops → s .counts .nodes ≤ length lengths → Listable (s .counts) (s .next) (s .snapshot) loops lengths
+    → s .counts .nodes ≤ length loops → length ls ≤ length lengths → Listable (s .counts) (s .next) (s .snapshot) loops lengths
 unfolding nodePlaces
 sound-listable n s ls S loops lengths loops-fit lengths-fit =
     record {

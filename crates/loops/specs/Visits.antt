@@ -15,11 +15,11 @@ use Rattle.topology.specs.Links.{off, delta, delta-same, delta-other}
 use Rattle.topology.specs.Front.{Loops, no-self}
 use Rattle.topology.specs.Walk.{walkBy, count, once, walk-off}
 use Rattle.topology.specs.Listing.{listing, walks, addLoop, total-one}
+use Rattle.topology.specs.Pigeonhole.{ids-most}
 use Rattle.loops.specs.declared.Listed.{Listed}
 use Rattle.loops.specs.Listed.{Lists, lists, counted, overlay, written}
 use Rattle.loops.specs.Walked.{linksIn, walkIn, markAll, mark-length, walk-on, walk-last, walk-more, walk-length, entry-read, link-node}
 use Rattle.loops.specs.Walked.{Walkable, Walked}
-use Rattle.loops.specs.Pigeonhole.{ids-most}
 use Rattle.loops.specs.Found.{found-ids, found-number, found-more, found-reached, walk-nodes, on-loop, found-long, starts, counts-some}
 
 -- ---- definitions
@@ -53,13 +53,13 @@ pub record Visitable (next : List ℕ) (s : Lists) (u : ℕ) : Type 0 where
   pub ids-fit : 3 ≤ length (walkIn next u) → s .listed .ids + length (walkIn next u) ≤ length (s .loops)
   pub length-fits : 3 ≤ length (walkIn next u) → s .listed .count < length (s .lengths)
 
--- what `list_all` asks: links of loops, no node marked, and in each list a place for each node
+-- what `list_all` asks: links of loops, no node marked, in `lengths` a place for each loop and in each other list one for each node
 pub record Startable (next marks loops lengths : List ℕ) : Type 0 where
   pub front : List (List ℕ)
   pub links : Loops (length next) (linksIn next) front
   pub marks-fit : length next ≤ length marks
   pub loops-fit : length next ≤ length loops
-  pub lengths-fit : length next ≤ length lengths
+  pub lengths-fit : length front ≤ length lengths
   pub clear : (v : ℕ) → v < length next → getD marks v 0 ≡ 0
 
 -- ---- the turns of `list_from`
@@ -258,7 +258,7 @@ module _ (n : ℕ) (f : ℕ → ℕ) (ls : List (List ℕ)) (L : Loops n f ls) (
       )
 
   -- the lists after the turns of the nodes below u
-  pub visits-written : (loops lengths : List ℕ) → m ≤ length loops → m ≤ length lengths → (u : ℕ)
+  pub visits-written : (loops lengths : List ℕ) → m ≤ length loops → length ls ≤ length lengths → (u : ℕ)
       → forUp u (visit walk) (lists marks loops lengths (counted 0 0)) ≡ written (marksAfter walk u marks) loops lengths (walks 3 u m f)
   unfolding forUp marksAfter listing
   visits-written loops lengths loops-fit lengths-fit zero = nothing marks loops lengths

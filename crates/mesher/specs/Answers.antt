@@ -7,47 +7,23 @@ use Prim.Native.Nat.{ℕ}
 use lib.Dec.{eqb}
 use lib.Ieee.{Float}
 use Rattle.numbers.specs.Float.{zeroF}
-use Rattle.domain.specs.declared.Contains.{Contains}
-use Rattle.domain.specs.declared.Contains.the-variants as contains-is
-use Rattle.domain.specs.declared.Nearest.{Nearest}
-use Rattle.domain.specs.declared.Nearest.the-variants as nearest-is
-use Rattle.domain.specs.declared.Distance.{Distance}
-use Rattle.domain.specs.declared.Distance.the-variants as distance-is
-use Rattle.crossfield.specs.declared.Grid.{Grid}
+use Rattle.direction.specs.declared.Grid.{Grid}
+use Rattle.direction.specs.declared.Direction.{Direction}
+use Rattle.direction.specs.declared.Direction.the-variants as direction-is
+use Rattle.direction.specs.Record.{FieldLists, fieldLists}
 use Rattle.crossfield.specs.declared.FieldAnswer.{FieldAnswer}
 use Rattle.crossfield.specs.declared.FieldAnswer.the-variants as field-is
-use Rattle.crossfield.specs.declared.Direction.{Direction}
-use Rattle.crossfield.specs.declared.Direction.the-variants as direction-is
-use Rattle.crossfield.specs.Seeds.{FieldLists, fieldLists}
 use Rattle.crossfield.specs.Field.{FieldResult}
 use Rattle.domain.specs.declared.Settings.{Settings}
 use Rattle.domain.specs.Outline.{Outline}
 use Rattle.front.specs.State.{State, stateOf, counted}
-use Rattle.books.specs.Holds.{BooksHold}
+use Rattle.topology.specs.LongLoops.{isWhole}
+use Rattle.books.specs.Holds.{BooksAnswered}
 use Rattle.run.specs.declared.Paved.{Paved}
 use Rattle.run.specs.Run.{Lent, Ran, runAnswer}
-use Rattle.mesher.specs.declared.ContainsAnswer.{ContainsAnswer}
-use Rattle.mesher.specs.declared.NearestAnswer.{NearestAnswer}
-use Rattle.mesher.specs.declared.DistanceAnswer.{DistanceAnswer}
 use Rattle.mesher.specs.declared.FieldRecordAnswer.{FieldRecordAnswer}
 use Rattle.mesher.specs.declared.DirectionAnswer.{DirectionAnswer}
 use Rattle.mesher.specs.declared.PaveAnswer.{PaveAnswer}
-
--- of `contains`: whether the point is inside
-unfoldable pub containsNumbers : Contains → ContainsAnswer
-containsNumbers (contains-is.Refused n) = record { refusal = n; inside = false }
-containsNumbers (contains-is.Inside b) = record { refusal = 0; inside = b }
-
--- of `nearest_segment`: the ends and the distance
-unfoldable pub nearestNumbers : Nearest → NearestAnswer
-nearestNumbers (nearest-is.Refused n) = record { refusal = n; ax = zeroF; ay = zeroF; bx = zeroF; by = zeroF; distance = zeroF }
-nearestNumbers (nearest-is.Segment s) =
-    record { refusal = 0; ax = s .a .x; ay = s .a .y; bx = s .b .x; by = s .b .y; distance = s .distance }
-
--- of `distance_to_boundary`
-unfoldable pub distanceNumbers : Distance → DistanceAnswer
-distanceNumbers (distance-is.Refused n) = record { refusal = n; distance = zeroF }
-distanceNumbers (distance-is.Of d) = record { refusal = 0; distance = d }
 
 -- of `field`: the record's floats and counts
 unfoldable pub recordNumbers : FieldAnswer → FieldRecordAnswer
@@ -76,17 +52,13 @@ directionNumbers (direction-is.Toward d) = record { refusal = 0; x = d .x; y = d
 
 -- ---- the run
 
--- whole: nothing is refused, and `front_loops` lists nothing
-unfoldable pub isWhole : ℕ → ℕ → Bool
-isWhole refusal loops = eqb refusal 0 && eqb loops 0
-
 -- of the run: its end, whether it is whole, the field record's floats and counts, and the counts of the paving and of the loops listed
 unfoldable pub paveNumbers : Paved → PaveAnswer
 paveNumbers p =
     record {
       refusal = p .refusal;
       end = p .end;
-      whole = isWhole (p .refusal) (p .listed .count);
+      whole = eqb (p .refusal) 0 && isWhole (p .listed .count);
       xmin = p .grid .xmin;
       ymin = p .grid .ymin;
       h = p .grid .h;
@@ -123,5 +95,6 @@ pub record HostPaves (o : Outline) (set : Settings) (before : Lent) (r : PaveAns
   pub equal : paveExit r after ≡ ranNumbers (runAnswer o set before)
   -- a refusal leaves every list as it was: demand 1
   pub refused : (r .refusal ≡ 0 → ⊥) → after ≡ before
-  -- the exact books of the outline, the size and the quads and coordinates answered hold: demand 3
-  pub books : r .refusal ≡ 0 → BooksHold o (set .size) (stateAnswered r after)
+  -- the exact books of the outline, the size and what is answered hold: the quads and coordinates, the loops listed, and whether it is whole: demand 3
+  pub books : r .refusal ≡ 0
+      → BooksAnswered o (set .size) (stateAnswered r after) (r .loops) (r .ids) (after .loops) (after .lengths) (r .whole)

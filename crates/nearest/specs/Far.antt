@@ -1,32 +1,31 @@
--- Boxes that are farther from a point than the best so far, and the search from any start. Definitions only.
+-- Boxes that are no nearer to a point than the best so far. Definitions only.
 use mathlib.Core.Bool.{Bool, not, _&&_, cond}
 use mathlib.Core.List.{List}
 use Prim.Native.Nat.{ℕ}
-use lib.ListN.{length}
 use lib.Ieee.{Float, lt}
-use Rattle.laws.specs.Loop.{forUp}
 use Rattle.numbers.specs.Float.{_⊕_, _⊖_, _⊗_, zeroF}
 use Rattle.domain.specs.declared.Point.{Point}
-use Rattle.domain.specs.declared.Search.{Search}
-use Rattle.domain.specs.Outline.{Outline}
 use Rattle.domain.specs.Accepted.{PointWithin}
-use Rattle.domain.specs.Search.{searchLoop, searchHole}
 use Rattle.blocks.specs.declared.Extent.{Extent}
 use Rattle.blocks.specs.Blocks.{isListed, blockExtent}
 
--- far within what squares can hold: 2^20 either way
-abbrev pub Moderate : Point → Type 0
-Moderate p = PointWithin 1048576 1048576 p
+-- 2^20, far within what squares can hold
+abbrev pub moderateBound : ℕ
+moderateBound = 1048576
+
+-- p is at most so far out either way
+abbrev pub ModeratePoint : Point → Type 0
+ModeratePoint p = PointWithin moderateBound moderateBound p
 
 -- how far x is outside of least to most, with a sign; 0 within
-unfoldable pub gap : Float → Float → Float → Float
-gap x least most = cond (lt x least) (x ⊖ least) (cond (lt most x) (x ⊖ most) zeroF)
+unfoldable pub spanGap : Float → Float → Float → Float
+spanGap x least most = cond (lt x least) (x ⊖ least) (cond (lt most x) (x ⊖ most) zeroF)
 
 -- the squared distance of p from the box
 unfoldable pub extentSquared : Point → Extent → Float
 extentSquared p e =
-    let dx = gap (p .x) (e .xmin) (e .xmax) in
-    let dy = gap (p .y) (e .ymin) (e .ymax) in
+    let dx = spanGap (p .x) (e .xmin) (e .xmax) in
+    let dy = spanGap (p .y) (e .ymin) (e .ymax) in
     dx ⊗ dx ⊕ dy ⊗ dy
 
 -- no segment in the box is nearer to p than the best so far
@@ -36,7 +35,3 @@ isFar p e squared = not (lt (extentSquared p e) squared)
 -- block b is listed and its box is so
 unfoldable pub isPassed : Point → List Float → List ℕ → ℕ → Float → Bool
 isPassed p s blocks b squared = isListed blocks b && isFar p (blockExtent s blocks b) squared
-
--- the search over all loops, from the best so far
-unfoldable pub searchFrom : Outline → Point → Search → Search
-searchFrom o p best = forUp (length (o .lens)) (searchHole o p) (searchLoop p (o .outer) best)

@@ -4,7 +4,7 @@
 use mathlib.Core.Bool.{Bool, true, false, cond}
 use mathlib.Core.List.{[], _∷_}
 use mathlib.Core.Path.{_≡_, refl, sym, subst}
-use Prim.Native.Nat.{ℕ, _≤_, zero-le}
+use Prim.Native.Nat.{ℕ, _*_, _≤_, zero-le}
 use native.Mathlib.Nat.{le-trans}
 use borrow.Author.Tests.{not-true}
 use lib.Dec.{T, leb→le}
@@ -26,15 +26,16 @@ use Rattle.domain.specs.Accepted.{PointFits, PointWithin}
 use Rattle.domain.specs.Queries.{squaredDistance, footOf}
 use Rattle.domain.specs.Search.{searched}
 use Rattle.blocks.specs.declared.Extent.{Extent}
-use Rattle.blocks.specs.Blocks.{reachOf, isBeyond, ExtentWithin, Covers}
+use Rattle.blocks.specs.Blocks.{reachOf, isFarther, ExtentWithin, Covers}
 use Rattle.blocks.specs.OrderLaws.{lt-cut}
 use Rattle.blocks.specs.ReachLaws.{within-number, le-of-lt-true, le-of-lt-false, lt-false-of-le, min-fits, max-fits}
 use Rattle.blocks.specs.ReachLaws.{Highest, Lowest, reach-0, reach-1, reach-2, reach-3}
-use Rattle.nearest.specs.Far.{Moderate, gap, extentSquared, isFar}
+use Rattle.nearest.specs.Far.{moderateBound, ModeratePoint, spanGap, extentSquared, isFar}
 
-either : {A : Type 0} (P : A → Type 0) (b : Bool) {x y : A} → (b ≡ true → P x) → (b ≡ false → P y) → P (cond b x y)
-either P true h k = h refl
-either P false h k = k refl
+-- what both branches have
+pub either-way : {A : Type 0} (P : A → Type 0) (b : Bool) {x y : A} → (b ≡ true → P x) → (b ≡ false → P y) → P (cond b x y)
+either-way P true h k = h refl
+either-way P false h k = k refl
 
 -- ---- a part of the way lies where the segment reaches
 
@@ -60,7 +61,7 @@ module _ {u v lo hi : Float} (f : T (fits binary64 lo)) (g : T (fits binary64 hi
       }
 
 -- both ends of a segment are doubles within 1,000
-pub record Ends (a b : Point) : Type 0 where
+pub record EndsWithin (a b : Point) : Type 0 where
   pub a-fits : PointFits a
   pub b-fits : PointFits b
   pub a-within : PointWithin 1000 1000 a
@@ -71,7 +72,7 @@ record FootLies (a b q : Point) : Type 0 where
   x : Lies (reachOf 0 a b) (reachOf 1 a b) (q .x)
   y : Lies (reachOf 2 a b) (reachOf 3 a b) (q .y)
 
-module _ (p a b : Point) (m : Moderate p) (e : Ends a b) where
+module _ (p a b : Point) (m : ModeratePoint p) (e : EndsWithin a b) where
   abbrev A : PointWithin 1000 1000 a
   A = e .a-within
 
@@ -95,7 +96,7 @@ module _ (p a b : Point) (m : Moderate p) (e : Ends a b) where
       let hx = reach-1 A B in
       let ly = reach-2 A B in
       let hy = reach-3 A B in
-      either (FootLies a b) (le ((b .x ⊖ a .x) ⊗ (b .x ⊖ a .x) ⊕ (b .y ⊖ a .y) ⊗ (b .y ⊖ a .y)) zeroF)
+      either-way (FootLies a b) (le ((b .x ⊖ a .x) ⊗ (b .x ⊖ a .x) ⊕ (b .y ⊖ a .y) ⊗ (b .y ⊖ a .y)) zeroF)
       (λ h. record { x = start-lies fx gx (A .x) (B .x) lx hx; y = start-lies fy gy (A .y) (B .y) ly hy })
       (λ h. let t = foot-part (m .x) (m .y) (A .x) (A .y) (B .x) (B .y) (rw h tt) in
       record { x = part-lies fx gx (A .x) (B .x) lx hx _ t; y = part-lies fy gy (A .y) (B .y) ly hy _ t })
@@ -119,14 +120,14 @@ plus-size true t a b h k =
 -- ---- the gap
 
 -- g is no larger than d
-record Less (g d : Float) : Type 0 where
-  small : Within 4194304 g
-  large : Within 4194304 d
+record GapLess (g d : Float) : Type 0 where
+  small : Within (4 * moderateBound) g
+  large : Within (4 * moderateBound) d
   less : small .size ≤ large .size
 
-module _ {lo hi x q : Float} (L : Within 10000 lo) (H : Within 10000 hi) (X : Within 1048576 x) (l : Lies lo hi q) where
-  far : Within 4194304 (x ⊖ q)
-  far = widen 4194304 tt (sub-within tt tt X (l .within))
+module _ {lo hi x q : Float} (L : Within 10000 lo) (H : Within 10000 hi) (X : Within moderateBound x) (l : Lies lo hi q) where
+  far : Within (4 * moderateBound) (x ⊖ q)
+  far = widen (4 * moderateBound) tt (sub-within tt tt X (l .within))
 
   zero-minus : T (le x lo) → (units x -ℤ units lo) ≤ℤ units zeroF
   zero-minus h =
@@ -138,9 +139,9 @@ module _ {lo hi x q : Float} (L : Within 10000 lo) (H : Within 10000 hi) (X : Wi
       subst (λ (z : ℤ). z ≤ℤ (units x -ℤ units hi)) (sym zero-units)
       (to-≤ℤ (prove (units x ∷ units hi ∷ []) ((var 0 -ᵉ var 1) ∷ []) (of-≤ℤ (le-within H X .0 h), tt) [] tt 0 (var 0 -ᵉ var 1 -ᵉ num 0) (hyp 0) tt))
 
-  minus-gap : T (le x lo) → Less (x ⊖ lo) (x ⊖ q)
+  minus-gap : T (le x lo) → GapLess (x ⊖ lo) (x ⊖ q)
   minus-gap h =
-      let G = widen 4194304 tt (sub-within tt tt X L) in
+      let G = widen (4 * moderateBound) tt (sub-within tt tt X L) in
       let k = rounds-keep-over W-pos (difference-rounds X L) (double-rounds zero-fits zero-within) (zero-minus h) in
       record {
         small = G;
@@ -151,9 +152,9 @@ module _ {lo hi x q : Float} (L : Within 10000 lo) (H : Within 10000 hi) (X : Wi
             (le-val (x ⊖ lo) zeroF (G .sign) false (G .size) 0 (G .val) (zero-within .val) .0 k);
       }
 
-  plus-gap : T (le hi x) → Less (x ⊖ hi) (x ⊖ q)
+  plus-gap : T (le hi x) → GapLess (x ⊖ hi) (x ⊖ q)
   plus-gap h =
-      let G = widen 4194304 tt (sub-within tt tt X H) in
+      let G = widen (4 * moderateBound) tt (sub-within tt tt X H) in
       let k = rounds-keep-over W-pos (double-rounds zero-fits zero-within) (difference-rounds X H) (zero-plus h) in
       record {
         small = G;
@@ -164,12 +165,12 @@ module _ {lo hi x q : Float} (L : Within 10000 lo) (H : Within 10000 hi) (X : Wi
             (le-val zeroF (x ⊖ hi) false (G .sign) 0 (G .size) (zero-within .val) (G .val) .0 k);
       }
 
-  gap-less : Less (gap x lo hi) (x ⊖ q)
-  unfolding gap
+  gap-less : GapLess (spanGap x lo hi) (x ⊖ q)
+  unfolding spanGap
   gap-less =
-      either (λ (g : Float). Less g (x ⊖ q)) (lt x lo) (λ e. minus-gap (le-of-lt-true X L e))
-      (λ e. either (λ (g : Float). Less g (x ⊖ q)) (lt hi x) (λ f. plus-gap (le-of-lt-true H X f))
-      (λ f. record { small = widen 4194304 tt zero-within; large = far; less = zero-le }))
+      either-way (λ (g : Float). GapLess g (x ⊖ q)) (lt x lo) (λ e. minus-gap (le-of-lt-true X L e))
+      (λ e. either-way (λ (g : Float). GapLess g (x ⊖ q)) (lt hi x) (λ f. plus-gap (le-of-lt-true H X f))
+      (λ f. record { small = widen (4 * moderateBound) tt zero-within; large = far; less = zero-le }))
 
 -- ---- boxes
 
@@ -182,14 +183,14 @@ covered L H R S h k l = record {
   most = le-through (l .within) S H (l .most) (le-of-lt-false H S k);
 }
 
-module _ (p a b : Point) (e : Extent) (m : Moderate p) (s : Ends a b) (w : ExtentWithin 10000 e) (c : Covers e a b) where
+module _ (p a b : Point) (e : Extent) (m : ModeratePoint p) (s : EndsWithin a b) (w : ExtentWithin 10000 e) (c : Covers e a b) where
   -- the gaps are no larger than the differences
   record Gaps : Type 0 where
-    x : Less (gap (p .x) (e .xmin) (e .xmax)) (p .x ⊖ footOf p a b .x)
-    y : Less (gap (p .y) (e .ymin) (e .ymax)) (p .y ⊖ footOf p a b .y)
+    x : GapLess (spanGap (p .x) (e .xmin) (e .xmax)) (p .x ⊖ footOf p a b .x)
+    y : GapLess (spanGap (p .y) (e .ymin) (e .ymax)) (p .y ⊖ footOf p a b .y)
 
   gaps : Gaps
-  unfolding isBeyond
+  unfolding isFarther
   gaps =
       let q = foot-lies p a b m s in
       let A = s .a-within in

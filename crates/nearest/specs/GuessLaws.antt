@@ -18,10 +18,10 @@ use Rattle.domain.specs.declared.Near.{Near}
 use Rattle.domain.specs.declared.Search.{Search}
 use Rattle.domain.specs.Outline.{Outline, holeAt, points, pointAt, pointAfter}
 use Rattle.domain.specs.Queries.{squaredDistance, footOf, pointSegmentDistance, near, nowhere, nearer, segmentTurn, nearestInLoop, holeTurn, nearestSegment}
-use Rattle.domain.specs.Search.{search, searchStart, searched, searchTurn, searchLoop, searchHole, searchAll}
+use Rattle.domain.specs.Search.{search, searchStart, searched, searchTurn, searchLoop, searchHole, searchFrom}
 use Rattle.domain.specs.SearchLaws.{Finds, finds-segment, search-same}
 use Rattle.blocks.specs.OrderLaws.{lt-self, lt-cut}
-use Rattle.nearest.specs.Far.{searchFrom}
+use Rattle.nearest.specs.FarLaws.{either-way}
 
 -- ---- floats that are not below r
 
@@ -61,10 +61,6 @@ record Misses (r : Float) (s : Search) : Type 0 where
 abbrev Guess : Float → Search → Near → Type 0
 Guess r s n = Finds s n ⊎ (Misses r s × Above r (n .distance))
 
-either : {A : Type 0} (P : A → Type 0) (b : Bool) {x y : A} → (b ≡ true → P x) → P y → P (cond b x y)
-either P true h k = h refl
-either P false h k = k
-
 guess-segment : (r : Float) (p a b : Point) (s : Search) (n : Near) → Guess r s n → Guess r (searched p a b s) (nearer p a b n)
 unfolding searched nearer pointSegmentDistance squaredDistance
 guess-segment r p a b s n (inl f) = inl (finds-segment p a b s n f)
@@ -91,10 +87,10 @@ guess-segment r p a b s n (inr (m, k)) = decide (lt d r) refl
         rw (u, v, w) (inl (record { same = refl; held = fy; root = refl }))
     decide false e =
         inr (
-          either (Misses r) (lt y (s .squared) && lt d (s .near .distance))
+          either-way (Misses r) (lt y (s .squared) && lt d (s .near .distance))
               (λ t. let up = above r d (s .near .distance) (both (lt y (s .squared)) _ t .1) e in record { held = fy; squared = up; distance = up })
-              m,
-          either (λ (z : Near). Above r (z .distance)) (lt d (n .distance)) (λ t. above r d (n .distance) t e) k,
+              (λ t. m),
+          either-way (λ (z : Near). Above r (z .distance)) (lt d (n .distance)) (λ t. above r d (n .distance) t e) (λ t. k),
         )
 
 -- ---- the search
@@ -130,11 +126,6 @@ guess-same o p limit f e = end (guess-all r o p start (inr (misses, above-infini
     end (inl g) = g .same
     end (inr (m, k)) = absurd (subst T (lt-self _) (m .distance _ (rw e tt)))
 
--- and from nowhere it always does
-pub whole-same : (o : Outline) (p : Point) → searchFrom o p searchStart .near ≡ nearestSegment o p
-unfolding searchFrom searchAll
-whole-same o p = search-same o p
-
 -- ---- as the code has them
 
 module _ (o : Outline) (p : Point) {start : Search} (e : start ≡ searchStart) where
@@ -145,4 +136,4 @@ module _ (o : Outline) (p : Point) {start : Search} (e : start ≡ searchStart) 
       ap (λ (s : Search). s .near) same ∙ guess-same o p limit f (rw (← same, ← i) h)
 
   pub whole-taken : {found : Search} → found ≡ searchFrom o p start → found .near ≡ nearestSegment o p
-  whole-taken g = ap (λ (s : Search). s .near) (g ∙ ap (searchFrom o p) e) ∙ whole-same o p
+  whole-taken g = ap (λ (s : Search). s .near) (g ∙ ap (searchFrom o p) e) ∙ search-same o p

@@ -1,4 +1,4 @@
--- What the code's tests tell: a coordinate is moderate (`moderate`), and a block that is passed over has no segment that the search would take (`passed-same`).
+-- What the code's tests tell: a coordinate is moderate (`coordinate-moderate`), and a block that is passed over has no segment that the search would take (`passed-same`).
 -- Assumes nothing.
 use mathlib.Core.Bool.{true, false}
 use mathlib.Core.List.{List}
@@ -19,13 +19,13 @@ use Rattle.domain.specs.declared.Search.{Search}
 use Rattle.domain.specs.Outline.{Outline, loopAt, points, pointAt, pointAfter}
 use Rattle.domain.specs.OutlineLaws.{outer-points}
 use Rattle.domain.specs.Accepted.{after-within}
-use Rattle.domain.specs.Search.{searchTurn, searchLoop, searchHole}
+use Rattle.domain.specs.Search.{searchTurn, searchLoop, searchHole, searchFrom}
 use Rattle.blocks.specs.Blocks.{blockEnd, isListed, BlockThere, LoopDrawn, blockExtent}
 use Rattle.blocks.specs.BetweenLaws.{BlockPlace}
 use Rattle.blocks.specs.BlockLaws.{block-there, block-covers, block-filed}
 use Rattle.blocks.specs.ReachLaws.{point-fits, after-fits, block-within}
-use Rattle.nearest.specs.Far.{Moderate, isFar, isPassed, searchFrom}
-use Rattle.nearest.specs.FarLaws.{Ends, far-same}
+use Rattle.nearest.specs.Far.{moderateBound, ModeratePoint, isFar, isPassed}
+use Rattle.nearest.specs.FarLaws.{EndsWithin, far-same}
 
 -- ---- a coordinate of the point
 
@@ -33,7 +33,7 @@ use Rattle.nearest.specs.FarLaws.{Ends, far-same}
 abbrev moderateF : Float
 moderateF = bits 0x4130_0000_0000_0000
 
-moderate-val : Val moderateF false (1048576 * W)
+moderate-val : Val moderateF false (moderateBound * W)
 unfolding ofBits W
 moderate-val = (refl, refl)
 
@@ -43,12 +43,12 @@ finite-abs nan h = h
 finite-abs (inf s) h = h
 finite-abs (fin s m e) h = tt
 
-pub moderate : (x : Float) → T (fits binary64 x) → {y : Float} → y ≡ absF x → le y moderateF ≡ true → Within 1048576 x
-moderate x f e t =
+pub coordinate-moderate : (x : Float) → T (fits binary64 x) → {y : Float} → y ≡ absF x → le y moderateF ≡ true → Within moderateBound x
+coordinate-moderate x f e t =
     let h : T (le (absF x) moderateF) = rw (← e, t) tt in
     let i = finite-abs x h in
     let v = abs-val x (signOf x) (sizeOf x) (val-of x i f) in
-    within 1048576 x f i (leb→le (sizeOf x) (1048576 * W) (le-val (absF x) moderateF false false (sizeOf x) (1048576 * W) v moderate-val .0 h .le))
+    within moderateBound x f i (leb→le (sizeOf x) (moderateBound * W) (le-val (absF x) moderateF false false (sizeOf x) (moderateBound * W) v moderate-val .0 h .le))
 
 -- ---- the block at which a loop by blocks stands
 
@@ -57,7 +57,7 @@ module _ {s : List Float} {blocks : List ℕ} {first from b : ℕ} (d : LoopDraw
   pub place-there : 4 * b + 3 < length blocks → BlockThere s blocks b
   place-there l = block-there (block-filed (d .filed) place h l) l
 
-  ends : (i : ℕ) → i < points s → Ends (pointAt s i) (pointAfter s i)
+  ends : (i : ℕ) → i < points s → EndsWithin (pointAt s i) (pointAfter s i)
   ends i l = record {
     a-fits = point-fits s (d .fits) i l;
     b-fits = after-fits s (d .fits) i l;
@@ -66,14 +66,15 @@ module _ {s : List Float} {blocks : List ℕ} {first from b : ℕ} (d : LoopDraw
   }
 
   -- a block that is passed over has no segment to take
-  pub passed-same : (p : Point) (best : Search) → Moderate p → isPassed p s blocks b (best .squared) ≡ true
+  pub passed-same : (p : Point) (best : Search) → (0 < length blocks → ModeratePoint p) → isPassed p s blocks b (best .squared) ≡ true
       → (i : ℕ) → from ≤ i → i < blockEnd (points s) from → searchTurn p s i best ≡ best
   unfolding isPassed
   passed-same p best m e i g l =
       let t = both (isListed blocks b) (isFar p (blockExtent s blocks b) (best .squared)) e in
-      let filed = block-filed (d .filed) place h (ltb-true (4 * b + 3) (length blocks) (t .0)) in
-      let there = block-there filed (ltb-true (4 * b + 3) (length blocks) (t .0)) in
-      far-same p (pointAt s i) (pointAfter s i) (blockExtent s blocks b) m (ends i (omega arith)) (block-within s (d .within) there)
+      let listed = ltb-true (4 * b + 3) (length blocks) (t .0) in
+      let filed = block-filed (d .filed) place h listed in
+      let there = block-there filed listed in
+      far-same p (pointAt s i) (pointAfter s i) (blockExtent s blocks b) (m (omega arith)) (ends i (omega arith)) (block-within s (d .within) there)
       (block-covers filed i g l) best (t .1)
 
 -- ---- the loops of an outline

@@ -1,23 +1,27 @@
-// `nearest_segment` of the outline by blocks (crate blocks): those farther from the point than the best so far are passed over. The answer is proved to be
-// that of the plain search (crate domain).
+// `nearest_segment` of the outline by blocks (crate blocks): those no nearer to the point than the best so far are passed over. The answer is proved to be
+// that of the definition in crate domain, which asks every segment.
 ghost use mathlib.Core.Path.{_≡_};
 ghost use mathlib.Core.Bool.{true};
 ghost use Prim.Native.Nat.{_+_, _*_, _≤_, _<_};
 ghost use lib.ListN.{length};
 ghost use Rattle.exact.specs.Units.{Within};
-ghost use Rattle.domain.specs.Outline.{outline, points};
+ghost use Rattle.domain.specs.Outline.{outline, points, mostPoints};
 ghost use Rattle.domain.specs.Queries.{nearestSegment};
-ghost use Rattle.domain.specs.Search.{searchTurn, searchLoop};
+ghost use Rattle.domain.specs.Search.{searchTurn, searchLoop, searchFrom};
 ghost use Rattle.blocks.specs.Blocks.{forBetween, reach, sideAt, BlockThere, LoopDrawn, Drawn, blockExtent};
-ghost use Rattle.nearest.specs.Far.{Moderate, gap, isFar, isPassed, searchFrom};
+ghost use Rattle.nearest.specs.Far.{moderateBound, ModeratePoint, spanGap, isFar, isPassed};
 use blocks::BLOCK;
 use blocks::Extent;
 use domain::Near;
 use domain::Point;
 use domain::Search;
+use domain::Settings;
 
-fn gap(x: f64, least: f64, most: f64) -> f64
-    ensures { λ r. ⌜ r ≡ gap x least most ⌝ }
+// A coordinate beyond this either way is too far out for the search by blocks.
+const MODERATE: f64 = 1048576.0;
+
+fn span_gap(x: f64, least: f64, most: f64) -> f64
+    ensures { λ r. ⌜ r ≡ spanGap x least most ⌝ }
 {
     if x < least {
         return x - least;
@@ -29,8 +33,8 @@ fn gap(x: f64, least: f64, most: f64) -> f64
 fn is_far(p: Point, e: Extent, squared: f64) -> bool
     ensures { λ r. ⌜ r ≡ isFar p e squared ⌝ }
 {
-    let dx = gap(p.x, e.xmin, e.xmax);
-    let dy = gap(p.y, e.ymin, e.ymax);
+    let dx = span_gap(p.x, e.xmin, e.xmax);
+    let dy = span_gap(p.y, e.ymin, e.ymax);
     !(dx * dx + dy * dy < squared)
 }
 
@@ -56,7 +60,7 @@ fn block_extent(s: &[f64], blocks: &[u32], b: usize) -> Extent
 
 // Whether block b is listed and no segment of it is nearer to p than the best so far.
 fn is_passed(p: Point, s: &[f64], blocks: &[u32], b: usize, squared: f64) -> bool
-    requires { ⌜ (b ≤ 2305843009213693952) × (4 * b + 3 < length (now blocks) → BlockThere (now s) (now blocks) b) ⌝ }
+    requires { ⌜ (b ≤ 3 * mostPoints) × (4 * b + 3 < length (now blocks) → BlockThere (now s) (now blocks) b) ⌝ }
     ensures { λ r. ⌜ r ≡ isPassed p (now (s .entry)) (now (blocks .entry)) b squared ⌝ }
 {
     if blocks::is_listed(blocks, b) {
@@ -83,7 +87,7 @@ fn search_part(p: Point, s: &[f64], from: usize, to: usize, best: Search) -> Sea
 }
 
 fn search_loop(p: Point, s: &[f64], blocks: &[u32], first: usize, best: Search) -> Search
-    requires { ⌜ LoopDrawn (now s) (now blocks) first × (first ≤ 1152921504606846976) × Moderate p ⌝ }
+    requires { ⌜ LoopDrawn (now s) (now blocks) first × (first ≤ 2 * mostPoints) × (0 < length (now blocks) → ModeratePoint p) ⌝ }
     ensures { λ r. ⌜ r ≡ searchLoop p (now (s .entry)) best ⌝ }
 {
     let n = s.len() / 2;
@@ -108,7 +112,7 @@ fn search_all<'a>(
     p: Point,
     best: Search,
 ) -> Search
-    requires { ⌜ Drawn (outline (now outer) (now holes) (now lens)) (now blocks) × Moderate p ⌝ }
+    requires { ⌜ Drawn (outline (now outer) (now holes) (now lens)) (now blocks) × (0 < length (now blocks) → ModeratePoint p) ⌝ }
     ensures { λ r. ⌜ r ≡ searchFrom (outline (now (outer .entry)) (now (holes .entry)) (now (lens .entry))) p best ⌝ }
 {
     let mut found = search_loop(
@@ -130,15 +134,32 @@ fn search_all<'a>(
     found
 }
 
-fn is_moderate(x: f64) -> bool
-    ensures { λ r. ⌜ (r ≡ true → Within 1048576 x) ⌝ }
+// `nearest_segment` of the outline, with no guess. Without blocks every segment is asked, and p may be anywhere.
+pub fn search_outline<'a>(
+    outer: &'a [f64],
+    holes: &'a [f64],
+    lens: &[usize],
+    blocks: &[u32],
+    p: Point,
+) -> Near
+    requires { ⌜ Drawn (outline (now outer) (now holes) (now lens)) (now blocks) × (0 < length (now blocks) → ModeratePoint p) ⌝ }
+    ensures { λ r. ⌜ r ≡ nearestSegment (outline (now (outer .entry)) (now (holes .entry)) (now (lens .entry))) p ⌝ }
 {
-    numbers::abs_f64(x) <= 1048576.0
+    let found = search_all(outer, holes, lens, blocks, p, domain::search_start());
+    found.near
+}
+
+// ---- from a guess
+
+fn is_moderate(x: f64) -> bool
+    ensures { λ r. ⌜ (r ≡ true → Within moderateBound x) ⌝ }
+{
+    numbers::abs_f64(x) <= MODERATE
 }
 
 // Whether p is near enough for the search by blocks.
 fn is_near(p: Point) -> bool
-    ensures { λ r. ⌜ (r ≡ true → Moderate p) ⌝ }
+    ensures { λ r. ⌜ (r ≡ true → ModeratePoint p) ⌝ }
 {
     if is_moderate(p.x) {
         is_moderate(p.y)
@@ -149,7 +170,8 @@ fn is_near(p: Point) -> bool
 
 // Slightly more than the squared distance of p from the segment guessed. The answer is the same with any other number, so nothing is promised of it.
 fn limit(p: Point, guess: Near) -> f64 {
-    domain::squared_distance(p, domain::foot_of(p, guess.a, guess.b)) * 1.000001 + 1.0e-12
+    domain::squared_distance(p, domain::foot_of(p, guess.a, guess.b)) * 1.000001
+        + Settings::TOLERANCE
 }
 
 // `nearest_segment` of the outline. With a guess of a segment near p the search begins at its distance, so that most blocks are passed over. The guess may
@@ -166,7 +188,7 @@ pub fn nearest_segment<'a>(
     ensures { λ r. ⌜ r ≡ nearestSegment (outline (now (outer .entry)) (now (holes .entry)) (now (lens .entry))) p ⌝ }
 {
     if !is_near(p) {
-        return domain::nearest_segment(outer, holes, lens, p);
+        return search_outline(outer, holes, lens, &blocks[0..0], p);
     }
     let start = domain::search_start();
     let nowhere = start.near;
@@ -180,6 +202,5 @@ pub fn nearest_segment<'a>(
     if near.distance < numbers::sqrt_f64(squared) {
         return near;
     }
-    let whole = search_all(outer, holes, lens, blocks, p, start);
-    whole.near
+    search_outline(outer, holes, lens, blocks, p)
 }

@@ -312,7 +312,7 @@ over-all N Q k b near D d h =
 -- ---- the theorem
 
 -- y is the double nearest to √(n * 2 ^ 1074) units, and no other is as near.
-pub record Nearest (n : ℕ) (y : Float) : Type 0 where
+pub record NearestFloat (n : ℕ) (y : Float) : Type 0 where
   -- it is a double
   pub held : T (fits binary64 y)
   -- of r units
@@ -324,7 +324,7 @@ pub record Nearest (n : ℕ) (y : Float) : Type 0 where
   pub below : (z : Float) (b : ℕ) → T (fits binary64 z) → IsUnits z b → b < r → (r + b) * (r + b) < 4 * (n * 2 ^ 1074)
 
 -- The root of a double x above 0, of n units, is the nearest double.
-pub nearest-root : (x : Float) (n : ℕ) → T (fits binary64 x) → IsUnits x n → 0 < n → Nearest n (root x)
+pub nearest-root : (x : Float) (n : ℕ) → T (fits binary64 x) → IsUnits x n → 0 < n → NearestFloat n (root x)
 nearest-root x n f v h =
     let w = rounded x n f v h in
     record {

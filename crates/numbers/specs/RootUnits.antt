@@ -127,13 +127,13 @@ below s Q h n = lt-of-not-le (λ (g : 2 ^ 53 ≤ Q). no g)
     no g = omega (arith, mul-le-mul-right Q g)
 
 -- the digits Q and the place k of the root
-pub record Rounds (n Q k : ℕ) : Type 0 where
+pub record RootRounds (n Q k : ℕ) : Type 0 where
   pub is : rootUnits n ≡ units binary64 false Q k
   pub small : k < 2046
   pub reach : 2 ^ 52 ≤ Q
   pub under : Q < 2 ^ 53
 
-pub rounds : (sig p s Q : ℕ) → p ≤ 3067 → Split sig p s → NearRoot (s * 2 ^ 52) Q → Rounds (sig * 2 ^ 52 * 2 ^ p) Q (p / 2)
+pub rounds : (sig p s Q : ℕ) → p ≤ 3067 → Split sig p s → NearRoot (s * 2 ^ 52) Q → RootRounds (sig * 2 ^ 52 * 2 ^ p) Q (p / 2)
 rounds sig p s Q h k n =
     let a = k .least in
     let b = k .most in

@@ -1,6 +1,6 @@
 // Number routines that Rattle lacks, each equal to a definition of specs/ on every input (`to_f64`: on every count below 2^32).
 ghost use mathlib.Core.Path.{_≡_};
-ghost use Prim.Native.Nat.{_+_, _*_, _/_, _%_, _^_, _≤_, _<_};
+ghost use Prim.Native.Nat.{_+_, _*_, _/_, _%_, _^_, min, max, _≤_, _<_};
 ghost use Rattle.numbers.specs.Root.{NearRoot, RootBits, rootUnits, root};
 ghost use Rattle.numbers.specs.Float.{toFloat, isFinite, absF, minF, maxF, clampF};
 ghost use Rattle.numbers.specs.Whole.{ceilDiv, sizeOf, floorInt, floorQuotient, ceilCount};
@@ -240,6 +240,34 @@ pub fn to_f64(n: usize) -> f64
 {
     let m = n as u32;
     m as f64
+}
+
+// `a.min(b)`
+pub fn min_u32(a: u32, b: u32) -> u32
+    ensures { λ r. ⌜ r ≡ min a b ⌝ }
+{
+    if a < b { a } else { b }
+}
+
+// `a.max(b)`
+pub fn max_u32(a: u32, b: u32) -> u32
+    ensures { λ r. ⌜ r ≡ max a b ⌝ }
+{
+    if a < b { b } else { a }
+}
+
+// `a.min(b)`
+pub fn min_usize(a: usize, b: usize) -> usize
+    ensures { λ r. ⌜ r ≡ min a b ⌝ }
+{
+    if a < b { a } else { b }
+}
+
+// `a.max(b)`
+pub fn max_usize(a: usize, b: usize) -> usize
+    ensures { λ r. ⌜ r ≡ max a b ⌝ }
+{
+    if a < b { b } else { a }
 }
 
 // `x.min(y)`; of equal zeros, which Rust leaves open, x.

@@ -8,7 +8,7 @@ use lib.ListN.{length, getD, take, drop, replicate}
 use lib.Ieee.{Float, binary64, toBits}
 use Rattle.laws.specs.Loop.{forUp, anyUp, sumUp}
 use Rattle.laws.specs.Tabulate.{tabulate}
-use Rattle.numbers.specs.Float.{bits}
+use Rattle.numbers.specs.Float.{bits, zeroF}
 use Rattle.numbers.specs.Whole.{ceilDiv}
 use Rattle.domain.specs.declared.Settings.{Settings}
 use Rattle.domain.specs.Outline.{Outline, outline, firstOf}
@@ -150,13 +150,23 @@ headOf r = record { settings = r .settings; loops = length (r .lengths); outer =
 unfoldable pub overlay : {A : Type 0} → List A → List A → List A
 overlay l s = l ++ drop (length l) s
 
+-- document 01's number, 0 where nothing is refused, and the numbers of what was read, 0 where it is refused
+pub record FileNumbers : Type 0 where
+  pub refusal : ℕ
+  pub head : Head
+
+abbrev pub fileNumbers : FileAnswer → FileNumbers
+fileNumbers (Refused n) =
+    record { refusal = n; head = record { settings = record { size = zeroF; sweeps = 0; passes = 0 }; loops = 0; outer = 0; points = 0 } }
+fileNumbers (Read head) = record { refusal = 0; head = head }
+
 pub record Reading : Type 0 where
-  pub answer : FileAnswer
+  pub numbers : FileNumbers
   pub points : List Float
   pub lens : List ℕ
 
 abbrev pub reading : FileAnswer → List Float → List ℕ → Reading
-reading answer points lens = record { answer = answer; points = points; lens = lens }
+reading answer points lens = record { numbers = fileNumbers answer; points = points; lens = lens }
 
 -- refused with its number and nothing written; or the request's coordinates and lengths on the first places
 abbrev pub readAs : ℕ → Request → List Float → List ℕ → Reading

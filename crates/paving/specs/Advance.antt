@@ -7,8 +7,8 @@ use lib.ListN.{getD, set}
 use lib.Ieee.{Float}
 use Rattle.laws.specs.Loop.{forUp, Turn, go, out, run}
 use Rattle.domain.specs.Outline.{Outline}
-use Rattle.crossfield.specs.Field.{FieldRecord}
 use Rattle.topology.specs.Links.{off}
+use Rattle.direction.specs.Record.{FieldRecord}
 use Rattle.front.specs.State.{State, nextOf}
 use Rattle.front.specs.Place.{place, isFull}
 use Rattle.paving.specs.declared.Attempt.{Attempt}

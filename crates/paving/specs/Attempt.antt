@@ -7,12 +7,14 @@ use Rattle.numbers.specs.Float.{_⊕_, _⊖_, _⊗_, _⊘_, bits, tolerance}
 use Rattle.domain.specs.declared.Point.{Point}
 use Rattle.domain.specs.Outline.{Outline, point}
 use Rattle.geometry.specs.Plane.{norm, distance}
-use Rattle.crossfield.specs.Field.{FieldRecord}
-use Rattle.crossfield.specs.Direction.{nearestDirection}
+use Rattle.direction.specs.Record.{FieldRecord}
+use Rattle.direction.specs.Direction.{nearestDirection}
 use Rattle.front.specs.declared.Corner.{Corner}
 use Rattle.front.specs.declared.Corner.the-variants.{Reused, Fresh}
-use Rattle.topology.specs.Links.{off}
-use Rattle.front.specs.State.{State, node, nextOf, prevOf}
+use Rattle.front.specs.declared.Neighbour.{Neighbour}
+use Rattle.front.specs.declared.Neighbour.the-variants.{At, Off}
+use Rattle.front.specs.State.{State, node}
+use Rattle.front.specs.Neighbours.{nextAt, prevAt}
 use Rattle.paving.specs.declared.Attempt.{Attempt}
 use Rattle.paving.specs.declared.Attempt.the-variants.{Nothing, Quad}
 use Rattle.paving.specs.Checks.{quadFits}
@@ -23,12 +25,14 @@ use Rattle.paving.specs.Checks.{quadFits}
 abbrev pub reuse : Float
 reuse = bits 0x3fd6_6666_6666_6666
 
--- the front node v is reused for a corner wanted at p: it is there, is not the edge's other end, and is within 0.35 × size
+-- the front node v is reused for a corner wanted at p: it is not the edge's other end, and is within 0.35 × size
 unfoldable pub isReused : Float → State → ℕ → ℕ → Point → Bool
-isReused size s other v p = not (eqb v off) && (not (eqb v other) && le (distance (node s v) p) (reuse ⊗ size))
+isReused size s other v p = not (eqb v other) && le (distance (node s v) p) (reuse ⊗ size)
 
-unfoldable pub cornerAt : Float → State → ℕ → ℕ → Point → Corner
-cornerAt size s other v p = cond (isReused size s other v p) (Reused v) (Fresh (p .x) (p .y))
+-- the corner wanted at p, of a node with the given neighbour
+unfoldable pub cornerAt : Float → State → ℕ → Neighbour → Point → Corner
+cornerAt size s other Off p = Fresh (p .x) (p .y)
+cornerAt size s other (At v) p = cond (isReused size s other v p) (Reused v) (Fresh (p .x) (p .y))
 
 -- one size from p in a direction
 unfoldable pub ideal : Float → Point → Point → Point
@@ -36,11 +40,11 @@ ideal size p d = point (p .x ⊕ size ⊗ d .x) (p .y ⊕ size ⊗ d .y)
 
 -- c stands at a and may be `prev(a)`
 unfoldable pub cornerC : Float → State → ℕ → ℕ → Point → Corner
-cornerC size s a b da = cornerAt size s b (prevOf s a) (ideal size (node s a) da)
+cornerC size s a b da = cornerAt size s b (prevAt s a) (ideal size (node s a) da)
 
 -- d stands at b and may be `next(b)`
 unfoldable pub cornerD : Float → State → ℕ → ℕ → Point → Corner
-cornerD size s a b db = cornerAt size s a (nextOf s b) (ideal size (node s b) db)
+cornerD size s a b db = cornerAt size s a (nextAt s b) (ideal size (node s b) db)
 
 -- ---- `attempt_quad` up to the commit
 

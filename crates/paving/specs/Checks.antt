@@ -13,7 +13,8 @@ use Rattle.geometry.specs.Plane.{distance, convexCcw, pointInConvex, segmentsCr
 use Rattle.geometry.specs.Keys.{isCandidate, clearance, isTooClose, isInBox}
 use Rattle.front.specs.declared.Corner.{Corner}
 use Rattle.front.specs.declared.Corner.the-variants.{Reused, Fresh}
-use Rattle.front.specs.State.{State, node, nextOf, edgeFrom, edgeTo}
+use Rattle.front.specs.State.{State, node, edgeFrom, edgeTo}
+use Rattle.front.specs.Neighbours.{nextAt, isAt}
 use Rattle.front.specs.Place.{cornerPoint, idC, idD}
 
 -- ---- new nodes
@@ -46,9 +47,13 @@ cornersApart size (Fresh x y) (Fresh z w) = not (le (distance (point x y) (point
 abbrev pub isCorner : ℕ → ℕ → ℕ → ℕ → ℕ → Bool
 isCorner a b d c id = eqb id a || (eqb id b || (eqb id d || eqb id c))
 
--- node id, not a corner, lies in the quad and in its key rectangle
+-- the node q of number id, not a corner, lies in the quad and in its key rectangle
+abbrev pub blocksAt : Float → Corners → ℕ → ℕ → ℕ → ℕ → ℕ → Point → Bool
+blocksAt size p a b d c id q = isInBox size p q && (not (isCorner a b d c id) && pointInConvex p q)
+
+-- node id does
 abbrev pub blocks : Float → State → Corners → ℕ → ℕ → ℕ → ℕ → ℕ → Bool
-blocks size s p a b d c id = isInBox size p (node s id) && (not (isCorner a b d c id) && pointInConvex p (node s id))
+blocks size s p a b d c id = blocksAt size p a b d c id (node s id)
 
 unfoldable pub nodeInside : Float → State → Corners → ℕ → ℕ → ℕ → ℕ → Bool
 nodeInside size s p a b d c = anyUp (s .counts .nodes) (blocks size s p a b d c)
@@ -59,12 +64,14 @@ nodeInside size s p a b d c = anyUp (s .counts .nodes) (blocks size s p a b d c)
 abbrev pub shareEnd : ℕ → ℕ → ℕ → ℕ → Bool
 shareEnd c d u v = eqb c u || (eqb c v || (eqb d u || eqb d v))
 
--- edge k is a candidate for the new edge a to b, whose ends are the nodes u and v, shares no end with it, and crosses it
-abbrev pub crossesEdge : Float → State → Point → Point → ℕ → ℕ → ℕ → Bool
-crossesEdge size s a b u v k =
-    let c = edgeFrom s k in
-    let d = edgeTo s k in
+-- the edge c to d is a candidate for the new edge a to b, whose ends are the nodes u and v, shares no end with it, and crosses it
+abbrev pub crossesAt : Float → State → Point → Point → ℕ → ℕ → ℕ → ℕ → Bool
+crossesAt size s a b u v c d =
     not (shareEnd c d u v) && (isCandidate size a b (node s c) (node s d) && segmentsCross a b (node s c) (node s d))
+
+-- edge k does
+abbrev pub crossesEdge : Float → State → Point → Point → ℕ → ℕ → ℕ → Bool
+crossesEdge size s a b u v k = crossesAt size s a b u v (edgeFrom s k) (edgeTo s k)
 
 -- `edge_crosses`
 unfoldable pub edgeCrosses : Float → State → Point → Point → ℕ → ℕ → Bool
@@ -96,4 +103,4 @@ quadOk o size s a b c d =
 unfoldable pub quadFits : Outline → Float → State → ℕ → ℕ → Corner → Corner → Bool
 quadFits o size s a b c d =
     not (eqb (idC s c) (idD s c d)) && (cornerFree o size s c && (cornerFree o size s d && (cornersApart size c d
-    && (not (eqb (nextOf s (idC s c)) (idD s c d)) && quadOk o size s a b c d))))
+    && (not (isAt (nextAt s (idC s c)) (idD s c d)) && quadOk o size s a b c d))))

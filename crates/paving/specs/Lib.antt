@@ -5,4 +5,3 @@ pub mod Advance
 pub mod Loops
 pub mod Reach
 pub mod ReachLaws
-pub mod Run

@@ -2,9 +2,9 @@
 use mathlib.Core.Bool.{Bool}
 use mathlib.Core.List.{List}
 use Prim.Native.Nat.{ℕ}
-use lib.Dec.{eqb}
 use lib.ListN.{length}
 use Rattle.topology.specs.Listing.{walks}
+use Rattle.topology.specs.LongLoops.{isWhole}
 use Rattle.front.specs.State.{State, nextOf}
 
 -- `front_loops`: starts from the smallest id and lists loops of three or more
@@ -13,4 +13,4 @@ frontLoops s = walks 3 (s .counts .nodes) (s .counts .front) (nextOf s)
 
 -- whole: `front_loops` lists nothing
 unfoldable pub whole : State → Bool
-whole s = eqb (length (frontLoops s)) 0
+whole s = isWhole (length (frontLoops s))

@@ -10,8 +10,8 @@ use Rattle.numbers.specs.Float.{_⊖_, tolerance}
 use Rattle.domain.specs.declared.Point.{Point}
 use Rattle.domain.specs.Outline.{Outline}
 use Rattle.geometry.specs.Plane.{norm}
-use Rattle.crossfield.specs.Field.{FieldRecord}
-use Rattle.crossfield.specs.Direction.{nearestDirection}
+use Rattle.direction.specs.Record.{FieldRecord}
+use Rattle.direction.specs.Direction.{nearestDirection}
 use Rattle.front.specs.declared.Corner.{Corner}
 use Rattle.front.specs.State.{State, node}
 use Rattle.front.specs.Place.{place, isFull}

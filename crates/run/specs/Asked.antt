@@ -7,21 +7,21 @@ use lib.Ieee.{Float}
 use Rattle.domain.specs.declared.Settings.{Settings}
 use Rattle.domain.specs.Outline.{Outline}
 use Rattle.blocks.specs.Blocks.{Drawn}
-use Rattle.crossfield.specs.declared.Grid.{Grid}
-use Rattle.crossfield.specs.Places.{Lent}
+use Rattle.direction.specs.declared.Grid.{Grid}
+use Rattle.direction.specs.Cells.{FieldLent}
 use Rattle.front.specs.State.{State}
-use Rattle.front.specs.Sampling.{frontRefusal}
-use Rattle.paving.specs.Run.{runRefusal}
+use Rattle.front.specs.Sampling.{loopCount, frontRefusal}
+use Rattle.whole_run.specs.Run.{runRefusal}
 use Rattle.run.specs.Run as run
 
 -- of sampling and paving: neither the outline nor the places lent are refused, the outline's blocks are filed, and the field is lent
 pub record CanPave (o : Outline) (blocks : List ℕ) (size : Float) (g : Grid) (values : List Float) (lent : State) : Type 0 where
   pub drawn : Drawn o blocks
   pub front : frontRefusal o size lent ≡ 0
-  pub field : Lent g values
+  pub field : FieldLent g values
 
--- of a run in all of the lists: none of 1 to 10 refuses it, and the lists of the loops have a place for each of the snapshot's
+-- of a run in all of the lists: none of 1 to 10 refuses it, the loops' ids have a place for each of the snapshot's, and their lengths one for each loop
 pub record CanRun (o : Outline) (set : Settings) (l : run.Lent) : Type 0 where
   pub none : runRefusal o set (run.fieldPart l) (run.statePart l) ≡ 0
   pub loops : length (l .snapshot) ≤ length (l .loops)
-  pub lengths : length (l .snapshot) ≤ length (l .lengths)
+  pub lengths : loopCount o ≤ length (l .lengths)

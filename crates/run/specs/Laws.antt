@@ -1,50 +1,49 @@
 -- Laws of the run: what each stage asks follows from the refusals, the stages make up the definition, and what a caller gets.
-use mathlib.Core.Bool.{false}
-use mathlib.Core.List.{List, [], _++_}
+use mathlib.Core.Bool.{Bool, true, false, cond}
+use mathlib.Core.List.{List, [], _++_, map, flatten}
 use mathlib.Core.Path.{_≡_, refl, sym, _∙_, ap, subst, subst⁻¹, fun-ext}
 use Prim.Native.Nat.{ℕ, _*_, _/_, _≤_, min}
 use native.Mathlib.Omega.{arith}
-use lib.Dec.{T}
-use lib.ListN.{length, take, drop}
-use lib.Seq.{length-take-le}
+use borrow.Author.Tests.{ltb-false}
+use lib.Dec.{T, ltb}
+use lib.ListN.{length, take, drop, length-map}
+use lib.Seq.{length-take-le, take-append-seam}
 use lib.Ieee.{Float, binary64, fits}
 use Rattle.laws.specs.Loop.{run}
-use Rattle.numbers.specs.Float.{zeroF}
 use Rattle.domain.specs.declared.Settings.{Settings}
 use Rattle.domain.specs.Outline.{Outline, firstOf}
 use Rattle.domain.specs.Accepted.{OutlineFits, first-zero}
 use Rattle.domain.specs.RefusalLaws.{answer-refused}
 use Rattle.blocks.specs.Blocks.{Drawn}
-use Rattle.crossfield.specs.declared.Grid.{Grid}
-use Rattle.crossfield.specs.Grid.{bounds, gridOf, gridNodes}
-use Rattle.crossfield.specs.declared.FieldAnswer.{FieldAnswer}
-use Rattle.crossfield.specs.declared.FieldAnswer.the-variants as answer-is
-use Rattle.crossfield.specs.Seeds.{FieldLists}
-use Rattle.crossfield.specs.Field.{FieldRecord, fieldRecord, fieldPlaces, refusalFor, fieldRefusal, fieldOf}
-use Rattle.crossfield.specs.Field.{FieldResult, fieldResult, madeOf, fieldAnswer, FieldDraws}
+use Rattle.direction.specs.declared.Grid.{Grid}
+use Rattle.direction.specs.Record.{gridNodes, FieldRecord, fieldRecord}
+use Rattle.direction.specs.Cells as field-places
+use Rattle.direction.specs.Direction.{nearestDirection}
+use Rattle.crossfield.specs.Grid.{bounds, gridOf}
+use Rattle.crossfield.specs.Field.{fieldPlaces, refusalFor, fieldRefusal, fieldOf}
 use Rattle.crossfield.specs.FieldLaws.{unrefused, few-made, sides}
-use Rattle.crossfield.specs.Places as field-places
-use Rattle.crossfield.specs.Direction.{nearestDirection}
-use Rattle.front.specs.State.{State, stateOf, nodePlaces, edgePlaces}
-use Rattle.front.specs.Sampling.{sampledCount, frontRefusal, fromBoundary, boundaryLoops}
+use Rattle.topology.specs.LongLoops.{isWhole, whole-two}
+use Rattle.front.specs.State.{State, stateOf, fewest, mostNodes, nodePlaces, edgePlaces}
+use Rattle.front.specs.Sampling.{loopCount, sampledCount, sampledRefusal, frontRefusal, fromBoundary, boundaryLoops}
 use Rattle.paving.specs.Attempt.{tryToward, tryEdge}
 use Rattle.paving.specs.Advance.{Passed, passing, passTurn, afterPass, withSnapshot, pass, mostPasses, allUsed, advance}
 use Rattle.paving.specs.Advance as paving
 use Rattle.paving.specs.ReachLaws.{advance-reaches}
 use Rattle.paving.specs.Loops.{frontLoops}
-use Rattle.paving.specs.Run.{runRefusal, runOf}
-use Rattle.loops.specs.Listed.{lists, Lists, Listable, listedIn}
-use Rattle.loops.specs.ListedLaws.{sound-listable}
-use Rattle.advance.specs.Paveable.{Paveable, Later, reached-later}
+use Rattle.whole_run.specs.Run.{runRefusal, runOf}
+use Rattle.loops.specs.Listed.{Lists, overlay, written, Listable, listedIn}
+use Rattle.loops.specs.ListedLaws.{listed-front, sound-listable}
+use Rattle.advance.specs.Paveable.{Paveable}
 use Rattle.sampled.specs.Outlines.{outline-three}
 use Rattle.sampled.specs.Begun.{Begun, begun}
-use Rattle.books.specs.Book.{quadAt, newNode, side, bookQuad, bookAfter, quadsArea}
-use Rattle.books.specs.Holds.{BooksHold}
+use Rattle.books.specs.Book.{Book, quadAt, newNode, side, bookQuad, bookAfter, quadsArea}
+use Rattle.books.specs.Holds.{BooksHold, Closes, LoopsAnswered}
+use Rattle.books_hold.specs.Stages.{Standing, standing}
 use Rattle.books_hold.specs.Theorem.{books-hold}
 use Rattle.run.specs.declared.Paved.{Paved}
 use Rattle.run.specs.Run as run-is
-use Rattle.run.specs.Run.{Lent, Ran, ran, lent, fieldPart, statePart, snapshotPlaces, narrowed, widened, fewest}
-use Rattle.run.specs.Run.{refusedAnswer, pavedAnswer, refusalOf, acceptedIn, acceptedRun, runAnswer, answered, Paves}
+use Rattle.run.specs.Run.{Lent, Ran, ran, lent, fieldPart, statePart, snapshotPlaces, narrowed, widened}
+use Rattle.run.specs.Run.{refusedAnswer, pavedAnswer, lengthsRefusal, refusalOf, acceptedIn, acceptedRun, runAnswer, PavesBooks, Paves}
 use Rattle.run.specs.Asked.{CanPave, CanRun}
 
 -- ---- a paving doesn't read the field's marks
@@ -61,26 +60,6 @@ module _ (o : Outline) (size : Float) (g : Grid) (values : List Float) (marks ot
   advance-unread : (n : ℕ) (s : State) → advance o size (fieldRecord g values marks) n s ≡ advance o size (fieldRecord g values other) n s
   unfolding advance
   advance-unread n s = ap (λ (p : State → Passed). run (min n mostPasses) (λ k. p) allUsed s) pass-unread
-
--- ---- the field that is made
-
--- the grid of an answer, zeros where it is refused
-unfoldable pub gridIn : FieldAnswer → Grid
-gridIn (answer-is.Refused n) = record { xmin = zeroF; ymin = zeroF; h = zeroF; nx = 0; ny = 0 }
-gridIn (answer-is.Made g) = g
-
-module _ (o : Outline) (size : Float) (n : ℕ) (f : FieldLists) (none : fieldRefusal o size n f ≡ 0) (r : FieldAnswer) (values : List Float)
-    (marks : List ℕ) (e : fieldResult r values marks ≡ fieldAnswer o size n f) where
-  made : fieldResult r values marks ≡ madeOf (fieldOf o size n f)
-  unfolding fieldAnswer
-  made = rw none at e
-
-  pub field-made : (g : Grid) → g ≡ gridIn r → fieldRecord g values marks ≡ fieldOf o size n f
-  unfolding fieldOf gridIn
-  field-made g same = rw same (ap (λ (w : FieldResult). fieldRecord (gridIn (w .answer)) (w .lists .values) (w .lists .marks)) made)
-
-  pub field-drawn : (before after : List ℕ) → FieldDraws o r before after → Drawn o after
-  field-drawn before after D = subst (λ (a : FieldAnswer). FieldDraws o a before after) (ap (λ (w : FieldResult). w .answer) made) D
 
 -- ---- what sampling and paving ask
 
@@ -100,7 +79,7 @@ module _ (o : Outline) (set : Settings) (l : Lent) (C : CanRun o set l) where
   unfolding fieldRefusal
   none-for = none-field
 
-  lent-made : OutlineFits o → T (fits binary64 (set .size)) → field-places.Lent (gridOf (bounds o) (set .size)) (l .values)
+  lent-made : OutlineFits o → T (fits binary64 (set .size)) → field-places.FieldLent (gridOf (bounds o) (set .size)) (l .values)
   lent-made doubles held =
       let u = unrefused o (set .size) (set .sweeps) (fieldPlaces (fieldPart l)) none-for in
       let two = sides (bounds o) (set .size) in
@@ -145,7 +124,7 @@ module _ (o : Outline) (blocks : List ℕ) (size : Float) (g : Grid) (values : L
   -- ---- what the loops ask
 
   pub can-list : (field : FieldRecord) (passes : ℕ) (end : paving.Paved) → end ≡ advance o size field passes (fromBoundary o size s)
-      → (loops lengths : List ℕ) → length (s .snapshot) ≤ length loops → length (s .snapshot) ≤ length lengths
+      → (loops lengths : List ℕ) → length (s .snapshot) ≤ length loops → loopCount o ≤ length lengths
       → Listable (end .state .counts) (end .state .next) (end .state .snapshot) loops lengths
   unfolding nodePlaces
   can-list field passes end e loops lengths a b = rw e listable
@@ -153,18 +132,16 @@ module _ (o : Outline) (blocks : List ℕ) (size : Float) (g : Grid) (values : L
       t : State
       t = advance o size field passes (fromBoundary o size s) .state
 
-      L : Later o blocks g values (fromBoundary o size s) t
-      L = let r = advance-reaches o size (fromBoundary o size s) field passes in
-          reached-later o blocks g values size (fromBoundary o size s) t (r .quads) paveable (r .by)
+      Y : Standing (sampledCount o size) (fromBoundary o size s) (boundaryLoops o size s) t
+      Y = standing (begins .sound) (advance-reaches o size (fromBoundary o size s) field passes .by)
 
       long : length (t .snapshot) ≡ length (s .snapshot)
-      long = L .frame .snapshot .long ∙ ap length (begins .snapshot)
+      long = Y .frame .snapshot .long ∙ ap length (begins .snapshot)
 
       listable : Listable (t .counts) (t .next) (t .snapshot) loops lengths
       listable =
-          let S = L .paveable .sound in
-          sound-listable (L .paveable .sampled) t (L .paveable .loops) S loops lengths (omega (arith, S .nodes-fit, long, a))
-          (omega (arith, S .nodes-fit, long, b))
+          sound-listable (sampledCount o size) t (Y .loops) (Y .sound) loops lengths (omega (arith, Y .sound .nodes-fit, long, a))
+          (omega (arith, Y .number, begins .loops, b))
 
 -- ---- the books don't read the snapshot
 
@@ -183,6 +160,28 @@ module _ (o : Outline) (size : Float) (s : State) (snapshot : List ℕ) where
             let C = B .closes b e in
             record { xs = C .xs; ys = C .ys; front = C .front; nodes = C .nodes; edges = C .edges; loops = C .loops };
       }
+
+-- ---- what is answered of the loops
+
+-- what `front_loops` writes, and the numbers that it answers
+module _ (o : Outline) (s : State) (marks loops lengths : List ℕ) (p : Lists)
+    (e : p ≡ listedIn (s .counts) (s .next) marks loops lengths) where
+  loops-answered : (b : Book) → Closes o s b
+      → LoopsAnswered o b (p .listed .count) (p .listed .ids) (p .loops) (p .lengths) (isWhole (p .listed .count))
+  unfolding written overlay
+  loops-answered b C =
+      let ms = frontLoops s in
+      let n = length-map ms length in
+      rw (e ∙ listed-front s marks loops lengths)
+      (record {
+        listed = ms;
+        long = C .loops;
+        count = refl;
+        ids = refl;
+        nodes = take-append-seam (flatten ms) _;
+        each = rw (← n) (take-append-seam (map length ms) _);
+        whole = λ L. whole-two (L .loops) ms (L .even) (C .loops L);
+      })
 
 -- ---- the stages make up the run
 
@@ -205,28 +204,39 @@ module _ (o : Outline) (set : Settings) (l : Lent) (m : ℕ) (e : m ≡ snapshot
 
   pub number-is : (field nodes number : ℕ) → field ≡ min (length (l .values) / 2) (length (l .marks))
       → nodes ≡ fewest (length (l .xs)) (length (l .ys)) (length (l .next)) (length (l .prev)) m
-      → ((s : State) → nodePlaces s ≡ nodes → edgePlaces s ≡ length (l .edges) / 2
-      → number ≡ firstOf (refusalFor o (set .size) (set .sweeps) field) (frontRefusal o (set .size) s))
+      → number ≡ firstOf
+      (firstOf (refusalFor o (set .size) (set .sweeps) field) (sampledRefusal o (set .size) (min nodes mostNodes) (length (l .edges) / 2)))
+      (lengthsRefusal o (length (l .lengths)))
       → number ≡ refusalOf o set l
-  unfolding refusalOf runRefusal fieldRefusal nodePlaces edgePlaces fewest
-  number-is field nodes number ef en h =
-      rw (← e, ← ef) (h (statePart (run-is.withSnapshot l (take m (l .snapshot)))) (rw (part-long, en) refl) refl)
+  unfolding refusalOf runRefusal fieldRefusal frontRefusal nodePlaces edgePlaces
+  number-is field nodes number ef en h = h ∙ rw (ef, en, ← e, part-long) refl
+
+  -- neither the run nor the list of lengths is refused
+  none-of : refusalOf o set l ≡ 0 → (runRefusal o set (fieldPart l) (statePart (narrowed l)) ≡ 0) × (lengthsRefusal o (length (l .lengths)) ≡ 0)
+  unfolding refusalOf
+  none-of z = first-zero (runRefusal o set (fieldPart l) (statePart (narrowed l))) (lengthsRefusal o (length (l .lengths))) z
 
   pub can-run : refusalOf o set l ≡ 0 → CanRun o set (run-is.withSnapshot l (take m (l .snapshot)))
-  unfolding refusalOf
   can-run z =
       record {
-        none = rw e z;
+        none = rw e (none-of z .0);
         loops = rw part-long (omega (arith, e));
-        lengths = rw part-long (omega (arith, e));
+        lengths = room (none-of z .1);
       }
+    where
+      room : lengthsRefusal o (length (l .lengths)) ≡ 0 → loopCount o ≤ length (l .lengths)
+      room h = by (ltb (length (l .lengths)) (loopCount o)) refl h
+        where
+          by : (b : Bool) → ltb (length (l .lengths)) (loopCount o) ≡ b → cond {A = ℕ} b 10 0 ≡ 0 → loopCount o ≤ length (l .lengths)
+          by false e h = ltb-false (length (l .lengths)) (loopCount o) e
+          by true e h = absurd (omega arith)
 
   -- ---- what a caller gets
 
   pub paves-accepted : refusalOf o set l ≡ 0 → OutlineFits o → (r : Paved) (after : Lent)
       → ran r after ≡ acceptedIn o set (run-is.withSnapshot l (take m (l .snapshot)))
       → Paves o set l r (run-is.withSnapshot after (after .snapshot ++ drop m (l .snapshot)))
-  unfolding runAnswer acceptedRun acceptedIn refusalOf
+  unfolding runAnswer acceptedRun acceptedIn
   paves-accepted z doubles r after q =
       let same : ran r after ≡ acceptedIn o set (narrowed l) = rw e at q in
       record {
@@ -235,9 +245,11 @@ module _ (o : Outline) (set : Settings) (l : Lent) (m : ℕ) (e : m ≡ snapshot
         books =
             λ _.
             let snapshot = after .snapshot ++ drop m (l .snapshot) in
-            subst⁻¹ (λ (w : Ran). BooksHold o (set .size) (answered (w .answer) (run-is.withSnapshot (w .lists) snapshot))) same
-            (books-unread o (set .size) (runOf o set (fieldPart l) (statePart (narrowed l)) .paving .state) snapshot
-            (books-hold o set (fieldPart l) (statePart (narrowed l)) doubles z));
+            let s = runOf o set (fieldPart l) (statePart (narrowed l)) .paving .state in
+            let B = books-unread o (set .size) s snapshot (books-hold o set (fieldPart l) (statePart (narrowed l)) doubles (none-of z .0)) in
+            let p = listedIn (s .counts) (s .next) (s .snapshot) (l .loops) (l .lengths) in
+            subst⁻¹ (λ (w : Ran). PavesBooks o set (w .answer) (run-is.withSnapshot (w .lists) snapshot)) same
+            (record { books = B; front = λ b q. loops-answered o _ (s .snapshot) (l .loops) (l .lengths) p refl b (B .closes b q) });
       }
 
 -- a run that is made refuses nothing

@@ -1,23 +1,27 @@
 -- THE RUN: what is lent, what is answered, and what a caller gets. Definitions only.
+use mathlib.Core.Bool.{cond}
 use mathlib.Core.List.{List, _++_}
 use mathlib.Core.Path.{_≡_}
 use Prim.Native.Nat.{ℕ, min}
+use lib.Dec.{ltb}
 use lib.ListN.{length, take, drop}
 use lib.Ieee.{Float}
 use Rattle.numbers.specs.Float.{zeroF}
 use Rattle.domain.specs.declared.Settings.{Settings}
-use Rattle.domain.specs.Outline.{Outline}
+use Rattle.domain.specs.Outline.{Outline, firstOf}
 use Rattle.domain.specs.Queries.{answerBy}
-use Rattle.crossfield.specs.declared.Grid.{Grid}
-use Rattle.crossfield.specs.Seeds.{FieldLists, fieldLists}
+use Rattle.direction.specs.declared.Grid.{Grid}
+use Rattle.direction.specs.Record.{FieldLists, fieldLists}
 use Rattle.front.specs.declared.Counts.{Counts}
 use Rattle.front.specs.State.{State, stateOf, counted}
+use Rattle.front.specs.Sampling.{loopCount}
 use Rattle.paving.specs.declared.End.{End}
 use Rattle.paving.specs.declared.End.the-variants.{Still, Passes, Cap, Full}
-use Rattle.paving.specs.Run.{runRefusal, runOf}
+use Rattle.whole_run.specs.Run.{runRefusal, runOf}
 use Rattle.loops.specs.declared.Listed.{Listed}
 use Rattle.loops.specs.Listed as loops
-use Rattle.books.specs.Holds.{BooksHold}
+use Rattle.topology.specs.LongLoops.{isWhole}
+use Rattle.books.specs.Holds.{BooksAnswered}
 use Rattle.run.specs.declared.Paved.{Paved}
 
 -- ---- what is handed over
@@ -79,11 +83,11 @@ fieldPart l = fieldLists (l .values) (l .marks)
 abbrev pub statePart : Lent → State
 statePart l = stateOf (l .xs) (l .ys) (l .next) (l .prev) (l .snapshot) (l .quads) (l .edges) unused
 
--- ---- node places: of the lists that hold a number a node the shortest counts, those of the loops among them
+-- ---- node places: of the lists that hold a number a node the shortest counts, that of the loops' ids among them
 
 -- so many places of the snapshot count
 abbrev pub snapshotPlaces : Lent → ℕ
-snapshotPlaces l = min (length (l .snapshot)) (min (length (l .loops)) (length (l .lengths)))
+snapshotPlaces l = min (length (l .snapshot)) (length (l .loops))
 
 -- the lists of which the run is made: no more of the snapshot than that
 abbrev pub narrowed : Lent → Lent
@@ -92,10 +96,6 @@ narrowed l = withSnapshot l (take (snapshotPlaces l) (l .snapshot))
 -- the snapshot's other places keep their contents
 abbrev pub widened : Lent → Lent → Lent
 widened l after = withSnapshot after (after .snapshot ++ drop (snapshotPlaces l) (l .snapshot))
-
--- the node places of lists so long
-unfoldable pub fewest : ℕ → ℕ → ℕ → ℕ → ℕ → ℕ
-fewest xs ys next prev snapshot = min (min (min xs ys) (min next prev)) (min snapshot 4294967294)
 
 -- ---- the answer
 
@@ -128,9 +128,13 @@ ran r l = record { answer = r; lists = l }
 
 -- ---- the run
 
+-- 10: there are fewer places for the lengths of loops than the outline has loops
+abbrev pub lengthsRefusal : Outline → ℕ → ℕ
+lengthsRefusal o places = cond (ltb places (loopCount o)) 10 0
+
 -- 1 to 10, in rising number
 unfoldable pub refusalOf : Outline → Settings → Lent → ℕ
-refusalOf o set l = runRefusal o set (fieldPart l) (statePart (narrowed l))
+refusalOf o set l = firstOf (runRefusal o set (fieldPart l) (statePart (narrowed l))) (lengthsRefusal o (length (l .lengths)))
 
 -- field, sampling and paving, then the loops of the front, in all of the lists given
 unfoldable pub acceptedIn : Outline → Settings → Lent → Ran
@@ -156,13 +160,19 @@ abbrev pub answered : Paved → Lent → State
 answered r after =
     stateOf (after .xs) (after .ys) (after .next) (after .prev) (after .snapshot) (after .quads) (after .edges) (r .counts)
 
+-- the books of the outline, the size and what is answered
+abbrev pub PavesBooks : Outline → Settings → Paved → Lent → Type 0
+PavesBooks o set r after =
+    let n = r .listed .count in
+    BooksAnswered o (set .size) (answered r after) n (r .listed .ids) (after .loops) (after .lengths) (isWhole n)
+
 pub record Paves (o : Outline) (set : Settings) (before : Lent) (r : Paved) (after : Lent) : Type 0 where
   -- the answer and every list are the definition's: demand 2
   pub equal : ran r after ≡ runAnswer o set before
   -- a refusal leaves every list as it was
   pub refused : (r .refusal ≡ 0 → ⊥) → after ≡ before
-  -- the exact books of the outline, the size and the quads and coordinates answered hold: demand 3
-  pub books : r .refusal ≡ 0 → BooksHold o (set .size) (answered r after)
+  -- the exact books hold: demand 3
+  pub books : r .refusal ≡ 0 → PavesBooks o set r after
 
 -- of scratch, before and after: a refusal leaves it as it was, and what a run leaves in it is free
 abbrev pub Spares : {A : Type 0} → ℕ → A → A → Type 0

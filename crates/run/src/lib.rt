@@ -4,17 +4,15 @@ ghost use mathlib.Core.List.{[]};
 ghost use Prim.Native.Nat.{_≤_, min};
 ghost use lib.ListN.{length};
 ghost use Rattle.domain.specs.Outline.{outline, firstOf};
-ghost use Rattle.blocks.specs.Blocks.{Drawn};
-ghost use Rattle.crossfield.specs.Seeds.{fieldLists};
-ghost use Rattle.crossfield.specs.Field.{fieldRecord, refusalFor, fieldRefusal, fieldOf};
-ghost use Rattle.front.specs.State.{State, stateOf, nodePlaces, edgePlaces};
-ghost use Rattle.front.specs.Sampling.{frontRefusal, fromBoundary};
+ghost use Rattle.direction.specs.Record.{fieldRecord};
+ghost use Rattle.crossfield.specs.Field.{refusalFor};
+ghost use Rattle.front.specs.State.{stateOf, fewest, mostNodes};
+ghost use Rattle.front.specs.Sampling.{sampledRefusal, fromBoundary};
 ghost use Rattle.paving.specs.Advance.{paved, advance};
-ghost use Rattle.run.specs.Run.{settings, lent, scratch, ran, fewest, endNumber, refusedAnswer, pavedAnswer, unused, acceptedIn, Paves, Spares};
+ghost use Rattle.run.specs.Run.{settings, lent, scratch, ran, endNumber, refusedAnswer, pavedAnswer, unused, lengthsRefusal, acceptedIn, Paves, Spares};
 ghost use Rattle.run.specs.Asked.{CanPave, CanRun};
 use advance::Advanced;
-use crossfield::FieldAnswer;
-use crossfield::Grid;
+use direction::Grid;
 use front::Counts;
 use loops::Listed;
 use paving::End;
@@ -85,13 +83,12 @@ fn answer(grid: Grid, a: Advanced, listed: Listed) -> Paved
 fn node_places(xs: usize, ys: usize, next: usize, prev: usize, snapshot: usize) -> usize
     ensures { λ r. ⌜ r ≡ fewest xs ys next prev snapshot ⌝ }
 {
-    let coordinates = crossfield::lesser(xs, ys);
-    let links = crossfield::lesser(next, prev);
-    let most = crossfield::lesser(snapshot, 4294967294);
-    crossfield::lesser(crossfield::lesser(coordinates, links), most)
+    let coordinates = numbers::min_usize(xs, ys);
+    let links = numbers::min_usize(next, prev);
+    numbers::min_usize(numbers::min_usize(coordinates, links), snapshot)
 }
 
-// Where there are so many places for field nodes, nodes and edges.
+// Where there are so many places for field nodes, nodes, edges and lengths of loops.
 fn refusal<'a>(
     outer: &'a [f64],
     holes: &'a [f64],
@@ -101,49 +98,26 @@ fn refusal<'a>(
     field: usize,
     nodes: usize,
     edges: usize,
+    lengths: usize,
 ) -> u32
-    ensures { λ r. ⌜ ((s : State) → nodePlaces s ≡ nodes → edgePlaces s ≡ edges
-        → r ≡ firstOf (refusalFor (outline (now (outer .entry)) (now (holes .entry)) (now (lens .entry))) size sweeps field)
-        (frontRefusal (outline (now (outer .entry)) (now (holes .entry)) (now (lens .entry))) size s)) ⌝ }
+    ensures { λ r. ⌜ r
+        ≡ firstOf
+        (firstOf (refusalFor (outline (now (outer .entry)) (now (holes .entry)) (now (lens .entry))) size sweeps field)
+        (sampledRefusal (outline (now (outer .entry)) (now (holes .entry)) (now (lens .entry))) size (min nodes mostNodes) edges))
+        (lengthsRefusal (outline (now (outer .entry)) (now (holes .entry)) (now (lens .entry))) lengths) ⌝ }
 {
     let number = crossfield::field_refusal(outer, holes, lens, size, sweeps, field);
     if number != 0 {
         return number;
     }
-    boundary::front_refusal(outer, holes, lens, size, nodes, edges)
+    let few = boundary::front_refusal(outer, holes, lens, size, nodes, edges);
+    if few != 0 {
+        return few;
+    }
+    if lens.len() < lengths { 0 } else { 10 }
 }
 
 // ---- the stages
-
-// The field, where none of 1 to 9 refuses it, and the outline's blocks.
-fn make_field<'a>(
-    outer: &'a [f64],
-    holes: &'a [f64],
-    lens: &[usize],
-    size: f64,
-    sweeps: usize,
-    values: &mut [f64],
-    marks: &mut [u8],
-    blocks: &mut [u32],
-) -> Grid
-    requires { ⌜ fieldRefusal (outline (now outer) (now holes) (now lens)) size sweeps (fieldLists (now values) (now marks)) ≡ 0 ⌝ }
-    ensures { λ r. ⌜ fieldRecord r (now (values .exit)) (now (marks .exit))
-        ≡ fieldOf (outline (now (outer .entry)) (now (holes .entry)) (now (lens .entry))) size sweeps
-        (fieldLists (now (values .entry)) (now (marks .entry)))
-        × Drawn (outline (now (outer .entry)) (now (holes .entry)) (now (lens .entry))) (now (blocks .exit)) ⌝ }
-{
-    let made = crossfield::field(outer, holes, lens, size, sweeps, values, marks, blocks);
-    match made {
-        FieldAnswer::Refused(_) => Grid {
-            xmin: 0.0,
-            ymin: 0.0,
-            h: 0.0,
-            nx: 0,
-            ny: 0,
-        },
-        FieldAnswer::Made(grid) => grid,
-    }
-}
 
 // Sampling and paving, where 10 doesn't refuse them.
 fn sample_and_advance<'a>(
@@ -199,7 +173,7 @@ fn sample_and_advance<'a>(
     )
 }
 
-// A run that isn't refused, where `snapshot` is no longer than the lists of the loops.
+// A run that isn't refused, where `snapshot` is no longer than `loops`.
 fn pave_in<'a>(
     outer: &'a [f64],
     holes: &'a [f64],
@@ -232,7 +206,7 @@ fn pave_in<'a>(
         (lent (now (values .entry)) (now (marks .entry)) (now (xs .entry)) (now (ys .entry)) (now (next .entry)) (now (prev .entry))
         (now (snapshot .entry)) (now (quads .entry)) (now (edges .entry)) (now (loops .entry)) (now (lengths .entry))) ⌝ }
 {
-    let grid = make_field(outer, holes, lens, size, sweeps, values, marks, blocks);
+    let grid = crossfield::make_field(outer, holes, lens, size, sweeps, values, marks, blocks);
     let a = sample_and_advance(
         outer,
         holes,
@@ -258,9 +232,10 @@ fn pave_in<'a>(
 
 // ---- the run
 
-// Paves an outline, in the lists that the caller lends; on a refusal nothing is written. Of the lists of nodes the shortest counts, those of
-// the loops among them: so the run gets no more of `snapshot` than they have places. The pools and the list of blocks are scratch of any length:
-// searches go by them as far as they have room. The answer doesn't depend on what they hold, and what a run leaves in them is free.
+// Paves an outline, in the lists that the caller lends; on a refusal nothing is written. Of the lists of nodes the shortest counts, `loops`
+// among them: so the run gets no more of `snapshot` than that has places. `lengths` holds a number for each loop. The pools and the list of blocks
+// are scratch of any length: searches go by them as far as they have room. The answer doesn't depend on what they hold, and what a run leaves in
+// them is free.
 pub fn pave<'a>(
     outer: &'a [f64],
     holes: &'a [f64],
@@ -292,11 +267,8 @@ pub fn pave<'a>(
         × Spares (r .refusal) (scratch (now («node_pool» .entry)) (now («edge_pool» .entry)) (now (blocks .entry)))
         (scratch (now («node_pool» .exit)) (now («edge_pool» .exit)) (now (blocks .exit))) ⌝ }
 {
-    let m = crossfield::lesser(
-        snapshot.len(),
-        crossfield::lesser(loops.len(), lengths.len()),
-    );
-    let field = crossfield::lesser(values.len() / 2, marks.len());
+    let m = numbers::min_usize(snapshot.len(), loops.len());
+    let field = numbers::min_usize(values.len() / 2, marks.len());
     let nodes = node_places(xs.len(), ys.len(), next.len(), prev.len(), m);
     let number = refusal(
         outer,
@@ -307,6 +279,7 @@ pub fn pave<'a>(
         field,
         nodes,
         edges.len() / 2,
+        lengths.len(),
     );
     if number != 0 {
         return refused(number);

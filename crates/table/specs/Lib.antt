@@ -2,3 +2,4 @@ pub mod Opened
 pub mod Table
 pub mod Square
 pub mod Unreached
+pub mod LastNumber

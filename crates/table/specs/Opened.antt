@@ -15,18 +15,19 @@ use Rattle.topology.specs.Listing.{addLoop, listing}
 use Rattle.domain.specs.Outline.{holeStart, holeAt, loopAt, pointAt, pointAfter, anyFloat, misshapen, loopRefusal, loopsRefusal, farRefusal}
 use Rattle.domain.specs.Outline.{outlineRefusal, pointRefusal, queryRefusal}
 use Rattle.domain.specs.Queries.{rayCrosses, pointInPolygon, contains, squaredDistance, footOf, pointSegmentDistance, nearer, nearestInLoop}
-use Rattle.domain.specs.Queries.{nearestSegment, containsAnswer, nearestAnswer, distanceAnswer}
+use Rattle.domain.specs.Queries.{nearestSegment}
 use Rattle.geometry.specs.Plane.{distance, tangent, areaTerm, cross2, doubledArea, leftOf, pointInConvex, onSegment, opposite, touches, segmentsCross}
 use Rattle.geometry.specs.Plane.{centroid, convexCcw}
 use Rattle.geometry.specs.Keys.{keyOf, spansKept, rangesMeet, rectanglesMeet, candidateAt, isCandidate, nearKeys, tooCloseAt, isTooClose, leastOf}
 use Rattle.geometry.specs.Keys.{greatestOf, lowest, highest, inBoxAt, isInBox}
+use Rattle.direction.specs.Direction.{within, countsSound, gridSound, recordRefusal, weighed, rawAt, scaled, half, directionOf, dot, closerOf}
+use Rattle.direction.specs.Direction.{nearestOf, nearestDirection, directionRefusal}
 use Rattle.crossfield.specs.Grid.{widened, loopBounds, bounds, gridCount, tooManyNodes, spacing, gridOf, sizeRefusal, boundsRefusal, sweepsRefusal}
 use Rattle.crossfield.specs.Seeds.{gridPoint, seed, isFixed, setValue, seedNode, seedRow, seeded}
 use Rattle.crossfield.specs.Sweeps.{plusIf, neighbourSum, neighbourCount, normalised, average, change, relaxed, sweepNode, sweepRow, sweep, sweeps}
 use Rattle.crossfield.specs.Field.{placesRefusal, fieldRefusal, fieldOf}
-use Rattle.crossfield.specs.Direction.{within, countsSound, gridSound, recordRefusal, weighed, rawAt, scaled, half, directionOf, dot, closerOf}
-use Rattle.crossfield.specs.Direction.{nearestOf, nearestDirection, directionRefusal}
 use Rattle.front.specs.State.{nodePlaces, quadPlaces, edgePlaces, nodeIn, hasEdge, pushNode, addFront, removeFront, pushEdge, addEdge, pushQuad, cleared}
+use Rattle.front.specs.Neighbours.{neighbourOf}
 use Rattle.front.specs.Sampling.{partsOf, parts, loopParts, loopNodes, sampledCount, frontRefusal, cut, sampleSegment, sampleLoop, signedArea}
 use Rattle.front.specs.Sampling.{edgeLength, longestEdge, ringOf, ringAt, midpoint, splitLongest, joinRing, closeLoop, boundaryTurn, fromBoundary}
 use Rattle.front.specs.Sampling.{ringIds, boundaryLoops}
@@ -35,7 +36,7 @@ use Rattle.paving.specs.Checks.{tooClose, nodeOk, cornerFree, cornersApart, nod
 use Rattle.paving.specs.Attempt.{isReused, cornerAt, ideal, cornerC, cornerD, attemptQuad, normalOf, tryToward, tryEdge}
 use Rattle.paving.specs.Advance.{afterQuad, passTurn, copied, withSnapshot, pass, advance}
 use Rattle.paving.specs.Loops.{frontLoops, whole}
-use Rattle.paving.specs.Run.{runRefusal, runOf}
+use Rattle.whole_run.specs.Run.{runRefusal, runOf}
 use Rattle.books.specs.Book.{filled, roomFor, edgesTo, loopEdges, startBook, has, without, comesOff, newNode, side, quadAt, bookQuad, bookAfter}
 use Rattle.books.specs.Book.{edgesArea, quadArea, quadsArea, follow}
 use Rattle.books.specs.Holds.{countEdge}
@@ -62,8 +63,7 @@ openedTopology = tt
 
 unfoldable pub openedDomain : Unit {0}
 unfolding holeStart holeAt loopAt pointAt pointAfter anyFloat misshapen loopRefusal loopsRefusal farRefusal outlineRefusal pointRefusal queryRefusal
-    rayCrosses pointInPolygon contains squaredDistance footOf pointSegmentDistance nearer nearestInLoop nearestSegment containsAnswer
-    nearestAnswer distanceAnswer
+    rayCrosses pointInPolygon contains squaredDistance footOf pointSegmentDistance nearer nearestInLoop nearestSegment
 openedDomain = tt
 
 unfoldable pub openedGeometry : Unit {0}
@@ -79,7 +79,7 @@ unfolding widened loopBounds bounds gridCount tooManyNodes spacing gridOf sizeRe
 openedCrossfield = tt
 
 unfoldable pub openedFront : Unit {0}
-unfolding nodePlaces quadPlaces edgePlaces nodeIn hasEdge pushNode addFront removeFront pushEdge addEdge pushQuad cleared partsOf parts loopParts
+unfolding nodePlaces quadPlaces edgePlaces nodeIn neighbourOf hasEdge pushNode addFront removeFront pushEdge addEdge pushQuad cleared partsOf parts loopParts
     loopNodes sampledCount frontRefusal cut sampleSegment sampleLoop signedArea edgeLength longestEdge ringOf ringAt midpoint splitLongest
     joinRing closeLoop boundaryTurn fromBoundary tabulate ringIds boundaryLoops addEdges moveFront place edgesAdded isFull
 openedFront = tt

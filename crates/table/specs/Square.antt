@@ -6,13 +6,13 @@ use Prim.Native.Nat.{ℕ}
 use Rattle.numbers.specs.Float.{bits, zeroF, oneF, twoF, fourF, halfF}
 use Rattle.domain.specs.Outline.{Outline, outline, point}
 use Rattle.domain.specs.declared.Settings.{Settings}
-use Rattle.crossfield.specs.Seeds.{FieldLists, fieldLists}
+use Rattle.direction.specs.Record.{FieldLists, fieldLists}
 use Rattle.front.specs.State.{State, counted, node}
 use Rattle.front.specs.Sampling.{fromBoundary, boundaryLoops, sampledCount}
 use Rattle.paving.specs.declared.End.the-variants.{Still}
 use Rattle.paving.specs.Advance.{paved}
 use Rattle.paving.specs.Loops.{frontLoops, whole}
-use Rattle.paving.specs.Run.{runOf}
+use Rattle.whole_run.specs.Run.{runOf}
 use Rattle.books.specs.Book.{filled, roomFor}
 use Rattle.table.specs.Opened.{opened}
 

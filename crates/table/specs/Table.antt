@@ -9,10 +9,11 @@ use lib.Ieee.{Float, neg, eq}
 use Rattle.numbers.specs.Float.{bits, sqrt, zeroF, oneF, twoF, fourF, halfF}
 use Rattle.domain.specs.Outline.{Outline, outline, point}
 use Rattle.domain.specs.Queries.{contains}
+use Rattle.domain.specs.Table.{unitSquare}
 use Rattle.geometry.specs.declared.Key.{Key}
 use Rattle.geometry.specs.Keys.{keyOf, spansKept}
+use Rattle.direction.specs.Record.{fieldLists}
 use Rattle.crossfield.specs.Grid.{sizeRefusal}
-use Rattle.crossfield.specs.Seeds.{fieldLists}
 use Rattle.crossfield.specs.Field.{fieldRefusal}
 use Rattle.front.specs.declared.Corner.the-variants.{Fresh}
 use Rattle.front.specs.State.{State, counted}
@@ -45,9 +46,6 @@ x001 = bits 0x3f84_7ae1_47ae_147b
 -- the float below 0.01
 abbrev below001 : Float
 below001 = bits 0x3f84_7ae1_47ae_147a
-
-abbrev unitSquare : Outline
-unitSquare = outline (zeroF ∷ zeroF ∷ oneF ∷ zeroF ∷ oneF ∷ oneF ∷ zeroF ∷ oneF ∷ []) [] []
 
 -- (0,0) (1,0) (2,0)
 abbrev flat : Outline

@@ -10,10 +10,10 @@ use Rattle.laws.specs.Loop.{go, out}
 use Rattle.numbers.specs.Float.{toFloat, zeroF, oneF, halfF}
 use Rattle.domain.specs.declared.Point.{Point}
 use Rattle.domain.specs.Outline.{Outline, outline, point}
-use Rattle.crossfield.specs.Field.{FieldRecord}
 use Rattle.geometry.specs.Plane.{segmentsCross}
 use Rattle.geometry.specs.Keys.{isCandidate}
 use Rattle.topology.specs.Links.{off}
+use Rattle.direction.specs.Record.{FieldRecord}
 use Rattle.front.specs.declared.Corner.the-variants.{Reused, Fresh}
 use Rattle.front.specs.State.{State, stateOf, counted}
 use Rattle.paving.specs.declared.Attempt.the-variants.{Nothing, Quad}
@@ -25,10 +25,10 @@ use Rattle.paving.specs.Loops.{frontLoops}
 use Rattle.table.specs.Opened.{opened}
 
 -- the point (x, y) of whole numbers
-abbrev at : ℕ → ℕ → Point
+abbrev pub at : ℕ → ℕ → Point
 at x y = point (toFloat x) (toFloat y)
 
-abbrev up : Point
+abbrev pub up : Point
 up = at 0 1
 
 -- n nodes, each with its links, and no quad or edge

@@ -1,16 +1,19 @@
--- Small cases, by computation: a front of one loop of four nodes, quads placed on its edge 0 to 1, and what the walks find.
+-- Small cases, by computation: a front of one loop of four nodes, quads placed on its edge 0 to 1, what the walks find, and what is listed.
 use Prim.Native.Nat.{ℕ}
 use mathlib.Core.List.{List, [], _∷_}
 use mathlib.Core.Path.{_≡_, refl}
 use mathlib.Core.Bool.{Bool, true, false, _||_}
+use mathlib.Core.Logic.{inl, inr}
+use native.Mathlib.Omega.{arith}
 use lib.ListN.{set}
 use Rattle.laws.specs.Loop.{forUp}
 use Rattle.topology.specs.Links.{off, linkOf}
 use Rattle.topology.specs.Changes.{stored, reversed}
 use Rattle.topology.specs.Laying.{joins}
 use Rattle.topology.specs.Placing.{reused, fresh, placing}
-use Rattle.topology.specs.Walk.{walkBy, prepend}
+use Rattle.topology.specs.Walk.{walkBy, prepend, FromSmallest}
 use Rattle.topology.specs.Listing.{addLoop, listing, walks}
+use Rattle.topology.specs.LongLoops.{LongLoops}
 
 -- the links of the loop 0 1 2 3, with two more nodes off the front
 abbrev next : List ℕ
@@ -71,3 +74,26 @@ two-reused-loops = refl
 two-reused-none : walks 3 6 6 (linkOf 6 (stored set (placing reused reused 0 1 3 2) next)) ≡ []
 unfolding listing forUp addLoop walkBy linkOf prepend
 two-reused-none = refl
+
+-- ---- what is listed
+
+-- of a loop of two and a loop of four, the second, from its smallest id on
+long-loop : LongLoops ((3 ∷ 2 ∷ []) ∷ (5 ∷ 0 ∷ 4 ∷ 1 ∷ []) ∷ []) ((0 ∷ 4 ∷ 1 ∷ 5 ∷ []) ∷ [])
+long-loop =
+    let turned : FromSmallest (5 ∷ 0 ∷ 4 ∷ 1 ∷ []) (0 ∷ 4 ∷ 1 ∷ 5 ∷ []) =
+    record {
+      start = 5 ∷ [];
+      rest = 0 ∷ 4 ∷ 1 ∷ [];
+      loop = refl;
+      turned = refl;
+      smallest = (omega arith, (omega arith, (omega arith, (omega arith, tt))));
+    } in
+    record {
+      all = ((λ h. absurd (omega arith)), ((λ h. inl turned), tt));
+      only = (inr (inl (omega arith, turned)), tt);
+      rising = (tt, tt);
+    }
+
+-- a list of none of them isn't theirs
+long-loop-missing : LongLoops ((5 ∷ 0 ∷ 4 ∷ 1 ∷ []) ∷ []) [] → ⊥
+long-loop-missing L = L .all .0 (omega arith)

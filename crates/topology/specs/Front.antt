@@ -141,14 +141,14 @@ in-edge u vs v z = omega (arith, path-append (at v z) u vs v [] z, at-self v z)
 -- ---- links are edges, edges are links
 
 -- loops with the same edges are as good
-pub loops-same : (n : ℕ) (f : ℕ → ℕ) (ls ms : List (List ℕ)) → ((w : ℕ → ℕ → ℕ) → frontSum w ls ≡ frontSum w ms) → All Even ms
+pub loops-same : (n : ℕ) (f : ℕ → ℕ) (ls ms : List (List ℕ)) → ((u v : ℕ) → frontSum (at u v) ls ≡ frontSum (at u v) ms) → All Even ms
     → Loops n f ls → Loops n f ms
 loops-same n f ls ms same evens L =
     record {
       few = L .few;
       evens = evens;
-      inside = λ u v h. sym (same (at u v)) ∙ L .inside u v h;
-      nexts = λ u v h. sym (same (at u v)) ∙ L .nexts u v h;
+      inside = λ u v h. sym (same u v) ∙ L .inside u v h;
+      nexts = λ u v h. sym (same u v) ∙ L .nexts u v h;
     }
 
 module _ (n : ℕ) (f : ℕ → ℕ) (ls : List (List ℕ)) (L : Loops n f ls) where
@@ -230,7 +230,7 @@ module _ (n : ℕ) (f : ℕ → ℕ) (ls : List (List ℕ)) (L : Loops n f ls) w
 pub front-same : (n : ℕ) (f g : ℕ → ℕ) (ls ms : List (List ℕ)) → ((w : ℕ → ℕ → ℕ) → frontSum w ls ≡ frontSum w ms) → All Even ms
     → Front n f g ls → Front n f g ms
 front-same n f g ls ms same evens F =
-    record { loops = loops-same n f ls ms same evens (F .loops); prevs = λ u v h. sym (same (at u v)) ∙ F .prevs u v h }
+    record { loops = loops-same n f ls ms (λ u v. same (at u v)) evens (F .loops); prevs = λ u v h. sym (same (at u v)) ∙ F .prevs u v h }
 
 module _ (n : ℕ) (f g : ℕ → ℕ) (ls : List (List ℕ)) (F : Front n f g ls) where
   pub edge-prev : (u v : ℕ) → 0 < frontSum (at u v) ls → g v ≡ u

@@ -10,6 +10,7 @@ use lib.Dec.{eqb, ltb, leb}
 use borrow.Author.Tests.{eqb-true, eqb-false, ltb-true, ltb-false, lt-ltb, le-ltb, leb-true, leb-false, le-leb, lt-leb}
 use Rattle.laws.specs.Loop.{forUp}
 use Rattle.topology.specs.Sums.{All, total, loopSum, frontSum, Even, total-ext}
+use Rattle.topology.specs.Links.{at}
 use Rattle.topology.specs.Front.{Loops, loops-same}
 use Rattle.topology.specs.Walk.{walkBy, count, least, turnTo, loopFrom, Cycle}
 use Rattle.topology.specs.Walk.{least-counts, turn-sum, turn-length, cycles, once, nodes, from-none, walk-loop}
@@ -134,7 +135,7 @@ listed-all f r [] R = refl
 listed-all f r ([] ∷ ls) R = absurd (R .0)
 listed-all f r ((x ∷ xs) ∷ ls) R = rw (le-leb 1 (suc (length xs)) (omega arith), listed-all f r ls (R .1))
 
-all-append : (P : List ℕ → Type 0) (ls : List (List ℕ)) (l : List ℕ) → All P ls → P l → All P (ls ++ l ∷ [])
+pub all-append : (P : List ℕ → Type 0) (ls : List (List ℕ)) (l : List ℕ) → All P ls → P l → All P (ls ++ l ∷ [])
 all-append P [] l a p = (p, tt)
 all-append P (x ∷ ls) l a p = (a .0, all-append P ls l (a .1) p)
 
@@ -159,17 +160,6 @@ listing-even k (suc n) L h = by (leb (suc k) (length (L n))) refl (listing-even 
         let long = leb-true (suc k) (length (L n)) e in
         all-append Even (listing (suc k) n L) (L n) a (record { even = h n; two = omega (arith, h n) })
     by false e a = a
-
--- where no loop is long enough to be listed, each has two nodes
-short : (ls : List (List ℕ)) → All Even ls → total (ifListed 3 (λ l. 1)) ls ≡ 0 → All (λ l. length l ≡ 2) ls
-unfolding total ifListed
-short [] E z = tt
-short (l ∷ ls) E z = by (leb 3 (length l)) refl (short ls (E .1))
-  where
-    by : (b : Bool) → leb 3 (length l) ≡ b → (total (ifListed 3 (λ l. 1)) ls ≡ 0 → All (λ l. length l ≡ 2) ls)
-        → All (λ l. length l ≡ 2) (l ∷ ls)
-    by true e later = absurd (omega (arith, rw e at z))
-    by false e later = (omega (arith, leb-false 3 (length l) e, E .0 .two), later (omega (arith, z)))
 
 -- ---- the theorems
 
@@ -208,10 +198,5 @@ module _ (n : ℕ) (f : ℕ → ℕ) (ls : List (List ℕ)) (L : Loops n f ls) (
             sym (total-one (walks 1 n m f))
             ∙ (walks-total 0 (λ l. 1) (λ u l. refl) ∙ (listed-all f (λ l. 1) ls (cycles n f ls L) ∙ total-one ls));
         sums = walks-sums;
-        loops = loops-same n f ls (walks 1 n m f) (λ w. sym (walks-sums w)) (walks-even 0) L;
+        loops = loops-same n f ls (walks 1 n m f) (λ u v. sym (walks-sums (at u v))) (walks-even 0) L;
       }
-
-  -- where none of three nodes or more is listed, each loop has two
-  pub walks-none : walks 3 n m f ≡ [] → All (λ l. length l ≡ 2) ls
-  unfolding total
-  walks-none e = short ls (L .evens) (sym (walks-total 2 (λ l. 1) (λ u l. refl)) ∙ ap (total (λ l. 1)) e)

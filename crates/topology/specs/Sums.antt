@@ -2,6 +2,7 @@
 -- the last to the first. What is said of the edges of loops is said by sums of a weight over them.
 use Prim.Native.Nat.{ℕ, suc, _+_, _≤_, _%_}
 use mathlib.Core.List.{List, [], _∷_, _++_, append-nil}
+use mathlib.Core.Logic.{_⊎_}
 use mathlib.Core.Path.{_≡_, refl}
 use native.Mathlib.Nat.{add-assoc, add-comm}
 use native.Mathlib.Omega.{arith}
@@ -11,6 +12,11 @@ use lib.ListN.{length}
 abbrev pub All {ℓ} : {A : Type ℓ} → (A → Type 0) → List A → Type 0
 All P [] = Unit {0}
 All P (x ∷ xs) = P x × All P xs
+
+-- P holds of an entry
+abbrev pub Some {ℓ} : {A : Type ℓ} → (A → Type 0) → List A → Type 0
+Some P [] = ⊥
+Some P (x ∷ xs) = P x ⊎ Some P xs
 
 -- ---- sums
 

@@ -11,7 +11,7 @@ use lib.Dec.{eqb, ltb}
 use borrow.Author.Tests.{eqb-true, eqb-false, eq-eqb, ne-eqb, ltb-true, ltb-false, lt-ltb, le-ltb}
 use Rattle.topology.specs.Sums.{All, total, pathSum, loopSum, frontSum, one, Even, rotate, loop-one}
 use Rattle.topology.specs.Links.{off, delta, at, delta-same, delta-other, delta-is, at-self}
-use Rattle.topology.specs.Front.{Loops, source, target, edge-next, edge-once, next-edge}
+use Rattle.topology.specs.Front.{Loops, headOr, source, target, edge-next, edge-once, next-edge}
 
 -- ---- definitions
 
@@ -60,6 +60,14 @@ turnTo u l = fromOn u l ++ before u l
 unfoldable pub loopFrom : ℕ → List (List ℕ) → List ℕ
 loopFrom u [] = []
 loopFrom u (l ∷ ls) = cond (eqb (least l) u) (turnTo u l) (loopFrom u ls)
+
+-- m is the loop l, from its smallest id on
+pub record FromSmallest (l m : List ℕ) : Type 0 where
+  pub start : List ℕ
+  pub rest : List ℕ
+  pub loop : l ≡ start ++ rest
+  pub turned : m ≡ rest ++ start
+  pub smallest : All (λ u. headOr 0 m ≤ u) m
 
 -- f goes from u along vs to z
 abbrev pub Linked : (ℕ → ℕ) → ℕ → List ℕ → ℕ → Type 0
@@ -166,6 +174,41 @@ turn-sum w u l = by (count u l) refl
 
 pub turn-length : (u : ℕ) (l : List ℕ) → length (turnTo u l) ≡ length l
 turn-length u l = sym (loop-one (turnTo u l)) ∙ (turn-sum one u l ∙ loop-one l)
+
+-- it begins with u, where u is there
+pub turn-head : (u : ℕ) (l : List ℕ) → 0 < count u l → headOr 0 (turnTo u l) ≡ u
+unfolding turnTo
+turn-head u l h = let s = placeIn u l h in rw (s .from)
+
+all-least : (k : ℕ) (l : List ℕ) → ((v : ℕ) → 0 < count v l → k ≤ v) → All (λ v. k ≤ v) l
+unfolding count
+all-least k [] h = tt
+all-least k (x ∷ xs) h = (h x (omega (arith, delta-same x x refl)), all-least k xs (λ v p. h v (omega (arith, p))))
+
+-- a loop turned to its smallest id
+pub turn-smallest : (f : ℕ → ℕ) (u : ℕ) (l : List ℕ) → Cycle f l → least l ≡ u → FromSmallest l (turnTo u l)
+unfolding turnTo least count
+turn-smallest f u [] r e = absurd r
+turn-smallest f u (x ∷ xs) r e =
+    let l = x ∷ xs in
+    let here = least-counts f u l r e in
+    let s = placeIn u l here in
+    let parts : turnTo u l ≡ (u ∷ s .Q) ++ s .P = rw (s .from, s .up) in
+    record {
+      start = s .P;
+      rest = u ∷ s .Q;
+      loop = s .whole;
+      turned = parts;
+      smallest =
+          rw (turn-head u l here)
+          (all-least u (turnTo u l) (λ v p.
+          omega (
+            arith,
+            e,
+            least-le v x xs
+                (omega (arith, p, ap (count v) parts, ap (count v) (s .whole), count-append v (s .P) (u ∷ s .Q), count-append v (u ∷ s .Q) (s .P))),
+          )));
+    }
 
 linked-split : (f : ℕ → ℕ) (u : ℕ) (xs : List ℕ) (v : ℕ) (ys : List ℕ) (z : ℕ)
     → Linked f u (xs ++ v ∷ ys) z → Linked f u xs v × Linked f v ys z

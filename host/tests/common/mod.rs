@@ -228,11 +228,11 @@ pub const LISTS: [&str; 14] = [
 /// A length for each of them, in that order.
 pub type Lengths = [usize; LISTS.len()];
 
-/// The lengths of lists with so many places.
+/// The lengths of lists with so many places, and of `lengths` as `Memory` has it.
 pub fn list_lengths(places: Places) -> Lengths {
     let Places { field_nodes: f, nodes: n, quads: q, edges: e, .. } = places;
     let [node_pool, edge_pool] = places.pools();
-    [2 * f, f, n, n, n, n, n, 4 * q, 2 * e, n, n, node_pool, edge_pool, places.blocks()]
+    [2 * f, f, n, n, n, n, n, 4 * q, 2 * e, n, n / 4, node_pool, edge_pool, places.blocks()]
 }
 
 /// How many places of each list a mesh has used: of the pools and the blocks it may use all.

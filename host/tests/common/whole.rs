@@ -56,7 +56,7 @@ impl Whole {
     }
 
     pub fn power(base: u64, exponent: usize) -> Whole {
-        iter::repeat(Whole::of(base)).take(exponent).fold(Whole::of(1), |product, factor| &product * &factor)
+        iter::repeat_n(Whole::of(base), exponent).fold(Whole::of(1), |product, factor| &product * &factor)
     }
 
     pub fn is_positive(&self) -> bool {

@@ -441,13 +441,14 @@ pub fn passes(rng: &mut Rng) -> usize {
     rng.pick(&[0, 0, 1, 2, 3, 5, 599, 600, 601, usize::MAX])
 }
 
-/// Lists of which the shortest have these places, and pools and blocks of these lengths; of those that hold the same places one is the
-/// shortest, and others may be longer.
-pub fn lengths(rng: &mut Rng, places: &Places, pools: [usize; 2], blocks: usize) -> Lengths {
+/// Lists of which the shortest have these places, for so many loops, and pools and blocks of these lengths; of those that hold the same places
+/// one is the shortest, and others may be longer.
+pub fn lengths(rng: &mut Rng, places: &Places, loops: usize, pools: [usize; 2], blocks: usize) -> Lengths {
     let mut lengths = list_lengths(*places);
-    let [values, marks, xs, ys, next, prev, snapshot, quads, edges, loops, others, scratch @ ..] = &mut lengths;
+    let [values, marks, xs, ys, next, prev, snapshot, quads, edges, ids, by_loop, scratch @ ..] = &mut lengths;
     *scratch = [pools[0], pools[1], blocks];
-    let by_node = [xs, ys, next, prev, snapshot, loops, others];
+    *by_loop = loops + rng.below(4);
+    let by_node = [xs, ys, next, prev, snapshot, ids];
     let shortest = rng.below(by_node.len());
     for (_, length) in by_node.into_iter().enumerate().filter(|(k, _)| *k != shortest) {
         *length += rng.below(4);

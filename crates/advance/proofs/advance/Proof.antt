@@ -6,7 +6,7 @@ use native.Mathlib.Omega.{arith}
 use borrow.Author.Needs.{needs}
 use Rattle.laws.specs.Loop.{Run, run-start, run-go, run-out, run-end}
 use Rattle.domain.specs.Outline.{Outline, outline}
-use Rattle.crossfield.specs.Field.{FieldRecord, fieldRecord}
+use Rattle.direction.specs.Record.{FieldRecord, fieldRecord}
 use Rattle.front.specs.State.{State, stateOf}
 use Rattle.paving.specs.Advance.{passesTurn, allUsed}
 use Rattle.advance.specs.Laws.{in-advance, pass-on, pass-over, advance-whole}

@@ -2,7 +2,7 @@
 use mathlib.Core.List.{[]}
 use borrow.Author.Needs.{needs}
 use Rattle.domain.specs.Outline.{Outline, outline}
-use Rattle.crossfield.specs.Field.{FieldRecord, fieldRecord}
+use Rattle.direction.specs.Record.{FieldRecord, fieldRecord}
 use Rattle.front.specs.State.{State, stateOf}
 use Rattle.advance.specs.Laws.{pass-whole, pass-begun}
 use Rattle.advance.specs.Paveable.{held}

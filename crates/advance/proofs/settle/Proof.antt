@@ -4,7 +4,7 @@ use mathlib.Core.Path.{sym}
 use native.Mathlib.Omega.{arith}
 use borrow.Author.Needs.{needs}
 use Rattle.domain.specs.Outline.{Outline, outline}
-use Rattle.crossfield.specs.Field.{FieldRecord, fieldRecord}
+use Rattle.direction.specs.Record.{FieldRecord, fieldRecord}
 use Rattle.front.specs.State.{State, stateOf}
 use Rattle.advance.specs.Laws.{settle-same, settle-ready, settle-full, settle-done}
 use Rattle.advance.specs.Paveable.{held, try-lent}

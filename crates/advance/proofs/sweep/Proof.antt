@@ -7,7 +7,7 @@ use native.Mathlib.Omega.{arith}
 use borrow.Author.Needs.{needs}
 use Rattle.laws.specs.Loop.{Run, run-start, run-go, run-out}
 use Rattle.domain.specs.Outline.{Outline, outline}
-use Rattle.crossfield.specs.Field.{FieldRecord, fieldRecord}
+use Rattle.direction.specs.Record.{FieldRecord, fieldRecord}
 use Rattle.front.specs.State.{State, stateOf}
 use Rattle.paving.specs.Advance.{passing, passTurn, afterPass}
 use Rattle.advance.specs.Laws.{in-pass, went-same, went-put, went-over, pass-ends}

@@ -1,94 +1,165 @@
--- `attempts::attempt_quad` meets its contract: the corners chosen and the checks are the definition's.
+-- `attempts::attempt_quad` meets its contract: each answer is the definition's at the tests that led to it.
+use mathlib.Core.Bool.{true, false, not}
+use mathlib.Core.Path.{_∙_, ap, sym, refl}
 use borrow.Author.Needs.{needs}
-use Rattle.domain.specs.Outline.{outline}
-use Rattle.front.specs.State.{nextOf, prevOf}
-use Rattle.paving.specs.Attempt.{cornerC, cornerD}
+use Rattle.laws.specs.Chain.{fails, passes}
+use Rattle.domain.specs.Outline.{Outline, outline}
+use Rattle.geometry.specs.TestLaws.{passed, refused}
+use Rattle.front.specs.State.{State}
+use Rattle.attempts.specs.AttemptLaws.{attempt-none, attempt-is}
 use Rattle.attempts.specs.Seen.{seen}
-use Rattle.attempts.specs.SeenLaws.{attempt-is, corner-is}
 use Rattle.attempts.proofs.attempt_quad.Statement.{statement}
 use Rattle.attempts.proofs.attempt_quad.Tie as tie
 
-node-at-requires : tie.Need-node-at-requires
-node-at-requires c κs = search needs
+-- the outline and the state as they are lent
+abbrev around : tie.Start → Outline
+around s = outline (s .args .outer .now) (s .args .holes .now) (s .args .lens .now)
 
-ideal-requires : tie.Need-ideal-requires
-ideal-requires c κs = search needs
+abbrev lent : tie.Start → State
+lent s = seen (s .args .xs .now) (s .args .ys .now) (s .args .next .now) (s .args .prev .now) (s .args .edges .now) (s .args .counts)
 
-node-at-requires-2 : tie.Need-node-at-requires-2
-node-at-requires-2 c κs = search needs
+far-corners-requires : tie.Need-far-corners-requires
+far-corners-requires c κs =
+    let p = c .before .before .before .before .before .before .before .before .before .before .before .pre in
+    record { nodes-few = p .quad .within .nodes-few; next-fit = p .next-fit; prev-fit = p .prev-fit }
 
-ideal-requires-2 : tie.Need-ideal-requires-2
-ideal-requires-2 c κs = search needs
+enum-known-chosen : tie.Need-enum-known-chosen
+enum-known-chosen c = search needs
 
-link-at-requires : tie.Need-link-at-requires
-link-at-requires c κs = c .before .before .before .before .before .before .before .before .before .before .before .before .before .before .before .pre .prev-fit
-
-corner-at-requires : tie.Need-corner-at-requires
-corner-at-requires c κs = search needs
-
-link-at-requires-2 : tie.Need-link-at-requires-2
-link-at-requires-2 c κs =
-    c .before .before .before .before .before .before .before .before .before .before .before .before .before .before .before .before .before .pre .next-fit
-
-corner-at-requires-2 : tie.Need-corner-at-requires-2
-corner-at-requires-2 c κs = search needs
-
-quad-fits-requires : tie.Need-quad-fits-requires
-quad-fits-requires c κs =
-    let after-node-at = c .before .before .before .before .before .before .before in
-    let start = after-node-at .before .before .before .before .before .before .before .before .before .before .before .before in
-    (start .pre .quad, start .pre .next-fit)
+enum-told : tie.Need-enum-told
+enum-told c = search needs
 
 returns : tie.Need-returns
-unfolding cornerC cornerD
 returns c =
-    let after-link-at2 = c .before .before .before in
-    let after-ideal2 = after-link-at2 .before .before .before in
-    let after-node-at = after-ideal2 .before .before .before in
-    let start = after-node-at .before .before .before .before .before .before .before .before .before .before .before .before in
+    let start = c .before .before .before .before .before .before .before .before .before .before .before .before .before .before in
     let args = start .args in
-    let o = outline (args .outer .now) (args .holes .now) (args .lens .now) in
-    let s = seen (args .xs .now) (args .ys .now) (args .next .now) (args .prev .now) (args .edges .now) (args .counts) in
-    let chosen-c = corner-is s (args .size) (args .b) (args .a) (prevOf s (args .a)) (args .da)
-    (after-node-at .node-at .ensures) (after-ideal2 .before .before .ideal .ensures) (after-link-at2 .before .before .link-at .ensures)
-    (after-link-at2 .before .corner-at .ensures) in
-    let chosen-d = corner-is s (args .size) (args .a) (args .b) (nextOf s (args .b)) (args .db)
-    (after-ideal2 .before .node-at2 .ensures) (after-ideal2 .ideal2 .ensures) (after-link-at2 .link-at2 .ensures)
-    (c .before .before .corner-at2 .ensures) in
-    rw (c .if1 .taken) at (attempt-is s o (args .size) (args .a) (args .b) (args .da) (args .db) chosen-c chosen-d
-    (c .before .quad-fits .ensures))
+    attempt-none (lent start) (around start) (args .size) (args .a) (args .b) (args .da) (args .db)
+    (sym (c .enum-told .given .1) ∙ c .before .before .far-corners .ensures)
+
+corner-free-requires : tie.Need-corner-free-requires
+corner-free-requires c κs = c .before .before .before .before .before .before .before .before .before .before .before .before .before .before .before .pre .quad .nodes
 
 returns-2 : tie.Need-returns-2
-unfolding cornerC cornerD
 returns-2 c =
-    let after-link-at2 = c .before .before .before in
-    let after-ideal2 = after-link-at2 .before .before .before in
-    let after-node-at = after-ideal2 .before .before .before in
-    let start = after-node-at .before .before .before .before .before .before .before .before .before .before .before .before in
+    let start = c .before .before .before .before .before .before .before .before .before .before .before .before .before .before .before .before .before in
     let args = start .args in
-    let o = outline (args .outer .now) (args .holes .now) (args .lens .now) in
-    let s = seen (args .xs .now) (args .ys .now) (args .next .now) (args .prev .now) (args .edges .now) (args .counts) in
-    let chosen-c = corner-is s (args .size) (args .b) (args .a) (prevOf s (args .a)) (args .da)
-    (after-node-at .node-at .ensures) (after-ideal2 .before .before .ideal .ensures) (after-link-at2 .before .before .link-at .ensures)
-    (after-link-at2 .before .corner-at .ensures) in
-    let chosen-d = corner-is s (args .size) (args .a) (args .b) (nextOf s (args .b)) (args .db)
-    (after-ideal2 .before .node-at2 .ensures) (after-ideal2 .ideal2 .ensures) (after-link-at2 .link-at2 .ensures)
-    (c .before .before .corner-at2 .ensures) in
-    rw (c .if1 .left) at (attempt-is s o (args .size) (args .a) (args .b) (args .da) (args .db) chosen-c chosen-d
-    (c .before .quad-fits .ensures))
+    attempt-is (lent start) (around start) (args .size) (args .a) (args .b) (args .da) (args .db) false (sym (c .before .before .before .chosen .given .1) ∙ c .before .before .before .before .before .far-corners .ensures) refl refl refl
+    (fails _ (refused (c .before .corner-free .ensures) (c .if1 .taken)))
+
+corner-free-requires-2 : tie.Need-corner-free-requires-2
+corner-free-requires-2 c κs = c .before .before .before .before .before .before .before .before .before .before .before .before .before .before .before .before .before .pre .quad .nodes
+
+returns-3 : tie.Need-returns-3
+returns-3 c =
+    let start = c .before .before .before .before .before .before .before .before .before .before .before .before .before .before .before .before .before .before .before in
+    let args = start .args in
+    attempt-is (lent start) (around start) (args .size) (args .a) (args .b) (args .da) (args .db) false (sym (c .before .before .before .before .before .chosen .given .1) ∙ c .before .before .before .before .before .before .before .far-corners .ensures) refl refl refl
+    (passes (passed (c .before .before .before .corner-free .ensures) (c .before .before .if1 .left))
+    (fails _ (refused (c .before .corner-free2 .ensures) (c .if2 .taken))))
+
+corners-of-requires : tie.Need-corners-of-requires
+corners-of-requires c κs = search needs
+
+convex-ccw-requires : tie.Need-convex-ccw-requires
+convex-ccw-requires c κs = search needs
+
+returns-4 : tie.Need-returns-4
+returns-4 c =
+    let start = c .before .before .before .before .before .before .before .before .before .before .before .before .before .before .before .before .before .before .before .before .before .before in
+    let args = start .args in
+    attempt-is (lent start) (around start) (args .size) (args .a) (args .b) (args .da) (args .db) false (sym (c .before .before .before .before .before .before .before .before .chosen .given .1) ∙ c .before .before .before .before .before .before .before .before .before .before .far-corners .ensures) (c .before .before .corners-of .ensures) refl refl
+    (passes (passed (c .before .before .before .before .before .before .corner-free .ensures) (c .before .before .before .before .before .if1 .left))
+    (passes (passed (c .before .before .before .before .corner-free2 .ensures) (c .before .before .before .if2 .left))
+    (fails _ (refused (c .before .convex-ccw .ensures) (c .if3 .taken)))))
+
+centroid-requires : tie.Need-centroid-requires
+centroid-requires c κs = search needs
+
+contains-point-requires : tie.Need-contains-point-requires
+contains-point-requires c κs = c .before .before .before .before .before .before .before .before .before .before .before .before .before .before .before .before .before .before .before .before .before .before .before .pre .quad .nodes .drawn
+
+returns-5 : tie.Need-returns-5
+returns-5 c =
+    let start = c .before .before .before .before .before .before .before .before .before .before .before .before .before .before .before .before .before .before .before .before .before .before .before .before .before in
+    let args = start .args in
+    attempt-is (lent start) (around start) (args .size) (args .a) (args .b) (args .da) (args .db) false (sym (c .before .before .before .before .before .before .before .before .before .before .before .chosen .given .1) ∙ c .before .before .before .before .before .before .before .before .before .before .before .before .before .far-corners .ensures) (c .before .before .before .before .before .corners-of .ensures) refl refl
+    (passes (passed (c .before .before .before .before .before .before .before .before .before .corner-free .ensures) (c .before .before .before .before .before .before .before .before .if1 .left))
+    (passes (passed (c .before .before .before .before .before .before .before .corner-free2 .ensures) (c .before .before .before .before .before .before .if2 .left))
+    (passes (passed (c .before .before .before .before .convex-ccw .ensures) (c .before .before .before .if3 .left))
+    (rw (← c .before .before .centroid .ensures) (fails _ (refused (c .before .contains-point .ensures) (c .if4 .taken)))))))
+
+id-requires : tie.Need-id-requires
+id-requires c κs = search needs
+
+second-id-requires : tie.Need-second-id-requires
+second-id-requires c κs = c .before .before .before .before .before .before .before .before .before .before .before .before .before .before .before .before .before .before .before .before .before .before .before .before .before .before .pre .quad .within .nodes-few
+
+node-in-quad-requires : tie.Need-node-in-quad-requires
+node-in-quad-requires c κs = c .before .before .before .before .before .before .before .before .before .before .before .before .before .before .before .before .before .before .before .before .before .before .before .before .before .before .before .pre .quad .nodes .filed
+
+returns-6 : tie.Need-returns-6
+returns-6 c =
+    let start = c .before .before .before .before .before .before .before .before .before .before .before .before .before .before .before .before .before .before .before .before .before .before .before .before .before .before .before .before .before in
+    let args = start .args in
+    attempt-is (lent start) (around start) (args .size) (args .a) (args .b) (args .da) (args .db) false (sym (c .before .before .before .before .before .before .before .before .before .before .before .before .before .before .before .chosen .given .1) ∙ c .before .before .before .before .before .before .before .before .before .before .before .before .before .before .before .before .before .far-corners .ensures) (c .before .before .before .before .before .before .before .before .before .corners-of .ensures)
+    (c .before .before .before .id .ensures) (c .before .before .second-id .ensures)
+    (passes (passed (c .before .before .before .before .before .before .before .before .before .before .before .before .before .corner-free .ensures) (c .before .before .before .before .before .before .before .before .before .before .before .before .if1 .left))
+    (passes (passed (c .before .before .before .before .before .before .before .before .before .before .before .corner-free2 .ensures) (c .before .before .before .before .before .before .before .before .before .before .if2 .left))
+    (passes (passed (c .before .before .before .before .before .before .before .before .convex-ccw .ensures) (c .before .before .before .before .before .before .before .if3 .left))
+    (rw (← c .before .before .before .before .before .before .centroid .ensures) (passes (passed (c .before .before .before .before .before .contains-point .ensures) (c .before .before .before .before .if4 .left))
+    (fails _ (ap not (sym (c .before .node-in-quad .ensures) ∙ c .if5 .taken))))))))
+
+edges-free-requires : tie.Need-edges-free-requires
+edges-free-requires c κs = c .before .before .before .before .before .before .before .before .before .before .before .before .before .before .before .before .before .before .before .before .before .before .before .before .before .before .before .before .before .pre .quad .within
+
+returns-7 : tie.Need-returns-7
+returns-7 c =
+    let start = c .before .before .before .before .before .before .before .before .before .before .before .before .before .before .before .before .before .before .before .before .before .before .before .before .before .before .before .before .before .before .before in
+    let args = start .args in
+    attempt-is (lent start) (around start) (args .size) (args .a) (args .b) (args .da) (args .db) true (sym (c .before .before .before .before .before .before .before .before .before .before .before .before .before .before .before .before .before .chosen .given .1) ∙ c .before .before .before .before .before .before .before .before .before .before .before .before .before .before .before .before .before .before .before .far-corners .ensures) (c .before .before .before .before .before .before .before .before .before .before .before .corners-of .ensures)
+    (c .before .before .before .before .before .id .ensures) (c .before .before .before .before .second-id .ensures)
+    (passes (passed (c .before .before .before .before .before .before .before .before .before .before .before .before .before .before .before .corner-free .ensures) (c .before .before .before .before .before .before .before .before .before .before .before .before .before .before .if1 .left))
+    (passes (passed (c .before .before .before .before .before .before .before .before .before .before .before .before .before .corner-free2 .ensures) (c .before .before .before .before .before .before .before .before .before .before .before .before .if2 .left))
+    (passes (passed (c .before .before .before .before .before .before .before .before .before .before .convex-ccw .ensures) (c .before .before .before .before .before .before .before .before .before .if3 .left))
+    (rw (← c .before .before .before .before .before .before .before .before .centroid .ensures) (passes (passed (c .before .before .before .before .before .before .before .contains-point .ensures) (c .before .before .before .before .before .before .if4 .left))
+    (passes (ap not (sym (c .before .before .before .node-in-quad .ensures) ∙ c .before .before .if5 .left))
+    (sym (c .if6 .taken) ∙ c .before .edges-free .ensures)))))))
+
+returns-8 : tie.Need-returns-8
+returns-8 c =
+    let start = c .before .before .before .before .before .before .before .before .before .before .before .before .before .before .before .before .before .before .before .before .before .before .before .before .before .before .before .before .before .before .before in
+    let args = start .args in
+    attempt-is (lent start) (around start) (args .size) (args .a) (args .b) (args .da) (args .db) false (sym (c .before .before .before .before .before .before .before .before .before .before .before .before .before .before .before .before .before .chosen .given .1) ∙ c .before .before .before .before .before .before .before .before .before .before .before .before .before .before .before .before .before .before .before .far-corners .ensures) (c .before .before .before .before .before .before .before .before .before .before .before .corners-of .ensures)
+    (c .before .before .before .before .before .id .ensures) (c .before .before .before .before .second-id .ensures)
+    (passes (passed (c .before .before .before .before .before .before .before .before .before .before .before .before .before .before .before .corner-free .ensures) (c .before .before .before .before .before .before .before .before .before .before .before .before .before .before .if1 .left))
+    (passes (passed (c .before .before .before .before .before .before .before .before .before .before .before .before .before .corner-free2 .ensures) (c .before .before .before .before .before .before .before .before .before .before .before .before .if2 .left))
+    (passes (passed (c .before .before .before .before .before .before .before .before .before .before .convex-ccw .ensures) (c .before .before .before .before .before .before .before .before .before .if3 .left))
+    (rw (← c .before .before .before .before .before .before .before .before .centroid .ensures) (passes (passed (c .before .before .before .before .before .before .before .contains-point .ensures) (c .before .before .before .before .before .before .if4 .left))
+    (passes (ap not (sym (c .before .before .before .node-in-quad .ensures) ∙ c .before .before .if5 .left))
+    (sym (c .if6 .left) ∙ c .before .edges-free .ensures)))))))
 
 pub attempt-quad-spec : {M : Type 1} → statement M
 attempt-quad-spec =
     tie.close
     (tie.spec
-    node-at-requires
-    ideal-requires
-    node-at-requires-2
-    ideal-requires-2
-    link-at-requires
-    corner-at-requires
-    link-at-requires-2
-    corner-at-requires-2
-    quad-fits-requires
+    far-corners-requires
+    enum-known-chosen
+    enum-told
     returns
-    returns-2)
+    corner-free-requires
+    returns-2
+    corner-free-requires-2
+    returns-3
+    corners-of-requires
+    convex-ccw-requires
+    returns-4
+    centroid-requires
+    contains-point-requires
+    returns-5
+    id-requires
+    second-id-requires
+    node-in-quad-requires
+    returns-6
+    edges-free-requires
+    returns-7
+    returns-8)

@@ -1,14 +1,14 @@
--- `blocks::crossings` meets its contract: the loop's invariant is `Between` of the polygon's turn.
+-- `blocks::crossings` meets its contract: the loop's invariant is `LoopBetween` of the polygon's turn.
 use Prim.Native.Nat.{_-_}
 use native.Mathlib.Omega.{arith}
 use borrow.Author.Needs.{needs}
 use Rattle.domain.specs.Queries.{polygonTurn}
-use Rattle.blocks.specs.BetweenLaws.{Between, between-start, between-next, between-end}
+use Rattle.blocks.specs.BetweenLaws.{LoopBetween, between-start, between-next, between-end}
 use Rattle.blocks.proofs.crossings.Statement.{statement}
 use Rattle.blocks.proofs.crossings.Tie as tie
 
 abbrev Inv-loop : tie.InvT-loop
-Inv-loop p s from to inside odd₀ i₀ odd i = Between (polygonTurn p s) inside from to i odd
+Inv-loop p s from to inside odd₀ i₀ odd i = LoopBetween (polygonTurn p s) inside from to i odd
 
 abbrev μ-loop : tie.MeasureT-loop
 μ-loop p s from to inside odd₀ i₀ odd i = to - i

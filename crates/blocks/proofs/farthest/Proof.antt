@@ -26,8 +26,8 @@ reach-requires c κs = omega arith
 reach-requires-2 : tie.Need-reach-requires-2 Inv-loop μ-loop
 reach-requires-2 c κs = omega arith
 
-is-beyond-requires : tie.Need-is-beyond-requires Inv-loop μ-loop
-is-beyond-requires c κs = search needs
+is-farther-requires : tie.Need-is-farther-requires Inv-loop μ-loop
+is-farther-requires c κs = search needs
 
 add-i-2 : tie.Need-add-i-2 Inv-loop μ-loop
 add-i-2 c = omega arith
@@ -38,7 +38,7 @@ loop-less c = omega arith
 loop-again : tie.Need-loop-again Inv-loop μ-loop
 loop-again c =
     let inv = c .before .before .before .before .before .loop .inv in
-    let beyond = rw (c .before .before .reach2 .ensures, c .before .before .before .reach .ensures) at (c .before .is-beyond .ensures) in (
+    let beyond = rw (c .before .before .reach2 .ensures, c .before .before .before .reach .ensures) at (c .before .is-farther .ensures) in (
       ⊎-elim (λ w. rw (w .1) (far-moves (inv .0) (omega arith) (rw (← beyond) (w .0 .taken))))
           (λ w. rw (w .1) (far-stays (inv .0) (rw (← beyond) (w .0 .left)))) (c .if1 .came),
       omega arith,
@@ -60,7 +60,7 @@ farthest-spec =
     loop-holds
     reach-requires
     reach-requires-2
-    is-beyond-requires
+    is-farther-requires
     add-i-2
     loop-less
     loop-again

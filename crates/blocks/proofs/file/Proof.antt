@@ -4,7 +4,7 @@ use Prim.Native.Nat.{_+_, _-_}
 use native.Mathlib.Omega.{arith}
 use lib.ListN.{length}
 use Rattle.domain.specs.Outline.{outline}
-use Rattle.domain.specs.OutlineLaws.{outer-place, Passed, passed-none, passed-next, passed-place, passed-few}
+use Rattle.domain.specs.OutlineLaws.{outer-place, HolesPassed, passed-none, passed-next, passed-place, passed-few}
 use Rattle.domain.specs.Accepted.{accepted}
 use Rattle.blocks.specs.BlockLaws.{loop-few, hole-asks, hole-most}
 use Rattle.blocks.specs.FilingLaws.{LoopsFiled, outer-filed, hole-filed, drawn}
@@ -13,7 +13,7 @@ use Rattle.blocks.proofs.file.Tie as tie
 
 abbrev Inv-loop : tie.InvT-loop
 Inv-loop outer holes lens blocks₀ k₀ start₀ blocks k start =
-    Passed (outline outer holes lens) k start × LoopsFiled (outline outer holes lens) blocks (k + 1) × (length blocks ≡ length blocks₀)
+    HolesPassed (outline outer holes lens) k start × LoopsFiled (outline outer holes lens) blocks (k + 1) × (length blocks ≡ length blocks₀)
 
 abbrev μ-loop : tie.MeasureT-loop
 μ-loop outer holes lens blocks₀ k₀ start₀ blocks k start = length lens - k

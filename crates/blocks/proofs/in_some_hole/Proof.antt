@@ -4,7 +4,7 @@ use native.Mathlib.Omega.{arith}
 use lib.ListN.{length}
 use Rattle.laws.specs.Loop.{Scan, scan-start, scan-next, scan-hit, scan-none}
 use Rattle.domain.specs.Outline.{outline}
-use Rattle.domain.specs.OutlineLaws.{hole-points, Passed, passed-none, passed-next, passed-place, passed-few}
+use Rattle.domain.specs.OutlineLaws.{hole-points, HolesPassed, passed-none, passed-next, passed-place, passed-few}
 use Rattle.domain.specs.Queries.{inHole}
 use Rattle.blocks.specs.BlockLaws.{drawn-shape, hole-asks, hole-drawn}
 use Rattle.blocks.proofs.in_some_hole.Statement.{statement}
@@ -12,7 +12,7 @@ use Rattle.blocks.proofs.in_some_hole.Tie as tie
 
 abbrev Inv-loop : tie.InvT-loop
 Inv-loop outer holes lens blocks p k₀ start₀ k start =
-    Passed (outline outer holes lens) k start × Scan (inHole (outline outer holes lens) p) (length lens) k
+    HolesPassed (outline outer holes lens) k start × Scan (inHole (outline outer holes lens) p) (length lens) k
 
 abbrev μ-loop : tie.MeasureT-loop
 μ-loop outer holes lens blocks p k₀ start₀ k start = length lens - k

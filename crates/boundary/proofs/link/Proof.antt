@@ -16,8 +16,8 @@ mul-prev c = search needs
 slice-write-prev : tie.Need-slice-write-prev
 slice-write-prev c = search needs
 
-lesser-requires : tie.Need-lesser-requires
-lesser-requires c κs = search needs
+min-u32-requires : tie.Need-min-u32-requires
+min-u32-requires c κs = search needs
 
 mul-edges : tie.Need-mul-edges
 mul-edges c = search needs
@@ -28,8 +28,8 @@ mul-edges-2 c = search needs
 slice-write-edges : tie.Need-slice-write-edges
 slice-write-edges c = search needs
 
-greater-requires : tie.Need-greater-requires
-greater-requires c κs = search needs
+max-u32-requires : tie.Need-max-u32-requires
+max-u32-requires c κs = search needs
 
 mul-edges-3 : tie.Need-mul-edges-3
 mul-edges-3 c = search needs
@@ -54,7 +54,7 @@ same-length-3 c = search needs
 
 returns : tie.Need-returns
 unfolding pushEdge
-returns c = λ st. rw (c .before .lesser .ensures, c .greater .ensures)
+returns c = λ st. rw (c .before .min-u32 .ensures, c .max-u32 .ensures)
 
 pub link-spec : {M : Type 1} → statement M
 link-spec =
@@ -64,11 +64,11 @@ link-spec =
     slice-write-next
     mul-prev
     slice-write-prev
-    lesser-requires
+    min-u32-requires
     mul-edges
     mul-edges-2
     slice-write-edges
-    greater-requires
+    max-u32-requires
     mul-edges-3
     add-edges
     mul-edges-4

@@ -4,7 +4,7 @@ use native.Mathlib.Omega.{arith}
 use borrow.Author.Needs.{needs}
 use lib.ListN.{length}
 use Rattle.laws.specs.Loop.{Loop, loop-start, loop-next, loop-end}
-use Rattle.domain.specs.OutlineLaws.{outer-points, hole-points, outer-place, Passed, passed-none, passed-next, passed-place, passed-few}
+use Rattle.domain.specs.OutlineLaws.{outer-points, hole-points, outer-place, HolesPassed, passed-none, passed-next, passed-place, passed-few}
 use Rattle.domain.specs.Outline.{outline}
 use Rattle.crossfield.specs.Grid.{noBounds, loopBounds, holeBounds, bounds}
 use Rattle.crossfield.proofs.bounds_of.Statement.{statement}
@@ -12,7 +12,7 @@ use Rattle.crossfield.proofs.bounds_of.Tie as tie
 
 abbrev Inv-loop : tie.InvT-loop
 Inv-loop outer holes lens wide₀ k₀ start₀ wide k start =
-    Passed (outline outer holes lens) k start × Loop (holeBounds (outline outer holes lens)) (loopBounds outer noBounds) (length lens) k
+    HolesPassed (outline outer holes lens) k start × Loop (holeBounds (outline outer holes lens)) (loopBounds outer noBounds) (length lens) k
     wide
 
 abbrev μ-loop : tie.MeasureT-loop

@@ -5,8 +5,10 @@ use native.Mathlib.Omega.{arith}
 use lib.ListN.{length}
 use Rattle.laws.specs.Loop.{Loop, loop-start, loop-next, loop-end}
 use Rattle.domain.specs.Outline.{outline}
-use Rattle.crossfield.specs.Seeds.{fieldLists, seedRow, seeded}
-use Rattle.crossfield.specs.Places.{row-in, row-of, row-marks}
+use Rattle.direction.specs.Record.{fieldLists}
+use Rattle.direction.specs.Cells.{row-in}
+use Rattle.crossfield.specs.Seeds.{seedRow, seeded}
+use Rattle.crossfield.specs.Places.{row-of, row-marks}
 use Rattle.crossfield.proofs.seed_all.Statement.{statement}
 use Rattle.crossfield.proofs.seed_all.Tie as tie
 

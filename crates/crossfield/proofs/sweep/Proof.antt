@@ -5,8 +5,9 @@ use Prim.Native.Nat.{_+_, _-_, _*_}
 use native.Mathlib.Omega.{arith}
 use lib.ListN.{length}
 use Rattle.laws.specs.Loop.{Loop, loop-start, loop-next, loop-end}
+use Rattle.direction.specs.Cells.{row-in, row-over}
 use Rattle.crossfield.specs.Sweeps.{swept, sweepRow, sweep}
-use Rattle.crossfield.specs.Places.{row-in, row-over, row-of}
+use Rattle.crossfield.specs.Places.{row-of}
 use Rattle.crossfield.proofs.sweep.Statement.{statement}
 use Rattle.crossfield.proofs.sweep.Tie as tie
 

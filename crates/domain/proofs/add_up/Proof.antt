@@ -1,19 +1,19 @@
--- `domain::add_up` meets its contract: the loop's invariant is `Left`, and each answer is a law of it.
+-- `domain::add_up` meets its contract: the loop's invariant is `LengthsLeft`, and each answer is a law of it.
 use Prim.Native.Nat.{_-_}
 use native.Mathlib.Omega.{arith}
 use lib.ListN.{length}
-use Rattle.domain.specs.OutlineLaws.{Left, left-start, left-next, left-short, left-end}
+use Rattle.domain.specs.OutlineLaws.{LengthsLeft, lengths-start, lengths-next, lengths-short, lengths-end}
 use Rattle.domain.proofs.add_up.Statement.{statement}
 use Rattle.domain.proofs.add_up.Tie as tie
 
 abbrev Inv-loop : tie.InvT-loop
-Inv-loop lens total left₀ k₀ left k = Left lens total left k
+Inv-loop lens total left₀ k₀ left k = LengthsLeft lens total left k
 
 abbrev μ-loop : tie.MeasureT-loop
 μ-loop lens total left₀ k₀ left k = length lens - k
 
 loop-holds : tie.Need-loop-holds Inv-loop μ-loop
-loop-holds c = left-start _ _
+loop-holds c = lengths-start _ _
 
 mul-n : tie.Need-mul-n Inv-loop μ-loop
 mul-n c = omega arith
@@ -22,7 +22,7 @@ shared-slice-read-n : tie.Need-shared-slice-read-n Inv-loop μ-loop
 shared-slice-read-n c = omega arith
 
 returns : tie.Need-returns Inv-loop μ-loop
-returns c = left-short (c .before .before .before .loop .inv) (c .before .before .loop-test .taken) (c .if1 .taken)
+returns c = lengths-short (c .before .before .before .loop .inv) (c .before .before .loop-test .taken) (c .if1 .taken)
 
 add-k : tie.Need-add-k Inv-loop μ-loop
 add-k c = omega arith
@@ -31,10 +31,10 @@ loop-less : tie.Need-loop-less Inv-loop μ-loop
 loop-less c = omega arith
 
 loop-again : tie.Need-loop-again Inv-loop μ-loop
-loop-again c = left-next (c .before .before .before .loop .inv) (c .before .before .loop-test .taken) (c .if1 .left)
+loop-again c = lengths-next (c .before .before .before .loop .inv) (c .before .before .loop-test .taken) (c .if1 .left)
 
 returns-2 : tie.Need-returns-2 Inv-loop μ-loop
-returns-2 c = left-end (c .before .loop .inv) (c .loop-test .left)
+returns-2 c = lengths-end (c .before .loop .inv) (c .loop-test .left)
 
 pub add-up-spec : {M : Type 1} → statement M
 add-up-spec =

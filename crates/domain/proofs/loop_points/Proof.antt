@@ -1,4 +1,4 @@
--- `domain::loop_points` meets its contract: a hole's part lies within the holes' list, of at most 131,070 floats, so nothing overflows.
+-- `domain::loop_points` meets its contract: a hole's part lies within the holes' list, which has few enough floats that nothing overflows.
 use mathlib.Core.Path.{refl}
 use native.Mathlib.Omega.{arith}
 use borrow.Author.Needs.{needs}

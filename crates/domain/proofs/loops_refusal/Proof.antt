@@ -5,13 +5,13 @@ use native.Mathlib.Omega.{arith}
 use borrow.Author.Needs.{needs}
 use lib.ListN.{length}
 use Rattle.domain.specs.Outline.{outline}
-use Rattle.domain.specs.OutlineLaws.{outer-points, hole-points, outer-place, Passed, passed-none, passed-next, passed-place, passed-few}
+use Rattle.domain.specs.OutlineLaws.{outer-points, hole-points, outer-place, HolesPassed, passed-none, passed-next, passed-place, passed-few}
 use Rattle.domain.specs.RefusalLaws.{Unrefused, unrefused-start, unrefused-next, unrefused-end, outer-refused, hole-refused}
 use Rattle.domain.proofs.loops_refusal.Statement.{statement}
 use Rattle.domain.proofs.loops_refusal.Tie as tie
 
 abbrev Inv-loop : tie.InvT-loop
-Inv-loop outer holes lens first k₀ start₀ k start = Passed (outline outer holes lens) k start × Unrefused (outline outer holes lens) k
+Inv-loop outer holes lens first k₀ start₀ k start = HolesPassed (outline outer holes lens) k start × Unrefused (outline outer holes lens) k
 
 abbrev μ-loop : tie.MeasureT-loop
 μ-loop outer holes lens first k₀ start₀ k start = length lens - k

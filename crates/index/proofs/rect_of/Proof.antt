@@ -17,17 +17,17 @@ shifted-requires-3 c κs = search needs
 shifted-requires-4 : tie.Need-shifted-requires-4
 shifted-requires-4 c κs = search needs
 
-lesser-requires : tie.Need-lesser-requires
-lesser-requires c κs = search needs
+min-u32-requires : tie.Need-min-u32-requires
+min-u32-requires c κs = search needs
 
-greater-requires : tie.Need-greater-requires
-greater-requires c κs = search needs
+max-u32-requires : tie.Need-max-u32-requires
+max-u32-requires c κs = search needs
 
-lesser-requires-2 : tie.Need-lesser-requires-2
-lesser-requires-2 c κs = search needs
+min-u32-requires-2 : tie.Need-min-u32-requires-2
+min-u32-requires-2 c κs = search needs
 
-greater-requires-2 : tie.Need-greater-requires-2
-greater-requires-2 c κs = search needs
+max-u32-requires-2 : tie.Need-max-u32-requires-2
+max-u32-requires-2 c κs = search needs
 
 returns : tie.Need-returns
 unfolding rectOf
@@ -42,10 +42,10 @@ returns c =
     let third = rw (back-of (args .k .j) (kj .before .struct-told3 .given .1 .0 .1)) at (kj .shifted3 .ensures) in
     let fourth = rw (back-of (args .l .j) (lj .before .struct-told4 .given .1 .0 .1)) at (lj .shifted4 .ensures) in
     rw (
-      c .before .before .before .lesser .ensures,
-      c .before .before .greater .ensures,
-      c .before .lesser2 .ensures,
-      c .greater2 .ensures,
+      c .before .before .before .min-u32 .ensures,
+      c .before .before .max-u32 .ensures,
+      c .before .min-u322 .ensures,
+      c .max-u322 .ensures,
       first,
       second,
       third,
@@ -60,8 +60,8 @@ rect-of-spec =
     shifted-requires-2
     shifted-requires-3
     shifted-requires-4
-    lesser-requires
-    greater-requires
-    lesser-requires-2
-    greater-requires-2
+    min-u32-requires
+    max-u32-requires
+    min-u32-requires-2
+    max-u32-requires-2
     returns)

@@ -28,20 +28,20 @@ returns c =
     let l = c .before .before .loop in
     left-end (l .inv .1) (loops-end (a .lengths .now) (a .loops .now) (a .n) (l .k) (l .a) (omega arith))
 
-mul-lesser : tie.Need-mul-lesser Inv-loop μ-loop
-mul-lesser c = omega arith
+mul-min-usize : tie.Need-mul-min-usize Inv-loop μ-loop
+mul-min-usize c = omega arith
 
-shared-slice-read-lesser : tie.Need-shared-slice-read-lesser Inv-loop μ-loop
-shared-slice-read-lesser c = omega arith
+shared-slice-read-min-usize : tie.Need-shared-slice-read-min-usize Inv-loop μ-loop
+shared-slice-read-min-usize c = omega arith
 
-cast-lesser : tie.Need-cast-lesser Inv-loop μ-loop
-cast-lesser c = omega (arith, c .shared-slice-known3 .given (c .before .before .before .loop .k))
+cast-min-usize : tie.Need-cast-min-usize Inv-loop μ-loop
+cast-min-usize c = omega (arith, c .shared-slice-known3 .given (c .before .before .before .loop .k))
 
-sub-lesser : tie.Need-sub-lesser Inv-loop μ-loop
-sub-lesser c = omega arith
+sub-min-usize : tie.Need-sub-min-usize Inv-loop μ-loop
+sub-min-usize c = omega arith
 
-lesser-requires : tie.Need-lesser-requires Inv-loop μ-loop
-lesser-requires c κs = tt
+min-usize-requires : tie.Need-min-usize-requires Inv-loop μ-loop
+min-usize-requires c κs = tt
 
 add-e : tie.Need-add-e Inv-loop μ-loop
 add-e c = omega arith
@@ -72,7 +72,7 @@ loop-again c =
     let turn = c .before .before .before .before .before .before .before in
     let l = turn .before .before .loop in
     let a = turn .before .before .before .before .before .before .args in
-    let end = ap (λ (m : ℕ). l .a + m) (c .before .before .before .before .before .lesser .ensures) in
+    let end = ap (λ (m : ℕ). l .a + m) (c .before .before .before .before .before .min-usize .ensures) in
     let next = loops-next (a .lengths .now) (a .loops .now) (a .n) (l .k) (l .a) _ (turn .before .loop-test .taken) (turn .if1 .left) end in
     (omega arith, left-next _ _ (l .inv .1) next (c .before .before .put-row .ensures))
 
@@ -94,11 +94,11 @@ put-loops-spec =
     loop-holds
     same-length
     returns
-    mul-lesser
-    shared-slice-read-lesser
-    cast-lesser
-    sub-lesser
-    lesser-requires
+    mul-min-usize
+    shared-slice-read-min-usize
+    cast-min-usize
+    sub-min-usize
+    min-usize-requires
     add-e
     mul-put-row
     sub-put-row

@@ -13,11 +13,11 @@ Inv-loop out₀ at n quads count to₀ k₀ out to k = Left (quadsFrom quads cou
 abbrev μ-loop : tie.MeasureT-loop
 μ-loop out₀ at n quads count to₀ k₀ out to k = count - k
 
-lesser-requires : tie.Need-lesser-requires Inv-loop μ-loop
-lesser-requires c κs = tt
+min-usize-requires : tie.Need-min-usize-requires Inv-loop μ-loop
+min-usize-requires c κs = tt
 
 loop-holds : tie.Need-loop-holds Inv-loop μ-loop
-loop-holds c = quads-start _ _ _ _ (c .lesser .ensures)
+loop-holds c = quads-start _ _ _ _ (c .min-usize .ensures)
 
 mul-a : tie.Need-mul-a Inv-loop μ-loop
 mul-a c = omega arith
@@ -63,7 +63,7 @@ put-quads-spec =
     (tie.spec
     Inv-loop
     μ-loop
-    lesser-requires
+    min-usize-requires
     loop-holds
     mul-a
     add-e

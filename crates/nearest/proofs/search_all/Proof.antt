@@ -4,7 +4,7 @@ use native.Mathlib.Omega.{arith}
 use lib.ListN.{length}
 use Rattle.laws.specs.Loop.{Loop, loop-start, loop-next, loop-end}
 use Rattle.domain.specs.Outline.{outline}
-use Rattle.domain.specs.OutlineLaws.{hole-points, outer-place, Passed, passed-none, passed-next, passed-place, passed-few}
+use Rattle.domain.specs.OutlineLaws.{hole-points, outer-place, HolesPassed, passed-none, passed-next, passed-place, passed-few}
 use Rattle.domain.specs.Search.{searchHole}
 use Rattle.blocks.specs.BlockLaws.{drawn-shape, hole-asks, hole-drawn, outer-drawn}
 use Rattle.nearest.specs.PassLaws.{searched-all}
@@ -13,7 +13,7 @@ use Rattle.nearest.proofs.search_all.Tie as tie
 
 abbrev Inv-loop : tie.InvT-loop
 Inv-loop outer holes lens blocks p found₀ k₀ start₀ found k start =
-    Passed (outline outer holes lens) k start × Loop (searchHole (outline outer holes lens) p) found₀ (length lens) k found
+    HolesPassed (outline outer holes lens) k start × Loop (searchHole (outline outer holes lens) p) found₀ (length lens) k found
 
 abbrev μ-loop : tie.MeasureT-loop
 μ-loop outer holes lens blocks p found₀ k₀ start₀ found k start = length lens - k

@@ -1,14 +1,14 @@
--- `nearest::search_part` meets its contract: the loop's invariant is `Between` of the search's turn.
+-- `nearest::search_part` meets its contract: the loop's invariant is `LoopBetween` of the search's turn.
 use Prim.Native.Nat.{_-_}
 use native.Mathlib.Omega.{arith}
 use borrow.Author.Needs.{needs}
 use Rattle.domain.specs.Search.{searchTurn}
-use Rattle.blocks.specs.BetweenLaws.{Between, between-start, between-next, between-end}
+use Rattle.blocks.specs.BetweenLaws.{LoopBetween, between-start, between-next, between-end}
 use Rattle.nearest.proofs.search_part.Statement.{statement}
 use Rattle.nearest.proofs.search_part.Tie as tie
 
 abbrev Inv-loop : tie.InvT-loop
-Inv-loop p s from to found₀ i₀ found i = Between (searchTurn p s) found₀ from to i found
+Inv-loop p s from to found₀ i₀ found i = LoopBetween (searchTurn p s) found₀ from to i found
 
 abbrev μ-loop : tie.MeasureT-loop
 μ-loop p s from to found₀ i₀ found i = to - i

@@ -24,9 +24,9 @@ given s =
     lent (s .args .values .now) (s .args .marks .now) (s .args .xs .now) (s .args .ys .now) (s .args .next .now) (s .args .prev .now)
     (s .args .snapshot .now) (s .args .quads .now) (s .args .edges .now) (s .args .loops .now) (s .args .lengths .now)
 
-abbrev start-of : tie.After-lesser2 → tie.Start
+abbrev start-of : tie.After-min-usize → tie.Start
 start-of c =
-    c .before .before .before .before .before .before .before .before .before .before .before .before .before .before .before .before .before .before .before
+    c .before .before .before .before .before .before .before .before .before .before .before .before .before .before .before .before .before .before
 
 -- the run, as it stands at the end
 abbrev paved : tie.After-slice-known28 → tie.After-pave-in
@@ -35,31 +35,28 @@ paved c =
     at-slice-known21 .before .before .before .before .before .before .before .before .before .before .before .before .before .before
 
 -- the coordinates lent are doubles
-doubles : (c : tie.After-lesser2) → OutlineFits (around (start-of c))
+doubles : (c : tie.After-min-usize) → OutlineFits (around (start-of c))
 doubles c =
-    let at-holes = c .before .before .before .before .before .before .before .before .before .before .before .before .before .before .before .before .before in
+    let at-holes = c .before .before .before .before .before .before .before .before .before .before .before .before .before .before .before .before in
     record { outer = λ i h. at-holes .before .shared-slice-known .given i; holes = λ i h. at-holes .shared-slice-known2 .given i }
 
-places-are : (c : tie.After-lesser2) → c .lesser2 .result ≡ snapshotPlaces (given (start-of c))
-places-are c = c .lesser2 .ensures ∙ ap (min _) (c .before .lesser .ensures)
+places-are : (c : tie.After-min-usize) → c .min-usize .result ≡ snapshotPlaces (given (start-of c))
+places-are c = c .min-usize .ensures
 
 number-at : (c : tie.After-refusal)
     → c .refusal .result ≡ refusalOf (around (start-of (c .before .before .before))) (set (start-of (c .before .before .before)))
     (given (start-of (c .before .before .before)))
 number-at c =
-    let at-lesser2 = c .before .before .before in
-    let start = start-of at-lesser2 in
-    number-is (around start) (set start) (given start) _ (places-are at-lesser2) _ _ _ (c .before .before .lesser3 .ensures)
+    let at-min-usize = c .before .before .before in
+    let start = start-of at-min-usize in
+    number-is (around start) (set start) (given start) _ (places-are at-min-usize) _ _ _ (c .before .before .min-usize2 .ensures)
     (c .before .node-places .ensures) (c .refusal .ensures)
 
-lesser-requires : tie.Need-lesser-requires
-lesser-requires c κs = search needs
+min-usize-requires : tie.Need-min-usize-requires
+min-usize-requires c κs = search needs
 
-lesser-requires-2 : tie.Need-lesser-requires-2
-lesser-requires-2 c κs = search needs
-
-lesser-requires-3 : tie.Need-lesser-requires-3
-lesser-requires-3 c κs = search needs
+min-usize-requires-2 : tie.Need-min-usize-requires-2
+min-usize-requires-2 c κs = search needs
 
 node-places-requires : tie.Need-node-places-requires
 node-places-requires c κs = search needs
@@ -84,16 +81,16 @@ slice-relend-prefix-pave-in c = search needs
 
 slice-aggregate-pave-in : tie.Need-slice-aggregate-pave-in
 slice-aggregate-pave-in c =
-    let at-lesser2 = c .before .before .before .before .before .before .before .before .before .before .before in
-    sym (length-take-le _ _ (omega (arith, at-lesser2 .lesser2 .ensures)))
+    let at-min-usize = c .before .before .before .before .before .before .before .before .before .before .before in
+    sym (length-take-le _ _ (omega (arith, at-min-usize .min-usize .ensures)))
 
 pave-in-requires : tie.Need-pave-in-requires
 pave-in-requires c κs =
     let else1 = c .before .before .before .before .before .before .before .before .before .before .before .before .before .before in
     let at-refusal = else1 .before in
-    let at-lesser2 = at-refusal .before .before .before in
-    let start = start-of at-lesser2 in
-    can-run (around start) (set start) (given start) _ (places-are at-lesser2) (sym (number-at at-refusal) ∙ else1 .if1 .left)
+    let at-min-usize = at-refusal .before .before .before in
+    let start = start-of at-min-usize in
+    can-run (around start) (set start) (given start) _ (places-are at-min-usize) (sym (number-at at-refusal) ∙ else1 .if1 .left)
 
 same-length : tie.Need-same-length
 same-length c = search needs
@@ -142,11 +139,11 @@ returns-2 c =
     let at-pave-in = paved c in
     let else1 = at-pave-in .before .before .before .before .before .before .before .before .before .before .before .before .before .before .before in
     let at-refusal = else1 .before in
-    let at-lesser2 = at-refusal .before .before .before in
-    let start = start-of at-lesser2 in
+    let at-min-usize = at-refusal .before .before .before in
+    let start = start-of at-min-usize in
     let none = accepted-number _ _ _ _ _ (at-pave-in .pave-in .ensures) in (
-      paves-accepted (around start) (set start) (given start) _ (places-are at-lesser2) (sym (number-at at-refusal) ∙ else1 .if1 .left)
-          (doubles at-lesser2) _ _ (at-pave-in .pave-in .ensures),
+      paves-accepted (around start) (set start) (given start) _ (places-are at-min-usize) (sym (number-at at-refusal) ∙ else1 .if1 .left)
+          (doubles at-min-usize) _ _ (at-pave-in .pave-in .ensures),
       (λ refused. absurd (refused none)),
     )
 
@@ -154,9 +151,8 @@ pub pave-spec : {M : Type 1} → statement M
 pave-spec =
     tie.close
     (tie.spec
-    lesser-requires
-    lesser-requires-2
-    lesser-requires-3
+    min-usize-requires
+    min-usize-requires-2
     node-places-requires
     refusal-requires
     refused-requires

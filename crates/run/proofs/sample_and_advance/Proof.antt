@@ -1,10 +1,10 @@
 -- `run::sample_and_advance` meets its contract: the refusals give what the two calls ask. Assumes nothing.
 use mathlib.Core.Path.{_∙_, ap}
 use Rattle.domain.specs.Outline.{Outline, outline}
+use Rattle.direction.specs.Record.{fieldRecord}
 use Rattle.front.specs.State.{State, stateOf}
 use Rattle.boundary.specs.Progress.{can-sample}
 use Rattle.paving.specs.Advance.{advance}
-use Rattle.crossfield.specs.Field.{fieldRecord}
 use mathlib.Core.List.{[]}
 use Rattle.run.specs.Run.{unused}
 use Rattle.run.specs.Laws.{paveable-at}

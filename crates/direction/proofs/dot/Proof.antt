@@ -1,0 +1,12 @@
+-- `direction::dot` meets its contract. Assumes nothing.
+use mathlib.Core.Path.{refl}
+use Rattle.direction.specs.Direction.{dot}
+use Rattle.direction.proofs.dot.Statement.{statement}
+use Rattle.direction.proofs.dot.Tie as tie
+
+returns : tie.Need-returns
+unfolding dot
+returns c = refl
+
+pub dot-spec : {M : Type 1} → statement M
+dot-spec = tie.close (tie.spec returns)

@@ -1,0 +1,4 @@
+pub mod Record
+pub mod Direction
+pub mod Cells
+pub mod RecordLaws

@@ -41,7 +41,8 @@ pub struct Lists<'a> {
     pub loops: &'a mut [u32],
     /// The lengths of the listed loops; a place a loop of the outline.
     pub lengths: &'a mut [u32],
-    /// For the run's own use: it files nodes there, so as not to search them all. With few places or none it takes longer, and answers the same.
+    /// For the run's own use: it files nodes there, so as not to search them all. Those that find no place are searched one by one: with few places
+    /// or none it takes longer, and answers the same.
     pub node_pool: &'a mut [u32],
     /// As `node_pool`, for edges.
     pub edge_pool: &'a mut [u32],

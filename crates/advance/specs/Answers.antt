@@ -1,20 +1,19 @@
 -- What the answers of the code say, in the words of the definitions of a pass. Definitions only.
 use mathlib.Core.Path.{_≡_}
-use mathlib.Core.Bool.{Bool, true, cond}
+use mathlib.Core.Bool.{Bool, true, not, cond, _&&_}
 use Prim.Native.Nat.{ℕ}
-use lib.Dec.{leb}
-use lib.ListN.{getD}
+use lib.Dec.{eqb, leb}
 use lib.Ieee.{Float}
 use Rattle.laws.specs.Loop.{Turn, go, out}
+use Rattle.topology.specs.Links.{off}
 use Rattle.domain.specs.Outline.{Outline}
 use Rattle.direction.specs.Record.{FieldRecord}
 use Rattle.front.specs.declared.Counts.{Counts}
+use Rattle.front.specs.declared.Neighbour.{Neighbour}
+use Rattle.front.specs.declared.Neighbour.the-variants.{At, Off}
 use Rattle.front.specs.State.{State}
-use Rattle.paving.specs.declared.Attempt.{Attempt}
-use Rattle.paving.specs.declared.Attempt.the-variants.{Nothing}
 use Rattle.paving.specs.declared.End.the-variants.{Still, Cap}
-use Rattle.paving.specs.Attempt.{tryEdge}
-use Rattle.paving.specs.Advance.{Passing, passing, Passed, paved, isThere, passTurn, mostQuads}
+use Rattle.paving.specs.Advance.{Passing, passing, Passed, paved, passTurn, mostQuads}
 use Rattle.advance.specs.declared.Settled.{Settled}
 use Rattle.advance.specs.declared.Settled.the-variants.{Same, Put}
 use Rattle.advance.specs.declared.Settled.the-variants as settled-is
@@ -24,11 +23,9 @@ use Rattle.advance.specs.declared.Swept.the-variants as swept-is
 
 -- ---- one edge of a pass
 
--- the attempt on the snapshot's edge from node a, none where that edge is gone
-unfoldable pub edgeAttempt : Outline → Float → FieldRecord → State → ℕ → Attempt
-edgeAttempt o size field s a =
-    let b = getD (s .snapshot) a 0 in
-    cond (isThere s a b) (tryEdge o size field s a b) Nothing
+-- where the snapshot's edge to b leads, from a node whose link is `next`: nowhere if it is on the front no more
+unfoldable pub snapshotEdge : ℕ → ℕ → Neighbour
+snapshotEdge next b = cond (not (eqb b off) && eqb next b) (At b) Off
 
 -- what became of the edge, where the state is s then, and `some` says whether the pass had placed something before
 abbrev pub settled : Settled → Bool → State → Turn Passing Passed

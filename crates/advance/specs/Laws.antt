@@ -1,28 +1,28 @@
 -- The turns of the code: an edge of a pass, a pass, `advance`. Assumes nothing.
-use mathlib.Core.Path.{_≡_, refl, sym, _∙_, ap, subst}
-use mathlib.Core.Bool.{Bool, true, false, cond}
+use mathlib.Core.Path.{_≡_, refl, sym, _∙_, ap, ap₂, subst}
+use mathlib.Core.Bool.{Bool, true, false, not, cond, _&&_}
 use mathlib.Core.List.{List, []}
-use mathlib.Core.Logic.{_≢_}
 use Prim.Native.Nat.{ℕ, _+_, _≤_, _<_, min}
 use native.Mathlib.Omega.{arith}
-use lib.Dec.{leb}
+use lib.Dec.{eqb, leb}
 use lib.ListN.{length, getD, set}
 use lib.Ieee.{Float}
-use borrow.Author.Tests.{eq-eqb, ne-eqb}
 use Rattle.laws.specs.Loop.{Loop, loop-next, Turn, go, out, onwards, forUp-keeps, Run, run-end, Kept, run}
 use Rattle.topology.specs.Links.{off, link-in, link-read}
 use Rattle.domain.specs.Outline.{Outline}
 use Rattle.direction.specs.declared.Grid.{Grid}
-use Rattle.direction.specs.Record.{FieldRecord}
+use Rattle.direction.specs.Record.{FieldRecord, fieldRecord}
 use Rattle.front.specs.declared.Corner.{Corner}
 use Rattle.front.specs.declared.Counts.{Counts}
+use Rattle.front.specs.declared.Neighbour.{Neighbour}
+use Rattle.front.specs.declared.Neighbour.the-variants.{At, Off}
 use Rattle.front.specs.declared.Placed.{Placed}
 use Rattle.front.specs.declared.Placed.the-variants as placed-is
 use Rattle.front.specs.State.{State, stateOf, nextOf}
 use Rattle.front.specs.Place.{place}
 use Rattle.front.specs.Stores.{Places, countsAfter}
 use Rattle.front.specs.KnownLaws.{placed-full, placed-done}
-use Rattle.front.specs.Ready.{Choice, Ready}
+use Rattle.front.specs.Ready.{Ready}
 use Rattle.paving.specs.declared.Attempt.{Attempt}
 use Rattle.paving.specs.declared.Attempt.the-variants.{Nothing, Quad}
 use Rattle.paving.specs.declared.End.{End}
@@ -33,6 +33,7 @@ use Rattle.paving.specs.Advance.{copyTurn, copied, withSnapshot, afterPass, pas
 use Rattle.paving.specs.ReachLaws.{tried, Reached, AtPassing, AtPassed, AtEnd, turn-kept, pass-kept}
 use Rattle.paving.specs.Reach.{begin}
 use Rattle.books.specs.Answered.{choice}
+use Rattle.attempts.specs.Seen.{seenOf}
 use Rattle.attempts.specs.SeenLaws.{try-seen}
 use Rattle.advance.specs.declared.Settled.{Settled}
 use Rattle.advance.specs.declared.Settled.the-variants.{Same, Put}
@@ -40,8 +41,8 @@ use Rattle.advance.specs.declared.Settled.the-variants as settled-is
 use Rattle.advance.specs.declared.Swept.{Swept}
 use Rattle.advance.specs.declared.Swept.the-variants.{On}
 use Rattle.advance.specs.declared.Swept.the-variants as swept-is
-use Rattle.advance.specs.Answers.{edgeAttempt, settled, settledCounts, quadSettled, passed, passedCounts, passAnswer}
-use Rattle.advance.specs.Paveable.{Paveable, Later, snapshot-paveable, reached-later, ready}
+use Rattle.advance.specs.Answers.{snapshotEdge, settled, settledCounts, quadSettled, passed, passedCounts, passAnswer}
+use Rattle.advance.specs.Paveable.{Paveable, Later, Held, snapshot-paveable, reached-later, ready}
 
 -- ---- the snapshot
 
@@ -52,106 +53,102 @@ copy-next next l₀ {n} {i} {l} L h few =
     subst (λ (x : ℕ). Loop (copyTurn next) l₀ n (i + 1) (set l i x)) (sym (link-read n next i h few ∙ link-in n next i h))
     (loop-next (copyTurn next) l₀ L h)
 
--- ---- the attempt on an edge of the snapshot
+-- ---- an edge of the snapshot
 
-module _ (o : Outline) (size : Float) (field : FieldRecord) (s : State) (a : ℕ) where
-  abbrev b : ℕ
-  b = getD (s .snapshot) a 0
+module _ (next b : ℕ) where
+  abbrev there : Bool
+  there = not (eqb b off) && eqb next b
 
-  pub attempt-off : b ≡ off → Nothing ≡ edgeAttempt o size field s a
-  unfolding edgeAttempt
-  attempt-off e = rw (eq-eqb b off e)
-
-  pub attempt-gone : (r : ℕ) → b ≢ off → r ≡ nextOf s a → r ≢ b → Nothing ≡ edgeAttempt o size field s a
-  unfolding edgeAttempt
-  attempt-gone r on e gone = rw (ne-eqb b off on, ne-eqb (nextOf s a) b (λ q. gone (e ∙ q)))
-
-  pub attempt-there : (r : ℕ) → b ≢ off → r ≡ nextOf s a → r ≡ b → tryEdge o size field s a b ≡ edgeAttempt o size field s a
-  unfolding edgeAttempt
-  attempt-there r on e there = rw (ne-eqb b off on, eq-eqb (nextOf s a) b (sym e ∙ there))
-
-  -- a quad is answered only for an edge that is there, by a try
-  pub attempt-quad : (c d : Corner) → edgeAttempt o size field s a ≡ Quad c d → Choice s a b c d
-  unfolding edgeAttempt
-  attempt-quad c d = by (isThere s a b) refl
+  -- what the code's answer says
+  pub edge-gone : {e : Neighbour} → e ≡ snapshotEdge next b → e ≡ Off → there ≡ false
+  unfolding snapshotEdge
+  edge-gone {e} f g = by there (sym g ∙ f)
     where
-      by : (there : Bool) → isThere s a b ≡ there → cond there (tryEdge o size field s a b) Nothing ≡ Quad c d → Choice s a b c d
-      by true e q = let A = tried o size field s a b c d q in choice o size s a b (A .da) (A .db) c d e (A .answered)
-      by false e q = absurd (let z : _≡_ {A = ℕ} 0 1 = cc in omega arith)
+      by : (t : Bool) → Off ≡ cond t (At b) Off → t ≡ false
+      by true q = absurd (let z : _≡_ {A = ℕ} 0 1 = cc in omega arith)
+      by false q = refl
 
-  -- a turn of a pass settles that attempt
-  pub turn-is : (some : Bool) → passTurn o size field a (passing s some) ≡ settle a b (edgeAttempt o size field s a) (passing s some)
-  unfolding passTurn edgeAttempt
-  turn-is some = by (isThere s a b) (tryEdge o size field s a b)
+  pub edge-there : {e : Neighbour} {v : ℕ} → e ≡ snapshotEdge next b → e ≡ At v → (there ≡ true) × (b ≡ v)
+  unfolding snapshotEdge
+  edge-there {e} {v} f g = by there (sym g ∙ f)
     where
-      by : (there : Bool) (t : Attempt)
-          → cond there (settle a b t (passing s some)) (go (passing s some)) ≡ settle a b (cond there t Nothing) (passing s some)
-      by true t = refl
-      by false t = refl
-
--- the state without its quads, which an attempt doesn't read
-abbrev pub bare : State → State
-bare s = stateOf (s .xs) (s .ys) (s .next) (s .prev) (s .snapshot) [] (s .edges) (s .counts)
-
-pub attempt-bare : (o : Outline) (size : Float) (field : FieldRecord) (s : State) (a : ℕ)
-    → edgeAttempt o size field (bare s) a ≡ edgeAttempt o size field s a
-unfolding edgeAttempt
-attempt-bare o size field s a =
-    let b = getD (s .snapshot) a 0 in
-    ap (λ (t : Attempt). cond (isThere s a b) t Nothing) (sym (try-seen (bare s) field o size a b) ∙ try-seen s field o size a b)
+      by : (t : Bool) → At v ≡ cond t (At b) Off → (t ≡ true) × (b ≡ v)
+      by true q = (refl, cc)
+      by false q = absurd (let z : _≡_ {A = ℕ} 0 1 = cc in omega arith)
 
 -- ---- one edge of a pass
 
-module _ (o : Outline) (size : Float) (field : FieldRecord) (s : State) (a : ℕ) (t : Attempt) (e : t ≡ edgeAttempt o size field (bare s) a) where
-  abbrev to : ℕ
-  to = getD (s .snapshot) a 0
+module _ (o : Outline) (size : Float) (g : Grid) (values : List Float) (s : State) (a : ℕ) (less : a < s .counts .nodes) (L : Held s)
+    {edge : Neighbour} (e : edge ≡ snapshotEdge (getD (s .next) a 0) (getD (s .snapshot) a 0)) where
+  abbrev field : FieldRecord
+  field = fieldRecord g values []
 
-  is-attempt : edgeAttempt o size field s a ≡ t
-  is-attempt = sym (attempt-bare o size field s a) ∙ sym e
+  abbrev b : ℕ
+  b = getD (s .snapshot) a 0
 
-  turned : (some : Bool) → settle a to t (passing s some) ≡ passTurn o size field a (passing s some)
-  turned some = sym (turn-is o size field s a some ∙ ap (λ (x : Attempt). settle a to x (passing s some)) is-attempt)
+  link-now : getD (s .next) a 0 ≡ nextOf s a
+  link-now = link-read (s .counts .nodes) (s .next) a less (L .next)
 
-  pub settle-same : t ≡ Nothing → (some : Bool) → go (passing s some) ≡ passTurn o size field a (passing s some)
-  settle-same q some = rw q at (turned some)
+  pub settle-gone : edge ≡ Off → (some : Bool) → go (passing s some) ≡ passTurn o size field a (passing s some)
+  unfolding passTurn
+  settle-gone q some = rw (ap (λ (n : ℕ). there n b) (sym link-now) ∙ edge-gone (getD (s .next) a 0) b e q)
 
-  module _ (c d : Corner) (q : t ≡ Quad c d) where
-    pub settle-ready : (blocks : List ℕ) (g : Grid) (values : List Float) → Paveable o blocks g values s → Ready s a to c d
-    settle-ready blocks g values P = ready o blocks g values s P a to c d (attempt-quad o size field s a c d (is-attempt ∙ q))
+  module _ {to : ℕ} (f : edge ≡ At to) (t : Attempt) (u : t ≡ tryEdge o size field (seenOf s) a to) where
+    on : isThere s a to ≡ true
+    on =
+        let h = edge-there (getD (s .next) a 0) b e f in
+        ap₂ there (sym link-now) (sym (h .1)) ∙ h .0
 
-    quad-turned : (some : Bool) → settle a to (Quad c d) (passing s some) ≡ passTurn o size field a (passing s some)
-    quad-turned some = rw q at (turned some)
+    is-try : tryEdge o size field s a to ≡ t
+    is-try = sym (try-seen s field o size a to) ∙ sym u
 
-    full-turned : (s′ : State) → Places a to c d s placed-is.Full s′ → (some : Bool)
-        → out (out (paved s′ Full)) ≡ passTurn o size field a (passing s some)
-    full-turned s′ P some =
-        let f = placed-full a to c d s s′ P in
-        rw (f .1) (rw (f .0) at (quad-turned some))
+    turned : (some : Bool) → settle a to t (passing s some) ≡ passTurn o size field a (passing s some)
+    unfolding passTurn
+    turned some =
+        rw (edge-there (getD (s .next) a 0) b e f .1, on) (ap (λ (x : Attempt). settle a to x (passing s some)) (sym is-try))
 
-    done-turned : (m : Counts) (s′ : Counts → State) → s′ m .counts ≡ m → Places a to c d s (placed-is.Done m) (s′ m)
-        → (k : Counts) (w : Settled) → w ≡ quadSettled m
-        → (some : Bool) → settled w some (s′ (settledCounts k w)) ≡ passTurn o size field a (passing s some)
-    unfolding afterQuad quadSettled
-    done-turned m s′ counts P k w e some =
-        let f = placed-done a to c d s (s′ m) m P in
-        let turn : afterQuad (place a to c d s) ≡ passTurn o size field a (passing s some) = rw (f .0) at (quad-turned some) in
-        rw e (by (leb mostQuads (m .quads)) refl ∙ (ap afterQuad (f .1) ∙ turn))
-      where
-        by : (cap : Bool) → leb mostQuads (m .quads) ≡ cap
-            → settled (cond cap (settled-is.Over Cap m) (Put m)) some (s′ (settledCounts k (cond cap (settled-is.Over Cap m) (Put m)))) ≡ afterQuad (s′ m)
-        by true e = rw (counts, e)
-        by false e = rw (counts, e)
+    pub settle-same : t ≡ Nothing → (some : Bool) → go (passing s some) ≡ passTurn o size field a (passing s some)
+    settle-same q some = rw q at (turned some)
 
-    module _ {xs ys : List Float} {next prev snapshot quads edges : List ℕ} {r : Placed} (k : Counts)
-        (P : Places a to c d s r (stateOf xs ys next prev snapshot quads edges (countsAfter k r))) where
-      pub settle-full : r ≡ placed-is.Full → (some : Bool)
-          → out (out (paved (stateOf xs ys next prev snapshot quads edges k) Full)) ≡ passTurn o size field a (passing s some)
-      settle-full e some = full-turned _ (rw e at P) some
+    module _ (c d : Corner) (q : t ≡ Quad c d) where
+      pub settle-ready : (blocks : List ℕ) → Paveable o blocks g values s → Ready s a to c d
+      settle-ready blocks P =
+          let A = tried o size field s a to c d (is-try ∙ q) in
+          ready o blocks g values s P a to c d (choice o size s a to (A .da) (A .db) c d on (A .answered))
 
-      pub settle-done : {m : Counts} {w : Settled} → r ≡ placed-is.Done m → w ≡ quadSettled m → (some : Bool)
-          → settled w some (stateOf xs ys next prev snapshot quads edges (settledCounts k w)) ≡ passTurn o size field a (passing s some)
-      settle-done {m} {w} e f some =
-          done-turned m (λ (j : Counts). stateOf xs ys next prev snapshot quads edges j) refl (rw e at P) k w f some
+      quad-turned : (some : Bool) → settle a to (Quad c d) (passing s some) ≡ passTurn o size field a (passing s some)
+      quad-turned some = rw q at (turned some)
+
+      full-turned : (s′ : State) → Places a to c d s placed-is.Full s′ → (some : Bool)
+          → out (out (paved s′ Full)) ≡ passTurn o size field a (passing s some)
+      full-turned s′ P some =
+          let f = placed-full a to c d s s′ P in
+          rw (f .1) (rw (f .0) at (quad-turned some))
+
+      done-turned : (m : Counts) (s′ : Counts → State) → s′ m .counts ≡ m → Places a to c d s (placed-is.Done m) (s′ m)
+          → (k : Counts) (w : Settled) → w ≡ quadSettled m
+          → (some : Bool) → settled w some (s′ (settledCounts k w)) ≡ passTurn o size field a (passing s some)
+      unfolding afterQuad quadSettled
+      done-turned m s′ counts P k w v some =
+          let f = placed-done a to c d s (s′ m) m P in
+          let turn : afterQuad (place a to c d s) ≡ passTurn o size field a (passing s some) = rw (f .0) at (quad-turned some) in
+          rw v (by (leb mostQuads (m .quads)) refl ∙ (ap afterQuad (f .1) ∙ turn))
+        where
+          by : (cap : Bool) → leb mostQuads (m .quads) ≡ cap
+              → settled (cond cap (settled-is.Over Cap m) (Put m)) some (s′ (settledCounts k (cond cap (settled-is.Over Cap m) (Put m)))) ≡ afterQuad (s′ m)
+          by true e = rw (counts, e)
+          by false e = rw (counts, e)
+
+      module _ {xs ys : List Float} {next prev snapshot quads edges : List ℕ} {r : Placed} (k : Counts)
+          (P : Places a to c d s r (stateOf xs ys next prev snapshot quads edges (countsAfter k r))) where
+        pub settle-full : r ≡ placed-is.Full → (some : Bool)
+            → out (out (paved (stateOf xs ys next prev snapshot quads edges k) Full)) ≡ passTurn o size field a (passing s some)
+        settle-full e some = full-turned _ (rw e at P) some
+
+        pub settle-done : {m : Counts} {w : Settled} → r ≡ placed-is.Done m → w ≡ quadSettled m → (some : Bool)
+            → settled w some (stateOf xs ys next prev snapshot quads edges (settledCounts k w)) ≡ passTurn o size field a (passing s some)
+        settle-done {m} {w} e f some =
+            done-turned m (λ (j : Counts). stateOf xs ys next prev snapshot quads edges j) refl (rw e at P) k w f some
 
 -- what an answer says, once it is known which
 module _ {xs ys : List Float} {next prev snapshot quads edges : List ℕ} (k : Counts) (some : Bool) (r : Settled) {T : Turn Passing Passed}
@@ -236,3 +233,12 @@ module _ (o : Outline) (blocks : List ℕ) (size : Float) (g : Grid) (values : L
   in-advance L =
       later (run-has (Reached o size s) (AtEnd o size s) (passesTurn o size field) (record { quads = 0; by = begin })
       (λ j t r. pass-kept o size s field t r) L)
+
+-- in a pass, after its snapshot was taken
+pub in-begun : (o : Outline) (blocks : List ℕ) (size : Float) (g : Grid) (values : List Float) (field : FieldRecord) (s : State)
+    → Paveable o blocks g values s → {snapshot : List ℕ} → snapshot ≡ copied (s .counts .nodes) (s .next) (s .snapshot)
+    → {n i : ℕ} {t : State} {some : Bool}
+    → Run (passTurn o size field) afterPass (passing (stateOf (s .xs) (s .ys) (s .next) (s .prev) snapshot (s .quads) (s .edges) (s .counts)) false) n i
+    (passing t some)
+    → Later o blocks g values (stateOf (s .xs) (s .ys) (s .next) (s .prev) snapshot (s .quads) (s .edges) (s .counts)) t
+in-begun o blocks size g values field s P e L = in-pass o blocks size g values field _ (pass-begun o blocks g values s P e) L

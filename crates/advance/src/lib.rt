@@ -2,18 +2,15 @@
 // All seven lists of a `Paving` are lent, and two pools in which its nodes and edges are filed, so that searches go by them; the counts go in and come
 // back by value.
 ghost use mathlib.Core.Path.{_≡_};
-ghost use mathlib.Core.Bool.{false};
 ghost use mathlib.Core.List.{[]};
 ghost use Prim.Native.Nat.{_*_, _≤_, _<_, min};
-ghost use lib.ListN.{length};
-ghost use Rattle.laws.specs.Loop.{run};
+ghost use lib.ListN.{length, getD};
 ghost use Rattle.domain.specs.Outline.{outline};
 ghost use Rattle.direction.specs.Record.{fieldRecord};
 ghost use Rattle.front.specs.State.{stateOf};
 ghost use Rattle.indexed.specs.Rects.{NodesFiled, EdgesFiled};
-ghost use Rattle.attempts.specs.Seen.{TryLent};
-ghost use Rattle.paving.specs.Advance.{copied, passing, passTurn, afterPass, pass, paved, advance};
-ghost use Rattle.advance.specs.Answers.{edgeAttempt, Settles, settledCounts, quadSettled, passed, passedCounts, passAnswer};
+ghost use Rattle.paving.specs.Advance.{copied, pass, paved, advance};
+ghost use Rattle.advance.specs.Answers.{snapshotEdge, Settles, settledCounts, quadSettled, passed, passedCounts, passAnswer};
 ghost use Rattle.advance.specs.Paveable.{Paveable};
 ghost use Rattle.advance.specs.Searchable.{Searchable};
 use direction::Grid;
@@ -59,61 +56,21 @@ fn copy_links(next: &[u32], snapshot: &mut [u32], n: u32)
 
 // ---- one edge of a pass
 
-// The attempt on the snapshot's edge from node a, none where that edge is gone.
-fn edge_attempt<'a>(
-    outer: &'a [f64],
-    holes: &'a [f64],
-    lens: &[usize],
-    blocks: &[u32],
-    size: f64,
-    grid: Grid,
-    values: &[f64],
-    xs: &[f64],
-    ys: &[f64],
-    next: &[u32],
-    prev: &[u32],
-    snapshot: &[u32],
-    edges: &[u32],
-    node_pool: &[u32],
-    edge_pool: &[u32],
-    k: Counts,
-    a: u32,
-) -> Attempt
-    requires { ⌜ TryLent (outline (now outer) (now holes) (now lens)) (now blocks) grid (now values) size (now xs) (now ys) (now next) (now prev) (now edges)
-        (now «node_pool») (now «edge_pool») k × (a < length (now snapshot)) ⌝ }
-    ensures { λ r. ⌜ r ≡ edgeAttempt (outline (now (outer .entry)) (now (holes .entry)) (now (lens .entry))) size (fieldRecord grid (now (values .entry)) [])
-        (stateOf (now (xs .entry)) (now (ys .entry)) (now (next .entry)) (now (prev .entry)) (now (snapshot .entry)) [] (now (edges .entry)) k) a ⌝ }
+// Where the snapshot's edge from node a leads; nowhere if it is on the front no more.
+fn snapshot_edge(next: &[u32], snapshot: &[u32], a: u32) -> Neighbour
+    requires { ⌜ (a < length (now next)) × (a < length (now snapshot)) ⌝ }
+    ensures { λ r. ⌜ r ≡ snapshotEdge (getD (now (next .entry)) a 0) (getD (now (snapshot .entry)) a 0) ⌝ }
 {
-    let b = snapshot[a as usize];
+    let i = a as usize;
+    let b = snapshot[i];
     if b == OFF {
-        return Attempt::Nothing;
+        return Neighbour::Off;
     }
-    let neighbour = attempts::link_at(next, k.nodes, a);
-    let Neighbour::At(v) = neighbour else {
-        return Attempt::Nothing;
-    };
-    if v != b {
-        return Attempt::Nothing;
+    if next[i] == b {
+        Neighbour::At(b)
+    } else {
+        Neighbour::Off
     }
-    attempts::try_edge(
-        outer,
-        holes,
-        lens,
-        blocks,
-        size,
-        grid,
-        values,
-        xs,
-        ys,
-        next,
-        prev,
-        edges,
-        node_pool,
-        edge_pool,
-        k,
-        a,
-        b,
-    )
 }
 
 // After a quad: on, or the end at the cap.
@@ -177,7 +134,11 @@ fn settle<'a>(
         (settledCounts k r))
         × Searchable size (now (xs .exit)) (now (ys .exit)) (now (edges .exit)) (settledCounts k r) (now («node_pool» .exit)) (now («edge_pool» .exit)) ⌝ }
 {
-    let attempt = edge_attempt(
+    let edge = snapshot_edge(next, snapshot, a);
+    let Neighbour::At(b) = edge else {
+        return Settled::Same;
+    };
+    let attempt = attempts::try_edge(
         outer,
         holes,
         lens,
@@ -189,40 +150,37 @@ fn settle<'a>(
         ys,
         next,
         prev,
-        snapshot,
         edges,
         node_pool,
         edge_pool,
         k,
         a,
+        b,
     );
-    let b = snapshot[a as usize];
-    match attempt {
-        Attempt::Nothing => Settled::Same,
-        Attempt::Quad(c, d) => {
-            let across = indexed::is_known_across(edge_pool, size, xs, ys, edges, k.edges, c, d);
-            let placed = front::place(
-                xs,
-                ys,
-                next,
-                prev,
-                snapshot,
-                quads,
-                edges,
-                k,
-                a,
-                b,
-                c,
-                d,
-                across,
-            );
-            match placed {
-                Placed::Full => Settled::Over(End::Full, k),
-                Placed::Done(m) => {
-                    file_added(size, xs, ys, edges, node_pool, edge_pool, k, m);
-                    after_quad(m)
-                }
-            }
+    let Attempt::Quad(c, d) = attempt else {
+        return Settled::Same;
+    };
+    let across = indexed::is_known_across(edge_pool, size, xs, ys, edges, k.edges, c, d);
+    let placed = front::place(
+        xs,
+        ys,
+        next,
+        prev,
+        snapshot,
+        quads,
+        edges,
+        k,
+        a,
+        b,
+        c,
+        d,
+        across,
+    );
+    match placed {
+        Placed::Full => Settled::Over(End::Full, k),
+        Placed::Done(m) => {
+            file_added(size, xs, ys, edges, node_pool, edge_pool, k, m);
+            after_quad(m)
         }
     }
 }
@@ -240,8 +198,8 @@ fn after_pass(placed: bool, k: Counts) -> Swept
     }
 }
 
-// The edges of the snapshot in the order of their first nodes.
-fn sweep<'a>(
+// A pass: the snapshot is taken, and its edges are tried in the order of their first nodes.
+fn pass<'a>(
     outer: &'a [f64],
     holes: &'a [f64],
     lens: &[usize],
@@ -253,7 +211,7 @@ fn sweep<'a>(
     ys: &mut [f64],
     next: &mut [u32],
     prev: &mut [u32],
-    snapshot: &[u32],
+    snapshot: &mut [u32],
     quads: &mut [u32],
     edges: &mut [u32],
     node_pool: &mut [u32],
@@ -265,16 +223,14 @@ fn sweep<'a>(
         × Searchable size (now xs) (now ys) (now edges) k (now «node_pool») (now «edge_pool») ⌝ }
     ensures { λ r. ⌜
         (passed r
-        (stateOf (now (xs .exit)) (now (ys .exit)) (now (next .exit)) (now (prev .exit)) (now (snapshot .entry)) (now (quads .exit)) (now (edges .exit))
+        (stateOf (now (xs .exit)) (now (ys .exit)) (now (next .exit)) (now (prev .exit)) (now (snapshot .exit)) (now (quads .exit)) (now (edges .exit))
         (passedCounts r))
-        ≡ run (k .nodes)
-        (passTurn (outline (now (outer .entry)) (now (holes .entry)) (now (lens .entry))) size (fieldRecord grid (now (values .entry)) []))
-        afterPass (passing
+        ≡ pass (outline (now (outer .entry)) (now (holes .entry)) (now (lens .entry))) size (fieldRecord grid (now (values .entry)) [])
         (stateOf (now (xs .entry)) (now (ys .entry)) (now (next .entry)) (now (prev .entry)) (now (snapshot .entry)) (now (quads .entry))
-        (now (edges .entry)) k)
-        false))
+        (now (edges .entry)) k))
         × Searchable size (now (xs .exit)) (now (ys .exit)) (now (edges .exit)) (passedCounts r) (now («node_pool» .exit)) (now («edge_pool» .exit)) ⌝ }
 {
+    copy_links(next, snapshot, k.nodes);
     let n = k.nodes;
     let mut j = k;
     let mut some = false;
@@ -314,60 +270,6 @@ fn sweep<'a>(
         }
     }
     after_pass(some, j)
-}
-
-// A pass: the snapshot is taken, and its edges are tried.
-fn pass<'a>(
-    outer: &'a [f64],
-    holes: &'a [f64],
-    lens: &[usize],
-    blocks: &[u32],
-    size: f64,
-    grid: Grid,
-    values: &[f64],
-    xs: &mut [f64],
-    ys: &mut [f64],
-    next: &mut [u32],
-    prev: &mut [u32],
-    snapshot: &mut [u32],
-    quads: &mut [u32],
-    edges: &mut [u32],
-    node_pool: &mut [u32],
-    edge_pool: &mut [u32],
-    k: Counts,
-) -> Swept
-    requires { ⌜ Paveable (outline (now outer) (now holes) (now lens)) (now blocks) grid (now values)
-        (stateOf (now xs) (now ys) (now next) (now prev) (now snapshot) (now quads) (now edges) k)
-        × Searchable size (now xs) (now ys) (now edges) k (now «node_pool») (now «edge_pool») ⌝ }
-    ensures { λ r. ⌜
-        (passed r
-        (stateOf (now (xs .exit)) (now (ys .exit)) (now (next .exit)) (now (prev .exit)) (now (snapshot .exit)) (now (quads .exit)) (now (edges .exit))
-        (passedCounts r))
-        ≡ pass (outline (now (outer .entry)) (now (holes .entry)) (now (lens .entry))) size (fieldRecord grid (now (values .entry)) [])
-        (stateOf (now (xs .entry)) (now (ys .entry)) (now (next .entry)) (now (prev .entry)) (now (snapshot .entry)) (now (quads .entry))
-        (now (edges .entry)) k))
-        × Searchable size (now (xs .exit)) (now (ys .exit)) (now (edges .exit)) (passedCounts r) (now («node_pool» .exit)) (now («edge_pool» .exit)) ⌝ }
-{
-    copy_links(next, snapshot, k.nodes);
-    sweep(
-        outer,
-        holes,
-        lens,
-        blocks,
-        size,
-        grid,
-        values,
-        xs,
-        ys,
-        next,
-        prev,
-        snapshot,
-        quads,
-        edges,
-        node_pool,
-        edge_pool,
-        k,
-    )
 }
 
 // ---- `advance`

@@ -1,96 +1,54 @@
--- `advance::settle` meets its contract: the attempt answers nothing, a quad that is full, or a quad that is placed. Assumes nothing.
-use mathlib.Core.List.{[]}
-use mathlib.Core.Path.{sym}
-use native.Mathlib.Omega.{arith}
-use borrow.Author.Needs.{needs}
-use Rattle.domain.specs.Outline.{Outline, outline}
-use Rattle.direction.specs.Record.{FieldRecord, fieldRecord}
-use Rattle.front.specs.State.{State, stateOf}
-use Rattle.advance.specs.Laws.{settle-same, settle-ready, settle-full, settle-done}
-use Rattle.advance.specs.Paveable.{held, try-lent}
+-- `advance::settle` meets its contract: the edge is gone, the attempt answers nothing, a quad that is full, or a quad that is placed.
 use Rattle.advance.specs.Searchable.{placed-adds, full-search, search-at, counts-settled}
+use Rattle.advance.specs.Paveable.{held, try-lent}
+use Rattle.advance.specs.Laws.{settle-gone, settle-same, settle-ready, settle-full, settle-done}
+use Rattle.front.specs.State.{State, stateOf}
+use Rattle.domain.specs.Outline.{Outline, outline}
+use native.Mathlib.Omega.{arith}
+use mathlib.Core.Path.{sym}
+use borrow.Author.Needs.{needs}
 use Rattle.advance.proofs.settle.Statement.{statement}
 use Rattle.advance.proofs.settle.Tie as tie
 
--- the outline, the field and the state as they are lent
+-- the outline and the state as they are lent
 abbrev around : tie.Start → Outline
 around s = outline (s .args .outer .now) (s .args .holes .now) (s .args .lens .now)
-
-abbrev field : tie.Start → FieldRecord
-field s = fieldRecord (s .args .grid) (s .args .values .now) []
 
 abbrev lent : tie.Start → State
 lent s =
     stateOf (s .args .xs .now) (s .args .ys .now) (s .args .next .now) (s .args .prev .now) (s .args .snapshot .now) (s .args .quads .now)
     (s .args .edges .now) (s .args .k)
 
-edge-attempt-requires : tie.Need-edge-attempt-requires
-edge-attempt-requires c κs =
-    let at-slice-known4 = c .before .before .before .before .before .before .before .before .before .before .before .before in
-    let start = at-slice-known4 .before .before .before .before .before .before .before .before .before in
-    let search = start .pre .2 in
-    (try-lent _ _ _ _ _ (start .pre .0) _ (search .nodes-filed) (search .edges-filed), omega (arith, held _ _ _ _ _ (start .pre .0) .snapshot, start .pre .1))
+snapshot-edge-requires : tie.Need-snapshot-edge-requires
+snapshot-edge-requires c κs = let start = c .before .before .before .before .before .before .before .before .before .before .before .before .before .before .before in
+    let L = held _ _ _ _ _ (start .pre .0) in
+    (omega (arith, L .next, start .pre .1), omega (arith, L .snapshot, start .pre .1))
 
-mul-b : tie.Need-mul-b
-mul-b c = search needs
-
-shared-slice-read-b : tie.Need-shared-slice-read-b
-shared-slice-read-b c =
-    let at-slice-known5 = c .before .before .before .before .before .before .before .before .before .before .before .before in
-    let start = at-slice-known5 .before .before .before .before .before .before .before .before .before .before .before in
-    omega (arith, held _ _ _ _ _ (start .pre .0) .snapshot, start .pre .1)
+enum-known-edge : tie.Need-enum-known-edge
+enum-known-edge c = search needs
 
 enum-told : tie.Need-enum-told
 enum-told c = search needs
 
+same-length : tie.Need-same-length
+same-length c = search needs
+
+returns : tie.Need-returns
+returns c = let start = c .before .before .before .before .before .before .before .before .before .before .before .before .before .before .before .before .before .before in (
+  settle-gone (around start) (start .args .size) (start .args .grid) (start .args .values .now) (lent start) (start .args .a) (start .pre .1)
+      (held _ _ _ _ _ (start .pre .0)) (c .before .before .snapshot-edge .ensures) (c .enum-told .given .1),
+  start .pre .2,
+)
+
+try-edge-requires : tie.Need-try-edge-requires
+try-edge-requires c κs = let start = c .before .before .before .before .before .before .before .before .before .before .before .before .before .before .before .before .before .before .before .before .before .before .before .before .before .before in
+    try-lent _ _ _ _ _ (start .pre .0) _ (start .pre .2 .nodes-filed) (start .pre .2 .edges-filed)
+
 enum-known-attempt : tie.Need-enum-known-attempt
 enum-known-attempt c = search needs
 
-is-known-across-requires : tie.Need-is-known-across-requires
-is-known-across-requires c κs =
-    let at-edge-attempt = c .before .before .before .before .before .before .before .before in
-    let at-shared-slice-known6 = at-edge-attempt .before .before .before .before .before .before .before .before .before .before .before .before in
-    let start = at-shared-slice-known6 .before .before .before .before .before .before .before .before .before .before in
-    (held _ _ _ _ _ (start .pre .0) .edges, start .pre .2 .edges-filed)
-
-place-requires : tie.Need-place-requires
-place-requires c κs =
-    let at-across = c .before .before .before .before .before .before in
-    let at-attempt = at-across .before .before .before .before .before .before in
-    let at-edge-attempt = at-attempt .before .before .before in
-    let at-shared-slice-known6 = at-edge-attempt .before .before .before .before .before .before .before .before .before .before .before .before in
-    let start = at-shared-slice-known6 .before .before .before .before .before .before .before .before .before .before in
-    let ready = settle-ready (around start) (start .args .size) (field start) (lent start) (start .args .a) _
-    (at-edge-attempt .edge-attempt .ensures) _ _ (at-attempt .attempt .given .1) _ _ _ (start .pre .0) in
-    (ready, at-across .is-known-across .ensures)
-
 enum-told-2 : tie.Need-enum-told-2
 enum-told-2 c = search needs
-
-enum-known-placed : tie.Need-enum-known-placed
-enum-known-placed c = search needs
-
-file-added-requires : tie.Need-file-added-requires
-file-added-requires c κs =
-    let at-placed = c .before .before .before .before .before .before in
-    let at-slice-known9 = at-placed .before .before .before .before .before .before .before .before .before .before .before .before in
-    let at-place = at-slice-known9 .before .before in
-    let at-across = at-place .before .before .before .before .before .before .before in
-    let at-attempt = at-across .before .before .before .before .before .before in
-    let at-edge-attempt = at-attempt .before .before .before in
-    let at-shared-slice-known6 = at-edge-attempt .before .before .before .before .before .before .before .before .before .before .before .before in
-    let start = at-shared-slice-known6 .before .before .before .before .before .before .before .before .before .before in
-    let ready = settle-ready (around start) (start .args .size) (field start) (lent start) (start .args .a) _
-    (at-edge-attempt .edge-attempt .ensures) _ _ (at-attempt .attempt .given .1) _ _ _ (start .pre .0) in
-    let adds = placed-adds (around start) _ _ _ (start .args .size) (lent start) (start .pre .0) (start .args .a) _ _ _ ready (start .pre .2)
-    (at-place .place .ensures) (at-placed .placed .given .1) in
-    (adds .nodes, adds .edges)
-
-after-quad-requires : tie.Need-after-quad-requires
-after-quad-requires c κs = search needs
-
-same-length : tie.Need-same-length
-same-length c = search needs
 
 same-length-2 : tie.Need-same-length-2
 same-length-2 c = search needs
@@ -110,18 +68,43 @@ same-length-6 c = search needs
 same-length-7 : tie.Need-same-length-7
 same-length-7 c = search needs
 
-returns : tie.Need-returns
-returns c =
-    let at-edge-attempt = c .before .before .before in
-    let at-shared-slice-known6 = at-edge-attempt .before .before .before .before .before .before .before .before .before .before .before .before in
-    let start = at-shared-slice-known6 .before .before .before .before .before .before .before .before .before .before in (
-      settle-same (around start) (start .args .size) (field start) (lent start) (start .args .a) _
-          (at-edge-attempt .edge-attempt .ensures) (c .enum-told .given .1),
-      start .pre .2,
-    )
-
 same-length-8 : tie.Need-same-length-8
 same-length-8 c = search needs
+
+returns-2 : tie.Need-returns-2
+returns-2 c = let start = c .before .before .before .before .before .before .before .before .before .before .before .before .before .before .before .before .before .before .before .before .before .before .before .before .before .before .before .before .before in (
+  settle-same (around start) (start .args .size) (start .args .grid) (start .args .values .now) (lent start) (start .args .a) (start .pre .1)
+      (held _ _ _ _ _ (start .pre .0)) (c .before .before .before .before .before .before .before .before .before .before .before .before .before .snapshot-edge .ensures) (c .before .before .before .before .before .before .before .before .before .before .before .edge .given .1) _ (c .before .before .try-edge .ensures) (c .enum-told2 .given .1),
+  start .pre .2,
+)
+
+is-known-across-requires : tie.Need-is-known-across-requires
+is-known-across-requires c κs = let start = c .before .before .before .before .before .before .before .before .before .before .before .before .before .before .before .before .before .before .before .before .before .before .before .before .before .before .before .before .before .before .before .before .before .before in
+    (held _ _ _ _ _ (start .pre .0) .edges, start .pre .2 .edges-filed)
+
+place-requires : tie.Need-place-requires
+place-requires c κs = let start = c .before .before .before .before .before .before .before .before .before .before .before .before .before .before .before .before .before .before .before .before .before .before .before .before .before .before .before .before .before .before .before .before .before .before .before .before .before .before .before .before .before in (
+  settle-ready (around start) (start .args .size) (start .args .grid) (start .args .values .now) (lent start) (start .args .a) (start .pre .1)
+      (held _ _ _ _ _ (start .pre .0)) (c .before .before .before .before .before .before .before .before .before .before .before .before .before .before .before .before .before .before .before .before .before .before .before .before .before .snapshot-edge .ensures) (c .before .before .before .before .before .before .before .before .before .before .before .before .before .before .before .before .before .before .before .before .before .before .before .edge .given .1) _ (c .before .before .before .before .before .before .before .before .before .before .before .before .before .before .try-edge .ensures) _ _ (c .before .before .before .before .before .before .before .before .before .before .before .before .attempt .given .1) _ (start .pre .0),
+  c .before .before .before .before .before .before .is-known-across .ensures,
+)
+
+enum-told-3 : tie.Need-enum-told-3
+enum-told-3 c = search needs
+
+enum-known-placed : tie.Need-enum-known-placed
+enum-known-placed c = search needs
+
+file-added-requires : tie.Need-file-added-requires
+file-added-requires c κs = let start = c .before .before .before .before .before .before .before .before .before .before .before .before .before .before .before .before .before .before .before .before .before .before .before .before .before .before .before .before .before .before .before .before .before .before .before .before .before .before .before .before .before .before .before .before .before .before .before .before .before .before .before .before .before .before .before .before .before .before .before .before .before .before in
+    let ready = settle-ready (around start) (start .args .size) (start .args .grid) (start .args .values .now) (lent start) (start .args .a) (start .pre .1)
+    (held _ _ _ _ _ (start .pre .0)) (c .before .before .before .before .before .before .before .before .before .before .before .before .before .before .before .before .before .before .before .before .before .before .before .before .before .before .before .before .before .before .before .before .before .before .before .before .before .before .before .before .before .before .before .before .before .before .snapshot-edge .ensures) (c .before .before .before .before .before .before .before .before .before .before .before .before .before .before .before .before .before .before .before .before .before .before .before .before .before .before .before .before .before .before .before .before .before .before .before .before .before .before .before .before .before .before .before .before .edge .given .1) _ (c .before .before .before .before .before .before .before .before .before .before .before .before .before .before .before .before .before .before .before .before .before .before .before .before .before .before .before .before .before .before .before .before .before .before .before .try-edge .ensures) _ _ (c .before .before .before .before .before .before .before .before .before .before .before .before .before .before .before .before .before .before .before .before .before .before .before .before .before .before .before .before .before .before .before .before .before .attempt .given .1) _ (start .pre .0) in
+    let adds = placed-adds (around start) _ _ _ (start .args .size) (lent start) (start .pre .0) (start .args .a) _ _ _ ready (start .pre .2)
+    (c .before .before .before .before .before .before .before .before .before .before .before .before .before .before .before .before .before .before .before .before .place .ensures) (c .before .before .before .before .before .before .placed .given .1) in
+    (adds .nodes, adds .edges)
+
+after-quad-requires : tie.Need-after-quad-requires
+after-quad-requires c κs = search needs
 
 same-length-9 : tie.Need-same-length-9
 same-length-9 c = search needs
@@ -144,26 +127,18 @@ same-length-14 c = search needs
 same-length-15 : tie.Need-same-length-15
 same-length-15 c = search needs
 
-returns-2 : tie.Need-returns-2
-returns-2 c =
-    let at-slice-known9 = c .before .before .before .before .before .before .before .before .before .before .before .before in
-    let at-place = at-slice-known9 .before .before in
-    let at-across = at-place .before .before .before .before .before .before .before in
-    let at-attempt = at-across .before .before .before .before .before .before in
-    let at-edge-attempt = at-attempt .before .before .before in
-    let at-shared-slice-known6 = at-edge-attempt .before .before .before .before .before .before .before .before .before .before .before .before in
-    let start = at-shared-slice-known6 .before .before .before .before .before .before .before .before .before .before in
-    let ready = settle-ready (around start) (start .args .size) (field start) (lent start) (start .args .a) _
-    (at-edge-attempt .edge-attempt .ensures) _ _ (at-attempt .attempt .given .1) _ _ _ (start .pre .0) in (
-      settle-full (around start) (start .args .size) (field start) (lent start) (start .args .a) _
-          (at-edge-attempt .edge-attempt .ensures) _ _ (at-attempt .attempt .given .1) (start .args .k)
-          (at-place .place .ensures) (c .enum-told2 .given .1),
-      full-search (around start) _ _ _ (start .args .size) (lent start) (start .pre .0) (start .args .a) _ _ _ ready (start .pre .2)
-          (at-place .place .ensures) (c .enum-told2 .given .1),
-    )
-
 same-length-16 : tie.Need-same-length-16
 same-length-16 c = search needs
+
+returns-3 : tie.Need-returns-3
+returns-3 c = let start = c .before .before .before .before .before .before .before .before .before .before .before .before .before .before .before .before .before .before .before .before .before .before .before .before .before .before .before .before .before .before .before .before .before .before .before .before .before .before .before .before .before .before .before .before .before .before .before .before .before .before .before .before .before .before .before .before in
+    let ready = settle-ready (around start) (start .args .size) (start .args .grid) (start .args .values .now) (lent start) (start .args .a) (start .pre .1)
+    (held _ _ _ _ _ (start .pre .0)) (c .before .before .before .before .before .before .before .before .before .before .before .before .before .before .before .before .before .before .before .before .before .before .before .before .before .before .before .before .before .before .before .before .before .before .before .before .before .before .before .before .snapshot-edge .ensures) (c .before .before .before .before .before .before .before .before .before .before .before .before .before .before .before .before .before .before .before .before .before .before .before .before .before .before .before .before .before .before .before .before .before .before .before .before .before .before .edge .given .1) _ (c .before .before .before .before .before .before .before .before .before .before .before .before .before .before .before .before .before .before .before .before .before .before .before .before .before .before .before .before .before .try-edge .ensures) _ _ (c .before .before .before .before .before .before .before .before .before .before .before .before .before .before .before .before .before .before .before .before .before .before .before .before .before .before .before .attempt .given .1) _ (start .pre .0) in (
+      settle-full (around start) (start .args .size) (start .args .grid) (start .args .values .now) (lent start) (start .args .a) (start .pre .1)
+          (held _ _ _ _ _ (start .pre .0)) (c .before .before .before .before .before .before .before .before .before .before .before .before .before .before .before .before .before .before .before .before .before .before .before .before .before .before .before .before .before .before .before .before .before .before .before .before .before .before .before .before .snapshot-edge .ensures) (c .before .before .before .before .before .before .before .before .before .before .before .before .before .before .before .before .before .before .before .before .before .before .before .before .before .before .before .before .before .before .before .before .before .before .before .before .before .before .edge .given .1) _ (c .before .before .before .before .before .before .before .before .before .before .before .before .before .before .before .before .before .before .before .before .before .before .before .before .before .before .before .before .before .try-edge .ensures) _ _ (c .before .before .before .before .before .before .before .before .before .before .before .before .before .before .before .before .before .before .before .before .before .before .before .before .before .before .before .attempt .given .1) (start .args .k) (c .before .before .before .before .before .before .before .before .before .before .before .before .before .before .place .ensures) (c .enum-told3 .given .1),
+      full-search (around start) _ _ _ (start .args .size) (lent start) (start .pre .0) (start .args .a) _ _ _ ready (start .pre .2)
+          (c .before .before .before .before .before .before .before .before .before .before .before .before .before .before .place .ensures) (c .enum-told3 .given .1),
+    )
 
 same-length-17 : tie.Need-same-length-17
 same-length-17 c = search needs
@@ -186,47 +161,42 @@ same-length-22 c = search needs
 same-length-23 : tie.Need-same-length-23
 same-length-23 c = search needs
 
-returns-3 : tie.Need-returns-3
-returns-3 c =
-    let at-file-added = c .before .before .before .before .before in
-    let at-placed = at-file-added .before .before .before .before .before .before .before in
-    let at-slice-known9 = at-placed .before .before .before .before .before .before .before .before .before .before .before .before in
-    let at-place = at-slice-known9 .before .before in
-    let at-across = at-place .before .before .before .before .before .before .before in
-    let at-attempt = at-across .before .before .before .before .before .before in
-    let at-edge-attempt = at-attempt .before .before .before in
-    let at-shared-slice-known6 = at-edge-attempt .before .before .before .before .before .before .before .before .before .before .before .before in
-    let start = at-shared-slice-known6 .before .before .before .before .before .before .before .before .before .before in (
-      settle-done (around start) (start .args .size) (field start) (lent start) (start .args .a) _
-          (at-edge-attempt .edge-attempt .ensures) _ _ (at-attempt .attempt .given .1) (start .args .k)
-          (at-place .place .ensures) (at-placed .placed .given .1) (c .after-quad .ensures),
-      search-at (sym (counts-settled (start .args .k) _ (c .after-quad .ensures))) (at-file-added .file-added .ensures),
-    )
+same-length-24 : tie.Need-same-length-24
+same-length-24 c = search needs
+
+returns-4 : tie.Need-returns-4
+returns-4 c = let start = c .before .before .before .before .before .before .before .before .before .before .before .before .before .before .before .before .before .before .before .before .before .before .before .before .before .before .before .before .before .before .before .before .before .before .before .before .before .before .before .before .before .before .before .before .before .before .before .before .before .before .before .before .before .before .before .before .before .before .before .before .before .before .before .before .before .before .before .before in (
+  settle-done (around start) (start .args .size) (start .args .grid) (start .args .values .now) (lent start) (start .args .a) (start .pre .1)
+      (held _ _ _ _ _ (start .pre .0)) (c .before .before .before .before .before .before .before .before .before .before .before .before .before .before .before .before .before .before .before .before .before .before .before .before .before .before .before .before .before .before .before .before .before .before .before .before .before .before .before .before .before .before .before .before .before .before .before .before .before .before .before .before .snapshot-edge .ensures) (c .before .before .before .before .before .before .before .before .before .before .before .before .before .before .before .before .before .before .before .before .before .before .before .before .before .before .before .before .before .before .before .before .before .before .before .before .before .before .before .before .before .before .before .before .before .before .before .before .before .before .edge .given .1) _ (c .before .before .before .before .before .before .before .before .before .before .before .before .before .before .before .before .before .before .before .before .before .before .before .before .before .before .before .before .before .before .before .before .before .before .before .before .before .before .before .before .before .try-edge .ensures) _ _ (c .before .before .before .before .before .before .before .before .before .before .before .before .before .before .before .before .before .before .before .before .before .before .before .before .before .before .before .before .before .before .before .before .before .before .before .before .before .before .before .attempt .given .1) (start .args .k) (c .before .before .before .before .before .before .before .before .before .before .before .before .before .before .before .before .before .before .before .before .before .before .before .before .before .before .place .ensures) (c .before .before .before .before .before .before .before .before .before .before .before .before .placed .given .1) (c .after-quad .ensures),
+  search-at (sym (counts-settled (start .args .k) _ (c .after-quad .ensures))) (c .before .before .before .before .before .file-added .ensures),
+)
 
 pub settle-spec : {M : Type 1} → statement M
 settle-spec =
     tie.close
     (tie.spec
-    edge-attempt-requires
-    mul-b
-    shared-slice-read-b
+    snapshot-edge-requires
+    enum-known-edge
     enum-told
-    enum-known-attempt
-    is-known-across-requires
-    place-requires
-    enum-told-2
-    enum-known-placed
-    file-added-requires
-    after-quad-requires
     same-length
+    returns
+    try-edge-requires
+    enum-known-attempt
+    enum-told-2
     same-length-2
     same-length-3
     same-length-4
     same-length-5
     same-length-6
     same-length-7
-    returns
     same-length-8
+    returns-2
+    is-known-across-requires
+    place-requires
+    enum-told-3
+    enum-known-placed
+    file-added-requires
+    after-quad-requires
     same-length-9
     same-length-10
     same-length-11
@@ -234,8 +204,8 @@ settle-spec =
     same-length-13
     same-length-14
     same-length-15
-    returns-2
     same-length-16
+    returns-3
     same-length-17
     same-length-18
     same-length-19
@@ -243,4 +213,5 @@ settle-spec =
     same-length-21
     same-length-22
     same-length-23
-    returns-3)
+    same-length-24
+    returns-4)

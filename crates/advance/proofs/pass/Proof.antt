@@ -115,7 +115,7 @@ same-length-4 c = let start = c .before .before .before .before .before .before 
     c .before .before .before .before .before .before .before .before .before .before .before .before .before .before .before .before .before .before .before .settle .kept .1 .1 .1 .1 .1 .1 .1 .1 .1 .1 .0 ∙ in-begun (around start) _ (start .args .size) _ _ (field start) (lent start) (start .pre .0) (c .before .before .before .before .before .before .before .before .before .before .before .before .before .before .before .before .before .before .before .before .before .before .before .before .before .before .before .before .before .before .before .before .before .copy-links .ensures) (c .before .before .before .before .before .before .before .before .before .before .before .before .before .before .before .before .before .before .before .before .before .before .before .before .before .before .before .before .before .before .loop .inv .0) .frame .prev .long
 
 same-length-5 : tie.Need-same-length-5 Inv-loop μ-loop
-same-length-5 c = search needs
+same-length-5 c = c .before .before .before .before .before .before .before .before .before .before .before .before .before .before .before .before .before .before .before .before .before .before .before .before .before .before .before .before .before .before .before .before .before .copy-links .kept .1 .0
 
 same-length-6 : tie.Need-same-length-6 Inv-loop μ-loop
 same-length-6 c = let start = c .before .before .before .before .before .before .before .before .before .before .before .before .before .before .before .before .before .before .before .before .before .before .before .before .before .before .before .before .before .before .before .before .before .before .before .before .before .before .before .before .before .before .before .before .before .before .before .before .before .before in

@@ -1,9 +1,10 @@
--- Laws of books: quads that stay where they are; edges that are counted, are there and come off; and what a match gives: as many nodes
--- and edges, and the sum of any antisymmetric weight, the area among them.
+-- Laws of books: quads that stay where they are; edges that are counted, are there and come off; steps that may fail; and what a match
+-- gives: as many nodes and edges, and the sum of any antisymmetric weight, the area among them.
 use Prim.Native.Nat.{ℕ, _+_, _*_, _<_}
 use mathlib.Core.List.{List, [], _∷_}
 use mathlib.Core.Path.{_≡_, refl, sym, _∙_, ap, ap₂}
 use mathlib.Core.Bool.{Bool, true, false, cond, _&&_, _||_}
+use mathlib.Core.Option.{Option, none, some}
 use native.Mathlib.Omega.{arith}
 use lib.IntN.{ℤ, pos, negℤ, _+ℤ_, _*ℤ_, negℤ-negℤ, negℤ-+ℤ, +ℤ-comm, *ℤ-comm}
 use lib.Dec.{eqb}
@@ -18,7 +19,7 @@ use Rattle.topology.specs.Balance.{frontSumℤ, Antisymmetric, difference, diff
 use Rattle.front.specs.State.{State, nodePlaces}
 use Rattle.front.specs.Sound.{Sound, Frame}
 use Rattle.front.specs.FrameLaws.{extends-at}
-use Rattle.books.specs.Book.{Edge, edge, Book, isEdge, has, without, quadAt, areaOf, edgesArea}
+use Rattle.books.specs.Book.{Edge, edge, Book, isEdge, has, without, andThen, quadAt, areaOf, edgesArea}
 use Rattle.books.specs.Matches.{edgesSum, Matches}
 use Rattle.books.specs.Holds.{countEdge}
 
@@ -92,7 +93,7 @@ has-none u v (e ∷ es) h = by (isEdge (edge u v) e) (rw (at-edge u v e) at h) (
     by true h later = absurd (omega arith)
     by false h later = later (omega arith)
 
-is-edge : (u v : ℕ) (e : Edge) → isEdge (edge u v) e ≡ true → (u ≡ e .from) × (v ≡ e .to)
+pub is-edge : (u v : ℕ) (e : Edge) → isEdge (edge u v) e ≡ true → (u ≡ e .from) × (v ≡ e .to)
 is-edge u v e h = let ends = both (eqb u (e .from)) _ h in (eqb-true u (e .from) (ends .0), eqb-true v (e .to) (ends .1))
 
 -- an edge that is there comes off once
@@ -107,6 +108,18 @@ without-sum w u v (e ∷ es) h = by (isEdge (edge u v) e) refl h (without-sum w 
         → edgesSum w (cond t es (e ∷ without (edge u v) es)) + w u v ≡ w (e .from) (e .to) + edgesSum w es
     by true q h later = let p = is-edge u v e q in rw (p .0, p .1) (omega arith)
     by false q h later = omega (arith, later h)
+
+-- ---- steps that may fail
+
+-- what a step gives has P
+abbrev pub Gives : (Book → Type 0) → Option Book → Type 0
+Gives P none = Unit {0}
+Gives P (some b) = P b
+
+pub gives-then : (P Q : Book → Type 0) (f : Book → Option Book) (m : Option Book) → Gives P m → ((b : Book) → P b → Gives Q (f b))
+    → Gives Q (andThen m f)
+gives-then P Q f none p next = tt
+gives-then P Q f (some b) p next = next b p
 
 -- ---- a match
 

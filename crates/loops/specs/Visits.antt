@@ -152,7 +152,7 @@ map-more [] l = refl
 map-more (m ∷ ms) l = ap (λ (t : List ℕ). length m ∷ t) (map-more ms l)
 
 -- l written after a
-overlay-more : (a l s : List ℕ) (i : ℕ) → length a ≡ i → i + length l ≤ length s → sets (overlay a s) i l ≡ overlay (a ++ l) s
+pub overlay-more : (a l s : List ℕ) (i : ℕ) → length a ≡ i → i + length l ≤ length s → sets (overlay a s) i l ≡ overlay (a ++ l) s
 unfolding overlay
 overlay-more a l s i e h =
     let t = a ++ drop (length a) s in

@@ -26,12 +26,12 @@ abbrev pub originOf : List ℕ → ℕ → ℕ
 originOf l id = getD l id 0
 
 -- the nodes of loop k, its midpoint among them, have number k
-abbrev pub loopTurn : Outline → Float → ℕ → List ℕ → List ℕ
-loopTurn o size k l = l ++ replicate (loopNodes o size k) k
+abbrev pub loopOrigins : Outline → Float → ℕ → List ℕ
+loopOrigins o size k = replicate (loopNodes o size k) k
 
--- the numbers of the samples
+-- the numbers of the samples, loop after loop
 unfoldable pub sampledOrigins : Outline → Float → List ℕ
-sampledOrigins o size = forUp (loopCount o) (loopTurn o size) []
+sampledOrigins o size = forUp (loopCount o) (λ k l. l ++ loopOrigins o size k) []
 
 -- where id is the next node, it takes the number of node a
 unfoldable pub pushOrigin : ℕ → ℕ → List ℕ → List ℕ

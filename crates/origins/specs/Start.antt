@@ -26,7 +26,7 @@ use Rattle.sampled.specs.Turn.{sampled-count, cuts-three, split-count}
 use Rattle.sampled.specs.Outlines.{Threes}
 use Rattle.sampled.specs.Begun.{Places, stateAt, fits, ready, refusal-places, begun}
 use Rattle.sampled.specs.Starts.{room-for, starts}
-use Rattle.origins.specs.Origins.{originOf, loopTurn, sampledOrigins, SameOrigin, SameAlong}
+use Rattle.origins.specs.Origins.{originOf, loopOrigins, sampledOrigins, SameOrigin, SameAlong}
 use Rattle.origins.specs.Steps.{Numbered}
 
 -- ---- the numbers of the samples
@@ -34,7 +34,10 @@ use Rattle.origins.specs.Steps.{Numbered}
 module _ (o : Outline) (size : Float) where
   -- those of the first k loops
   abbrev pub firstOrigins : ℕ → List ℕ
-  firstOrigins k = forUp k (loopTurn o size) []
+  firstOrigins k = forUp k (λ i l. l ++ loopOrigins o size i) []
+
+  loop-length : (k : ℕ) → length (loopOrigins o size k) ≡ loopNodes o size k
+  loop-length k = length-replicate _ _
 
   pub first-length : (k : ℕ) → length (firstOrigins k) ≡ sumUp k (loopNodes o size)
   unfolding forUp
@@ -42,8 +45,8 @@ module _ (o : Outline) (size : Float) where
   first-length (suc k) =
       omega (
         arith,
-        length-append (firstOrigins k) (replicate (loopNodes o size k) k),
-        length-replicate (loopNodes o size k) k,
+        length-append (firstOrigins k) (loopOrigins o size k),
+        loop-length k,
         first-length k,
         sum-suc (loopNodes o size) k,
       )
@@ -52,7 +55,7 @@ module _ (o : Outline) (size : Float) where
   first-next : (k j : ℕ) → j < loopNodes o size k → originOf (firstOrigins (suc k)) (sumUp k (loopNodes o size) + j) ≡ k
   unfolding forUp
   first-next k j h =
-      rw (← first-length k, getD-append-add (firstOrigins k) (replicate (loopNodes o size k) k) j 0) (getD-replicate (loopNodes o size k) j k 0 h)
+      rw (← first-length k, getD-append-add (firstOrigins k) (loopOrigins o size k) j 0) (getD-replicate (loopNodes o size k) j k 0 h)
 
   -- and later loops leave
   first-kept : (k m u : ℕ) → k ≤ m → u < length (firstOrigins k)
@@ -67,8 +70,8 @@ module _ (o : Outline) (size : Float) where
           → (u < length (firstOrigins (suc m))) × (originOf (firstOrigins (suc m)) u ≡ originOf (firstOrigins k) u)
       by earlier true e =
           let E = earlier (leb-true k m e) in (
-            omega (arith, E .0, length-append (firstOrigins m) (replicate (loopNodes o size m) m)),
-            List·getD-append (firstOrigins m) (replicate (loopNodes o size m) m) 0 u (E .0) ∙ E .1,
+            omega (arith, E .0, length-append (firstOrigins m) (loopOrigins o size m)),
+            List·getD-append (firstOrigins m) (loopOrigins o size m) 0 u (E .0) ∙ E .1,
           )
       by earlier false e =
           let last : k ≡ suc m = omega (arith, leb-false k m e) in
@@ -82,7 +85,7 @@ module _ (o : Outline) (size : Float) where
   unfolding forUp
   first-known zero h = tt
   first-known (suc k) h =
-      all-append _ (firstOrigins k) (replicate (loopNodes o size k) k) (first-known k (omega arith)) (all-replicate (loopNodes o size k) k (omega arith))
+      all-append _ (firstOrigins k) (loopOrigins o size k) (first-known k (omega arith)) (all-replicate (loopNodes o size k) k (omega arith))
 
   pub sampled-length : length (sampledOrigins o size) ≡ sampledCount o size
   unfolding sampledOrigins sampledCount

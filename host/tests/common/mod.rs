@@ -4,6 +4,7 @@
 pub mod blocks;
 pub mod book;
 pub mod exam;
+pub mod origins;
 pub mod rng;
 pub mod sound;
 pub mod whole;

@@ -4,7 +4,8 @@ use mathlib.Core.Bool.{Bool·beq}
 use Prim.Native.Nat.{_-_, _/_}
 use native.Mathlib.Omega.{arith}
 use lib.ListN.{length}
-use Rattle.soundness.specs.CodeLaws.{anyPoint, point-in}
+use Rattle.soundness.specs.SegmentLaws.{point-in}
+use Rattle.soundness.specs.WalkLaws.{anyPoint}
 use Rattle.soundness.specs.Sound.{start, isInside}
 use Rattle.laws.specs.Loop.{Scan, scan-start, scan-next, scan-hit, scan-none}
 use Rattle.soundness.proofs.any_point.Statement.{statement}

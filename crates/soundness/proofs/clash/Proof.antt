@@ -1,7 +1,7 @@
 -- `soundness::clash` meets its contract: `clash-next`, `clash-last` and `clash-other`.
 use mathlib.Core.Path.{refl}
 use borrow.Author.Needs.{needs}
-use Rattle.soundness.specs.CodeLaws.{clash-next, clash-last, clash-other}
+use Rattle.soundness.specs.SegmentLaws.{clash-next, clash-last, clash-other}
 use Rattle.soundness.specs.Sound.{clash}
 use Rattle.domain.specs.Accepted.{after-within}
 use Rattle.soundness.proofs.clash.Statement.{statement}

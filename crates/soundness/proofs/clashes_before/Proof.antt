@@ -1,7 +1,7 @@
 -- `soundness::clashes_before` meets its contract: the loop is a search that has found nothing yet, and where the next hole's points begin.
 use Prim.Native.Nat.{_-_}
 use native.Mathlib.Omega.{arith}
-use Rattle.soundness.specs.CodeLaws.{holesClash}
+use Rattle.soundness.specs.WalkLaws.{holesClash}
 use Rattle.domain.specs.OutlineLaws.{hole-points, HolesPassed, passed-none, passed-next, passed-place, passed-few}
 use Rattle.domain.specs.Outline.{outline, holeAt}
 use Rattle.laws.specs.Loop.{Scan, scan-start, scan-next, scan-hit, scan-none}

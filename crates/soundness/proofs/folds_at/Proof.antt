@@ -1,6 +1,6 @@
 -- `soundness::folds_at` meets its contract: `folds-off` and `folds-on`.
 use borrow.Author.Needs.{needs}
-use Rattle.soundness.specs.CodeLaws.{folds-off, folds-on}
+use Rattle.soundness.specs.SegmentLaws.{folds-off, folds-on}
 use Rattle.domain.specs.Accepted.{after-within}
 use Rattle.soundness.proofs.folds_at.Statement.{statement}
 use Rattle.soundness.proofs.folds_at.Tie as tie

@@ -1,6 +1,6 @@
 -- `soundness::folds_back` meets its contract: `folds-x`, `folds-y`, `folds-none`.
 use borrow.Author.Needs.{needs}
-use Rattle.soundness.specs.CodeLaws.{folds-x, folds-y, folds-none}
+use Rattle.soundness.specs.SegmentLaws.{folds-x, folds-y, folds-none}
 use Rattle.soundness.proofs.folds_back.Statement.{statement}
 use Rattle.soundness.proofs.folds_back.Tie as tie
 

@@ -1,7 +1,7 @@
 -- `soundness::holes_clash` meets its contract: the definition's three tests, each as it is called.
 use mathlib.Core.Path.{refl}
 use borrow.Author.Needs.{needs}
-use Rattle.soundness.specs.CodeLaws.{holesClash}
+use Rattle.soundness.specs.WalkLaws.{holesClash}
 use Rattle.soundness.proofs.holes_clash.Statement.{statement}
 use Rattle.soundness.proofs.holes_clash.Tie as tie
 

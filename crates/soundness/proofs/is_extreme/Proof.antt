@@ -1,6 +1,6 @@
 -- `soundness::is_extreme` meets its contract: `extreme-up`, `extreme-down`, `extreme-none`.
 use mathlib.Core.Path.{sym, _∙_}
-use Rattle.soundness.specs.CodeLaws.{lt-ltZ, extreme-up, extreme-down, extreme-none}
+use Rattle.soundness.specs.SegmentLaws.{lt-ltZ, extreme-up, extreme-down, extreme-none}
 use Rattle.soundness.proofs.is_extreme.Statement.{statement}
 use Rattle.soundness.proofs.is_extreme.Tie as tie
 

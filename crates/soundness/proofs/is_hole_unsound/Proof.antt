@@ -1,7 +1,7 @@
 -- `soundness::is_hole_unsound` meets its contract: the definition's four tests, each as it is called.
 use mathlib.Core.Path.{refl}
 use borrow.Author.Needs.{needs}
-use Rattle.soundness.specs.CodeLaws.{holeUnsound, outer-within}
+use Rattle.soundness.specs.WalkLaws.{holeUnsound, outer-within}
 use Rattle.soundness.proofs.is_hole_unsound.Statement.{statement}
 use Rattle.soundness.proofs.is_hole_unsound.Tie as tie
 

@@ -2,7 +2,7 @@
 use Prim.Native.Nat.{_-_}
 use native.Mathlib.Omega.{arith}
 use lib.ListN.{length}
-use Rattle.soundness.specs.CodeLaws.{unsoundAt, judged, outer-within, walk-outer, walk-holes}
+use Rattle.soundness.specs.WalkLaws.{unsoundAt, judged, outer-within, walk-outer, walk-holes}
 use Rattle.domain.specs.Accepted.{accepted}
 use Rattle.domain.specs.OutlineLaws.{hole-points, HolesPassed, passed-none, passed-next, passed-place, passed-few}
 use Rattle.domain.specs.Outline.{outline}

@@ -3,7 +3,7 @@ use mathlib.Core.Path.{_≡_, refl, sym, _∙_}
 use Prim.Native.Nat.{_-_, _/_}
 use native.Mathlib.Omega.{arith}
 use lib.ListN.{length}
-use Rattle.soundness.specs.CodeLaws.{meets-at}
+use Rattle.soundness.specs.SegmentLaws.{meets-at}
 use Rattle.soundness.specs.Sound.{start, end, meets}
 use Rattle.orientation.specs.Orient.{place}
 use Rattle.domain.specs.Accepted.{after-within}

@@ -1,6 +1,6 @@
 -- `soundness::overlaps` meets its contract: `overlap-below` where one stretch is below the other, `overlap-rest` elsewhere.
 use borrow.Author.Needs.{needs}
-use Rattle.soundness.specs.CodeLaws.{overlap-below, overlap-rest}
+use Rattle.soundness.specs.SegmentLaws.{overlap-below, overlap-rest}
 use Rattle.soundness.proofs.overlaps.Statement.{statement}
 use Rattle.soundness.proofs.overlaps.Tie as tie
 

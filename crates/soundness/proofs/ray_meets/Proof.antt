@@ -1,7 +1,7 @@
 -- `soundness::ray_meets` meets its contract: `ray-above`, `ray-down`, `ray-up`, `ray-below`.
 use mathlib.Core.Path.{sym, _∙_}
 use borrow.Author.Needs.{needs}
-use Rattle.soundness.specs.CodeLaws.{lt-ltZ, ray-above, ray-down, ray-up, ray-below}
+use Rattle.soundness.specs.SegmentLaws.{lt-ltZ, ray-above, ray-down, ray-up, ray-below}
 use Rattle.soundness.proofs.ray_meets.Statement.{statement}
 use Rattle.soundness.proofs.ray_meets.Tie as tie
 

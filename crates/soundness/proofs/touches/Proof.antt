@@ -4,7 +4,7 @@ use Prim.Native.Nat.{_-_, _/_}
 use native.Mathlib.Omega.{arith}
 use denote.Ref.{now}
 use lib.ListN.{length}
-use Rattle.soundness.specs.CodeLaws.{segment-at}
+use Rattle.soundness.specs.SegmentLaws.{segment-at}
 use Rattle.soundness.specs.Sound.{start, end, meets, touch}
 use Rattle.domain.specs.Accepted.{after-within}
 use Rattle.domain.specs.Outline.{points}

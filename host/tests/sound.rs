@@ -65,7 +65,7 @@ fn the_readings() {
     ];
     for (what, drawing, expected) in cases {
         assert_eq!(is_sound(&drawing.outline()), Ok(expected), "{what}");
-        assert_eq!(sound::is_sound(&drawing), expected, "{what}: the model");
+        assert_eq!(sound::is_sound(&drawing.loops()), expected, "{what}: the model");
     }
 }
 
@@ -177,7 +177,7 @@ fn compare(kind: &str, count: usize, mut next: impl FnMut() -> Drawing) {
     let mut found = [0, 0];
     for _ in 0..count {
         let drawing = next();
-        let expected = sound::is_sound(&drawing);
+        let expected = sound::is_sound(&drawing.loops());
         assert_eq!(is_sound(&drawing.outline()), Ok(expected), "{kind}: {drawing:?}");
         found[usize::from(expected)] += 1;
     }

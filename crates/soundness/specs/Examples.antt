@@ -127,8 +127,8 @@ pub record Slits : Type 0 where
   -- the word: of an outline that is sound nothing may be listed either
   pub whole : isWhole (slit tiny minusTiny tiny) 0 ≡ true
   pub listed : isWhole (slit tiny minusTiny tiny) 1 ≡ false
-  pub open : isWhole (slit zeroF zeroF zeroF) 0 ≡ false
+  pub unsound : isWhole (slit zeroF zeroF zeroF) 0 ≡ false
 
 pub slits : Slits
 unfolding openedSound
-slits = record { gaping = refl; shut = refl; crossed = refl; whole = refl; listed = refl; open = refl }
+slits = record { gaping = refl; shut = refl; crossed = refl; whole = refl; listed = refl; unsound = refl }

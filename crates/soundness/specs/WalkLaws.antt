@@ -49,7 +49,9 @@ strays o k = ap (anyUp (points (holeAt o k))) (fun-ext (λ i. sym (beq-false (is
 
 lies : (o : Outline) (k l : ℕ) → liesIn o k l ≡ (not (eqb k l) && anyPoint (holeAt o k) (holeAt o l) true)
 unfolding liesIn anyPoint
-lies o k l = ap (λ (b : Bool). not (eqb k l) && b) (ap (anyUp (points (holeAt o k))) (fun-ext (λ i. sym (beq-true (isInside (start (holeAt o k) i) (holeAt o l))))))
+lies o k l =
+    ap (λ (b : Bool). not (eqb k l) && b)
+    (ap (anyUp (points (holeAt o k))) (fun-ext (λ i. sym (beq-true (isInside (start (holeAt o k) i) (holeAt o l))))))
 
 or-false : {a b : Bool} → a ≡ false → b ≡ false → (a || b) ≡ false
 or-false e f = ap₂ (λ (a b : Bool). a || b) e f

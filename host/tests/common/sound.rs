@@ -2,7 +2,6 @@
 //! by the places on the first where it begins and ends, and inside is a winding number.
 
 use super::whole::{unit, Whole};
-use super::Drawing;
 
 type Point = [Whole; 2];
 
@@ -115,13 +114,11 @@ fn touch(s: &[Point], t: &[Point]) -> bool {
     })
 }
 
-/// Whether the outline, which isn't refused, is sound.
-pub fn is_sound(drawing: &Drawing) -> bool {
-    let all = [&drawing.outer[..], &drawing.holes[..]].concat();
-    let least = all.iter().filter_map(|&x| unit(x)).min().unwrap_or(0);
+/// Whether the outline, which isn't refused, is sound: the coordinates of its loops, the outer one first.
+pub fn is_sound(loops: &[&[f64]]) -> bool {
+    let least = loops.iter().copied().flatten().filter_map(|&x| unit(x)).min().unwrap_or(0);
     let point = |p: &[f64]| [Whole::of_float(p[0], least), Whole::of_float(p[1], least)];
-    let rings: Vec<Vec<Point>> =
-        drawing.loops().into_iter().map(|points| points.chunks(2).map(point).collect()).collect();
+    let rings: Vec<Vec<Point>> = loops.iter().map(|points| points.chunks(2).map(point).collect()).collect();
     if rings.iter().any(|ring| crosses_itself(ring)) {
         return false;
     }

@@ -25,6 +25,26 @@ fn less(a: &Whole, b: &Whole) -> bool {
     (a - b).is_negative()
 }
 
+/// On which side of a line a point is.
+#[derive(Clone, Copy, Debug, PartialEq, Eq)]
+pub enum Side {
+    Left,
+    On,
+    Right,
+}
+
+/// The side of the way from a to b on which c is.
+pub fn side(a: [f64; 2], b: [f64; 2], c: [f64; 2]) -> Side {
+    let least = [a, b, c].as_flattened().iter().filter_map(|&x| unit(x)).min().unwrap_or(0);
+    let [a, b, c] = [a, b, c].map(|p| p.map(|x| Whole::of_float(x, least)));
+    let turn = cross(&way(&a, &b), &way(&a, &c));
+    match (turn.is_positive(), turn.is_negative()) {
+        (true, _) => Side::Left,
+        (_, true) => Side::Right,
+        _ => Side::On,
+    }
+}
+
 /// What two segments have in common.
 #[derive(Clone, Copy, Debug, PartialEq, Eq)]
 pub enum Common {

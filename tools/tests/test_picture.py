@@ -16,6 +16,9 @@ from refusals import Refused, WORDS, in_words
 
 OPEN = SQUARE_LISTING.replace("mesh 9 4 2 still whole", "mesh 9 3 4 full open").replace("q 5 6 7 8\n", "l 5 6 7 8\n")
 
+# the outline is unsound, and no loop is left
+UNSOUND = SQUARE_LISTING.replace("still whole", "still open")
+
 
 class Reading(unittest.TestCase):
     def test_the_square(self):
@@ -27,6 +30,10 @@ class Reading(unittest.TestCase):
     def test_an_open_one(self):
         read = listings.read(OPEN)
         self.assertEqual((len(read.quads), read.front, read.end, read.whole, read.loops), (3, 4, "full", False, [[5, 6, 7, 8]]))
+
+    def test_an_unsound_one(self):
+        read = listings.read(UNSOUND)
+        self.assertEqual((len(read.quads), read.front, read.whole, read.loops), (4, 2, False, []))
 
     def test_every_refusal(self):
         for number in WORDS:
@@ -61,9 +68,8 @@ class Reading(unittest.TestCase):
         self.wrong(changed(11, "q 0 1 8"), "line 11: a quad has four nodes")
         self.wrong(changed(11, "q 0 1 8  7"), "line 11: a quad has four nodes")
         self.wrong("\n".join(lines[:-2]), "line 1: 9 nodes and 4 quads are promised, and 12 lines follow")
-        self.wrong(SQUARE_LISTING + "l 1 2 3\n", "line 1: 'whole' is for no loops and 'open' for some; lines after the quads: 1")
+        self.wrong(SQUARE_LISTING + "l 1 2 3\n", "line 1: 'whole' is for no loops; lines after the quads: 1")
         self.wrong(OPEN.replace("l 5 6 7 8", "l 5 6"), "line 14: a loop that is listed has three nodes or more")
-        self.wrong(OPEN.replace("l 5 6 7 8\n", ""), "line 1: 'whole' is for no loops and 'open' for some; lines after the quads: 0")
 
 
 # An outer loop and two blind spots of four nodes each; a quad on an edge of each blind spot with two new nodes, then one of the outer loop.
@@ -177,6 +183,11 @@ class Drawing(unittest.TestCase):
         self.assertEqual([paths[kind][0].count("Z") for kind in ("quads", "patch1", "patch2")], [1, 1, 1])
         self.assertEqual(texts.count("quad round a blind spot"), 1)
         self.assertEqual([len(paths[kind]) for kind in ("quads", "patch1", "patch2")], [2, 2, 2], "each is in the legend too")
+
+    def test_an_unsound_one(self):
+        paths, texts = self.drawn(UNSOUND)
+        self.assertNotIn("open", paths)
+        self.assertIn("Open: the outline is unsound, and nothing is left to pave.", texts)
 
     def test_where_points_fall(self):
         paths, _ = self.drawn(SQUARE_LISTING)

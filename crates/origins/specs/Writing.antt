@@ -1,8 +1,8 @@
--- How the numbers are written into a list lent: what is asked, and the laws of the two loops. What is asked, and what is left in the list, of every
--- state whose books hold: `booked-numberable` and `booked-answered`; of every run: `run-numberable`.
+-- How the numbers are written into a list lent: what is asked, and the laws of the two loops. A state whose books hold has what is asked, and its numbers
+-- are then as they are to be answered: `booked-numberable` and `booked-answered`. So every paving has it: `advance-numberable`.
 use Prim.Native.Nat.{ℕ, zero, suc, _+_, _*_, _<_, _≤_, min}
 use mathlib.Core.List.{List, [], _∷_, _++_}
-use mathlib.Core.Path.{_≡_, refl, sym, _∙_, ap, ap₂, subst}
+use mathlib.Core.Path.{_≡_, refl, sym, _∙_, ap, subst⁻¹}
 use mathlib.Core.Bool.{Bool, true, false, cond}
 use native.Mathlib.Numerals.{add-one}
 use native.Mathlib.Omega.{arith}
@@ -12,14 +12,12 @@ use lib.Seq.{sets, take-at, drop-at}
 use lib.Ieee.{Float}
 use borrow.Author.Tests.{eq-eqb, ne-eqb, leb-true, leb-false}
 use Rattle.laws.specs.Loop.{forUp, sumUp}
-use Rattle.domain.specs.declared.Settings.{Settings}
 use Rattle.domain.specs.Outline.{Outline, loopAt, holeAt, holeStart, holeLength, loopStart, outlineRefusal}
 use Rattle.domain.specs.OutlineLaws.{start-next, shaped}
-use Rattle.domain.specs.Accepted.{OutlineFits}
-use Rattle.direction.specs.Record.{FieldLists}
+use Rattle.direction.specs.Record.{FieldRecord}
 use Rattle.front.specs.State.{State, nodePlaces}
-use Rattle.front.specs.Sampling.{loopCount, loopParts, loopNodes, sampledCount, frontRefusal}
-use Rattle.whole_run.specs.Run.{runRefusal, runOf}
+use Rattle.front.specs.Sampling.{loopCount, loopParts, loopNodes, sampledCount, frontRefusal, fromBoundary}
+use Rattle.paving.specs.Advance.{Paved, advance}
 use Rattle.lent_mesh.specs.declared.QuadIds.{QuadIds}
 use Rattle.lent_mesh.specs.Mesh.{quadIn}
 use Rattle.loops.specs.Listed.{overlay}
@@ -30,8 +28,7 @@ use Rattle.sampled.specs.Outlines.{outline-three}
 use Rattle.sampled.specs.Begun.{refusal-places}
 use Rattle.boundary.specs.Counting.{most, evenUp}
 use Rattle.boundary.specs.Progress.{outline-shaped, Progress, nodes-of, progress-none, progress-fits, progress-next}
-use Rattle.books_hold.specs.Runs.{accepted, run-facts}
-use Rattle.books_hold.specs.Theorem.{books-hold}
+use Rattle.books_hold.specs.Runs.{Accepted, advance-holds, advance-facts}
 use Rattle.origins.specs.Origins.{originOf, sampledOrigins, pushOrigin, quadOrigins, originsAfter, OriginsAnswered}
 use Rattle.origins.specs.Start.{firstOrigins, first-length, sampled-length}
 use Rattle.origins.specs.Theorem.{booked-after, origins-booked}
@@ -329,11 +326,11 @@ module _ (o : Outline) (size : Float) (lent s : State) (fine : outlineRefusal o 
         each = origins-booked o size lent s fine none B;
       }
 
--- of a run
-pub run-numberable : (o : Outline) (set : Settings) (f : FieldLists) (lent : State) → OutlineFits o → runRefusal o set f lent ≡ 0
-    → (places : ℕ) → runOf o set f lent .paving .state .counts .nodes ≤ places
-    → Numberable o (set .size) (runOf o set f lent .paving .state .quads) (runOf o set f lent .paving .state .counts .quads) places
-run-numberable o set f lent doubles none places room =
-    let A = accepted o set f lent doubles none in
-    booked-numberable o (set .size) lent (runOf o set f lent .paving .state) (A .outline) (A .front) (books-hold o set f lent doubles none) places
-    (omega (arith, run-facts o set f lent doubles none .few)) room
+-- of a paving, from a sampled outline that isn't refused
+pub advance-numberable : (o : Outline) (size : Float) (lent : State) → Accepted o size lent → (field : FieldRecord) (passes : ℕ) (end : Paved)
+    → end ≡ advance o size field passes (fromBoundary o size lent) → (places : ℕ) → end .state .counts .nodes ≤ places
+    → Numberable o size (end .state .quads) (end .state .counts .quads) places
+advance-numberable o size lent A field passes end e places room =
+    subst⁻¹ (λ (p : Paved). p .state .counts .nodes ≤ places → Numberable o size (p .state .quads) (p .state .counts .quads) places) e
+    (booked-numberable o size lent _ (A .outline) (A .front) (advance-holds o size lent A field passes) places
+    (omega (arith, advance-facts o size lent A field passes .few))) room

@@ -15,7 +15,7 @@ host-paves : {o : Outline} {set : Settings} {before after : Lent} {p : Paved} {r
 unfolding paveNumbers
 host-paves {o} {set} {before} {after} P e =
     subst⁻¹ (λ (v : PaveAnswer). HostPaves o set before v after) e
-    (record { equal = ap ranNumbers (P .equal); refused = P .refused; books = P .books })
+    (record { equal = ap ranNumbers (P .equal); refused = P .refused; books = P .books; origins = P .origins })
 
 host-spares : {before after : Scratch} (p : Paved) {r : PaveAnswer} → Spares (p .refusal) before after → r ≡ paveNumbers p
     → Spares (r .refusal) before after

@@ -86,7 +86,10 @@ fn ask(what: &str, point: [f64; 2]) {
     match nearest_segment(&FIELD, point) {
         Ok(Segment { loop_index, segment_index, a, b, .. }) => {
             let of = if loop_index == 0 { "field" } else { "blind spot" };
-            println!("  nearest edge: the {of}'s number {segment_index}, from ({}, {}) to ({}, {})", a[0], a[1], b[0], b[1]);
+            println!(
+                "  nearest edge: the {of}'s number {segment_index}, from ({}, {}) to ({}, {})",
+                a[0], a[1], b[0], b[1]
+            );
         }
         Err(refusal) => println!("  {refusal}"),
     }

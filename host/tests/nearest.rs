@@ -26,8 +26,10 @@ fn the_readings() {
     assert_eq!(name(&[&SQUARE], [-1.0, 2.0]), (0, 3));
     assert_eq!(name(&[&SQUARE], [2.0, 2.0]), (0, 0), "all four are as near");
     assert_eq!(name(&[&SQUARE, &SQUARE], [-1.0, 2.0]), (0, 3), "a hole equal to the outer loop");
-    let [low, high] = [1.0, 3.0].map(|y| [[1.0, y], [2.0, y], [2.0, y - 0.5]]);
-    assert_eq!(name(&[&SQUARE, &low, &high], [1.5, 2.0]), (2, 1), "the end of hole 1's second side");
+    let [low, high] = [[1.0, 0.5], [3.0, 3.5]].map(|[y, tip]| [[1.0, y], [2.0, y], [1.5, tip]]);
+    assert_eq!(name(&[&SQUARE, &low, &high], [1.5, 2.0]), (1, 0), "hole 1 is as near");
+    assert_eq!(name(&[&SQUARE, &high, &low], [1.5, 2.0]), (1, 0), "hole 1 is as near");
+    assert_eq!(name(&[&SQUARE, &low, &high], [1.5, 2.5]), (2, 0));
     assert_eq!(name(&[&SQUARE, &low, &low], [1.5, 1.25]), (1, 0), "two holes alike");
     // A place counts from 0, in the order drawn.
     for first in 0..4 {
@@ -37,8 +39,8 @@ fn the_readings() {
     }
     let mut clockwise = SQUARE;
     clockwise.reverse();
-    assert_eq!(name(&[&clockwise], [2.0, 5.0]), (0, 3), "from the last point to the first");
-    assert_eq!(name(&[&clockwise], [5.0, 2.0]), (0, 0), "sampling runs the loop the other way");
+    assert_eq!(name(&[&clockwise], [2.0, 5.0]), (0, 0), "sampling runs the loop the other way");
+    assert_eq!(name(&[&clockwise], [-1.0, 2.0]), (0, 3), "from the last point to the first");
     // A segment of no length is a segment and has a place.
     let pausing = [[0.0, 0.0], [2.0, 0.0], [2.0, 0.0], [2.0, 2.0], [0.0, 2.0]];
     assert_eq!(name(&[&pausing], [3.0, -1.0]), (0, 0), "1 and 2 are as near");
@@ -127,7 +129,8 @@ impl Met {
             let answer = nearest_segment(&lent.outline(), point).unwrap();
             let far: Vec<D> = named.iter().map(|&(_, _, a, b)| distance(point, a, b)).collect();
             let least = far.iter().fold(&far[0], |least, d| if d < least { d } else { least });
-            let nearest: Vec<_> = named.iter().zip(&far).filter(|(_, d)| *d == least).map(|(segment, _)| segment).collect();
+            let nearest: Vec<_> =
+                named.iter().zip(&far).filter(|(_, d)| *d == least).map(|(segment, _)| segment).collect();
             let &&(k, i, a, b) = nearest.iter().min_by_key(|&&&(k, i, ..)| (k, i)).unwrap();
             let bits = |[a, b]: [[f64; 2]; 2]| [a[0], a[1], b[0], b[1]].map(f64::to_bits);
             let told = || format!("{loops:?} {point:?}");
@@ -138,7 +141,8 @@ impl Met {
             self.queries += 1;
             self.ties += usize::from(nearest.len() > 1);
             self.ties_across_loops += usize::from(nearest.iter().any(|other| other.0 != k));
-            self.same_ends += usize::from(nearest.iter().any(|other| (other.0, other.1) != (k, i) && (other.2, other.3) == (a, b)));
+            self.same_ends +=
+                usize::from(nearest.iter().any(|other| (other.0, other.1) != (k, i) && (other.2, other.3) == (a, b)));
             self.no_length += usize::from(a == b);
             self.in_holes += usize::from(k > 0);
             answer
@@ -167,7 +171,11 @@ fn rectangle(rng: &mut Rng) -> Loop {
     let halved = |k: usize| {
         let (a, b): ([f64; 2], [f64; 2]) = (corners[k], corners[(k + 1) % 4]);
         let half = [(a[0] + b[0]) / 2.0, (a[1] + b[1]) / 2.0];
-        if rng.once_in(4) { vec![a, half] } else { vec![a] }
+        if rng.once_in(4) {
+            vec![a, half]
+        } else {
+            vec![a]
+        }
     };
     (0..4).flat_map(halved).collect()
 }

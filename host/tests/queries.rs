@@ -47,7 +47,11 @@ fn the_nearest_segment_is_the_first_of_equals() {
     assert_eq!(nearest([7.0, 5.0]), segment([0, 1], [8.0, 0.0], [8.0, 8.0], 1.0));
     assert_eq!(nearest([6.0, 2.0]), segment([0, 0], [0.0, 0.0], [8.0, 0.0], 2.0), "before the right side and the hole");
     assert_eq!(nearest([3.0, 3.5]), segment([1, 1], [2.0, 4.0], [4.0, 4.0], 0.5));
-    assert_eq!(nearest([11.0, 12.0]), segment([0, 1], [8.0, 0.0], [8.0, 8.0], 5.0), "to the corner, by the first side at it");
+    assert_eq!(
+        nearest([11.0, 12.0]),
+        segment([0, 1], [8.0, 0.0], [8.0, 8.0], 5.0),
+        "to the corner, by the first side at it"
+    );
 }
 
 #[test]

@@ -1,9 +1,9 @@
--- The nearest edge by name, computed from the definition: what is read into paper 3, each on its smallest input. Coordinates run x then y, a point after another.
--- Assumes nothing.
+-- The nearest edge by name, computed from the definition: what is read into paper 3, each on its smallest input. Coordinates run x then y, a point after
+-- another. Assumes nothing.
 use mathlib.Core.Path.{_≡_, refl}
 use mathlib.Core.List.{List, [], _∷_}
 use Prim.Native.Nat.{ℕ}
-use lib.Ieee.{Float, lt, le, add, sub, mul, div, eq, ofBits, round, odd, size, units, span, climb, isNan}
+use lib.Ieee.{Float, lt, le, add, sub, mul, div, eq, ofBits, round, odd, size, units, climb}
 use lib.Count.{trailingZeros}
 use Rattle.laws.specs.Loop.{forUp, sumUp}
 use Rattle.numbers.specs.Root.{isqrtIn, rootUnits, root}
@@ -74,7 +74,8 @@ pub record Names : Type 0 where
   pub point : name pausingFirst threeF minusOneF ≡ (0, 0)
 
 pub names : Names
-unfolding nearestSegment nearestInLoop nearer pointSegmentDistance squaredDistance footOf holeStart holeAt pointAt pointAfter forUp sumUp clampF isqrtIn rootUnits root lt le eq add sub mul div ofBits round odd size units span climb isNan trailingZeros
+unfolding nearestSegment nearestInLoop nearer pointSegmentDistance squaredDistance footOf holeStart holeAt pointAt pointAfter forUp sumUp clampF isqrtIn
+    rootUnits root lt le eq add sub mul div ofBits round odd size units climb trailingZeros
 names = record {
   corner = refl;
   across = refl;

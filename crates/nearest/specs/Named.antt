@@ -15,8 +15,8 @@ abbrev pub segmentDistance : Outline → Point → ℕ → ℕ → Float
 segmentDistance o p k i = pointSegmentDistance p (pointAt (loopAt o k) i) (pointAfter (loopAt o k) i)
 
 -- segment i of loop k comes before segment j of loop m
-abbrev pub Before : ℕ → ℕ → ℕ → ℕ → Type 0
-Before k i m j = (k < m) ⊎ ((k ≡ m) × (i < j))
+abbrev pub ComesBefore : ℕ → ℕ → ℕ → ℕ → Type 0
+ComesBefore k i m j = (k < m) ⊎ ((k ≡ m) × (i < j))
 
 -- n is a segment of o by its name
 pub record Own (o : Outline) (p : Point) (n : Near) : Type 0 where
@@ -35,4 +35,4 @@ pub record Named (o : Outline) (p : Point) (n : Near) : Type 0 where
   -- no segment is nearer
   pub least : (k i : ℕ) → k ≤ length (o .lens) → i < points (loopAt o k) → le (n .distance) (segmentDistance o p k i) ≡ true
   -- of equal distances the first: every segment before it is farther
-  pub first : (k i : ℕ) → Before k i (n .«loop_index») (n .«segment_index») → i < points (loopAt o k) → lt (n .distance) (segmentDistance o p k i) ≡ true
+  pub first : (k i : ℕ) → ComesBefore k i (n .«loop_index») (n .«segment_index») → i < points (loopAt o k) → lt (n .distance) (segmentDistance o p k i) ≡ true

@@ -26,7 +26,7 @@ use Rattle.domain.specs.Accepted.{OutlineFits, PointFits, Accepted, each, accep
 use Rattle.blocks.specs.OrderLaws.{lt-through, lt-cut, lt-self}
 use Rattle.nearest.specs.Far.{moderateBound, ModeratePoint}
 use Rattle.nearest.specs.FarLaws.{EndsWithin, segment-ends, foot-lies}
-use Rattle.nearest.specs.Named.{segmentDistance, Before, Own, Named}
+use Rattle.nearest.specs.Named.{segmentDistance, ComesBefore, Own, Named}
 
 -- ---- every distance is a number
 
@@ -66,8 +66,8 @@ below-infinity (inf s) c = absurd (c .1)
 below-infinity (fin s m e) c = refl
 
 -- y isn't below x
-not-below : (x y : Float) → Counted x → Counted y → lt y x ≡ false → le x y ≡ true
-not-below x y c d e =
+le-of-counted : (x y : Float) → Counted x → Counted y → lt y x ≡ false → le x y ≡ true
+le-of-counted x y c d e =
     is-true (le x y)
     (le-val x y false false (c .0) (d .0) (c .1) (d .1) .1 (not-lt-val y x false false (d .0) (c .0) (d .1) (c .1) .0 (rw e tt)))
 
@@ -81,7 +81,7 @@ above-not-below x y h = decide (lt y x) refl
 -- ---- the order of the segments
 
 -- before the next segment: before this one, or this one
-before-next : (k i m j : ℕ) → Before k i m (suc j) → Before k i m j ⊎ ((k ≡ m) × (i ≡ j))
+before-next : (k i m j : ℕ) → ComesBefore k i m (suc j) → ComesBefore k i m j ⊎ ((k ≡ m) × (i ≡ j))
 before-next k i m j (inl h) = inl (inl h)
 before-next k i m j (inr (e, h)) = elim (eq-or-lt-of-le (le-of-suc-le-suc h)) [ inl same ↦ inr (e, same) | inr less ↦ inl (inr (e, less)) ]
 
@@ -96,8 +96,8 @@ module _ (o : Outline) (held : OutlineFits o) (taken : Accepted o) (p : Point) (
   -- n is the first of the nearest among the segments before segment j of loop m
   record Best (m j : ℕ) (n : Near) : Type 0 where
     own : Own o p n
-    least : (k i : ℕ) → Before k i m j → i < points (loopAt o k) → lt (segmentDistance o p k i) (n .distance) ≡ false
-    first : (k i : ℕ) → Before k i (n .«loop_index») (n .«segment_index») → i < points (loopAt o k) → lt (n .distance) (segmentDistance o p k i) ≡ true
+    least : (k i : ℕ) → ComesBefore k i m j → i < points (loopAt o k) → lt (segmentDistance o p k i) (n .distance) ≡ false
+    first : (k i : ℕ) → ComesBefore k i (n .«loop_index») (n .«segment_index») → i < points (loopAt o k) → lt (n .distance) (segmentDistance o p k i) ≡ true
 
   -- one segment more
   best-next : (k i : ℕ) → k ≤ length (o .lens) → i < points (loopAt o k) → (n : Near) → Best k i n → Best k (suc i) (segmentTurn p (loopAt o k) k i n)
@@ -108,12 +108,12 @@ module _ (o : Outline) (held : OutlineFits o) (taken : Accepted o) (p : Point) (
       d = segmentDistance o p k i
 
       -- how a segment before this one compares
-      before : lt d (n .distance) ≡ true → (k' i' : ℕ) → Before k' i' k i → i' < points (loopAt o k') → T (lt d (segmentDistance o p k' i'))
+      before : lt d (n .distance) ≡ true → (k' i' : ℕ) → ComesBefore k' i' k i → i' < points (loopAt o k') → T (lt d (segmentDistance o p k' i'))
       before e k' i' b there =
           let number = counted-number _ (counted k' i' (up-to b) there) in
           lt-cut d (n .distance) (segmentDistance o p k' i') number (rw e tt) (best .least k' i' b there)
         where
-          up-to : Before k' i' k i → k' ≤ length (o .lens)
+          up-to : ComesBefore k' i' k i → k' ≤ length (o .lens)
           up-to (inl less) = omega arith
           up-to (inr (same, less)) = omega arith
 
@@ -147,7 +147,7 @@ module _ (o : Outline) (held : OutlineFits o) (taken : Accepted o) (p : Point) (
       some : 0 < points (loopAt o 0)
       some = omega (arith, taken .three 0 (omega arith))
 
-      none : (k i : ℕ) → Before k i 0 0 → ⊥
+      none : (k i : ℕ) → ComesBefore k i 0 0 → ⊥
       none k i (inl h) = omega arith
       none k i (inr (e, h)) = omega arith
 
@@ -159,7 +159,7 @@ module _ (o : Outline) (held : OutlineFits o) (taken : Accepted o) (p : Point) (
     first = best .first;
   }
     where
-      within : (k' i' : ℕ) → Before k' i' (suc k) 0 → i' < points (loopAt o k') → Before k' i' k (points (loopAt o k))
+      within : (k' i' : ℕ) → ComesBefore k' i' (suc k) 0 → i' < points (loopAt o k') → ComesBefore k' i' k (points (loopAt o k))
       within k' i' (inl h) there =
           elim (eq-or-lt-of-le (le-of-suc-le-suc h)) [ inl same ↦ inr (same, subst (λ (j : ℕ). i' < points (loopAt o j)) same there) | inr less ↦ inl less ]
       within k' i' (inr (e, h)) there = absurd (omega arith)
@@ -200,7 +200,8 @@ module _ (o : Outline) (held : OutlineFits o) (taken : Accepted o) (p : Point) (
       let own = counted (n .«loop_index») (n .«segment_index») (best .own .loop) (best .own .segment) in
       record {
         own = best .own;
-        least = λ k i h l. not-below (n .distance) (segmentDistance o p k i) (rw (best .own .distance) own) (counted k i h l) (best .least k i (inl (omega arith)) l);
+        least = λ k i h l. le-of-counted (n .distance) (segmentDistance o p k i) (rw (best .own .distance) own) (counted k i h l)
+            (best .least k i (inl (omega arith)) l);
         first = best .first;
       }
 

@@ -22,6 +22,8 @@ pub struct NearestAnswer {
     pub bx: f64,
     pub by: f64,
     pub distance: f64,
+    pub loop_index: usize,
+    pub segment_index: usize,
 }
 
 #[repr(C)]

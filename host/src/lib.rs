@@ -20,6 +20,7 @@
 //!
 //! let nearest = nearest_segment(&outline, [7.0, 5.0])?;
 //! assert_eq!((nearest.a, nearest.b, nearest.distance), ([8.0, 0.0], [8.0, 8.0], 1.0));
+//! assert_eq!((nearest.loop_index, nearest.segment_index), (0, 1), "the outer loop's second side");
 //!
 //! // The cross field for elements of size 2, after at most 400 sweeps: two floats and a mark a node, in memory lent for it,
 //! // and two numbers for each of the outline's eight points, which save it time.
@@ -67,7 +68,7 @@ pub use estimates::{estimate, MOST_WEIGHT};
 pub use field::{direction, field, FieldRecord};
 pub use order::{check_order, check_order_in, nearest_order, order_numbers, NotAccepted, OrderScratch};
 pub use pave::{pave, pave_numbers, End, Lists, Memory, Mesh, Places, Settings, TooManyPlaces, OFF};
-pub use queries::{contains, distance_to_boundary, nearest_segment, NearestSegment, Outline};
+pub use queries::{contains, distance_to_boundary, nearest_segment, Outline, Segment};
 pub use refusal::Refusal;
 pub use small_quads::small_quads;
 pub use sound::is_sound;

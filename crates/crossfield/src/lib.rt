@@ -294,6 +294,8 @@ fn seed_row<'a>(
         a: domain::point_at(outer, 0),
         b: domain::point_at(outer, 1),
         distance: 0.0,
+        loop_index: 0,
+        segment_index: 0,
     };
     let mut i = 0;
     while i < nx {

@@ -356,10 +356,11 @@ impl Raw {
     }
 
     /// Every value beside the refusals, as bits.
-    pub fn values(&self) -> [u64; 7] {
-        let ffi::NearestAnswer { ax, ay, bx, by, distance, .. } = self.nearest;
+    pub fn values(&self) -> [u64; 9] {
+        let ffi::NearestAnswer { ax, ay, bx, by, distance, loop_index, segment_index, .. } = self.nearest;
+        let [loop_index, segment_index] = [loop_index, segment_index].map(|index| index as u64);
         let [ax, ay, bx, by, near, far] = [ax, ay, bx, by, distance, self.distance.distance].map(f64::to_bits);
-        [u64::from(self.contains.inside), ax, ay, bx, by, near, far]
+        [u64::from(self.contains.inside), ax, ay, bx, by, near, loop_index, segment_index, far]
     }
 }
 

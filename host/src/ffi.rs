@@ -189,6 +189,24 @@ extern "C" {
         ty: f64,
     ) -> DirectionAnswer;
 
+    pub fn sitjorbe_directions(
+        xmin: f64,
+        ymin: f64,
+        h: f64,
+        nx: usize,
+        ny: usize,
+        values: *const f64,
+        values_len: usize,
+        marks: *const u8,
+        marks_len: usize,
+        points: *const f64,
+        points_len: usize,
+        targets: *const f64,
+        targets_len: usize,
+        answers: *mut f64,
+        answers_len: usize,
+    ) -> u32;
+
     pub fn sitjorbe_pave(
         outer: *const f64,
         outer_len: usize,

@@ -5,7 +5,7 @@
 //! each crosses as a pointer and a length ([`ffi`]), and gives the refusals' numbers their words ([`Refusal`]).
 //!
 //! ```
-//! use sitjorbe::{contains, direction, distance_to_boundary, field, nearest_segment, Outline, Refusal};
+//! use sitjorbe::{contains, direction, directions, distance_to_boundary, field, nearest_segment, Outline, Refusal};
 //! use sitjorbe::{check_order, nearest_order, End, Memory, Places, Settings};
 //!
 //! // A square with a square hole.
@@ -33,6 +33,11 @@
 //! let toward = direction(&record, &values[..2 * nodes], &marks[..nodes], [0.0, 4.0], [0.1, -1.0])?;
 //! assert_eq!(toward, [0.0, -1.0]);
 //!
+//! // The same for a list of points and their targets, with the field looked through once. A point may be refused by itself.
+//! let (points, targets) = ([[0.0, 4.0], [4.0, f64::NAN]], [[0.1, -1.0], [1.0, 0.0]]);
+//! let all = directions(&record, &values[..2 * nodes], &marks[..nodes], &points, &targets)?;
+//! assert_eq!(all, [Ok([0.0, -1.0]), Err(Refusal::NotFinite)]);
+//!
 //! // The whole run, in memory that is kept for one run after the other: the outline paved with quads of size 1.
 //! let mut memory = Memory::new(Places { field_nodes: 1_600, nodes: 800, quads: 800, edges: 2_400, points: 8 })?;
 //! let mesh = memory.pave(&outline, &Settings { size: 1.0, sweeps: 400, passes: 600 })?;
@@ -53,6 +58,7 @@
 //! # Ok::<(), Box<dyn std::error::Error>>(())
 //! ```
 
+mod directions;
 mod estimates;
 pub mod ffi;
 mod field;
@@ -64,6 +70,7 @@ mod small_quads;
 mod sound;
 mod thresholds;
 
+pub use directions::{directions, directions_in};
 pub use estimates::{estimate, MOST_WEIGHT};
 pub use field::{direction, field, FieldRecord};
 pub use order::{check_order, check_order_in, nearest_order, order_numbers, NotAccepted, OrderScratch};

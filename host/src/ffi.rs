@@ -81,6 +81,15 @@ pub struct PaveAnswer {
     pub ids: usize,
 }
 
+/// The field's nodes and those of the sampled outline; both 0 on a refusal.
+#[repr(C)]
+#[derive(Clone, Copy, Debug)]
+pub struct PlacesAnswer {
+    pub refusal: u32,
+    pub field_nodes: usize,
+    pub sampled_nodes: usize,
+}
+
 /// `place` is where a quad stands too early, on refusal 22; else 0.
 #[repr(C)]
 #[derive(Clone, Copy, Debug)]
@@ -206,6 +215,16 @@ extern "C" {
         answers: *mut f64,
         answers_len: usize,
     ) -> u32;
+
+    pub fn sitjorbe_places(
+        outer: *const f64,
+        outer_len: usize,
+        holes: *const f64,
+        holes_len: usize,
+        lens: *const usize,
+        lens_len: usize,
+        size: f64,
+    ) -> PlacesAnswer;
 
     pub fn sitjorbe_pave(
         outer: *const f64,

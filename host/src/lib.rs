@@ -38,8 +38,9 @@
 //! let all = directions(&record, &values[..2 * nodes], &marks[..nodes], &points, &targets)?;
 //! assert_eq!(all, [Ok([0.0, -1.0]), Err(Refusal::NotFinite)]);
 //!
-//! // The whole run, in memory that is kept for one run after the other: the outline paved with quads of size 1.
-//! let mut memory = Memory::new(Places { field_nodes: 1_600, nodes: 800, quads: 800, edges: 2_400, points: 8 })?;
+//! // The whole run, in memory that is kept for one run after the other: the outline paved with quads of size 1. The library says how many places it
+//! // can't do without; those for quads, and the nodes and edges that they add, are a guess.
+//! let mut memory = Memory::new(Places::for_outline(&outline, 1.0, 1)?)?;
 //! let mesh = memory.pave(&outline, &Settings { size: 1.0, sweeps: 400, passes: 600 })?;
 //! assert_eq!((mesh.node_count(), mesh.quad_count(), mesh.end()), (80, 44, End::Still));
 //! assert_eq!(mesh.quads().next(), Some([0, 1, 40, 31]));
@@ -64,6 +65,7 @@ pub mod ffi;
 mod field;
 mod order;
 mod pave;
+mod places;
 mod queries;
 mod refusal;
 mod small_quads;
@@ -75,6 +77,7 @@ pub use estimates::{estimate, MOST_WEIGHT};
 pub use field::{direction, field, FieldRecord};
 pub use order::{check_order, check_order_in, nearest_order, order_numbers, NotAccepted, OrderScratch};
 pub use pave::{pave, pave_numbers, End, Lists, Memory, Mesh, Places, Settings, TooManyPlaces, OFF};
+pub use places::{least_places, LeastPlaces};
 pub use queries::{contains, distance_to_boundary, nearest_segment, Outline, Segment};
 pub use refusal::Refusal;
 pub use small_quads::small_quads;

@@ -5,8 +5,8 @@ mod common;
 use common::blocks::Block;
 use common::{by_kind, list_lengths, refused, said, used, Drawing, FieldPlaces, Lengths, Lent, Raw, RunPlaces};
 use sitjorbe::{
-    check_order_in, direction, directions_in, estimate, ffi, pave, small_quads, FieldRecord, LentMesh, Lists, Memory,
-    NotAccepted, Outline, Places, Refusal, Results, Settings,
+    check_order_in, direction, directions_in, estimate, ffi, least_places, pave, small_quads, FieldRecord, LentMesh,
+    Lists, Memory, NotAccepted, Outline, Places, Refusal, Results, Settings,
 };
 
 /// Drawings and points that are accepted and refused.
@@ -55,6 +55,21 @@ fn lists_are_read_within_their_bounds() {
             // SAFETY: as above.
             let raw = unsafe { Raw::ask(outer.parts(), holes.parts(), lengths.parts(), point) };
             assert_eq!((raw.refusals(), raw.values()), (usual.refusals(), usual.values()), "{drawing:?} {point:?}");
+        }
+    }
+}
+
+/// The same for the counts of what to lend.
+#[cfg(target_os = "linux")]
+#[test]
+fn places_are_counted_within_their_lists() {
+    for (drawing, [size, _]) in queries() {
+        let usual = least_places(&drawing.outline(), size);
+        for side in [pages::Side::Start, pages::Side::End] {
+            let outline = [&drawing.outer, &drawing.holes].map(|list| pages::Pages::read_only(list, side));
+            let lengths = pages::Pages::read_only(&drawing.hole_lengths, side);
+            let outline = Outline { outer: outline[0].list(), holes: outline[1].list(), hole_lengths: lengths.list() };
+            assert_eq!(least_places(&outline, size), usual, "{size} {drawing:?}");
         }
     }
 }

@@ -127,7 +127,7 @@ fn spacing(width: f64, height: f64, h: f64) -> f64
     grown
 }
 
-fn grid_of(b: Bounds, size: f64) -> Grid
+pub fn grid_of(b: Bounds, size: f64) -> Grid
     requires { ⌜ gridNodes (gridOf b size) ≤ mostFieldNodes ⌝ }
     ensures { λ r. ⌜ r ≡ gridOf b size ⌝ }
 {

@@ -59,6 +59,8 @@ fn say(mesh: &Mesh<'_>) {
     println!("  ended {}: {}", mesh.end(), why(mesh.end()));
     if mesh.is_whole() {
         println!("  whole: nothing is left to pave");
+    } else if mesh.loop_count() == 0 {
+        println!("  open: the outline is unsound, and nothing is left to pave");
     }
     for front in mesh.front_loops() {
         println!("  open: the front keeps a loop of {} nodes", front.len());

@@ -18,6 +18,9 @@ HOLE = "\n0.5,0.5\n0.5,1.5\n1.5,1.5\n"
 HOLED = SQUARE_LISTING.replace("mesh 9", "mesh 12").replace(
     "q 0 1 8 7", "n 3fe0000000000000 3fe0000000000000\nn 3fe0000000000000 3ff8000000000000\nn 3ff8000000000000 3ff8000000000000\nq 0 1 8 7")
 
+# the outline is unsound, and no loop is left
+UNSOUND = SQUARE_LISTING.replace("still whole", "still open")
+
 
 class Reading(unittest.TestCase):
     def test_the_square(self):
@@ -29,6 +32,10 @@ class Reading(unittest.TestCase):
     def test_an_open_one(self):
         read = listings.read(OPEN)
         self.assertEqual((len(read.quads), read.front, read.end, read.whole, read.loops), (3, 4, "full", False, [[5, 6, 7, 8]]))
+
+    def test_an_unsound_one(self):
+        read = listings.read(UNSOUND)
+        self.assertEqual((len(read.quads), read.front, read.whole, read.loops), (4, 2, False, []))
 
     def test_every_refusal(self):
         for number in WORDS:
@@ -63,9 +70,8 @@ class Reading(unittest.TestCase):
         self.wrong(changed(11, "q 0 1 8"), "line 11: a quad has four nodes")
         self.wrong(changed(11, "q 0 1 8  7"), "line 11: a quad has four nodes")
         self.wrong("\n".join(lines[:-2]), "line 1: 9 nodes and 4 quads are promised, and 12 lines follow")
-        self.wrong(SQUARE_LISTING + "l 1 2 3\n", "line 1: 'whole' is for no loops and 'open' for some; lines after the quads: 1")
+        self.wrong(SQUARE_LISTING + "l 1 2 3\n", "line 1: 'whole' is for no loops; lines after the quads: 1")
         self.wrong(OPEN.replace("l 5 6 7 8", "l 5 6"), "line 14: a loop that is listed has three nodes or more")
-        self.wrong(OPEN.replace("l 5 6 7 8\n", ""), "line 1: 'whole' is for no loops and 'open' for some; lines after the quads: 0")
 
 
 class Drawing(unittest.TestCase):
@@ -110,6 +116,11 @@ class Drawing(unittest.TestCase):
         for words in ("Open: 1 loop of the front remains, drawn red.", "9 nodes, 3 quads, 4 front edges.",
                       "Ended full: stopped before a quad that no space was lent for.", "left open"):
             self.assertIn(words, texts)
+
+    def test_an_unsound_one(self):
+        paths, texts = self.drawn(UNSOUND)
+        self.assertNotIn("open", paths)
+        self.assertIn("Open: the outline is unsound, and nothing is left to pave.", texts)
 
     def test_where_points_fall(self):
         paths, _ = self.drawn(SQUARE_LISTING)

@@ -15,6 +15,7 @@ use Rattle.front.specs.Sampling.{loopCount, sampledCount}
 use Rattle.topology.specs.Sums.{All, Even}
 use Rattle.topology.specs.LongLoops.{LongLoops}
 use Rattle.paving.specs.Loops.{frontLoops}
+use Rattle.soundness.specs.Sound.{outlineSound}
 use Rattle.exact.specs.Corner.{Vector, step, sineAboveThird, isShort}
 use Rattle.books.specs.Book.{Edge, edge, Book, Quad, startBook, quadAt, bookAfter, xOf, yOf, loopEdges, frontArea, quadsArea, follow, isEdge}
 
@@ -76,7 +77,7 @@ pub record BooksHold (o : Outline) (size : Float) (s : State) : Type 0 where
 
 -- ---- what is answered of the loops
 
--- n loops are listed, with m ids in all of them, in the lists `loops` and `lengths`, and it is said whether the front is whole
+-- n loops are listed, with m ids in all of them, in the lists `loops` and `lengths`, and it is said whether the run is whole
 pub record LoopsAnswered (o : Outline) (b : Book) (n m : ℕ) (loops lengths : List ℕ) (said : Bool) : Type 0 where
   -- the loops listed are the book's of three or more
   pub listed : List (List ℕ)
@@ -86,8 +87,8 @@ pub record LoopsAnswered (o : Outline) (b : Book) (n m : ℕ) (loops lengths : L
   -- their ids one after the other, and the length of each
   pub nodes : take m loops ≡ flatten listed
   pub each : take n lengths ≡ map length listed
-  -- whole exactly if every loop of the book has two nodes
-  pub whole : (L : LoopsHold o b) → (said ≡ true) ↔ All (λ l. length l ≡ 2) (L .loops)
+  -- whole exactly if every loop of the book has two nodes, and the outline as drawn is sound
+  pub whole : (L : LoopsHold o b) → (said ≡ true) ↔ (All (λ l. length l ≡ 2) (L .loops) × (outlineSound o ≡ true))
 
 -- demand 3 of a run that left the state s and answered so of its loops
 pub record BooksAnswered (o : Outline) (size : Float) (s : State) (n m : ℕ) (loops lengths : List ℕ) (said : Bool) : Type 0 where

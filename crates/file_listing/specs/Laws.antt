@@ -1,6 +1,7 @@
 -- Laws of what the program prints: `lists-whole` (what a buffer holds that has places for the listing), `read-listed` (the listing is that of what was
 -- read) and `start-decides` (of endless input the first 4,609 bytes decide). Assumes nothing.
 use mathlib.Core.Path.{_≡_, refl, sym, ap, _∙_, subst}
+use mathlib.Core.Bool.{false}
 use mathlib.Core.List.{List, []}
 use Prim.Native.Nat.{ℕ, zero, suc, _-_, _*_, _/_, _≤_}
 use native.Mathlib.Omega.{arith}
@@ -24,7 +25,7 @@ use Rattle.outline_file.specs.ReadLaws.{accepted}
 use Rattle.outline_file.specs.Lent.{lent-outline}
 use Rattle.outline_file.specs.Enough.{enough}
 use Rattle.listing.specs.declared.Heading.{Heading}
-use Rattle.listing.specs.Listing.{refusedListing, listing}
+use Rattle.listing.specs.Listing.{heading, refusedListing, listing}
 use Rattle.listing.specs.Buffer.{Buffer, buffer, written}
 use Rattle.listing.specs.Fits.{listing-fits, written-front}
 use Rattle.file_listing.specs.Program.{programLent, headingOf, ranListing, outlineListing, programListing, Lists}
@@ -201,7 +202,7 @@ unfolding listing
 refused-listed {number} h e = lists-whole e (short number h)
   where
     none : Heading
-    none = record { nodes = 0; quads = 0; front = 0; end = 0; loops = 0 }
+    none = heading 0 0 0 0 false 0
 
     short : (number : ℕ) → (number ≡ 0 → ⊥) → length (refusedListing number) ≤ 117681
     short zero h = absurd (h refl)

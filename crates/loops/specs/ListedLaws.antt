@@ -18,11 +18,10 @@ use Rattle.topology.specs.Front.{Loops, target}
 use Rattle.topology.specs.Walk.{walkBy, count, nodes, cycles, link-count}
 use Rattle.topology.specs.Listing.{walks, ifListed, walks-list, walks-total}
 use Rattle.topology.specs.Pigeonhole.{ids-most}
-use Rattle.topology.specs.LongLoops.{isWhole}
 use Rattle.front.specs.State.{State, nextOf, nodePlaces}
 use Rattle.front.specs.Sound.{Sound}
 use Rattle.front.specs.declared.Counts.{Counts}
-use Rattle.paving.specs.Loops.{frontLoops, whole}
+use Rattle.paving.specs.Loops.{frontLoops}
 use Rattle.loops.specs.Listed.{Lists, lists, counted, loopsIn, frontMark, written, listedIn, Listable}
 use Rattle.loops.specs.Walked.{linksIn}
 use Rattle.loops.specs.Found.{count-turn, listed-count, on-loop}
@@ -166,12 +165,6 @@ pub listed-front : (s : State) (marks loops lengths : List ℕ)
     ≡ written (overlay (tabulate (s .counts .nodes) (frontMark (nextOf s))) marks) loops lengths (frontLoops s)
 unfolding listedIn loopsIn frontLoops
 listed-front s marks loops lengths = refl
-
--- whole, by the count
-pub listed-whole : (s : State) (marks loops lengths : List ℕ)
-    → whole s ≡ isWhole (listedIn (s .counts) (s .next) marks loops lengths .listed .count)
-unfolding listedIn loopsIn written frontLoops whole
-listed-whole s marks loops lengths = refl
 
 -- a sound state may be listed into lists with a place for each node, and one for each loop
 pub sound-listable : (n : ℕ) (s : State) (ls : List (List ℕ)) → Sound n s ls → (loops lengths : List ℕ)

@@ -34,6 +34,11 @@ impl Drawing {
         Drawing::of_loops(&[vec![[0.0, 0.0], [side, 0.0], [side, side], [0.0, side]]])
     }
 
+    /// Paper 4's square with a slit, whose mouth is `e` wide on either side of 0 at the height `f`.
+    pub fn slit(e: f64, f: f64) -> Drawing {
+        Drawing::of_loops(&[vec![[-1.0, -2.0], [1.0, -2.0], [1.0, 0.0], [-e, f], [0.0, -1.0], [e, f], [-1.0, 0.0]]])
+    }
+
     /// Each segment cut into so many.
     pub fn cut(&self, parts: usize) -> Drawing {
         let point = |points: &[f64], k: usize| [0, 1].map(|axis| points[(2 * k + axis) % points.len()]);

@@ -39,6 +39,7 @@ use Rattle.advance.specs.Paveable.{Paveable}
 use Rattle.sampled.specs.Outlines.{outline-three}
 use Rattle.sampled.specs.Begun.{Begun, begun}
 use Rattle.books.specs.Book.{Book, quadAt, newNode, side, bookQuad, bookAfter, quadsArea}
+use Rattle.books.specs.Net.{quadsEdges}
 use Rattle.books.specs.Holds.{BooksHold, Closes, LoopsAnswered}
 use Rattle.books_hold.specs.Stages.{Standing, standing}
 use Rattle.books_hold.specs.Theorem.{books-hold}
@@ -150,13 +151,13 @@ module _ (o : Outline) (blocks : List ℕ) (size : Float) (g : Grid) (values : L
 module _ (o : Outline) (size : Float) (s : State) (snapshot : List ℕ) where
   books-unread : BooksHold o size s
       → BooksHold o size (stateOf (s .xs) (s .ys) (s .next) (s .prev) snapshot (s .quads) (s .edges) (s .counts))
-  unfolding bookAfter bookQuad side newNode quadAt quadsArea frontLoops
+  unfolding bookAfter bookQuad side newNode quadAt quadsEdges quadsArea frontLoops
   books-unread B =
       record {
         each =
             λ k h.
             let H = B .each k h in
-            record { book = H .book; steps = H .steps; areas = H .areas; quads = H .quads; loops = H .loops; counts = H .counts };
+            record { book = H .book; steps = H .steps; edges = H .edges; areas = H .areas; quads = H .quads; loops = H .loops; counts = H .counts };
         closes =
             λ b e.
             let C = B .closes b e in

@@ -24,7 +24,8 @@ use Rattle.direction.specs.declared.Direction.the-variants as direction-is
 use Rattle.direction.specs.declared.Grid.{Grid}
 use Rattle.direction.specs.Record.{FieldRecord}
 use Rattle.direction.specs.Direction.{recordRefusal, directionAt, nearestDirection, directionRefusal, directionAnswer}
-use Rattle.directions.specs.Directions.{directionFloats, floatsAt, strung, listsUnfit, directionsRefusal, directionsExit, directionsAnswer, DirectionsGiven}
+use Rattle.directions.specs.Directions.{directionFloats, floatsAt, strung, listsUnfit, directionsRefusal, directionsExit}
+use Rattle.directions.specs.Directions.{directionsAnswer, DirectionsGiven}
 
 -- ---- the single query where 11 doesn't refuse the record
 

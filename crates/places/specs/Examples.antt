@@ -17,13 +17,14 @@ use Rattle.front.specs.Sampling.{partsOf, parts, loopParts, loopNodes, sampledC
 use Rattle.places.specs.Needed.{drawnRefusal, placesAnswered, placesAnswer}
 
 unfoldable openedFloats : Unit {0}
-unfolding trailingZeros span climb size odd units round neg sum add sub mul div lt eq le ofInt ofFields ofBits isNan isFinite absF minF maxF isqrtIn rootUnits root
-    ceilCount norm distance
+unfolding trailingZeros span climb size odd units round neg sum add sub mul div lt eq le ofInt ofFields ofBits isNan isFinite absF minF maxF isqrtIn rootUnits
+    root ceilCount norm distance
 openedFloats = tt
 
 unfoldable opened : Unit {0}
 unfolding openedFloats forUp run anyUp sumUp holeStart holeAt loopAt pointAt pointAfter anyFloat misshapen loopRefusal loopsRefusal farRefusal outlineRefusal
-    widened loopBounds bounds gridCount tooManyNodes spacing gridOf sizeRefusal boundsRefusal partsOf parts loopParts loopNodes sampledCount drawnRefusal placesAnswer
+    widened loopBounds bounds gridCount tooManyNodes spacing gridOf sizeRefusal boundsRefusal partsOf parts loopParts loopNodes sampledCount drawnRefusal
+    placesAnswer
 opened = tt
 
 abbrev threeF : Float

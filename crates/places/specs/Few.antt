@@ -4,8 +4,8 @@ use mathlib.Core.Bool.{Bool, false}
 use mathlib.Core.List.{List}
 use mathlib.Core.Path.{_≡_, refl, sym, ap, _∙_, subst}
 use Prim.Native.Nat.{ℕ, zero, suc, _+_, _*_, _/_, _%_, _^_, _≤_, _<_, min}
-use native.Mathlib.Nat.{le-trans, le-of-eq, le-mul-of-pos-right, mul-comm, mul-assoc, mul-mul-mul-comm, mul-le-mul, mul-le-mul-left, mul-le-mul-right}
-use native.Mathlib.Nat.{le-of-mul-le-mul-right}
+use native.Mathlib.Nat.{le-trans, le-of-eq, le-mul-of-pos-right, mul-comm, mul-assoc, mul-left-comm, mul-mul-mul-comm, mul-le-mul}
+use native.Mathlib.Nat.{mul-le-mul-left, mul-le-mul-right, le-of-mul-le-mul-right}
 use native.Mathlib.Numerals.{add-one}
 use native.Mathlib.Omega.{arith}
 use lib.Dec.{T, lit≤}
@@ -41,7 +41,8 @@ record UpTo (K : ℕ) (x : Float) : Type 0 where
 apart : {x y : Float} → Within 1000 x → Within 1000 y → Within 2001 (x ⊖ y)
 apart p q =
     let s = sub-law p q tt tt in
-    record { sign = s .sign; size = s .size; val = s .val; small = go (p .size) (q .size) (s .exact) (s .size) W (rel (s .size) (s .exact) (s .near) .0) (s .small) (p .small) (q .small) }
+    let near = rel (s .size) (s .exact) (s .near) .0 in
+    record { sign = s .sign; size = s .size; val = s .val; small = go (p .size) (q .size) (s .exact) (s .size) W near (s .small) (p .small) (q .small) }
   where
     go : (a b x n w : ℕ) → 10000 * n ≤ 10001 * x → x ≤ a + b → a ≤ 1000 * w → b ≤ 1000 * w → n ≤ 2001 * w
     go a b x n w h l m k = omega arith
@@ -89,7 +90,7 @@ stretch-large : 26 * W ≤ 25 * stretch-units
 unfolding W stretch-units
 stretch-large = lit≤ tt
 
--- what a part is at most long, in units: no less than the size
+-- how long a part may be: no less than the size, and so at least 0.0099
 record Cut (size : Float) : Type 0 where
   units : ℕ
   val : Val (stretch ⊗ size) false units
@@ -101,14 +102,15 @@ cut-long size z =
     let a = z .units in
     let p = mul-law {K = 2} {L = 100} stretch-within (record { sign = false; size = a; val = z .val; small = z .high }) tt tt in
     let many = size-units W a (le-trans (lit≤ {m = 1000000000000} {n = 10 ^ 36} tt) W-big) (z .low) in
-    let more = le-of-mul-le-mul-right (over (p .size * W) (stretch-units * a) (a * W) W (rel-and (p .size * W) (stretch-units * a) W (p .near) .1) (longer a stretch-units W stretch-large) (mul-le-mul-right W many)) W-pos in
+    let near = rel-and (p .size * W) (stretch-units * a) W (p .near) .1 in
+    let longer = longer-by a stretch-units W stretch-large in
+    let more = le-of-mul-le-mul-right (over (p .size * W) (stretch-units * a) (a * W) W near longer (mul-le-mul-right W many)) W-pos in
     record { units = p .size; val = p .val; low = through W a (p .size) (z .low) more }
   where
-    longer : (a u w : ℕ) → 26 * w ≤ 25 * u → 26 * (a * w) ≤ 25 * (u * a)
-    longer a u w h = le-trans (le-of-eq (turn 26 a w)) (le-trans (mul-le-mul-left a h) (le-of-eq (sym (turn 25 a u) ∙ ap (λ (z : ℕ). 25 * z) (mul-comm a u))))
-      where
-        turn : (k a w : ℕ) → k * (a * w) ≡ a * (k * w)
-        turn k a w = sym (mul-assoc k a w) ∙ ap (λ (z : ℕ). z * w) (mul-comm k a) ∙ mul-assoc a k w
+    longer-by : (a u w : ℕ) → 26 * w ≤ 25 * u → 26 * (a * w) ≤ 25 * (u * a)
+    longer-by a u w h =
+        le-trans (le-of-eq (mul-left-comm 26 a w))
+        (le-trans (mul-le-mul-left a h) (le-of-eq (sym (mul-left-comm 25 a u) ∙ ap (λ (z : ℕ). 25 * z) (mul-comm a u))))
 
     over : (g x y w : ℕ) → 9999 * x ≤ 10000 * g + 10000 * w → 26 * y ≤ 25 * x → 1000000 * w ≤ y → y ≤ g
     over g x y w h l m = omega arith
@@ -124,9 +126,10 @@ few-cuts {length} size l z =
     let some = positive W b W-pos (p .low) in
     let q = div-law length (stretch ⊗ size) false false a b (l .val) (p .val) some
     (le-trans (far a b W (l .small) (p .low)) (mul-le-mul-right b (lit≤ {m = 571900} {n = 2 ^ 400} tt))) in
+    let near = rel-and (q .size * b) (a * W) b (q .near) .0 in
     cells-le (length ⊘ (stretch ⊗ size)) _ (q .size) 571900 (q .val)
     (le-of-mul-le-mul-right
-    (le-trans (quotient (q .size * b) (a * W) (b * W) b (rel-and (q .size * b) (a * W) b (q .near) .0) (scaled a b W (l .small) (p .low)) (le-mul-of-pos-right b W-pos))
+    (le-trans (quotient (q .size * b) (a * W) (b * W) b near (scaled a b W (l .small) (p .low)) (le-mul-of-pos-right b W-pos))
     (le-of-eq (ap (λ (z : ℕ). 571900 * z) (mul-comm b W) ∙ sym (mul-assoc 571900 W b))))
     some)
   where

@@ -23,7 +23,9 @@ same-length-2 : tie.Need-same-length-2
 same-length-2 c = search needs
 
 returns-2 : tie.Need-returns-2
-returns-2 c = given-answered _ _ _ _ (sym (c .before .before .before .before .before .directions-refusal .ensures) ∙ c .before .before .before .before .if1 .left) (c .before .before .write-answers .ensures)
+returns-2 c =
+    let asked = c .before .before .before .before .before in
+    given-answered _ _ _ _ (sym (asked .directions-refusal .ensures) ∙ c .before .before .before .before .if1 .left) (c .before .before .write-answers .ensures)
 
 pub sitjorbe-directions-spec : {M : Type 1} → statement M
 sitjorbe-directions-spec =

@@ -72,14 +72,18 @@ same-length c = search needs
 
 returns : tie.Need-returns
 unfolding directionFloats
-returns c = rw (c .before .before .answer .given .1, c .to-f64 .ensures) (three-stores (c .before .before .before .before .before .args .answers .now) (c .before .before .before .before .before .args .k) _ _ _)
+returns c =
+    let start = c .before .before .before .before .before in
+    rw (c .before .before .answer .given .1, c .to-f64 .ensures) (three-stores (start .args .answers .now) (start .args .k) _ _ _)
 
 same-length-2 : tie.Need-same-length-2
 same-length-2 c = search needs
 
 returns-2 : tie.Need-returns-2
 unfolding directionFloats
-returns-2 c = rw (c .before .answer2 .given .1) (three-stores (c .before .before .before .before .args .answers .now) (c .before .before .before .before .args .k) _ _ _)
+returns-2 c =
+    let start = c .before .before .before .before in
+    rw (c .before .answer2 .given .1) (three-stores (start .args .answers .now) (start .args .k) _ _ _)
 
 pub write-answer-spec : {M : Type 1} → statement M
 write-answer-spec =

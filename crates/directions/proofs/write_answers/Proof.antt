@@ -25,10 +25,14 @@ point-answer-requires : tie.Need-point-answer-requires Inv-loop μ-loop
 point-answer-requires c κs = c .before .before .before .before .before .before .before .before .pre .0
 
 mul-write-answer : tie.Need-mul-write-answer Inv-loop μ-loop
-mul-write-answer c = omega (arith, written-room _ _ _ _ _ (c .before .before .before .before .before .loop .inv) (c .before .before .before .before .before .before .before .before .before .before .pre .1) (c .before .before .before .before .loop-test .taken))
+mul-write-answer c =
+    let turn = c .before .before .before .before in
+    omega (arith, written-room _ _ _ _ _ (turn .before .loop .inv) (turn .before .before .before .before .before .before .pre .1) (turn .loop-test .taken))
 
 write-answer-requires : tie.Need-write-answer-requires Inv-loop μ-loop
-write-answer-requires c κs = written-room _ _ _ _ _ (c .before .before .before .before .before .loop .inv) (c .before .before .before .before .before .before .before .before .before .before .pre .1) (c .before .before .before .before .loop-test .taken)
+write-answer-requires c κs =
+    let turn = c .before .before .before .before in
+    written-room _ _ _ _ _ (turn .before .loop .inv) (turn .before .before .before .before .before .before .pre .1) (turn .loop-test .taken)
 
 add-i : tie.Need-add-i Inv-loop μ-loop
 add-i c = omega (arith, c .before .before .before .before .before .before .before .loop-test .taken)
@@ -37,7 +41,12 @@ loop-less : tie.Need-loop-less Inv-loop μ-loop
 loop-less c = omega (arith, c .before .before .before .before .before .before .before .loop-test .taken)
 
 loop-again : tie.Need-loop-again Inv-loop μ-loop
-loop-again c = written-next _ _ _ _ _ (c .before .before .before .before .before .before .before .before .loop .inv) (c .before .before .before .before .before .before .before .before .before .before .before .before .before .pre .1) (c .before .before .before .before .before .before .before .loop-test .taken) (c .before .before .before .before .before .before .point-at .ensures) (c .before .before .before .before .before .point-at2 .ensures) (c .before .before .before .before .point-answer .ensures) (c .before .before .write-answer .ensures)
+loop-again c =
+    let wrote = c .before .before in
+    let answered = wrote .before .before in
+    let turn = answered .before .before .before in
+    written-next _ _ _ _ _ (turn .before .loop .inv) (turn .before .before .before .before .before .before .pre .1) (turn .loop-test .taken)
+    (answered .before .before .point-at .ensures) (answered .before .point-at2 .ensures) (answered .point-answer .ensures) (wrote .write-answer .ensures)
 
 same-length : tie.Need-same-length Inv-loop μ-loop
 same-length c = written-long _ _ _ _ _ (c .before .loop .inv) (c .before .before .before .before .before .before .pre .1)

@@ -28,7 +28,8 @@ mul-t8 c =
 returns : tie.Need-returns
 returns c = let known = c .before .before .before .before .before in
     counted _ _ (record { outer = λ i h. known .before .shared-slice-known .given i; holes = λ i h. known .shared-slice-known2 .given i })
-    (subst T (sym (known .before .before .good .1 .1 .1 .0 .1)) tt) (known .before .before .pre) (c .before .before .before .bounds-of .ensures) (c .before .before .grid-of .ensures) (c .before .sampled-count .ensures)
+    (subst T (sym (known .before .before .good .1 .1 .1 .0 .1)) tt) (known .before .before .pre) (c .before .before .before .bounds-of .ensures)
+    (c .before .before .grid-of .ensures) (c .before .sampled-count .ensures)
 
 pub count-places-spec : {M : Type 1} → statement M
 count-places-spec =

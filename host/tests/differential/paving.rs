@@ -251,6 +251,8 @@ struct Tally {
     outlines: usize,
     answers: BTreeMap<String, usize>,
     whole: usize,
+    /// Open, with no loop left: the outline is unsound.
+    unsound: usize,
     nodes: usize,
     quads: usize,
     /// How far the nodes' and the edges' pools served runs that weren't refused.
@@ -294,6 +296,7 @@ impl Tally {
         let (answer, used, mut faults) = match (library, expected) {
             (Ok(mesh), Ok((outcome, _))) => {
                 self.whole += usize::from(mesh.is_whole());
+                self.unsound += usize::from(!mesh.is_whole() && mesh.loop_count() == 0);
                 self.nodes += mesh.node_count();
                 self.quads += mesh.quad_count();
                 let full = mesh.end() == End::Full;
@@ -480,6 +483,20 @@ fn runs_of_lists_that_do_not_fit() {
 #[test]
 fn runs_in_tight_places() {
     runs("tight", &USUAL);
+}
+
+/// Paper 4's family, of which the reference leaves no loop: whole and open by soundness alone.
+#[test]
+fn runs_of_slits() {
+    let (outlines, seed) = (number("SITJORBE_OUTLINES", 2_000), number("SITJORBE_SEED", 1));
+    let (mut tally, mut rng) = (Tally::default(), Rng(seed));
+    for place in 0..outlines {
+        tally.outline(&mut rng, generated("slits", seed, place));
+    }
+    let (whole, unsound, few) = (tally.whole, tally.unsound, tally.outlines / 2);
+    println!("runs, slits: {whole} whole, {unsound} open with no loop left");
+    assert!(whole > few && unsound > few, "{whole} whole, {unsound} open with no loop left");
+    tally.finish("runs, slits", &["still", "passes", "full (nodes)", "full (quads)", "full (edges)"]);
 }
 
 #[test]

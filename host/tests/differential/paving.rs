@@ -377,7 +377,14 @@ impl Tally {
 
     /// As `finish`; fails also if there are fewer runs whose blocks matter, for any one reason.
     fn finish_where_blocks_matter(self, what: &str, expected: &[&str], fewest: usize) {
-        let Tally { outlines, answers, whole, nodes, quads, faults, .. } = &self;
+        self.finish_answers(what, expected);
+        self.finish_pools(what);
+        self.blocks.finish(what, self.outlines / 200, fewest);
+    }
+
+    /// Prints what was answered; fails on a fault, or if one of these answers is rare.
+    fn finish_answers(&self, what: &str, expected: &[&str]) {
+        let Tally { outlines, answers, whole, nodes, quads, faults, .. } = self;
         let runs: usize = answers.values().sum();
         let counts: Vec<String> = answers.iter().map(|(answer, count)| format!("{answer}: {count}")).collect();
         println!(
@@ -389,8 +396,6 @@ impl Tally {
         for answer in expected {
             assert!(answers.get(*answer).is_some_and(|&count| count >= outlines / 200), "{what}: {answer} is rare");
         }
-        self.finish_pools(what);
-        self.blocks.finish(what, outlines / 200, fewest);
     }
 }
 
@@ -496,7 +501,8 @@ fn runs_of_slits() {
     let (whole, unsound, few) = (tally.whole, tally.unsound, tally.outlines / 2);
     println!("runs, slits: {whole} whole, {unsound} open with no loop left");
     assert!(whole > few && unsound > few, "{whole} whole, {unsound} open with no loop left");
-    tally.finish("runs, slits", &["still", "passes", "full (nodes)", "full (quads)", "full (edges)"]);
+    // No quad of theirs makes a node, so no pool of nodes runs out on the way.
+    tally.finish_answers("runs, slits", &["still", "passes", "full (quads)", "full (edges)", "9", "10"]);
 }
 
 #[test]

@@ -250,6 +250,8 @@ extern "C" {
         prev_len: usize,
         snapshot: *mut u32,
         snapshot_len: usize,
+        origins: *mut u16,
+        origins_len: usize,
         quads: *mut u32,
         quads_len: usize,
         edges: *mut u32,

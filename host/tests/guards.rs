@@ -3,7 +3,7 @@
 mod common;
 
 use common::blocks::Block;
-use common::{by_kind, list_lengths, refused, said, used, Drawing, FieldPlaces, Lengths, Lent, Raw, RunPlaces};
+use common::{by_kind, list_lengths, refused, said, used, Drawing, FieldPlaces, Lengths, Lent, Raw, RunPlaces, LISTS};
 use sitjorbe::{
     check_order_in, direction, directions_in, estimate, ffi, least_places, pave, small_quads, FieldRecord, LentMesh,
     Lists, Memory, NotAccepted, Outline, Places, Refusal, Results, Settings,
@@ -174,16 +174,16 @@ fn small_quads_are_written_within_their_list() {
 fn the_guards_of_a_run_show_a_write() {
     let lengths = list_lengths(Places { field_nodes: 4, nodes: 20, quads: 6, edges: 7, points: 8 });
     let nothing = RunPlaces::new(lengths);
-    assert_eq!(nothing.written_past([0; 14]), [""; 0]);
+    assert_eq!(nothing.written_past([0; LISTS.len()]), [""; 0]);
     let mut places = RunPlaces::new(lengths);
-    let Lists { values, marks, lengths: last, blocks, .. } = places.lists();
-    (values[7], marks[0], last[4], blocks[15]) = (1.0, 1, 1, 1);
-    assert_eq!(places.written_past([0; 14]), ["values", "marks", "lengths", "blocks"]);
-    assert_eq!(places.written_past([8, 0, 0, 0, 0, 0, 0, 0, 0, 0, 4, 0, 0, 16]), ["marks", "lengths"]);
-    assert_eq!(places.written_past([7, 1, 0, 0, 0, 0, 0, 0, 0, 0, 5, 0, 0, 15]), ["values", "blocks"]);
+    let Lists { values, marks, origins, lengths: last, blocks, .. } = places.lists();
+    (values[7], marks[0], origins[19], last[4], blocks[15]) = (1.0, 1, 1, 1, 1);
+    assert_eq!(places.written_past([0; LISTS.len()]), ["values", "marks", "origins", "lengths", "blocks"]);
+    assert_eq!(places.written_past([8, 0, 0, 0, 0, 0, 0, 20, 0, 0, 0, 4, 0, 0, 16]), ["marks", "lengths"]);
+    assert_eq!(places.written_past([7, 1, 0, 0, 0, 0, 0, 19, 0, 0, 0, 5, 0, 0, 15]), ["values", "origins", "blocks"]);
 }
 
-/// The outline in read-only memory, and each of the fourteen lists of a run, just as long as the run needs, in memory of its own
+/// The outline in read-only memory, and each of the fifteen lists of a run, just as long as the run needs, in memory of its own
 /// between pages that can't be touched: a run that ends still, runs that are full where a list is shorter, and refused ones.
 #[cfg(target_os = "linux")]
 #[test]
@@ -293,24 +293,27 @@ fn an_order_is_read_and_written_within_its_lists() {
 struct RunPages {
     floats: [pages::Pages<f64>; 3],
     marks: pages::Pages<u8>,
+    origins: pages::Pages<u16>,
     numbers: [pages::Pages<u32>; 10],
 }
 
 #[cfg(target_os = "linux")]
 impl RunPages {
     fn new(lengths: Lengths, side: pages::Side) -> RunPages {
-        let (floats, marks, numbers) = by_kind(lengths);
+        let (floats, marks, origins, numbers) = by_kind(lengths);
         RunPages {
             floats: floats.map(|length| pages::Pages::writable(&vec![-7.5; length], side)),
             marks: pages::Pages::writable(&vec![7; marks], side),
+            origins: pages::Pages::writable(&vec![7; origins], side),
             numbers: numbers.map(|length| pages::Pages::writable(&vec![7; length], side)),
         }
     }
 
     fn lists(&mut self) -> Lists<'_> {
-        let RunPages { floats, marks, numbers } = self;
-        let numbers = numbers.each_mut().map(pages::Pages::list_mut);
-        Lists::new(floats.each_mut().map(pages::Pages::list_mut), marks.list_mut(), numbers)
+        let RunPages { floats, marks, origins, numbers } = self;
+        let (floats, numbers) =
+            (floats.each_mut().map(pages::Pages::list_mut), numbers.each_mut().map(pages::Pages::list_mut));
+        Lists::new(floats, marks.list_mut(), origins.list_mut(), numbers)
     }
 }
 

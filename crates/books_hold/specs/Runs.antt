@@ -91,7 +91,7 @@ module _ (o : Outline) (size : Float) (lent : State) (A : Accepted o size lent) 
     pub advance-holds : BooksHold o size (advance o size field n sampled .state)
     advance-holds = reached-hold o size sampled loops start (begins .loops) turns (reached .by)
 
-    advance-facts : RunFacts o size field n lent (advance o size field n sampled)
+    pub advance-facts : RunFacts o size field n lent (advance o size field n sampled)
     advance-facts =
         let run = advance o size field n sampled in
         let ends = advance-ends o size field sampled loops start n in

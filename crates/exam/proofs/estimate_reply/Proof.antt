@@ -1,0 +1,21 @@
+use borrow.Author.Needs.{needs}
+use Rattle.exam.proofs.estimate_reply.Statement.{statement}
+use Rattle.exam.proofs.estimate_reply.Tie as tie
+use Rattle.exam.proofs.estimate_reply.Reads as reads
+use Rattle.exam.proofs.estimate_reply.Lts as lts
+use Rattle.estimates.proofs.estimate_at.Reads as estimate-at-reads
+
+-- src/lib.rt:268:9
+estimate-at-requires : tie.Need-estimate-at-requires
+estimate-at-requires c κs = search needs
+
+-- src/lib.rt:271:9
+returns : tie.Need-returns
+returns c = ?
+
+-- src/lib.rt:257:1
+returns-2 : tie.Need-returns-2
+returns-2 c = ?
+
+pub estimate-reply-spec : {M : Type 1} → statement M
+estimate-reply-spec = tie.close (tie.spec estimate-at-requires returns returns-2)

@@ -1,0 +1,15 @@
+use Rattle.exam.proofs.may_read_results.Statement.{statement}
+use Rattle.exam.proofs.may_read_results.Tie as tie
+use Rattle.exam.proofs.may_read_results.Reads as reads
+use Rattle.exam.proofs.may_read_results.Lts as lts
+
+-- src/lib.rt:86:9
+returns : tie.Need-returns
+returns c = ?
+
+-- src/lib.rt:82:1
+returns-2 : tie.Need-returns-2
+returns-2 c = ?
+
+pub may-read-results-spec : {M : Type 1} → statement M
+may-read-results-spec = tie.close (tie.spec returns returns-2)

@@ -1,0 +1,11 @@
+use Rattle.exam.proofs.no_numbers.Statement.{statement}
+use Rattle.exam.proofs.no_numbers.Tie as tie
+use Rattle.exam.proofs.no_numbers.Reads as reads
+use Rattle.exam.proofs.no_numbers.Lts as lts
+
+-- src/lib.rt:299:1
+returns : tie.Need-returns
+returns c = ?
+
+pub no-numbers-spec : {M : Type 1} → statement M
+no-numbers-spec = tie.close (tie.spec returns)

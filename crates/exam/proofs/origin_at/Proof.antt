@@ -1,0 +1,29 @@
+use borrow.Author.Needs.{needs}
+use Rattle.exam.proofs.origin_at.Statement.{statement}
+use Rattle.exam.proofs.origin_at.Tie as tie
+use Rattle.exam.proofs.origin_at.Reads as reads
+use Rattle.exam.proofs.origin_at.Lts as lts
+
+-- src/lib.rt:148:28
+mul-result : tie.Need-mul-result
+mul-result c = search needs
+
+-- src/lib.rt:148:28
+shared-slice-read-result : tie.Need-shared-slice-read-result
+shared-slice-read-result c = search needs
+
+-- src/lib.rt:148:28
+cast-result : tie.Need-cast-result
+cast-result c = ?
+
+-- src/lib.rt:144:1
+returns : tie.Need-returns
+returns c = search needs
+
+-- src/lib.rt:144:1
+returns-2 : tie.Need-returns-2
+returns-2 c = ?
+
+pub origin-at-spec : {M : Type 1} → statement M
+origin-at-spec =
+    tie.close (tie.spec mul-result shared-slice-read-result cast-result returns returns-2)

@@ -1,3 +1,4 @@
+use Rattle.exam.specs.Exam.{changeAnswer}
 use borrow.Author.Needs.{needs}
 use Rattle.exam.proofs.change_results.Statement.{statement}
 use Rattle.exam.proofs.change_results.Tie as tie
@@ -37,7 +38,8 @@ same-length c = search needs
 
 -- src/lib.rt:212:1
 returns : tie.Need-returns
-returns c = ?
+unfolding changeAnswer
+returns c = rw (c .before .before .before .before .before .before .enum-told .given .1) (c .before .before .begin .ensures)
 
 -- src/lib.rt:212:1
 same-length-2 : tie.Need-same-length-2
@@ -45,7 +47,8 @@ same-length-2 c = search needs
 
 -- src/lib.rt:212:1
 returns-2 : tie.Need-returns-2
-returns-2 c = ?
+unfolding changeAnswer
+returns-2 c = rw (c .before .before .before .before .before .before .before .change .given .1) (c .before .before .enter .ensures)
 
 -- src/lib.rt:212:1
 same-length-3 : tie.Need-same-length-3
@@ -53,7 +56,8 @@ same-length-3 c = search needs
 
 -- src/lib.rt:212:1
 returns-3 : tie.Need-returns-3
-returns-3 c = ?
+unfolding changeAnswer
+returns-3 c = rw (c .before .before .before .before .before .before .before .change2 .given .1) (c .before .before .withdraw .ensures)
 
 pub change-results-spec : {M : Type 1} → statement M
 change-results-spec =

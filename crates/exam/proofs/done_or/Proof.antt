@@ -1,3 +1,6 @@
+use Rattle.exam.specs.Exam.{doneOr}
+use Rattle.exam.specs.Code.{done-refused}
+use mathlib.Core.Path.{sym, refl}
 use Rattle.exam.proofs.done_or.Statement.{statement}
 use Rattle.exam.proofs.done_or.Tie as tie
 use Rattle.exam.proofs.done_or.Reads as reads
@@ -5,11 +8,12 @@ use Rattle.exam.proofs.done_or.Lts as lts
 
 -- src/lib.rt:241:9
 returns : tie.Need-returns
-returns c = ?
+returns c = done-refused (c .before .args .refusal) (c .if1 .taken)
 
 -- src/lib.rt:237:1
 returns-2 : tie.Need-returns-2
-returns-2 c = ?
+unfolding doneOr
+returns-2 c = rw (c .if1 .left) refl
 
 pub done-or-spec : {M : Type 1} → statement M
 done-or-spec = tie.close (tie.spec returns returns-2)

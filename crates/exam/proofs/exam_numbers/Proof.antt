@@ -1,3 +1,5 @@
+use Rattle.exam.specs.Exam.{examNumbers}
+use mathlib.Core.Path.{refl}
 use borrow.Author.Needs.{needs}
 use Rattle.exam.proofs.exam_numbers.Statement.{statement}
 use Rattle.exam.proofs.exam_numbers.Tie as tie
@@ -43,35 +45,43 @@ enum-known-reply-7 c = search needs
 
 -- src/lib.rt:319:1
 returns : tie.Need-returns
-returns c = ?
+unfolding examNumbers
+returns c = rw (c .before .before .before .no-numbers .ensures, c .before .reply .given .1) refl
 
 -- src/lib.rt:319:1
 returns-2 : tie.Need-returns-2
-returns-2 c = ?
+unfolding examNumbers
+returns-2 c = rw (c .before .before .no-numbers .ensures, c .enum-told .given .1) refl
 
 -- src/lib.rt:319:1
 returns-3 : tie.Need-returns-3
-returns-3 c = ?
+unfolding examNumbers
+returns-3 c = rw (c .before .before .before .no-numbers .ensures, c .before .reply2 .given .1) refl
 
 -- src/lib.rt:319:1
 returns-4 : tie.Need-returns-4
-returns-4 c = ?
+unfolding examNumbers
+returns-4 c = rw (c .before .before .before .no-numbers .ensures, c .before .reply3 .given .1) refl
 
 -- src/lib.rt:319:1
 returns-5 : tie.Need-returns-5
-returns-5 c = ?
+unfolding examNumbers
+returns-5 c = rw (c .before .before .before .no-numbers .ensures, c .before .reply4 .given .1) refl
 
 -- src/lib.rt:319:1
 returns-6 : tie.Need-returns-6
-returns-6 c = ?
+unfolding examNumbers
+returns-6 c = rw (c .before .before .before .no-numbers .ensures, c .before .reply5 .given .1) refl
 
 -- src/lib.rt:319:1
 returns-7 : tie.Need-returns-7
-returns-7 c = ?
+unfolding examNumbers
+returns-7 c = rw (c .before .before .before .no-numbers .ensures, c .before .reply6 .given .1) refl
 
 -- src/lib.rt:319:1
 returns-8 : tie.Need-returns-8
-returns-8 c = ?
+unfolding examNumbers
+returns-8 c = rw (c .before .before .before .no-numbers .ensures, c .before .reply7 .given .1) refl
 
 pub exam-numbers-spec : {M : Type 1} → statement M
 exam-numbers-spec =

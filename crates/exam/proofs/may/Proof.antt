@@ -37,15 +37,15 @@ enum-told-4 c = search needs
 
 -- src/lib.rt:104:1
 returns : tie.Need-returns
-returns c = ?
+returns c = rw (c .before .enum-told .given .1) (c .may-change .ensures)
 
 -- src/lib.rt:104:1
 returns-2 : tie.Need-returns-2
-returns-2 c = ?
+returns-2 c = rw (c .before .enum-told2 .given .1) (c .may-read-mesh .ensures)
 
 -- src/lib.rt:104:1
 returns-3 : tie.Need-returns-3
-returns-3 c = ?
+returns-3 c = rw (c .before .enum-told3 .given .1) (c .may-read-results .ensures)
 
 -- src/lib.rt:104:1
 returns-4 : tie.Need-returns-4

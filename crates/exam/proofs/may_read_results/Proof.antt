@@ -1,3 +1,5 @@
+use borrow.Author.Tests.{eq-eqb, ne-eqb}
+use mathlib.Core.Path.{refl}
 use Rattle.exam.proofs.may_read_results.Statement.{statement}
 use Rattle.exam.proofs.may_read_results.Tie as tie
 use Rattle.exam.proofs.may_read_results.Reads as reads
@@ -5,11 +7,11 @@ use Rattle.exam.proofs.may_read_results.Lts as lts
 
 -- src/lib.rt:86:9
 returns : tie.Need-returns
-returns c = ?
+returns c = rw (eq-eqb _ _ (c .if1 .taken)) refl
 
 -- src/lib.rt:82:1
 returns-2 : tie.Need-returns-2
-returns-2 c = ?
+returns-2 c = rw (ne-eqb _ _ (c .if1 .left)) refl
 
 pub may-read-results-spec : {M : Type 1} → statement M
 may-read-results-spec = tie.close (tie.spec returns returns-2)

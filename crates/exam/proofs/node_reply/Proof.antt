@@ -1,3 +1,7 @@
+use Rattle.exam.specs.Exam.{nodeReply}
+use native.Mathlib.Omega.{arith}
+use borrow.Author.Tests.{le-leb, lt-leb}
+use mathlib.Core.Path.{refl}
 use borrow.Author.Needs.{needs}
 use Rattle.exam.proofs.node_reply.Statement.{statement}
 use Rattle.exam.proofs.node_reply.Tie as tie
@@ -8,7 +12,8 @@ use Rattle.front.proofs.node_at.Reads as node-at-reads
 
 -- src/lib.rt:155:9
 returns : tie.Need-returns
-returns c = ?
+unfolding nodeReply
+returns c = rw (le-leb _ _ (c .if1 .taken)) refl
 
 -- src/lib.rt:157:9
 node-at-requires : tie.Need-node-at-requires
@@ -20,7 +25,9 @@ origin-at-requires c κs = search needs
 
 -- src/lib.rt:151:1
 returns-2 : tie.Need-returns-2
-returns-2 c = ?
+unfolding nodeReply
+returns-2 c = let args = c .before .before .before .before .before .before .args in
+    rw (lt-leb (args .n) (args .id) (omega arith), c .before .node-at .ensures, c .origin-at .ensures) refl
 
 pub node-reply-spec : {M : Type 1} → statement M
 node-reply-spec = tie.close (tie.spec returns node-at-requires origin-at-requires returns-2)

@@ -1,3 +1,5 @@
+use Rattle.exam.specs.Exam.{nodesLent}
+use native.Mathlib.Omega.{arith}
 use borrow.Author.Needs.{needs}
 use Rattle.exam.proofs.nodes_lent.Statement.{statement}
 use Rattle.exam.proofs.nodes_lent.Tie as tie
@@ -24,7 +26,8 @@ cast-result c = search needs
 
 -- src/lib.rt:136:1
 returns : tie.Need-returns
-returns c = ?
+unfolding nodesLent
+returns c = omega (arith, c .min-usize .ensures, c .before .node-count .ensures)
 
 pub nodes-lent-spec : {M : Type 1} → statement M
 nodes-lent-spec =

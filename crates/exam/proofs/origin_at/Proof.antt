@@ -1,3 +1,6 @@
+use lib.ListN.{List·getD-eq-default}
+use native.Mathlib.Omega.{arith}
+use mathlib.Core.Path.{sym}
 use borrow.Author.Needs.{needs}
 use Rattle.exam.proofs.origin_at.Statement.{statement}
 use Rattle.exam.proofs.origin_at.Tie as tie
@@ -14,7 +17,7 @@ shared-slice-read-result c = search needs
 
 -- src/lib.rt:148:28
 cast-result : tie.Need-cast-result
-cast-result c = ?
+cast-result c = omega (arith, c .shared-slice-known .given (c .before .before .args .id))
 
 -- src/lib.rt:144:1
 returns : tie.Need-returns
@@ -22,7 +25,7 @@ returns c = search needs
 
 -- src/lib.rt:144:1
 returns-2 : tie.Need-returns-2
-returns-2 c = ?
+returns-2 c = sym (List·getD-eq-default (c .before .args .origins .now) 0 (c .if1 .left))
 
 pub origin-at-spec : {M : Type 1} → statement M
 origin-at-spec =

@@ -1,3 +1,5 @@
+use Rattle.exam.specs.Code.{node-seen, quad-seen, loop-seen}
+use Rattle.exam.specs.Exam.{examMesh}
 use borrow.Author.Needs.{needs}
 use Rattle.exam.proofs.read_mesh.Statement.{statement}
 use Rattle.exam.proofs.read_mesh.Tie as tie
@@ -38,11 +40,15 @@ loop-reply-requires c κs = search needs
 
 -- src/lib.rt:185:1
 returns : tie.Need-returns
-returns c = ?
+returns c = let args = c .before .before .before .before .before .before .before .before .before .before .before .before .args in
+    let m = examMesh (args .nodes) (args .xs .now) (args .ys .now) (args .quad-count) (args .quads .now) (args .next .now) (args .prev .now) (args .origins .now) in
+    node-seen m (args .reply .now) (args .read) _ (c .before .before .read .given .1) (c .before .before .before .before .nodes-lent .result) (c .before .before .before .before .nodes-lent .ensures) (c .node-reply .result) (c .node-reply .ensures)
 
 -- src/lib.rt:185:1
 returns-2 : tie.Need-returns-2
-returns-2 c = ?
+returns-2 c = let args = c .before .before .before .before .before .before .before .before .before .before .before .before .args in
+    let m = examMesh (args .nodes) (args .xs .now) (args .ys .now) (args .quad-count) (args .quads .now) (args .next .now) (args .prev .now) (args .origins .now) in
+    quad-seen m (args .reply .now) (args .read) _ (c .before .before .read2 .given .1) (c .quad-reply .result) (c .quad-reply .ensures)
 
 -- src/lib.rt:185:1
 same-length : tie.Need-same-length
@@ -50,7 +56,9 @@ same-length c = search needs
 
 -- src/lib.rt:185:1
 returns-3 : tie.Need-returns-3
-returns-3 c = ?
+returns-3 c = let args = c .before .before .before .before .before .before .before .before .before .before .before .before .before .before .before .args in
+    let m = examMesh (args .nodes) (args .xs .now) (args .ys .now) (args .quad-count) (args .quads .now) (args .next .now) (args .prev .now) (args .origins .now) in
+    loop-seen m (args .reply .now) (args .read) _ (c .before .before .before .before .before .read3 .given .1) (c .before .before .before .before .before .before .before .nodes-lent .result) (c .before .before .before .before .before .before .before .nodes-lent .ensures) (c .before .before .loop-reply .result) _ (c .before .before .loop-reply .ensures)
 
 pub read-mesh-spec : {M : Type 1} → statement M
 read-mesh-spec =

@@ -1,3 +1,5 @@
+use Rattle.exam.specs.Exam.{resultReply}
+use mathlib.Core.Path.{refl}
 use borrow.Author.Needs.{needs}
 use Rattle.exam.proofs.read_results.Statement.{statement}
 use Rattle.exam.proofs.read_results.Tie as tie
@@ -28,15 +30,18 @@ estimate-reply-requires c κs = search needs
 
 -- src/lib.rt:276:1
 returns : tie.Need-returns
-returns c = ?
+unfolding resultReply
+returns c = rw (c .before .before .read .given .1) (c .threshold-reply .ensures)
 
 -- src/lib.rt:276:1
 returns-2 : tie.Need-returns-2
-returns-2 c = ?
+unfolding resultReply
+returns-2 c = rw (c .enum-told .given .1) refl
 
 -- src/lib.rt:276:1
 returns-3 : tie.Need-returns-3
-returns-3 c = ?
+unfolding resultReply
+returns-3 c = rw (c .before .before .read2 .given .1) (c .estimate-reply .ensures)
 
 pub read-results-spec : {M : Type 1} → statement M
 read-results-spec =

@@ -1,3 +1,8 @@
+use Rattle.exam.specs.Code.{exam-not-allowed, exam-changes, exam-reads-mesh, exam-reads-results, exam-unknown}
+use Rattle.thresholds.specs.Figures.{results}
+use Rattle.exam.specs.Exam.{examMesh, requestNumbered}
+use mathlib.Core.Path.{sym, _∙_}
+use borrow.Author.Tests.{not-true, not-false}
 use borrow.Author.Needs.{needs}
 use Rattle.exam.proofs.sitjorbe_exam.Statement.{statement}
 use Rattle.exam.proofs.sitjorbe_exam.Tie as tie
@@ -26,7 +31,11 @@ exam-numbers-requires c κs = search needs
 
 -- src/lib.rt:391:9
 returns : tie.Need-returns
-returns c = ?
+returns c = let args = c .before .before .before .before .before .before .before .before .before .before .before .before .args in
+    let m = examMesh (args .nodes) (args .xs .now) (args .ys .now) (args .quad-count) (args .quads .now) (args .next .now) (args .prev .now) (args .origins .now) in
+    let x = results (args .thresholds .now) (args .count .now) (args .sum .now) in
+    exam-not-allowed m x (args .role) (requestNumbered (args .operation) (args .item) (args .value) (args .u) (args .v)) (args .reply .now) (c .before .before .before .request-numbered .result) (c .before .before .before .request-numbered .ensures) (c .before .before .may .result) (c .before .before .may .ensures)
+    (not-true (c .before .before .may .result) (c .before .if1 .taken)) (c .exam-numbers .result) (c .exam-numbers .ensures)
 
 -- src/lib.rt:394:30
 enum-known-request : tie.Need-enum-known-request
@@ -90,7 +99,12 @@ same-length c = search needs
 
 -- src/lib.rt:363:1
 returns-2 : tie.Need-returns-2
-returns-2 c = ?
+returns-2 c = let args = c .before .before .before .before .before .before .before .before .before .before .before .before .before .before .before .before .before .before .before .before .before .before .before .args in
+    let m = examMesh (args .nodes) (args .xs .now) (args .ys .now) (args .quad-count) (args .quads .now) (args .next .now) (args .prev .now) (args .origins .now) in
+    let x = results (args .thresholds .now) (args .count .now) (args .sum .now) in
+    exam-changes m x (args .role) (requestNumbered (args .operation) (args .item) (args .value) (args .u) (args .v)) (args .reply .now) (c .before .before .before .before .before .before .before .before .before .before .before .before .before .before .request-numbered .result) (c .before .before .before .before .before .before .before .before .before .before .before .before .before .before .request-numbered .ensures) (c .before .before .before .before .before .before .before .before .before .before .before .before .before .may .result) (c .before .before .before .before .before .before .before .before .before .before .before .before .before .may .ensures)
+    (not-false (c .before .before .before .before .before .before .before .before .before .before .before .before .before .may .result) (c .before .before .before .before .before .before .before .before .before .before .before .before .if1 .left)) _ (c .before .before .before .before .before .before .before .before .before .before .request .given .1) (c .before .before .before .before .before .before .before .before .nodes-lent .result) (c .before .before .before .before .before .before .before .before .nodes-lent .ensures) (c .before .before .before .before .change-results .result) _
+    (c .before .before .before .before .change-results .ensures) (c .before .done-or .result) (c .before .done-or .ensures) (c .exam-numbers2 .result) (c .exam-numbers2 .ensures)
 
 -- src/lib.rt:363:1
 same-length-2 : tie.Need-same-length-2
@@ -98,7 +112,11 @@ same-length-2 c = search needs
 
 -- src/lib.rt:363:1
 returns-3 : tie.Need-returns-3
-returns-3 c = ?
+returns-3 c = let args = c .before .before .before .before .before .before .before .before .before .before .before .before .before .before .before .before .before .before .before .args in
+    let m = examMesh (args .nodes) (args .xs .now) (args .ys .now) (args .quad-count) (args .quads .now) (args .next .now) (args .prev .now) (args .origins .now) in
+    let x = results (args .thresholds .now) (args .count .now) (args .sum .now) in
+    exam-reads-mesh m x (args .role) (requestNumbered (args .operation) (args .item) (args .value) (args .u) (args .v)) (args .reply .now) (c .before .before .before .before .before .before .before .before .before .before .request-numbered .result) (c .before .before .before .before .before .before .before .before .before .before .request-numbered .ensures) (c .before .before .before .before .before .before .before .before .before .may .result) (c .before .before .before .before .before .before .before .before .before .may .ensures)
+    (not-false (c .before .before .before .before .before .before .before .before .before .may .result) (c .before .before .before .before .before .before .before .before .if1 .left)) _ (c .before .before .before .before .before .before .request2 .given .1) (c .before .before .before .read-mesh .result) _ (c .before .before .before .read-mesh .ensures) (c .exam-numbers3 .result) (c .exam-numbers3 .ensures)
 
 -- src/lib.rt:363:1
 same-length-3 : tie.Need-same-length-3
@@ -106,11 +124,20 @@ same-length-3 c = search needs
 
 -- src/lib.rt:363:1
 returns-4 : tie.Need-returns-4
-returns-4 c = ?
+returns-4 c = let args = c .before .before .before .before .before .before .before .before .before .before .before .before .before .before .before .before .before .before .before .before .args in
+    let m = examMesh (args .nodes) (args .xs .now) (args .ys .now) (args .quad-count) (args .quads .now) (args .next .now) (args .prev .now) (args .origins .now) in
+    let x = results (args .thresholds .now) (args .count .now) (args .sum .now) in
+    exam-reads-results m x (args .role) (requestNumbered (args .operation) (args .item) (args .value) (args .u) (args .v)) (args .reply .now) (c .before .before .before .before .before .before .before .before .before .before .before .request-numbered .result) (c .before .before .before .before .before .before .before .before .before .before .before .request-numbered .ensures) (c .before .before .before .before .before .before .before .before .before .before .may .result) (c .before .before .before .before .before .before .before .before .before .before .may .ensures)
+    (not-false (c .before .before .before .before .before .before .before .before .before .before .may .result) (c .before .before .before .before .before .before .before .before .before .if1 .left)) _ (c .before .before .before .before .before .before .before .request3 .given .1) (c .before .before .before .before .before .nodes-lent2 .result) (c .before .before .before .before .before .nodes-lent2 .ensures) (c .before .read-results .result)
+    (c .before .read-results .ensures) (c .exam-numbers4 .result) (c .exam-numbers4 .ensures)
 
 -- src/lib.rt:363:1
 returns-5 : tie.Need-returns-5
-returns-5 c = ?
+returns-5 c = let args = c .before .before .before .before .before .before .before .before .before .before .before .before .before .before .args in
+    let m = examMesh (args .nodes) (args .xs .now) (args .ys .now) (args .quad-count) (args .quads .now) (args .next .now) (args .prev .now) (args .origins .now) in
+    let x = results (args .thresholds .now) (args .count .now) (args .sum .now) in
+    exam-unknown m x (args .role) (requestNumbered (args .operation) (args .item) (args .value) (args .u) (args .v)) (args .reply .now) (c .before .before .before .before .before .request-numbered .result) (c .before .before .before .before .before .request-numbered .ensures) (c .before .enum-told .given .1) (c .exam-numbers5 .result)
+    (c .exam-numbers5 .ensures)
 
 pub sitjorbe-exam-spec : {M : Type 1} → statement M
 sitjorbe-exam-spec =

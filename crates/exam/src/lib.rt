@@ -13,7 +13,9 @@ use lent_mesh::QuadIds;
 // ---- roles, requests, replies
 
 pub const DESK: u32 = 1;
+
 pub const READER: u32 = 2;
+
 pub const MASKED_READER: u32 = 3;
 
 // What changes the results.
@@ -145,7 +147,11 @@ fn origin_at(origins: &[u16], id: u32) -> u32
     ensures { λ r. ⌜ r ≡ getD (now (origins .entry)) id 0 ⌝ }
 {
     let i = id as usize;
-    if i < origins.len() { origins[i] as u32 } else { 0 }
+    if i < origins.len() {
+        origins[i] as u32
+    } else {
+        0
+    }
 }
 
 fn node_reply(n: u32, xs: &[f64], ys: &[f64], origins: &[u16], id: u32) -> ExamReply
@@ -397,7 +403,16 @@ pub extern "C" fn sitjorbe_exam(
             exam_numbers(done_or(refusal))
         }
         ExamRequest::ReadsMesh(read) => exam_numbers(read_mesh(
-            read, nodes, xs, ys, quad_count, quads, next, prev, origins, reply,
+            read,
+            nodes,
+            xs,
+            ys,
+            quad_count,
+            quads,
+            next,
+            prev,
+            origins,
+            reply,
         )),
         ExamRequest::ReadsResults(read) => {
             let n = nodes_lent(nodes, xs, ys, origins);

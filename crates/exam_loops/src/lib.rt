@@ -129,7 +129,10 @@ fn find_loop(n: u32, next: &[u32], prev: &[u32], k: u32) -> FoundLoop
         }
         u += 1;
     }
-    FoundLoop { start: 0, length: 0 }
+    FoundLoop {
+        start: 0,
+        length: 0,
+    }
 }
 
 // ---- the reply

@@ -1,16 +1,13 @@
+-- `done_or` meets its contract. Assumes nothing.
 use Rattle.exam.specs.Exam.{doneOr}
 use Rattle.exam.specs.Code.{done-refused}
 use mathlib.Core.Path.{sym, refl}
 use Rattle.exam.proofs.done_or.Statement.{statement}
 use Rattle.exam.proofs.done_or.Tie as tie
-use Rattle.exam.proofs.done_or.Reads as reads
-use Rattle.exam.proofs.done_or.Lts as lts
 
--- src/lib.rt:241:9
 returns : tie.Need-returns
 returns c = done-refused (c .before .args .refusal) (c .if1 .taken)
 
--- src/lib.rt:237:1
 returns-2 : tie.Need-returns-2
 unfolding doneOr
 returns-2 c = rw (c .if1 .left) refl

@@ -1,53 +1,38 @@
+-- `may` meets its contract: each arm is a line of the table. Assumes nothing.
 use borrow.Author.Needs.{needs}
 use Rattle.exam.proofs.may.Statement.{statement}
 use Rattle.exam.proofs.may.Tie as tie
-use Rattle.exam.proofs.may.Reads as reads
-use Rattle.exam.proofs.may.Lts as lts
-use Rattle.exam.proofs.may_change.Reads as may-change-reads
-use Rattle.exam.proofs.may_read_mesh.Reads as may-read-mesh-reads
-use Rattle.exam.proofs.may_read_results.Reads as may-read-results-reads
 
--- src/lib.rt:108:36
 enum-told : tie.Need-enum-told
 enum-told c = search needs
 
--- src/lib.rt:108:36
 may-change-requires : tie.Need-may-change-requires
 may-change-requires c κs = search needs
 
--- src/lib.rt:109:38
 enum-told-2 : tie.Need-enum-told-2
 enum-told-2 c = search needs
 
--- src/lib.rt:109:38
 may-read-mesh-requires : tie.Need-may-read-mesh-requires
 may-read-mesh-requires c κs = search needs
 
--- src/lib.rt:110:41
 enum-told-3 : tie.Need-enum-told-3
 enum-told-3 c = search needs
 
--- src/lib.rt:110:41
 may-read-results-requires : tie.Need-may-read-results-requires
 may-read-results-requires c κs = search needs
 
--- src/lib.rt:111:33
 enum-told-4 : tie.Need-enum-told-4
 enum-told-4 c = search needs
 
--- src/lib.rt:104:1
 returns : tie.Need-returns
 returns c = rw (c .before .enum-told .given .1) (c .may-change .ensures)
 
--- src/lib.rt:104:1
 returns-2 : tie.Need-returns-2
 returns-2 c = rw (c .before .enum-told2 .given .1) (c .may-read-mesh .ensures)
 
--- src/lib.rt:104:1
 returns-3 : tie.Need-returns-3
 returns-3 c = rw (c .before .enum-told3 .given .1) (c .may-read-results .ensures)
 
--- src/lib.rt:104:1
 returns-4 : tie.Need-returns-4
 returns-4 c = search needs
 

@@ -1,15 +1,12 @@
+-- `may_read_results` meets its contract: its two tests. Assumes nothing.
 use borrow.Author.Tests.{eq-eqb, ne-eqb}
 use mathlib.Core.Path.{refl}
 use Rattle.exam.proofs.may_read_results.Statement.{statement}
 use Rattle.exam.proofs.may_read_results.Tie as tie
-use Rattle.exam.proofs.may_read_results.Reads as reads
-use Rattle.exam.proofs.may_read_results.Lts as lts
 
--- src/lib.rt:86:9
 returns : tie.Need-returns
 returns c = rw (eq-eqb _ _ (c .if1 .taken)) refl
 
--- src/lib.rt:82:1
 returns-2 : tie.Need-returns-2
 returns-2 c = rw (ne-eqb _ _ (c .if1 .left)) refl
 

@@ -1,11 +1,9 @@
+-- `no_numbers` meets its contract. Assumes nothing.
 use Rattle.exam.specs.Exam.{examNumbers}
 use mathlib.Core.Path.{refl}
 use Rattle.exam.proofs.no_numbers.Statement.{statement}
 use Rattle.exam.proofs.no_numbers.Tie as tie
-use Rattle.exam.proofs.no_numbers.Reads as reads
-use Rattle.exam.proofs.no_numbers.Lts as lts
 
--- src/lib.rt:299:1
 returns : tie.Need-returns
 unfolding examNumbers
 returns c = refl

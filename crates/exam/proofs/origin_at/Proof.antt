@@ -1,29 +1,23 @@
+-- `origin_at` meets its contract. Assumes nothing.
 use lib.ListN.{List·getD-eq-default}
 use native.Mathlib.Omega.{arith}
 use mathlib.Core.Path.{sym}
 use borrow.Author.Needs.{needs}
 use Rattle.exam.proofs.origin_at.Statement.{statement}
 use Rattle.exam.proofs.origin_at.Tie as tie
-use Rattle.exam.proofs.origin_at.Reads as reads
-use Rattle.exam.proofs.origin_at.Lts as lts
 
--- src/lib.rt:148:28
 mul-result : tie.Need-mul-result
 mul-result c = search needs
 
--- src/lib.rt:148:28
 shared-slice-read-result : tie.Need-shared-slice-read-result
 shared-slice-read-result c = search needs
 
--- src/lib.rt:148:28
 cast-result : tie.Need-cast-result
 cast-result c = omega (arith, c .shared-slice-known .given (c .before .before .args .id))
 
--- src/lib.rt:144:1
 returns : tie.Need-returns
 returns c = search needs
 
--- src/lib.rt:144:1
 returns-2 : tie.Need-returns-2
 returns-2 c = sym (List·getD-eq-default (c .before .args .origins .now) 0 (c .if1 .left))
 

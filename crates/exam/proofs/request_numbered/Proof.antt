@@ -1,57 +1,46 @@
+-- `request_numbered` meets its contract: each arm is a line of `requestNumbered`. Assumes nothing.
 use Rattle.exam.specs.Exam.{requestNumbered}
 use borrow.Author.Tests.{ne-eqb}
 use mathlib.Core.Path.{refl}
 use Rattle.exam.proofs.request_numbered.Statement.{statement}
 use Rattle.exam.proofs.request_numbered.Tie as tie
-use Rattle.exam.proofs.request_numbered.Reads as reads
-use Rattle.exam.proofs.request_numbered.Lts as lts
 
--- src/lib.rt:116:1
 returns : tie.Need-returns
 unfolding requestNumbered
 returns c = rw (c .match .keys1) refl
 
--- src/lib.rt:116:1
 returns-2 : tie.Need-returns-2
 unfolding requestNumbered
 returns-2 c = rw (c .match .keys2) refl
 
--- src/lib.rt:116:1
 returns-3 : tie.Need-returns-3
 unfolding requestNumbered
 returns-3 c = rw (c .match .keys3) refl
 
--- src/lib.rt:116:1
 returns-4 : tie.Need-returns-4
 unfolding requestNumbered
 returns-4 c = rw (c .match .keys4) refl
 
--- src/lib.rt:116:1
 returns-5 : tie.Need-returns-5
 unfolding requestNumbered
 returns-5 c = rw (c .match .keys5) refl
 
--- src/lib.rt:116:1
 returns-6 : tie.Need-returns-6
 unfolding requestNumbered
 returns-6 c = rw (c .match .keys6) refl
 
--- src/lib.rt:116:1
 returns-7 : tie.Need-returns-7
 unfolding requestNumbered
 returns-7 c = rw (c .match .keys7) refl
 
--- src/lib.rt:116:1
 returns-8 : tie.Need-returns-8
 unfolding requestNumbered
 returns-8 c = rw (c .match .keys8) refl
 
--- src/lib.rt:116:1
 returns-9 : tie.Need-returns-9
 unfolding requestNumbered
 returns-9 c = rw (c .match .keys9) refl
 
--- src/lib.rt:116:1
 returns-10 : tie.Need-returns-10
 unfolding requestNumbered
 returns-10 c = let out = c .match .rest in

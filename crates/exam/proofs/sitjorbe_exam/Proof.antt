@@ -1,3 +1,4 @@
+-- `sitjorbe_exam` meets its contract: not allowed, or what one of the three kinds of request does. Assumes nothing.
 use Rattle.exam.specs.Code.{exam-not-allowed, exam-changes, exam-reads-mesh, exam-reads-results, exam-unknown}
 use Rattle.thresholds.specs.Figures.{results}
 use Rattle.exam.specs.Exam.{examMesh, requestNumbered}
@@ -6,137 +7,150 @@ use borrow.Author.Tests.{not-true, not-false}
 use borrow.Author.Needs.{needs}
 use Rattle.exam.proofs.sitjorbe_exam.Statement.{statement}
 use Rattle.exam.proofs.sitjorbe_exam.Tie as tie
-use Rattle.exam.proofs.sitjorbe_exam.Reads as reads
-use Rattle.exam.proofs.sitjorbe_exam.Lts as lts
-use Rattle.exam.proofs.change_results.Reads as change-results-reads
-use Rattle.exam.proofs.done_or.Reads as done-or-reads
-use Rattle.exam.proofs.exam_numbers.Reads as exam-numbers-reads
-use Rattle.exam.proofs.may.Reads as may-reads
-use Rattle.exam.proofs.nodes_lent.Reads as nodes-lent-reads
-use Rattle.exam.proofs.read_mesh.Reads as read-mesh-reads
-use Rattle.exam.proofs.read_results.Reads as read-results-reads
-use Rattle.exam.proofs.request_numbered.Reads as request-numbered-reads
 
--- src/lib.rt:389:9
 request-numbered-requires : tie.Need-request-numbered-requires
 request-numbered-requires c κs = search needs
 
--- src/lib.rt:390:9
 may-requires : tie.Need-may-requires
 may-requires c κs = search needs
 
--- src/lib.rt:391:9
 exam-numbers-requires : tie.Need-exam-numbers-requires
 exam-numbers-requires c κs = search needs
 
--- src/lib.rt:391:9
 returns : tie.Need-returns
-returns c = let args = c .before .before .before .before .before .before .before .before .before .before .before .before .args in
-    let m = examMesh (args .nodes) (args .xs .now) (args .ys .now) (args .quad-count) (args .quads .now) (args .next .now) (args .prev .now) (args .origins .now) in
+returns c =
+    let at-if1 = c .before in
+    let at-may = at-if1 .before in
+    let at-request-numbered = at-may .before in
+    let start = at-request-numbered .before .before .before .before .before .before .before .before .before in
+    let args = start .args in
+    let m = examMesh (args .nodes) (args .xs .now) (args .ys .now) (args .quad-count) (args .quads .now) (args .next .now) (args .prev .now)
+    (args .origins .now) in
     let x = results (args .thresholds .now) (args .count .now) (args .sum .now) in
-    exam-not-allowed m x (args .role) (requestNumbered (args .operation) (args .item) (args .value) (args .u) (args .v)) (args .reply .now) (c .before .before .before .request-numbered .result) (c .before .before .before .request-numbered .ensures) (c .before .before .may .result) (c .before .before .may .ensures)
-    (not-true (c .before .before .may .result) (c .before .if1 .taken)) (c .exam-numbers .result) (c .exam-numbers .ensures)
+    exam-not-allowed m x (args .role) (requestNumbered (args .operation) (args .item) (args .value) (args .u) (args .v)) (args .reply .now)
+    (at-request-numbered .request-numbered .result) (at-request-numbered .request-numbered .ensures) (at-may .may .result) (at-may .may .ensures)
+    (not-true (at-may .may .result) (at-if1 .if1 .taken)) (c .exam-numbers .result) (c .exam-numbers .ensures)
 
--- src/lib.rt:394:30
 enum-known-request : tie.Need-enum-known-request
 enum-known-request c = search needs
 
--- src/lib.rt:395:17
 nodes-lent-requires : tie.Need-nodes-lent-requires
 nodes-lent-requires c κs = search needs
 
--- src/lib.rt:396:17
 change-results-requires : tie.Need-change-results-requires
 change-results-requires c κs = search needs
 
--- src/lib.rt:397:26
 done-or-requires : tie.Need-done-or-requires
 done-or-requires c κs = search needs
 
--- src/lib.rt:397:13
 exam-numbers-requires-2 : tie.Need-exam-numbers-requires-2
 exam-numbers-requires-2 c κs = search needs
 
--- src/lib.rt:399:32
 enum-known-request-2 : tie.Need-enum-known-request-2
 enum-known-request-2 c = search needs
 
--- src/lib.rt:399:54
 read-mesh-requires : tie.Need-read-mesh-requires
 read-mesh-requires c κs = search needs
 
--- src/lib.rt:399:41
 exam-numbers-requires-3 : tie.Need-exam-numbers-requires-3
 exam-numbers-requires-3 c κs = search needs
 
--- src/lib.rt:402:35
 enum-known-request-3 : tie.Need-enum-known-request-3
 enum-known-request-3 c = search needs
 
--- src/lib.rt:403:17
 nodes-lent-requires-2 : tie.Need-nodes-lent-requires-2
 nodes-lent-requires-2 c κs = search needs
 
--- src/lib.rt:406:26
 read-results-requires : tie.Need-read-results-requires
 read-results-requires c κs = search needs
 
--- src/lib.rt:406:13
 exam-numbers-requires-4 : tie.Need-exam-numbers-requires-4
 exam-numbers-requires-4 c κs = search needs
 
--- src/lib.rt:408:46
 enum-told : tie.Need-enum-told
 enum-told c = search needs
 
--- src/lib.rt:408:33
 exam-numbers-requires-5 : tie.Need-exam-numbers-requires-5
 exam-numbers-requires-5 c κs = search needs
 
--- src/lib.rt:363:1
 same-length : tie.Need-same-length
 same-length c = search needs
 
--- src/lib.rt:363:1
 returns-2 : tie.Need-returns-2
-returns-2 c = let args = c .before .before .before .before .before .before .before .before .before .before .before .before .before .before .before .before .before .before .before .before .before .before .before .args in
-    let m = examMesh (args .nodes) (args .xs .now) (args .ys .now) (args .quad-count) (args .quads .now) (args .next .now) (args .prev .now) (args .origins .now) in
+returns-2 c =
+    let at-done-or = c .before in
+    let at-change-results = at-done-or .before .before .before in
+    let at-nodes-lent = at-change-results .before .before .before .before in
+    let at-request = at-nodes-lent .before .before in
+    let at-if1 = at-request .before .before in
+    let at-may = at-if1 .before in
+    let at-request-numbered = at-may .before in
+    let start = at-request-numbered .before .before .before .before .before .before .before .before .before in
+    let args = start .args in
+    let m = examMesh (args .nodes) (args .xs .now) (args .ys .now) (args .quad-count) (args .quads .now) (args .next .now) (args .prev .now)
+    (args .origins .now) in
     let x = results (args .thresholds .now) (args .count .now) (args .sum .now) in
-    exam-changes m x (args .role) (requestNumbered (args .operation) (args .item) (args .value) (args .u) (args .v)) (args .reply .now) (c .before .before .before .before .before .before .before .before .before .before .before .before .before .before .request-numbered .result) (c .before .before .before .before .before .before .before .before .before .before .before .before .before .before .request-numbered .ensures) (c .before .before .before .before .before .before .before .before .before .before .before .before .before .may .result) (c .before .before .before .before .before .before .before .before .before .before .before .before .before .may .ensures)
-    (not-false (c .before .before .before .before .before .before .before .before .before .before .before .before .before .may .result) (c .before .before .before .before .before .before .before .before .before .before .before .before .if1 .left)) _ (c .before .before .before .before .before .before .before .before .before .before .request .given .1) (c .before .before .before .before .before .before .before .before .nodes-lent .result) (c .before .before .before .before .before .before .before .before .nodes-lent .ensures) (c .before .before .before .before .change-results .result) _
-    (c .before .before .before .before .change-results .ensures) (c .before .done-or .result) (c .before .done-or .ensures) (c .exam-numbers2 .result) (c .exam-numbers2 .ensures)
+    exam-changes m x (args .role) (requestNumbered (args .operation) (args .item) (args .value) (args .u) (args .v)) (args .reply .now)
+    (at-request-numbered .request-numbered .result) (at-request-numbered .request-numbered .ensures) (at-may .may .result) (at-may .may .ensures)
+    (not-false (at-may .may .result) (at-if1 .if1 .left)) _ (at-request .request .given .1) (at-nodes-lent .nodes-lent .result)
+    (at-nodes-lent .nodes-lent .ensures) (at-change-results .change-results .result) _
+    (at-change-results .change-results .ensures) (at-done-or .done-or .result) (at-done-or .done-or .ensures) (c .exam-numbers2 .result)
+    (c .exam-numbers2 .ensures)
 
--- src/lib.rt:363:1
 same-length-2 : tie.Need-same-length-2
 same-length-2 c = search needs
 
--- src/lib.rt:363:1
 returns-3 : tie.Need-returns-3
-returns-3 c = let args = c .before .before .before .before .before .before .before .before .before .before .before .before .before .before .before .before .before .before .before .args in
-    let m = examMesh (args .nodes) (args .xs .now) (args .ys .now) (args .quad-count) (args .quads .now) (args .next .now) (args .prev .now) (args .origins .now) in
+returns-3 c =
+    let at-read-mesh = c .before .before .before in
+    let at-request2 = at-read-mesh .before .before .before in
+    let at-if1 = at-request2 .before .before in
+    let at-may = at-if1 .before in
+    let at-request-numbered = at-may .before in
+    let start = at-request-numbered .before .before .before .before .before .before .before .before .before in
+    let args = start .args in
+    let m = examMesh (args .nodes) (args .xs .now) (args .ys .now) (args .quad-count) (args .quads .now) (args .next .now) (args .prev .now)
+    (args .origins .now) in
     let x = results (args .thresholds .now) (args .count .now) (args .sum .now) in
-    exam-reads-mesh m x (args .role) (requestNumbered (args .operation) (args .item) (args .value) (args .u) (args .v)) (args .reply .now) (c .before .before .before .before .before .before .before .before .before .before .request-numbered .result) (c .before .before .before .before .before .before .before .before .before .before .request-numbered .ensures) (c .before .before .before .before .before .before .before .before .before .may .result) (c .before .before .before .before .before .before .before .before .before .may .ensures)
-    (not-false (c .before .before .before .before .before .before .before .before .before .may .result) (c .before .before .before .before .before .before .before .before .if1 .left)) _ (c .before .before .before .before .before .before .request2 .given .1) (c .before .before .before .read-mesh .result) _ (c .before .before .before .read-mesh .ensures) (c .exam-numbers3 .result) (c .exam-numbers3 .ensures)
+    exam-reads-mesh m x (args .role) (requestNumbered (args .operation) (args .item) (args .value) (args .u) (args .v)) (args .reply .now)
+    (at-request-numbered .request-numbered .result) (at-request-numbered .request-numbered .ensures) (at-may .may .result) (at-may .may .ensures)
+    (not-false (at-may .may .result) (at-if1 .if1 .left)) _ (at-request2 .request2 .given .1) (at-read-mesh .read-mesh .result) _
+    (at-read-mesh .read-mesh .ensures) (c .exam-numbers3 .result) (c .exam-numbers3 .ensures)
 
--- src/lib.rt:363:1
 same-length-3 : tie.Need-same-length-3
 same-length-3 c = search needs
 
--- src/lib.rt:363:1
 returns-4 : tie.Need-returns-4
-returns-4 c = let args = c .before .before .before .before .before .before .before .before .before .before .before .before .before .before .before .before .before .before .before .before .args in
-    let m = examMesh (args .nodes) (args .xs .now) (args .ys .now) (args .quad-count) (args .quads .now) (args .next .now) (args .prev .now) (args .origins .now) in
+returns-4 c =
+    let at-read-results = c .before in
+    let at-nodes-lent2 = at-read-results .before .before .before .before in
+    let at-request3 = at-nodes-lent2 .before .before in
+    let at-if1 = at-request3 .before .before in
+    let at-may = at-if1 .before in
+    let at-request-numbered = at-may .before in
+    let start = at-request-numbered .before .before .before .before .before .before .before .before .before in
+    let args = start .args in
+    let m = examMesh (args .nodes) (args .xs .now) (args .ys .now) (args .quad-count) (args .quads .now) (args .next .now) (args .prev .now)
+    (args .origins .now) in
     let x = results (args .thresholds .now) (args .count .now) (args .sum .now) in
-    exam-reads-results m x (args .role) (requestNumbered (args .operation) (args .item) (args .value) (args .u) (args .v)) (args .reply .now) (c .before .before .before .before .before .before .before .before .before .before .before .request-numbered .result) (c .before .before .before .before .before .before .before .before .before .before .before .request-numbered .ensures) (c .before .before .before .before .before .before .before .before .before .before .may .result) (c .before .before .before .before .before .before .before .before .before .before .may .ensures)
-    (not-false (c .before .before .before .before .before .before .before .before .before .before .may .result) (c .before .before .before .before .before .before .before .before .before .if1 .left)) _ (c .before .before .before .before .before .before .before .request3 .given .1) (c .before .before .before .before .before .nodes-lent2 .result) (c .before .before .before .before .before .nodes-lent2 .ensures) (c .before .read-results .result)
-    (c .before .read-results .ensures) (c .exam-numbers4 .result) (c .exam-numbers4 .ensures)
+    exam-reads-results m x (args .role) (requestNumbered (args .operation) (args .item) (args .value) (args .u) (args .v)) (args .reply .now)
+    (at-request-numbered .request-numbered .result) (at-request-numbered .request-numbered .ensures) (at-may .may .result) (at-may .may .ensures)
+    (not-false (at-may .may .result) (at-if1 .if1 .left)) _ (at-request3 .request3 .given .1) (at-nodes-lent2 .nodes-lent2 .result)
+    (at-nodes-lent2 .nodes-lent2 .ensures) (at-read-results .read-results .result)
+    (at-read-results .read-results .ensures) (c .exam-numbers4 .result) (c .exam-numbers4 .ensures)
 
--- src/lib.rt:363:1
 returns-5 : tie.Need-returns-5
-returns-5 c = let args = c .before .before .before .before .before .before .before .before .before .before .before .before .before .before .args in
-    let m = examMesh (args .nodes) (args .xs .now) (args .ys .now) (args .quad-count) (args .quads .now) (args .next .now) (args .prev .now) (args .origins .now) in
+returns-5 c =
+    let at-enum-told = c .before in
+    let at-request-numbered = at-enum-told .before .before .before .before in
+    let start = at-request-numbered .before .before .before .before .before .before .before .before .before in
+    let args = start .args in
+    let m = examMesh (args .nodes) (args .xs .now) (args .ys .now) (args .quad-count) (args .quads .now) (args .next .now) (args .prev .now)
+    (args .origins .now) in
     let x = results (args .thresholds .now) (args .count .now) (args .sum .now) in
-    exam-unknown m x (args .role) (requestNumbered (args .operation) (args .item) (args .value) (args .u) (args .v)) (args .reply .now) (c .before .before .before .before .before .request-numbered .result) (c .before .before .before .before .before .request-numbered .ensures) (c .before .enum-told .given .1) (c .exam-numbers5 .result)
+    exam-unknown m x (args .role) (requestNumbered (args .operation) (args .item) (args .value) (args .u) (args .v)) (args .reply .now)
+    (at-request-numbered .request-numbered .result) (at-request-numbered .request-numbered .ensures) (at-enum-told .enum-told .given .1)
+    (c .exam-numbers5 .result)
     (c .exam-numbers5 .ensures)
 
 pub sitjorbe-exam-spec : {M : Type 1} → statement M

@@ -1,3 +1,4 @@
+-- `link_in` meets its contract: no node, a place of the list, past it. Assumes nothing.
 use native.Mathlib.Omega.{arith}
 use Rattle.exam_loops.specs.Code.{link-there, link-missing}
 use Rattle.topology.specs.Links.{link-out}
@@ -5,28 +6,21 @@ use mathlib.Core.Path.{sym}
 use borrow.Author.Needs.{needs}
 use Rattle.exam_loops.proofs.link_in.Statement.{statement}
 use Rattle.exam_loops.proofs.link_in.Tie as tie
-use Rattle.exam_loops.proofs.link_in.Reads as reads
-use Rattle.exam_loops.proofs.link_in.Lts as lts
 
--- src/lib.rt:34:9
 returns : tie.Need-returns
 returns c = let args = c .before .args in
     sym (link-out (args .n) (args .links .now) (args .u) (c .if1 .taken))
 
--- src/lib.rt:37:26
 mul-result : tie.Need-mul-result
 mul-result c = search needs
 
--- src/lib.rt:37:26
 shared-slice-read-result : tie.Need-shared-slice-read-result
 shared-slice-read-result c = search needs
 
--- src/lib.rt:30:1
 returns-2 : tie.Need-returns-2
 returns-2 c = let args = c .before .before .before .args in
     link-there (args .n) (args .links .now) (args .u) (omega arith) (c .before .if2 .taken)
 
--- src/lib.rt:30:1
 returns-3 : tie.Need-returns-3
 returns-3 c = let args = c .before .before .args in
     link-missing (args .n) (args .links .now) (args .u) (omega arith) (c .if2 .left)

@@ -1,15 +1,12 @@
+-- `written_count` meets its contract. Assumes nothing.
 use mathlib.Core.Path.{refl}
 use borrow.Author.Tests.{lt-ltb, le-ltb}
 use Rattle.exam_loops.proofs.written_count.Statement.{statement}
 use Rattle.exam_loops.proofs.written_count.Tie as tie
-use Rattle.exam_loops.proofs.written_count.Reads as reads
-use Rattle.exam_loops.proofs.written_count.Lts as lts
 
--- src/lib.rt:138:1
 returns : tie.Need-returns
 returns c = rw (lt-ltb _ _ (c .if1 .taken)) refl
 
--- src/lib.rt:138:1
 returns-2 : tie.Need-returns-2
 returns-2 c = rw (le-ltb _ _ (c .if1 .left)) refl
 

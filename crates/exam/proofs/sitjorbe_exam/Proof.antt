@@ -90,11 +90,12 @@ returns-2 c =
     let m = examMesh (args .nodes) (args .xs .now) (args .ys .now) (args .quad-count) (args .quads .now) (args .next .now) (args .prev .now)
     (args .origins .now) in
     let x = results (args .thresholds .now) (args .count .now) (args .sum .now) in
+    let left = at-change-results .change-results .last .1 .1 .1 .1 in
     exam-changes m x (args .role) (requestNumbered (args .operation) (args .item) (args .value) (args .u) (args .v)) (args .reply .now)
     (at-request-numbered .request-numbered .result) (at-request-numbered .request-numbered .ensures) (at-may .may .result) (at-may .may .ensures)
     (not-false (at-may .may .result) (at-if1 .if1 .left)) _ (at-request .request .given .1) (at-nodes-lent .nodes-lent .result)
-    (at-nodes-lent .nodes-lent .ensures) (at-change-results .change-results .result) _
-    (at-change-results .change-results .ensures) (at-done-or .done-or .result) (at-done-or .done-or .ensures) (c .exam-numbers2 .result)
+    (at-nodes-lent .nodes-lent .ensures) (at-change-results .change-results .result)
+    (results (left .0) (left .1 .0) (left .1 .1 .0)) (at-change-results .change-results .ensures) (at-done-or .done-or .result) (at-done-or .done-or .ensures) (c .exam-numbers2 .result)
     (c .exam-numbers2 .ensures)
 
 same-length-2 : tie.Need-same-length-2
@@ -114,8 +115,8 @@ returns-3 c =
     let x = results (args .thresholds .now) (args .count .now) (args .sum .now) in
     exam-reads-mesh m x (args .role) (requestNumbered (args .operation) (args .item) (args .value) (args .u) (args .v)) (args .reply .now)
     (at-request-numbered .request-numbered .result) (at-request-numbered .request-numbered .ensures) (at-may .may .result) (at-may .may .ensures)
-    (not-false (at-may .may .result) (at-if1 .if1 .left)) _ (at-request2 .request2 .given .1) (at-read-mesh .read-mesh .result) _
-    (at-read-mesh .read-mesh .ensures) (c .exam-numbers3 .result) (c .exam-numbers3 .ensures)
+    (not-false (at-may .may .result) (at-if1 .if1 .left)) _ (at-request2 .request2 .given .1) (at-read-mesh .read-mesh .result)
+    (at-read-mesh .read-mesh .last .1 .1 .1 .1 .1 .1 .1 .1 .1 .0) (at-read-mesh .read-mesh .ensures) (c .exam-numbers3 .result) (c .exam-numbers3 .ensures)
 
 same-length-3 : tie.Need-same-length-3
 same-length-3 c = search needs

@@ -4,8 +4,6 @@ use mathlib.Core.List.{List}
 use mathlib.Core.Path.{_≡_, refl, sym, _∙_, ap, ap₂, subst}
 use Prim.Native.Nat.{ℕ, _≤_, _<_}
 use borrow.Author.Tests.{le-leb, lt-leb}
-use Rattle.domain.specs.Queries.{answerBy}
-use Rattle.domain.specs.RefusalLaws.{answer-refused}
 use Rattle.lent_mesh.specs.declared.QuadIds.{QuadIds}
 use Rattle.lent_mesh.specs.Mesh.{Mesh, mesh, quadCount, quadIn}
 use Rattle.thresholds.specs.Figures.{thresholdAt, Results, results, Outcome, outcome, refusalAt}
@@ -22,16 +20,12 @@ use Rattle.exam.specs.declared.ExamRequest.the-variants.{Changes, ReadsM
 use Rattle.exam.specs.declared.ExamReply.{ExamReply}
 use Rattle.exam.specs.declared.ExamReply.the-variants.{Refused, Done, Quad, Loop, Threshold, Estimate}
 use Rattle.exam.specs.declared.ExamAnswer.{ExamAnswer}
-use Rattle.exam.specs.Exam.{ExamMesh, nodesIn, meshIn, may, nodeReply, quadReply, Seen, seen, loopSeen, meshSeen, changeAnswer, doneOr}
+use Rattle.exam.specs.Exam.{ExamMesh, nodesIn, meshIn, may, nodeReply, quadReply, Seen, seen, loopSeen, meshSeen, changeAnswer, replyOr}
 use Rattle.exam.specs.Exam.{thresholdReply, estimateReply, resultReply, Acted, acted, does, examActs, examNumbers, examExit, examAnswer}
 use Rattle.exam.specs.Statement.{ExamGiven}
 use Rattle.exam.specs.Given.{exam-given}
 
 -- ---- replies
-
-pub done-refused : (n : ℕ) → (n ≡ 0 → ⊥) → Refused n ≡ doneOr n
-unfolding doneOr
-done-refused n h = sym (answer-refused Refused Done n h)
 
 module _ (count : ℕ) (quads : List ℕ) (k m : ℕ) (e : m ≡ quadCount count quads) where
   pub quad-missing : m ≤ k → Refused 18 ≡ quadReply count quads k
@@ -42,32 +36,20 @@ module _ (count : ℕ) (quads : List ℕ) (k m : ℕ) (e : m ≡ quadCount count
   unfolding quadReply
   quad-there h q same = rw (← e, lt-leb m k h, same)
 
-module _ (n : ℕ) (next prev : List ℕ) (k : ℕ) (list : List ℕ) (r : LoopRead) (after : List ℕ) (e : loopReading r after ≡ readLoop n next prev k list) where
-  pub loop-refused : (r .refusal ≡ 0 → ⊥) → seen (Refused (r .refusal)) after ≡ loopSeen n next prev k list
-  unfolding loopSeen
-  loop-refused h = rw (← e) (ap (λ (a : ExamReply). seen a after) (sym (answer-refused Refused (Loop (r .length)) (r .refusal) h)))
+pub loop-same : (n : ℕ) (next prev : List ℕ) (k : ℕ) (list : List ℕ) (r : LoopRead) (after : List ℕ) → loopReading r after ≡ readLoop n next prev k list
+    → (reply : ExamReply) → reply ≡ replyOr (r .refusal) (Loop (r .length)) → seen reply after ≡ loopSeen n next prev k list
+unfolding loopSeen
+loop-same n next prev k list r after e reply same = rw (← e, ← same)
 
-  pub loop-done : r .refusal ≡ 0 → seen (Loop (r .length)) after ≡ loopSeen n next prev k list
-  unfolding loopSeen
-  loop-done h = rw (← e, h)
+pub threshold-same : (n : ℕ) (t : List ℕ) (id v r : ℕ) → v ≡ thresholdAt t id → r ≡ refusalAt n t id v 17
+    → (reply : ExamReply) → reply ≡ replyOr r (Threshold v) → reply ≡ thresholdReply n t id
+unfolding thresholdReply
+threshold-same n t id v r ev e reply same = rw (← ev, ← e) same
 
-module _ (n : ℕ) (t : List ℕ) (id v r : ℕ) (ev : v ≡ thresholdAt t id) (e : r ≡ refusalAt n t id v 17) where
-  pub threshold-refused : (r ≡ 0 → ⊥) → Refused r ≡ thresholdReply n t id
-  unfolding thresholdReply
-  threshold-refused h = rw (← ev, ← e) (sym (answer-refused Refused (Threshold v) r h))
-
-  pub threshold-done : r ≡ 0 → Threshold v ≡ thresholdReply n t id
-  unfolding thresholdReply
-  threshold-done h = rw (← ev, ← e, h)
-
-module _ (m : Mesh) (t : List ℕ) (k u v : ℕ) (r : EstimateAnswer) (e : r ≡ estimateAnswer m t k u v) where
-  pub estimate-refused : (r .refusal ≡ 0 → ⊥) → Refused (r .refusal) ≡ estimateReply m t k u v
-  unfolding estimateReply
-  estimate-refused h = rw (← e) (sym (answer-refused Refused (Estimate (r .estimate)) (r .refusal) h))
-
-  pub estimate-done : r .refusal ≡ 0 → Estimate (r .estimate) ≡ estimateReply m t k u v
-  unfolding estimateReply
-  estimate-done h = rw (← e, h)
+pub estimate-same : (m : Mesh) (t : List ℕ) (k u v : ℕ) (r : EstimateAnswer) → r ≡ estimateAnswer m t k u v
+    → (reply : ExamReply) → reply ≡ replyOr (r .refusal) (Estimate (r .estimate)) → reply ≡ estimateReply m t k u v
+unfolding estimateReply
+estimate-same m t k u v r e reply same = rw (← e) same
 
 -- ---- what is read of the mesh
 
@@ -108,7 +90,7 @@ module _ (m : ExamMesh) (x : Results) (role : ℕ) (q : ExamRequest) (list : Lis
 
     pub exam-changes : b ≡ true → (c : ResultChange) → p ≡ Changes c → (n : ℕ) → n ≡ nodesIn m → (refusal : ℕ) (left : Results)
         → outcome refusal left ≡ changeAnswer (mesh n (quadCount (m .quadCount) (m .quads)) (m .quads)) x c
-        → (d : ExamReply) → d ≡ doneOr refusal → (r : ExamAnswer) → r ≡ examNumbers d → ExamGiven m x role q list r list left
+        → (d : ExamReply) → d ≡ replyOr refusal Done → (r : ExamAnswer) → r ≡ examNumbers d → ExamGiven m x role q list r list left
     exam-changes t c is n stops refusal left changed d done r same =
         let all : outcome refusal left ≡ changeAnswer (meshIn m) x c =
         changed ∙ ap (λ (j : ℕ). changeAnswer (mesh j (quadCount (m .quadCount) (m .quads)) (m .quads)) x c) stops in

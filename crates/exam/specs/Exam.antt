@@ -83,6 +83,10 @@ requestNumbered operation item value u v =
     (cond (eqb operation 8) (ReadsResults ReadFigures)
     (cond (eqb operation 9) (ReadsResults (ReadEstimate item u v)) Unknown))))))))
 
+-- the reply, unless it is refused
+unfoldable pub replyOr : ℕ → ExamReply → ExamReply
+replyOr refusal reply = answerBy Refused reply refusal
+
 -- ---- what is read of the mesh: no results are among the arguments
 
 -- 15 only where the node isn't in the mesh
@@ -104,7 +108,7 @@ seen reply list = record { reply = reply; list = list }
 unfoldable pub loopSeen : ℕ → List ℕ → List ℕ → ℕ → List ℕ → Seen
 loopSeen n next prev k list =
     let r = readLoop n next prev k list in
-    seen (answerBy Refused (Loop (r .read .length)) (r .read .refusal)) (r .list)
+    seen (replyOr (r .read .refusal) (Loop (r .read .length))) (r .list)
 
 unfoldable pub meshSeen : ExamMesh → MeshRead → List ℕ → Seen
 meshSeen m (ReadNode id) list = seen (nodeReply (nodesIn m) (m .xs) (m .ys) (m .origins) id) list
@@ -118,17 +122,14 @@ changeAnswer m x Begin = beginAnswer x
 changeAnswer m x (Enter id v) = enterAnswer m x id v
 changeAnswer m x (Withdraw id) = withdrawAnswer m x id
 
-unfoldable pub doneOr : ℕ → ExamReply
-doneOr refusal = answerBy Refused Done refusal
-
 -- 15 as for an entry, then 17 where none stands
 unfoldable pub thresholdReply : ℕ → List ℕ → ℕ → ExamReply
-thresholdReply n t id = answerBy Refused (Threshold (thresholdAt t id)) (refusalAt n t id (thresholdAt t id) 17)
+thresholdReply n t id = replyOr (refusalAt n t id (thresholdAt t id) 17) (Threshold (thresholdAt t id))
 
 unfoldable pub estimateReply : Mesh → List ℕ → ℕ → ℕ → ℕ → ExamReply
 estimateReply m t k u v =
     let e = estimateAnswer m t k u v in
-    answerBy Refused (Estimate (e .estimate)) (e .refusal)
+    replyOr (e .refusal) (Estimate (e .estimate))
 
 unfoldable pub resultReply : Mesh → Results → ResultRead → ExamReply
 resultReply m x (ReadThreshold id) = thresholdReply (m .nodes) (x .thresholds) id
@@ -148,7 +149,7 @@ acted reply list left = record { reply = reply; list = list; left = left }
 
 -- what a request does where the role may ask it
 abbrev pub does : ExamMesh → Results → ExamRequest → List ℕ → Acted
-does m x (Changes c) list = acted (doneOr (changeAnswer (meshIn m) x c .refusal)) list (changeAnswer (meshIn m) x c .results)
+does m x (Changes c) list = acted (replyOr (changeAnswer (meshIn m) x c .refusal) Done) list (changeAnswer (meshIn m) x c .results)
 does m x (ReadsMesh r) list = acted (meshSeen m r list .reply) (meshSeen m r list .list) x
 does m x (ReadsResults r) list = acted (resultReply (meshIn m) x r) list x
 does m x Unknown list = acted (Refused 20) list x

@@ -9,7 +9,7 @@ use Rattle.thresholds.specs.Figures.{noThreshold, Results, results, isMissing, 
 use Rattle.exam.specs.declared.ExamRequest.{ExamRequest}
 use Rattle.exam.specs.declared.ExamReply.{ExamReply}
 use Rattle.exam.specs.declared.ExamReply.the-variants.{Refused, Done, Node, Quad, Threshold, Figures}
-use Rattle.exam.specs.Exam.{ExamMesh, examMesh, nodesLent, requestNumbered, nodeReply, quadReply, meshSeen, changeAnswer, doneOr, thresholdReply, resultReply}
+use Rattle.exam.specs.Exam.{ExamMesh, examMesh, nodesLent, requestNumbered, nodeReply, quadReply, meshSeen, changeAnswer, replyOr, thresholdReply, resultReply}
 use Rattle.exam.specs.Exam.{examActs, examNumbers, ExamExit, examExit, examAnswer}
 
 -- one node, with the origin 7, and a quad that names no node last
@@ -45,15 +45,15 @@ quad-read = refl
 
 -- a threshold past the list is 15, as for an entry; where none stands 17
 no-place : asks one none 2 7 ≡ says none (Refused 15)
-unfolding examAnswer examActs requestNumbered resultReply thresholdReply refusalAt isMissing nodesLent nodeCount
+unfolding examAnswer examActs requestNumbered resultReply thresholdReply replyOr refusalAt isMissing nodesLent nodeCount
 no-place = refl
 
 none-stands : asks one (results (501 ∷ []) 3 4) 2 7 ≡ says (results (501 ∷ []) 3 4) (Refused 17)
-unfolding examAnswer examActs requestNumbered resultReply thresholdReply refusalAt isMissing nodesLent nodeCount
+unfolding examAnswer examActs requestNumbered resultReply thresholdReply replyOr refusalAt isMissing nodesLent nodeCount
 none-stands = refl
 
 threshold-read : asks one (results (500 ∷ []) 3 4) 2 7 ≡ says (results (500 ∷ []) 3 4) (Threshold 500)
-unfolding examAnswer examActs requestNumbered resultReply thresholdReply refusalAt isMissing nodesLent nodeCount
+unfolding examAnswer examActs requestNumbered resultReply thresholdReply replyOr refusalAt isMissing nodesLent nodeCount
 threshold-read = refl
 
 -- the desk reads what a reader reads; a masked reader doesn't
@@ -67,7 +67,7 @@ figures-masked = refl
 
 -- 20 before all other checks: where the desk is refused with 15 and the value is above 500, a reader is refused with 20
 missing : asks one none 1 2 ≡ says none (Refused 15)
-unfolding examAnswer examActs requestNumbered changeAnswer enterAnswer doneOr refusalAt isMissing nodesLent nodeCount
+unfolding examAnswer examActs requestNumbered changeAnswer enterAnswer replyOr refusalAt isMissing nodesLent nodeCount
 missing = refl
 
 not-allowed : asks one none 2 2 ≡ says none (Refused 20)
@@ -85,5 +85,5 @@ no-operation = refl
 
 -- the desk begins: none in every place
 begins : asks one (results (7 ∷ []) 3 4) 1 1 ≡ says (results (noThreshold ∷ []) 0 0) Done
-unfolding examAnswer examActs requestNumbered changeAnswer beginAnswer doneOr
+unfolding examAnswer examActs requestNumbered changeAnswer beginAnswer replyOr
 begins = refl

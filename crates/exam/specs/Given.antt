@@ -22,7 +22,7 @@ use Rattle.exam.specs.declared.ExamRequest.the-variants.{Changes, ReadsM
 use Rattle.exam.specs.declared.ExamReply.{ExamReply}
 use Rattle.exam.specs.declared.ExamReply.the-variants.{Refused, Done, Estimate}
 use Rattle.exam.specs.declared.ExamAnswer.{ExamAnswer}
-use Rattle.exam.specs.Exam.{ExamMesh, meshIn, may, mayChange, mayReadMesh, mayReadResults, meshSeen, changeAnswer, doneOr, resultReply, estimateReply}
+use Rattle.exam.specs.Exam.{ExamMesh, meshIn, may, mayChange, mayReadMesh, mayReadResults, meshSeen, changeAnswer, replyOr, resultReply, estimateReply}
 use Rattle.exam.specs.Exam.{Acted, acted, does, examActs, examNumbers, ExamExit, examExit, examAnswer, maskedExit, maskedAnswer}
 use Rattle.exam.specs.Statement.{EstimateGiven, ExamGiven}
 
@@ -44,8 +44,8 @@ masked-same m x y q list = masked-sees m x q list ∙ sym (masked-sees m y q lis
 
 -- ---- what is left of the results
 
-done-number : (n : ℕ) → examNumbers (doneOr n) .refusal ≡ n
-unfolding examNumbers doneOr
+done-number : (n : ℕ) → examNumbers (replyOr n Done) .refusal ≡ n
+unfolding examNumbers replyOr
 done-number zero = refl
 done-number (suc n) = refl
 
@@ -102,7 +102,7 @@ exam-begun m x list = begin-kept (meshIn m) x
 
 estimate-flat : (m : Mesh) (t : List ℕ) (k u v : ℕ)
     → estimated (examNumbers (estimateReply m t k u v) .refusal) (examNumbers (estimateReply m t k u v) .estimate) ≡ estimateAnswer m t k u v
-unfolding estimateReply estimateAnswer examNumbers
+unfolding estimateReply replyOr estimateAnswer examNumbers
 estimate-flat m t k u v = by (estimateRefusal m t k u v)
   where
     by : (n : ℕ)

@@ -5,7 +5,7 @@ ghost use lib.ListN.{getD};
 ghost use Rattle.lent_mesh.specs.Mesh.{mesh, quadCount};
 ghost use Rattle.thresholds.specs.Figures.{results, outcome};
 ghost use Rattle.exam.specs.Exam.{mayChange, mayReadMesh, mayReadResults, may, requestNumbered, nodesLent, examMesh};
-ghost use Rattle.exam.specs.Exam.{nodeReply, quadReply, loopSeen, seen, meshSeen, doneOr, changeAnswer, thresholdReply, estimateReply, resultReply, examNumbers};
+ghost use Rattle.exam.specs.Exam.{nodeReply, quadReply, loopSeen, seen, meshSeen, replyOr, changeAnswer, thresholdReply, estimateReply, resultReply, examNumbers};
 ghost use Rattle.exam.specs.Statement.{ExamGiven};
 use domain::Point;
 use lent_mesh::QuadIds;
@@ -132,6 +132,16 @@ fn request_numbered(operation: u32, item: u32, value: u32, u: u32, v: u32) -> Ex
     }
 }
 
+// The reply, unless it is refused.
+fn reply_or(refusal: u32, reply: ExamReply) -> ExamReply
+    ensures { λ r. ⌜ r ≡ replyOr refusal reply ⌝ }
+{
+    if refusal != 0 {
+        return ExamReply::Refused(refusal);
+    }
+    reply
+}
+
 // ---- reading the mesh
 
 // The count of nodes: it stops where a coordinate or the origin isn't lent.
@@ -181,11 +191,7 @@ fn loop_reply(n: u32, next: &[u32], prev: &[u32], k: u32, reply: &mut [u32]) -> 
     ensures { λ r. ⌜ seen r (now (reply .exit)) ≡ loopSeen n (now (next .entry)) (now (prev .entry)) k (now (reply .entry)) ⌝ }
 {
     let read = exam_loops::read_loop(n, next, prev, k, reply);
-    let refusal = read.refusal;
-    if refusal != 0 {
-        return ExamReply::Refused(refusal);
-    }
-    ExamReply::Loop(read.length)
+    reply_or(read.refusal, ExamReply::Loop(read.length))
 }
 
 fn read_mesh(
@@ -239,25 +245,12 @@ fn change_results(
     }
 }
 
-// Refused, or done.
-fn done_or(refusal: u32) -> ExamReply
-    ensures { λ r. ⌜ r ≡ doneOr refusal ⌝ }
-{
-    if refusal != 0 {
-        return ExamReply::Refused(refusal);
-    }
-    ExamReply::Done
-}
-
 fn threshold_reply(n: u32, thresholds: &[u16], id: u32) -> ExamReply
     ensures { λ r. ⌜ r ≡ thresholdReply n (now (thresholds .entry)) id ⌝ }
 {
     let v = thresholds::threshold_at(thresholds, id);
     let refusal = thresholds::refusal_at(n, thresholds, id, v, 17);
-    if refusal != 0 {
-        return ExamReply::Refused(refusal);
-    }
-    ExamReply::Threshold(v)
+    reply_or(refusal, ExamReply::Threshold(v))
 }
 
 fn estimate_reply(
@@ -272,11 +265,7 @@ fn estimate_reply(
     ensures { λ r. ⌜ r ≡ estimateReply (mesh n (quadCount «quad_count» (now (quads .entry))) (now (quads .entry))) (now (thresholds .entry)) k u v ⌝ }
 {
     let answer = estimates::estimate_at(n, quad_count, quads, thresholds, k as usize, u, v);
-    let refusal = answer.refusal;
-    if refusal != 0 {
-        return ExamReply::Refused(refusal);
-    }
-    ExamReply::Estimate(answer.estimate)
+    reply_or(answer.refusal, ExamReply::Estimate(answer.estimate))
 }
 
 fn read_results(
@@ -400,7 +389,7 @@ pub extern "C" fn sitjorbe_exam(
         ExamRequest::Changes(change) => {
             let n = nodes_lent(nodes, xs, ys, origins);
             let refusal = change_results(change, n, quad_count, quads, thresholds, count, sum);
-            exam_numbers(done_or(refusal))
+            exam_numbers(reply_or(refusal, ExamReply::Done))
         }
         ExamRequest::ReadsMesh(read) => exam_numbers(read_mesh(
             read,

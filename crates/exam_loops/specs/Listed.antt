@@ -31,31 +31,38 @@ module _ (n : ℕ) (next prev : List ℕ) (ls : List (List ℕ)) (F : FrontOf n 
   edge-links : (u v : ℕ) → u ≢ off → v ≢ off → delta (f u) v ≡ delta (g v) u
   edge-links u v hu hv = sym (F .loops .nexts u v hv) ∙ F .prevs u v hu
 
-  next-back : (u : ℕ) → u < n → linksBack n prev u (f u) ≡ true
+  -- a link that leads to a node which leads back is answered
+  answered : (links back : List ℕ) (u : ℕ)
+      → (linkOf n links u ≢ off → (linkOf n links u < n) × (linkOf n back (linkOf n links u) ≡ u)) → linksBack n back u (linkOf n links u) ≡ true
   unfolding linksBack
-  next-back u h = by (eqb (f u) off) refl
+  answered links back u h = by (eqb (linkOf n links u) off) refl
     where
-      by : (b : Bool) → eqb (f u) off ≡ b → b || (ltb (f u) n && eqb (linkOf n prev (f u)) u) ≡ true
+      by : (b : Bool) → eqb (linkOf n links u) off ≡ b → b || (ltb (linkOf n links u) n && eqb (linkOf n back (linkOf n links u)) u) ≡ true
       by true e = refl
       by false e =
-          let on = eqb-false (f u) off e in
-          let un : u ≢ off = λ q. omega (arith, h, q, F .loops .few) in
-          let edge : 0 < frontSum (at u (f u)) ls = omega (arith, F .loops .nexts u (f u) on, delta-same (f u) (f u) refl) in
-          and-both (ltb (f u) n) (eqb (g (f u)) u) (lt-ltb (f u) n (target n f ls (F .loops) u (f u) edge))
-          (eq-eqb (g (f u)) u (delta-is (g (f u)) u (omega (arith, edge-links u (f u) un on, delta-same (f u) (f u) refl))))
+          let v = linkOf n links u in
+          let p = h (eqb-false v off e) in
+          and-both (ltb v n) (eqb (linkOf n back v) u) (lt-ltb v n (p .0)) (eq-eqb (linkOf n back v) u (p .1))
+
+  -- u is no mark
+  node-on : (u : ℕ) → u < n → u ≢ off
+  node-on u h q = omega (arith, h, q, F .loops .few)
+
+  next-back : (u : ℕ) → u < n → linksBack n prev u (f u) ≡ true
+  next-back u h =
+      answered next prev u (λ on.
+      let itself = delta-same (f u) (f u) refl in (
+        target n f ls (F .loops) u (f u) (omega (arith, F .loops .nexts u (f u) on, itself)),
+        delta-is (g (f u)) u (omega (arith, edge-links u (f u) (node-on u h) on, itself)),
+      ))
 
   prev-back : (v : ℕ) → v < n → linksBack n next v (g v) ≡ true
-  unfolding linksBack
-  prev-back v h = by (eqb (g v) off) refl
-    where
-      by : (b : Bool) → eqb (g v) off ≡ b → b || (ltb (g v) n && eqb (linkOf n next (g v)) v) ≡ true
-      by true e = refl
-      by false e =
-          let on = eqb-false (g v) off e in
-          let vn : v ≢ off = λ q. omega (arith, h, q, F .loops .few) in
-          let edge : 0 < frontSum (at (g v) v) ls = omega (arith, F .prevs (g v) v on, delta-same (g v) (g v) refl) in
-          and-both (ltb (g v) n) (eqb (f (g v)) v) (lt-ltb (g v) n (source n f ls (F .loops) (g v) v edge))
-          (eq-eqb (f (g v)) v (delta-is (f (g v)) v (omega (arith, edge-links (g v) v on vn, delta-same (g v) (g v) refl))))
+  prev-back v h =
+      answered prev next v (λ on.
+      let itself = delta-same (g v) (g v) refl in (
+        source n f ls (F .loops) (g v) v (omega (arith, F .prevs (g v) v on, itself)),
+        delta-is (f (g v)) v (omega (arith, edge-links (g v) v on (node-on v h), itself)),
+      ))
 
   -- the links of a front are sound
   pub front-sound : linksSound n next prev ≡ true

@@ -26,9 +26,10 @@ returns c =
     let args = start .args in
     let m = examMesh (args .nodes) (args .xs .now) (args .ys .now) (args .quad-count) (args .quads .now) (args .next .now) (args .prev .now)
     (args .origins .now) in
+    let q = requestNumbered (args .operation) (args .item) (args .value) (args .u) (args .v) in
     let x = results (args .thresholds .now) (args .count .now) (args .sum .now) in
-    exam-not-allowed m x (args .role) (requestNumbered (args .operation) (args .item) (args .value) (args .u) (args .v)) (args .reply .now)
-    (at-request-numbered .request-numbered .result) (at-request-numbered .request-numbered .ensures) (at-may .may .result) (at-may .may .ensures)
+    exam-not-allowed m x (args .role) q (args .reply .now) (at-request-numbered .request-numbered .result) (at-request-numbered .request-numbered .ensures)
+    (at-may .may .result) (at-may .may .ensures)
     (not-true (at-may .may .result) (at-if1 .if1 .taken)) (c .exam-numbers .result) (c .exam-numbers .ensures)
 
 enum-known-request : tie.Need-enum-known-request
@@ -40,8 +41,8 @@ nodes-lent-requires c κs = search needs
 change-results-requires : tie.Need-change-results-requires
 change-results-requires c κs = search needs
 
-done-or-requires : tie.Need-done-or-requires
-done-or-requires c κs = search needs
+reply-or-requires : tie.Need-reply-or-requires
+reply-or-requires c κs = search needs
 
 exam-numbers-requires-2 : tie.Need-exam-numbers-requires-2
 exam-numbers-requires-2 c κs = search needs
@@ -78,8 +79,8 @@ same-length c = search needs
 
 returns-2 : tie.Need-returns-2
 returns-2 c =
-    let at-done-or = c .before in
-    let at-change-results = at-done-or .before .before .before in
+    let at-reply-or = c .before in
+    let at-change-results = at-reply-or .before .before .before in
     let at-nodes-lent = at-change-results .before .before .before .before in
     let at-request = at-nodes-lent .before .before in
     let at-if1 = at-request .before .before in
@@ -89,13 +90,14 @@ returns-2 c =
     let args = start .args in
     let m = examMesh (args .nodes) (args .xs .now) (args .ys .now) (args .quad-count) (args .quads .now) (args .next .now) (args .prev .now)
     (args .origins .now) in
+    let q = requestNumbered (args .operation) (args .item) (args .value) (args .u) (args .v) in
     let x = results (args .thresholds .now) (args .count .now) (args .sum .now) in
     let left = at-change-results .change-results .last .1 .1 .1 .1 in
-    exam-changes m x (args .role) (requestNumbered (args .operation) (args .item) (args .value) (args .u) (args .v)) (args .reply .now)
-    (at-request-numbered .request-numbered .result) (at-request-numbered .request-numbered .ensures) (at-may .may .result) (at-may .may .ensures)
+    exam-changes m x (args .role) q (args .reply .now) (at-request-numbered .request-numbered .result) (at-request-numbered .request-numbered .ensures)
+    (at-may .may .result) (at-may .may .ensures)
     (not-false (at-may .may .result) (at-if1 .if1 .left)) _ (at-request .request .given .1) (at-nodes-lent .nodes-lent .result)
-    (at-nodes-lent .nodes-lent .ensures) (at-change-results .change-results .result)
-    (results (left .0) (left .1 .0) (left .1 .1 .0)) (at-change-results .change-results .ensures) (at-done-or .done-or .result) (at-done-or .done-or .ensures) (c .exam-numbers2 .result)
+    (at-nodes-lent .nodes-lent .ensures) (at-change-results .change-results .result) (results (left .0) (left .1 .0) (left .1 .1 .0))
+    (at-change-results .change-results .ensures) (at-reply-or .reply-or .result) (at-reply-or .reply-or .ensures) (c .exam-numbers2 .result)
     (c .exam-numbers2 .ensures)
 
 same-length-2 : tie.Need-same-length-2
@@ -112,9 +114,10 @@ returns-3 c =
     let args = start .args in
     let m = examMesh (args .nodes) (args .xs .now) (args .ys .now) (args .quad-count) (args .quads .now) (args .next .now) (args .prev .now)
     (args .origins .now) in
+    let q = requestNumbered (args .operation) (args .item) (args .value) (args .u) (args .v) in
     let x = results (args .thresholds .now) (args .count .now) (args .sum .now) in
-    exam-reads-mesh m x (args .role) (requestNumbered (args .operation) (args .item) (args .value) (args .u) (args .v)) (args .reply .now)
-    (at-request-numbered .request-numbered .result) (at-request-numbered .request-numbered .ensures) (at-may .may .result) (at-may .may .ensures)
+    exam-reads-mesh m x (args .role) q (args .reply .now) (at-request-numbered .request-numbered .result) (at-request-numbered .request-numbered .ensures)
+    (at-may .may .result) (at-may .may .ensures)
     (not-false (at-may .may .result) (at-if1 .if1 .left)) _ (at-request2 .request2 .given .1) (at-read-mesh .read-mesh .result)
     (at-read-mesh .read-mesh .last .1 .1 .1 .1 .1 .1 .1 .1 .1 .0) (at-read-mesh .read-mesh .ensures) (c .exam-numbers3 .result) (c .exam-numbers3 .ensures)
 
@@ -133,9 +136,10 @@ returns-4 c =
     let args = start .args in
     let m = examMesh (args .nodes) (args .xs .now) (args .ys .now) (args .quad-count) (args .quads .now) (args .next .now) (args .prev .now)
     (args .origins .now) in
+    let q = requestNumbered (args .operation) (args .item) (args .value) (args .u) (args .v) in
     let x = results (args .thresholds .now) (args .count .now) (args .sum .now) in
-    exam-reads-results m x (args .role) (requestNumbered (args .operation) (args .item) (args .value) (args .u) (args .v)) (args .reply .now)
-    (at-request-numbered .request-numbered .result) (at-request-numbered .request-numbered .ensures) (at-may .may .result) (at-may .may .ensures)
+    exam-reads-results m x (args .role) q (args .reply .now) (at-request-numbered .request-numbered .result) (at-request-numbered .request-numbered .ensures)
+    (at-may .may .result) (at-may .may .ensures)
     (not-false (at-may .may .result) (at-if1 .if1 .left)) _ (at-request3 .request3 .given .1) (at-nodes-lent2 .nodes-lent2 .result)
     (at-nodes-lent2 .nodes-lent2 .ensures) (at-read-results .read-results .result)
     (at-read-results .read-results .ensures) (c .exam-numbers4 .result) (c .exam-numbers4 .ensures)
@@ -148,10 +152,10 @@ returns-5 c =
     let args = start .args in
     let m = examMesh (args .nodes) (args .xs .now) (args .ys .now) (args .quad-count) (args .quads .now) (args .next .now) (args .prev .now)
     (args .origins .now) in
+    let q = requestNumbered (args .operation) (args .item) (args .value) (args .u) (args .v) in
     let x = results (args .thresholds .now) (args .count .now) (args .sum .now) in
-    exam-unknown m x (args .role) (requestNumbered (args .operation) (args .item) (args .value) (args .u) (args .v)) (args .reply .now)
-    (at-request-numbered .request-numbered .result) (at-request-numbered .request-numbered .ensures) (at-enum-told .enum-told .given .1)
-    (c .exam-numbers5 .result)
+    exam-unknown m x (args .role) q (args .reply .now) (at-request-numbered .request-numbered .result) (at-request-numbered .request-numbered .ensures)
+    (at-enum-told .enum-told .given .1) (c .exam-numbers5 .result)
     (c .exam-numbers5 .ensures)
 
 pub sitjorbe-exam-spec : {M : Type 1} → statement M
@@ -165,7 +169,7 @@ sitjorbe-exam-spec =
     enum-known-request
     nodes-lent-requires
     change-results-requires
-    done-or-requires
+    reply-or-requires
     exam-numbers-requires-2
     enum-known-request-2
     read-mesh-requires

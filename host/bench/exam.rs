@@ -1,8 +1,8 @@
 //! Events of an exam on grids of quads in a random order, at nodes in a random order. Exits with 1 if a figure isn't the one worked out afresh.
 //!
 //! A round withdraws some thresholds of a grid where all stand, and enters them again; its time is a call's on average. Times are the processor's,
-//! so that waiting for it isn't counted. Then estimates at random weights, in the quads
-//! one after the other and in quads at random.
+//! so that waiting for it isn't counted. Then estimates at random weights, in the quads one after the other and in quads at random; quads, nodes and
+//! thresholds read one after the other; and a loop of 1,000,000 nodes.
 
 use std::ffi::c_long;
 use std::process::exit;

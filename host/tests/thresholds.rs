@@ -1,4 +1,4 @@
-//! Thresholds that come and go: readings by hand, refusals, and paper 6 in Rust, written from its words, beside the entries. The model keeps
+//! Thresholds that come and go: readings by hand, refusals, and paper 6 in Rust, written from its words, beside the entry. The model keeps
 //! no figure: it works both out afresh from the thresholds that stand, after each event.
 
 mod common;

@@ -1,12 +1,11 @@
 -- Readings of an exam, each on the smallest input that shows it. The check computes them.
-use mathlib.Core.List.{List, [], _∷_}
+use mathlib.Core.List.{[], _∷_}
 use mathlib.Core.Path.{_≡_, refl}
 use Prim.Native.Nat.{ℕ}
 use lib.Ieee.{nan}
 use Rattle.front.specs.State.{nodeIn}
 use Rattle.lent_mesh.specs.Mesh.{nodeCount, quadCount, quadIn}
 use Rattle.thresholds.specs.Figures.{noThreshold, Results, results, isMissing, refusalAt, beginAnswer, enterAnswer}
-use Rattle.exam.specs.declared.ExamRequest.{ExamRequest}
 use Rattle.exam.specs.declared.ExamReply.{ExamReply}
 use Rattle.exam.specs.declared.ExamReply.the-variants.{Refused, Done, Node, Quad, Threshold, Figures}
 use Rattle.exam.specs.Exam.{ExamMesh, examMesh, nodesLent, requestNumbered, nodeReply, quadReply, meshSeen, changeAnswer, replyOr, thresholdReply, resultReply}

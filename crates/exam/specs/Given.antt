@@ -1,14 +1,14 @@
 -- What a host gets of an exam follows from the definition: `exam-given`. And what holds of any list of requests by any roles.
 use mathlib.Core.Bool.{Bool, true, false, cond}
 use mathlib.Core.List.{List, [], _∷_}
-use mathlib.Core.Path.{_≡_, refl, sym, _∙_, ap, subst}
+use mathlib.Core.Path.{_≡_, refl, sym, _∙_, subst}
 use Prim.Native.Nat.{ℕ, zero, suc, _≤_}
 use lib.Dec.{eqb}
 use lib.ListN.{set}
 use borrow.Author.Tests.{eqb-true}
 use Rattle.domain.specs.Queries.{answerBy}
 use Rattle.lent_mesh.specs.Mesh.{Mesh, quadOf, quads-few}
-use Rattle.thresholds.specs.Figures.{thresholdAt, Results, Outcome}
+use Rattle.thresholds.specs.Figures.{thresholdAt, Results}
 use Rattle.thresholds.specs.Kept.{Afresh, enter-unmoved, withdraw-unmoved, enter-kept, withdraw-kept, begin-kept}
 use Rattle.thresholds.specs.Figures.{beginAnswer}
 use Rattle.estimates.specs.declared.EstimateAnswer.{EstimateAnswer}
@@ -22,8 +22,8 @@ use Rattle.exam.specs.declared.ExamRequest.the-variants.{Changes, ReadsM
 use Rattle.exam.specs.declared.ExamReply.{ExamReply}
 use Rattle.exam.specs.declared.ExamReply.the-variants.{Refused, Done, Estimate}
 use Rattle.exam.specs.declared.ExamAnswer.{ExamAnswer}
-use Rattle.exam.specs.Exam.{ExamMesh, meshIn, may, mayChange, mayReadMesh, mayReadResults, meshSeen, changeAnswer, replyOr, resultReply, estimateReply}
-use Rattle.exam.specs.Exam.{Acted, acted, does, examActs, examNumbers, ExamExit, examExit, examAnswer, maskedExit, maskedAnswer}
+use Rattle.exam.specs.Exam.{ExamMesh, meshIn, may, mayReadMesh, mayReadResults, meshSeen, changeAnswer, replyOr, resultReply, estimateReply}
+use Rattle.exam.specs.Exam.{acted, does, examActs, examNumbers, ExamExit, examExit, examAnswer, maskedExit, maskedAnswer}
 use Rattle.exam.specs.Statement.{EstimateGiven, ExamGiven}
 
 -- ---- the masked reader

@@ -1,12 +1,11 @@
-// One exam for three roles: the desk begins it, enters, withdraws and reads; a reader reads everything; a masked reader reads nodes, quads and loops only. The
-// mesh is only read. What reads it is handed no results, and what a role may not ask is refused before anything is looked at.
+// One exam for three roles: the desk begins it, enters, withdraws and reads; a reader reads everything; a masked reader reads nodes, quads and loops only. Here is
+// what is asked and answered, and what each request does; `exam_entry` has the entry. The mesh is only read, and what reads it is handed no results.
 ghost use mathlib.Core.Path.{_≡_};
 ghost use lib.ListN.{getD};
 ghost use Rattle.lent_mesh.specs.Mesh.{mesh, quadCount};
 ghost use Rattle.thresholds.specs.Figures.{results, outcome};
 ghost use Rattle.exam.specs.Exam.{mayChange, mayReadMesh, mayReadResults, may, requestNumbered, nodesLent, examMesh};
 ghost use Rattle.exam.specs.Exam.{nodeReply, quadReply, loopSeen, seen, meshSeen, replyOr, changeAnswer, thresholdReply, estimateReply, resultReply, examNumbers};
-ghost use Rattle.exam.specs.Statement.{ExamGiven};
 use domain::Point;
 use lent_mesh::QuadIds;
 
@@ -103,7 +102,7 @@ fn may_read_mesh(role: u32) -> bool
 }
 
 // Whether the role has the operation.
-fn may(role: u32, request: ExamRequest) -> bool
+pub fn may(role: u32, request: ExamRequest) -> bool
     ensures { λ r. ⌜ r ≡ may role request ⌝ }
 {
     match request {
@@ -115,7 +114,7 @@ fn may(role: u32, request: ExamRequest) -> bool
 }
 
 // The request that an operation's number and the numbers beside it make.
-fn request_numbered(operation: u32, item: u32, value: u32, u: u32, v: u32) -> ExamRequest
+pub fn request_numbered(operation: u32, item: u32, value: u32, u: u32, v: u32) -> ExamRequest
     ensures { λ r. ⌜ r ≡ requestNumbered operation item value u v ⌝ }
 {
     match operation {
@@ -133,7 +132,7 @@ fn request_numbered(operation: u32, item: u32, value: u32, u: u32, v: u32) -> Ex
 }
 
 // The reply, unless it is refused.
-fn reply_or(refusal: u32, reply: ExamReply) -> ExamReply
+pub fn reply_or(refusal: u32, reply: ExamReply) -> ExamReply
     ensures { λ r. ⌜ r ≡ replyOr refusal reply ⌝ }
 {
     if refusal != 0 {
@@ -145,7 +144,7 @@ fn reply_or(refusal: u32, reply: ExamReply) -> ExamReply
 // ---- reading the mesh
 
 // The count of nodes: it stops where a coordinate or the origin isn't lent.
-fn nodes_lent(nodes: u32, xs: &[f64], ys: &[f64], origins: &[u16]) -> u32
+pub fn nodes_lent(nodes: u32, xs: &[f64], ys: &[f64], origins: &[u16]) -> u32
     ensures { λ r. ⌜ r ≡ nodesLent nodes (now (xs .entry)) (now (ys .entry)) (now (origins .entry)) ⌝ }
 {
     let n = lent_mesh::node_count(nodes, xs, ys);
@@ -194,7 +193,7 @@ fn loop_reply(n: u32, next: &[u32], prev: &[u32], k: u32, reply: &mut [u32]) -> 
     reply_or(read.refusal, ExamReply::Loop(read.length))
 }
 
-fn read_mesh(
+pub fn read_mesh(
     read: MeshRead,
     nodes: u32,
     xs: &[f64],
@@ -221,7 +220,7 @@ fn read_mesh(
 // ---- the results
 
 // A change of the results; its refusal, 0 for none.
-fn change_results(
+pub fn change_results(
     change: ResultChange,
     n: u32,
     quad_count: usize,
@@ -268,7 +267,7 @@ fn estimate_reply(
     reply_or(answer.refusal, ExamReply::Estimate(answer.estimate))
 }
 
-fn read_results(
+pub fn read_results(
     read: ResultRead,
     n: u32,
     quad_count: usize,
@@ -311,7 +310,7 @@ fn no_numbers() -> ExamAnswer
     }
 }
 
-fn exam_numbers(reply: ExamReply) -> ExamAnswer
+pub fn exam_numbers(reply: ExamReply) -> ExamAnswer
     ensures { λ r. ⌜ r ≡ examNumbers reply ⌝ }
 {
     let mut r = no_numbers();
@@ -351,64 +350,5 @@ fn exam_numbers(reply: ExamReply) -> ExamAnswer
             r.estimate = estimate;
             r
         }
-    }
-}
-
-// One request of one role to an exam. 20 comes before all else; where anything is refused, nothing lent is written.
-#[no_mangle]
-pub extern "C" fn sitjorbe_exam(
-    role: u32,
-    operation: u32,
-    item: u32,
-    value: u32,
-    u: u32,
-    v: u32,
-    nodes: u32,
-    xs: &[f64],
-    ys: &[f64],
-    quad_count: usize,
-    quads: &[u32],
-    next: &[u32],
-    prev: &[u32],
-    origins: &[u16],
-    thresholds: &mut [u16],
-    count: &mut u32,
-    sum: &mut u32,
-    reply: &mut [u32],
-) -> ExamAnswer
-    ensures { λ r. ⌜ ExamGiven
-        (examMesh nodes (now (xs .entry)) (now (ys .entry)) «quad_count» (now (quads .entry)) (now (next .entry)) (now (prev .entry)) (now (origins .entry)))
-        (results (now (thresholds .entry)) (now (count .entry)) (now (sum .entry))) role (requestNumbered operation item value u v) (now (reply .entry))
-        r (now (reply .exit)) (results (now (thresholds .exit)) (now (count .exit)) (now (sum .exit))) ⌝ }
-{
-    let request = request_numbered(operation, item, value, u, v);
-    if !may(role, request) {
-        return exam_numbers(ExamReply::Refused(20));
-    }
-    match request {
-        ExamRequest::Changes(change) => {
-            let n = nodes_lent(nodes, xs, ys, origins);
-            let refusal = change_results(change, n, quad_count, quads, thresholds, count, sum);
-            exam_numbers(reply_or(refusal, ExamReply::Done))
-        }
-        ExamRequest::ReadsMesh(read) => exam_numbers(read_mesh(
-            read,
-            nodes,
-            xs,
-            ys,
-            quad_count,
-            quads,
-            next,
-            prev,
-            origins,
-            reply,
-        )),
-        ExamRequest::ReadsResults(read) => {
-            let n = nodes_lent(nodes, xs, ys, origins);
-            let c = *count;
-            let s = *sum;
-            exam_numbers(read_results(read, n, quad_count, quads, thresholds, c, s))
-        }
-        ExamRequest::Unknown => exam_numbers(ExamReply::Refused(20)),
     }
 }

@@ -9,7 +9,7 @@ use native.Mathlib.Omega.{arith}
 use lib.Dec.{eqb, ltb}
 use lib.ListN.{length, getD, set, take, drop, length-append, length-drop, List·getD-eq-default}
 use lib.Seq.{take-length, length-take-le}
-use borrow.Author.Tests.{ltb-true, ltb-false, lt-ltb, le-ltb, ne-eqb, eq-eqb}
+use borrow.Author.Tests.{ltb-false, lt-ltb, le-ltb, ne-eqb, eq-eqb}
 use Rattle.laws.specs.Loop.{forUp, Scan, scan-hit, scan-next, scan-none}
 use Rattle.topology.specs.Links.{off, linkOf, link-in, link-read}
 use Rattle.topology.specs.Walk.{walkBy, prepend, walk-off}

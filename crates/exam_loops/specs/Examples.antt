@@ -1,7 +1,6 @@
 -- Loops of lent links, each reading on the smallest input that shows it. The check computes them.
-use mathlib.Core.List.{List, [], _∷_, _++_}
+use mathlib.Core.List.{[], _∷_}
 use mathlib.Core.Path.{_≡_, refl}
-use Prim.Native.Nat.{ℕ}
 use Rattle.laws.specs.Loop.{forUp, anyUp}
 use Rattle.topology.specs.Links.{off, linkOf}
 use Rattle.topology.specs.Walk.{walkBy, prepend}

@@ -3,19 +3,18 @@ use mathlib.Core.Bool.{Bool, true, false, not, _&&_, _||_}
 use mathlib.Core.List.{List}
 use mathlib.Core.Logic.{_≢_}
 use mathlib.Core.Path.{_≡_, refl, sym, _∙_, ap}
-use Prim.Native.Nat.{ℕ, _<_, _≤_}
+use Prim.Native.Nat.{ℕ, _<_}
 use native.Mathlib.Omega.{arith}
 use lib.Dec.{eqb, ltb}
-use lib.ListN.{length}
-use borrow.Author.Tests.{eqb-true, eqb-false, eq-eqb, lt-ltb}
+use borrow.Author.Tests.{eqb-false, eq-eqb, lt-ltb}
 use Rattle.laws.specs.Loop.{any-false}
-use Rattle.laws.specs.Tests.{and-both, or-left, or-right}
-use Rattle.topology.specs.Sums.{total, frontSum, front-one}
-use Rattle.topology.specs.Links.{off, linkOf, at, delta, delta-same, delta-is}
-use Rattle.topology.specs.Front.{Loops, Front, FrontOf, source, target}
-use Rattle.topology.specs.Listing.{walks, walks-list}
+use Rattle.laws.specs.Tests.{and-both}
+use Rattle.topology.specs.Sums.{front-one}
+use Rattle.topology.specs.Links.{off, linkOf, delta, delta-same, delta-is}
+use Rattle.topology.specs.Front.{FrontOf, source, target}
+use Rattle.topology.specs.Listing.{walks-list}
 use Rattle.topology.specs.Pigeonhole.{ids-most}
-use Rattle.front.specs.State.{State, nextOf}
+use Rattle.front.specs.State.{State}
 use Rattle.front.specs.Sound.{Sound}
 use Rattle.paving.specs.Loops.{frontLoops}
 use Rattle.exam_loops.specs.Loops.{linksBack, arePaired, linksSound, linkedLoops}

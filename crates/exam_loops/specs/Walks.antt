@@ -1,5 +1,5 @@
 -- Laws of walks along links: step by step, by index, where a walk ends, and that of sound links none starts above the node before it.
-use mathlib.Core.Bool.{Bool, true, false, not, _&&_, _||_}
+use mathlib.Core.Bool.{Bool, true, false, not}
 use mathlib.Core.List.{List, [], _∷_, _++_}
 use mathlib.Core.Logic.{_≢_, ⊎-elim}
 use mathlib.Core.Path.{_≡_, refl, sym, _∙_, ap}

@@ -1,6 +1,5 @@
 -- `find_loop` meets its contract: the loop's invariant is `Finding`, and each return is a law of it. Assumes nothing.
 use native.Mathlib.Omega.{arith}
-use borrow.Author.Needs.{needs}
 use Rattle.exam_loops.specs.Code.{Finding, finding-start, finding-end, finding-skip, finding-pass, finding-hit}
 use Rattle.topology.specs.Links.{linkOf}
 use mathlib.Core.Logic.{⊎-elim}

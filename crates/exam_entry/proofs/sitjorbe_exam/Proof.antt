@@ -1,12 +1,11 @@
 -- `sitjorbe_exam` meets its contract: not allowed, or what one of the three kinds of request does. Assumes nothing.
-use Rattle.exam.specs.Code.{exam-not-allowed, exam-changes, exam-reads-mesh, exam-reads-results, exam-unknown}
+use Rattle.exam_entry.specs.Code.{exam-not-allowed, exam-changes, exam-reads-mesh, exam-reads-results, exam-unknown}
 use Rattle.thresholds.specs.Figures.{results}
 use Rattle.exam.specs.Exam.{examMesh, requestNumbered}
-use mathlib.Core.Path.{sym, _∙_}
 use borrow.Author.Tests.{not-true, not-false}
 use borrow.Author.Needs.{needs}
-use Rattle.exam.proofs.sitjorbe_exam.Statement.{statement}
-use Rattle.exam.proofs.sitjorbe_exam.Tie as tie
+use Rattle.exam_entry.proofs.sitjorbe_exam.Statement.{statement}
+use Rattle.exam_entry.proofs.sitjorbe_exam.Tie as tie
 
 request-numbered-requires : tie.Need-request-numbered-requires
 request-numbered-requires c κs = search needs

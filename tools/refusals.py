@@ -26,6 +26,8 @@ WORDS = {
     17: ("no threshold stands at the node", "enter one first, or look whether it was withdrawn already"),
     18: ("the quad isn't in the mesh, or lacks a threshold", "count quads from 0, and enter the thresholds of all its nodes"),
     19: ("a weight is above 256", "give weights from 0 to 256, which is all the way across the quad"),
+    20: ("the role is unknown or lacks the operation",
+         "ask as the desk (1), a reader (2) or a masked reader (3), and as a role that may ask this"),
     21: ("the order leaves a quad out, names one twice or names one that isn't there",
          "name every quad of the mesh exactly once, counted from 0"),
     22: ("a quad stands before one that laid a front edge which it used up",

@@ -98,19 +98,23 @@ pub struct OrderAnswer {
     pub place: usize,
 }
 
-/// An event's answer: only whether it was refused. All else is in what was lent.
+/// What a request to an exam asked for; all else is 0, and all but `refusal` on a refusal.
 #[repr(C)]
-#[derive(Clone, Copy, Debug)]
-pub struct RefusalAnswer {
+#[derive(Clone, Copy, Debug, PartialEq)]
+pub struct ExamAnswer {
     pub refusal: u32,
-}
-
-/// The estimate, in tenths of a decibel; 0 on a refusal.
-#[repr(C)]
-#[derive(Clone, Copy, Debug)]
-pub struct EstimateAnswer {
-    pub refusal: u32,
+    pub x: f64,
+    pub y: f64,
+    pub a: u32,
+    pub b: u32,
+    pub d: u32,
+    pub c: u32,
+    pub length: usize,
+    pub threshold: u32,
+    pub count: u32,
+    pub sum: u32,
     pub estimate: u32,
+    pub origin: u32,
 }
 
 /// `count` is how many fours are listed, 0 on a refusal.
@@ -268,57 +272,34 @@ extern "C" {
         blocks_len: usize,
     ) -> PaveAnswer;
 
-    pub fn sitjorbe_begin(thresholds: *mut u16, thresholds_len: usize, count: *mut u32, sum: *mut u32)
-        -> RefusalAnswer;
-
-    pub fn sitjorbe_enter(
-        nodes: u32,
-        xs: *const f64,
-        xs_len: usize,
-        ys: *const f64,
-        ys_len: usize,
-        quad_count: usize,
-        quads: *const u32,
-        quads_len: usize,
-        thresholds: *mut u16,
-        thresholds_len: usize,
-        count: *mut u32,
-        sum: *mut u32,
-        node: u32,
-        threshold: u32,
-    ) -> RefusalAnswer;
-
-    pub fn sitjorbe_withdraw(
-        nodes: u32,
-        xs: *const f64,
-        xs_len: usize,
-        ys: *const f64,
-        ys_len: usize,
-        quad_count: usize,
-        quads: *const u32,
-        quads_len: usize,
-        thresholds: *mut u16,
-        thresholds_len: usize,
-        count: *mut u32,
-        sum: *mut u32,
-        node: u32,
-    ) -> RefusalAnswer;
-
-    pub fn sitjorbe_estimate(
-        nodes: u32,
-        xs: *const f64,
-        xs_len: usize,
-        ys: *const f64,
-        ys_len: usize,
-        quad_count: usize,
-        quads: *const u32,
-        quads_len: usize,
-        thresholds: *const u16,
-        thresholds_len: usize,
-        quad: usize,
+    pub fn sitjorbe_exam(
+        role: u32,
+        operation: u32,
+        item: u32,
+        value: u32,
         u: u32,
         v: u32,
-    ) -> EstimateAnswer;
+        nodes: u32,
+        xs: *const f64,
+        xs_len: usize,
+        ys: *const f64,
+        ys_len: usize,
+        quad_count: usize,
+        quads: *const u32,
+        quads_len: usize,
+        next: *const u32,
+        next_len: usize,
+        prev: *const u32,
+        prev_len: usize,
+        origins: *const u16,
+        origins_len: usize,
+        thresholds: *mut u16,
+        thresholds_len: usize,
+        count: *mut u32,
+        sum: *mut u32,
+        reply: *mut u32,
+        reply_len: usize,
+    ) -> ExamAnswer;
 
     pub fn sitjorbe_small_quads(fours: *mut u32, fours_len: usize) -> SmallQuadsAnswer;
 

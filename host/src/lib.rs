@@ -60,7 +60,7 @@
 //! ```
 
 mod directions;
-mod estimates;
+mod exam;
 pub mod ffi;
 mod field;
 mod order;
@@ -70,10 +70,10 @@ mod queries;
 mod refusal;
 mod small_quads;
 mod sound;
-mod thresholds;
 
 pub use directions::{directions, directions_in};
-pub use estimates::{estimate, MOST_WEIGHT};
+pub use exam::{exam_numbers, Asked, Desk, Exam, LentMesh, MaskedReader, Node, Reader, Results, SharedResults};
+pub use exam::{MOST_THRESHOLD, MOST_WEIGHT, NO_THRESHOLD};
 pub use field::{direction, field, FieldRecord};
 pub use order::{check_order, check_order_in, nearest_order, order_numbers, NotAccepted, OrderScratch};
 pub use pave::{pave, pave_numbers, End, Lists, Memory, Mesh, Places, Settings, TooManyPlaces, OFF};
@@ -82,4 +82,3 @@ pub use queries::{contains, distance_to_boundary, nearest_segment, Outline, Segm
 pub use refusal::Refusal;
 pub use small_quads::small_quads;
 pub use sound::is_sound;
-pub use thresholds::{LentMesh, Results, Thresholds, MOST_THRESHOLD, NO_THRESHOLD};

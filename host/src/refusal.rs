@@ -42,10 +42,12 @@ pub enum Refusal {
     ThresholdTooHigh = 16,
     /// A withdrawal where no threshold stands.
     NoThreshold = 17,
-    /// A quad that isn't in the mesh, or lacks a threshold.
-    NoEstimate = 18,
+    /// A quad that isn't in the mesh, or lacks a threshold where its estimate is asked for.
+    NoQuad = 18,
     /// A weight above 256.
     WeightTooHigh = 19,
+    /// An unknown role, or an operation that its role lacks.
+    NotAllowed = 20,
     /// A presentation order in which some quad is absent, repeated or unknown.
     NotEachOnce = 21,
     /// A presentation order in which a quad stands before one that laid a front edge which it used up.
@@ -56,7 +58,7 @@ pub enum Refusal {
 
 impl Refusal {
     /// Every refusal, in the order of the numbers.
-    pub const ALL: [Refusal; 22] = [
+    pub const ALL: [Refusal; 23] = [
         Refusal::Lists,
         Refusal::ShortLoop,
         Refusal::NotFinite,
@@ -74,8 +76,9 @@ impl Refusal {
         Refusal::NoNode,
         Refusal::ThresholdTooHigh,
         Refusal::NoThreshold,
-        Refusal::NoEstimate,
+        Refusal::NoQuad,
         Refusal::WeightTooHigh,
+        Refusal::NotAllowed,
         Refusal::NotEachOnce,
         Refusal::TooEarly,
         Refusal::FoursNeedSpace,
@@ -149,10 +152,14 @@ impl Refusal {
                 "the threshold is above 500: give it in tenths of a decibel, 0 to 500; to take one back, withdraw it"
             }
             Refusal::NoThreshold => "no threshold stands at the node: enter one first, or look whether it was withdrawn already",
-            Refusal::NoEstimate => {
+            Refusal::NoQuad => {
                 "the quad isn't in the mesh, or lacks a threshold: count quads from 0, and enter the thresholds of all its nodes"
             }
             Refusal::WeightTooHigh => "a weight is above 256: give weights from 0 to 256, which is all the way across the quad",
+            Refusal::NotAllowed => {
+                "the role is unknown or lacks the operation: ask as the desk (1), a reader (2) or a masked reader (3), and as a role that \
+                 may ask this"
+            }
             Refusal::NotEachOnce => {
                 "the order leaves a quad out, names one twice or names one that isn't there: name every quad of the mesh exactly \
                  once, counted from 0"

@@ -21,7 +21,7 @@ use Rattle.mesh_check.specs.CheckLaws.{length-off}
 -- ---- the places lent
 
 -- n nodes have their places
-pub record NodeRoom (xs ys : List Float) (next prev origins : List ℕ) (n : ℕ) : Type 0 where
+pub record NodesRoom (xs ys : List Float) (next prev origins : List ℕ) (n : ℕ) : Type 0 where
   pub few : n ≤ 4294967294
   pub xs-fit : n ≤ length xs
   pub ys-fit : n ≤ length ys
@@ -31,7 +31,7 @@ pub record NodeRoom (xs ys : List Float) (next prev origins : List ℕ) (n : ℕ
 
 -- and so have q quads and e edges
 pub record MeshRoom (xs ys : List Float) (next prev origins quads edges : List ℕ) (n q e : ℕ) : Type 0 where
-  pub nodes : NodeRoom xs ys next prev origins n
+  pub nodes : NodesRoom xs ys next prev origins n
   pub quads-fit : 4 * q ≤ length quads
   pub edges-fit : 2 * e ≤ length edges
 

@@ -4,6 +4,7 @@ use mathlib.Core.Bool.{Bool, true, false, cond}
 use mathlib.Core.List.{List, []}
 use mathlib.Core.Path.{_≡_, refl, sym, ap, _∙_}
 use Prim.Native.Nat.{ℕ, _+_, _-_, min, max}
+use native.Mathlib.Omega.{arith}
 use lib.Dec.{eqb}
 use lib.ListN.{set}
 use lib.Ieee.{Float}
@@ -13,8 +14,8 @@ use Rattle.front.specs.declared.Counts.{Counts}
 use Rattle.front.specs.declared.Corner.{Corner}
 use Rattle.front.specs.declared.Corner.the-variants.{Reused, Fresh}
 use Rattle.front.specs.State.{State, stateOf, counted, withFront, edgeIn, hasEdge, pushNode, pushEdge, addEdge, addFront, removeFront, pushQuad}
-use Rattle.front.specs.MeshEdges.{withEdges}
-use Rattle.front.specs.Stores.{storeQuad}
+use Rattle.front.specs.MeshEdges.{withEdges, quad-edged}
+use Rattle.front.specs.Stores.{storeX, storeY, storeQuad}
 use Rattle.front.specs.Place.{added, cornerId, pushCorner, addEdges, takeOff, putOn, moveFront, place}
 use Rattle.hand_placing.specs.Parts.{frontIn, edgesIn, nodesIn}
 
@@ -167,3 +168,73 @@ module _ (a b : ℕ) (c d : Corner) (xs ys : List Float) (next prev snapshot qua
       let p6 : moveFront c d a b D C s3 ≡ moveFront c d a b D C (pushQuad a b D C (addEdges a b D C (pushCorner d (pushCorner c s0)))) =
       ap (λ (s : State). moveFront c d a b D C (pushQuad a b D C s)) (p2 ∙ ap (addEdges a b D C) p1) in
       rw (← eC, ← eD) (p5 ∙ (p4 ∙ p6))
+
+-- ---- what is left of the whole, list by list
+
+module _ (a b : ℕ) (c d : Corner) (s : State) where
+  abbrev C : ℕ
+  C = cornerId (s .counts .nodes) c
+
+  abbrev D : ℕ
+  D = cornerId (s .counts .nodes + added c) d
+
+  -- with the new nodes, and then with edges and quad
+  abbrev s1 : State
+  s1 = pushCorner d (pushCorner c s)
+
+  abbrev s3 : State
+  s3 = pushQuad a b D C (addEdges a b D C s1)
+
+  abbrev moved : State
+  moved = moveFront c d a b D C s3
+
+  -- the edges and the front leave the rest as it is
+  edges-rest : addEdges a b D C s1 ≡ withEdges s1 (addEdges a b D C s1 .edges) (addEdges a b D C s1 .counts .edges)
+  edges-rest = quad-edged a b D C s1 .rest
+
+  front-rest : moved ≡ overFront s3 (moveFront c d a b D C (overFront (bareFront s3) s3))
+  front-rest = move-local c d a b D C s3 s3
+
+  pub placed-nodes : place a b c d s .counts .nodes ≡ s .counts .nodes + (added c + added d)
+  unfolding place pushQuad pushNode
+  placed-nodes =
+      ap (λ (x : State). x .counts .nodes) front-rest ∙ (ap (λ (x : State). x .counts .nodes) edges-rest ∙ corners c d)
+    where
+      corners : (c d : Corner) → pushCorner d (pushCorner c s) .counts .nodes ≡ s .counts .nodes + (added c + added d)
+      corners (Reused u) (Reused v) = omega arith
+      corners (Reused u) (Fresh x y) = omega arith
+      corners (Fresh x y) (Reused v) = omega arith
+      corners (Fresh x y) (Fresh z w) = omega arith
+
+  pub placed-quads : place a b c d s .quads ≡ storeQuad (s .counts .quads) a b D C (s .quads)
+  unfolding place pushQuad pushNode
+  placed-quads =
+      ap (λ (x : State). x .quads) front-rest ∙ (ap (λ (x : State). storeQuad (x .counts .quads) a b D C (x .quads)) edges-rest ∙ corners c d D C)
+    where
+      corners : (c d : Corner) (D C : ℕ)
+          → storeQuad (pushCorner d (pushCorner c s) .counts .quads) a b D C (pushCorner d (pushCorner c s) .quads)
+          ≡ storeQuad (s .counts .quads) a b D C (s .quads)
+      corners (Reused u) (Reused v) D C = refl
+      corners (Reused u) (Fresh x y) D C = refl
+      corners (Fresh x y) (Reused v) D C = refl
+      corners (Fresh x y) (Fresh z w) D C = refl
+
+  pub placed-xs : place a b c d s .xs ≡ storeX d (s .counts .nodes + added c) (storeX c (s .counts .nodes) (s .xs))
+  unfolding place pushQuad pushNode
+  placed-xs = ap (λ (x : State). x .xs) front-rest ∙ (ap (λ (x : State). x .xs) edges-rest ∙ corners c d)
+    where
+      corners : (c d : Corner) → pushCorner d (pushCorner c s) .xs ≡ storeX d (s .counts .nodes + added c) (storeX c (s .counts .nodes) (s .xs))
+      corners (Reused u) (Reused v) = refl
+      corners (Reused u) (Fresh x y) = ap (λ (n : ℕ). set (s .xs) n x) (omega arith)
+      corners (Fresh x y) (Reused v) = refl
+      corners (Fresh x y) (Fresh z w) = refl
+
+  pub placed-ys : place a b c d s .ys ≡ storeY d (s .counts .nodes + added c) (storeY c (s .counts .nodes) (s .ys))
+  unfolding place pushQuad pushNode
+  placed-ys = ap (λ (x : State). x .ys) front-rest ∙ (ap (λ (x : State). x .ys) edges-rest ∙ corners c d)
+    where
+      corners : (c d : Corner) → pushCorner d (pushCorner c s) .ys ≡ storeY d (s .counts .nodes + added c) (storeY c (s .counts .nodes) (s .ys))
+      corners (Reused u) (Reused v) = refl
+      corners (Reused u) (Fresh x y) = ap (λ (n : ℕ). set (s .ys) n y) (omega arith)
+      corners (Fresh x y) (Reused v) = refl
+      corners (Fresh x y) (Fresh z w) = refl

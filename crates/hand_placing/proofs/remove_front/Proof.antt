@@ -42,10 +42,10 @@ returns-2 : tie.Need-returns-2
 returns-2 c =
     let at-args = c .before .before .before .before .before in
     let s = at-args in (
-    rw (c .one-less .ensures .0)
-    (remove-there (s .args .next .now) (s .args .prev .now) (s .args .n) (s .args .f) (s .args .u) (s .args .v) (s .pre .1) (s .pre .0)
-    (c .before .if1 .left)),
-    c .one-less .ensures .1,
+      rw (c .one-less .ensures .0)
+          (remove-there (s .args .next .now) (s .args .prev .now) (s .args .n) (s .args .f) (s .args .u) (s .args .v) (s .pre .1) (s .pre .0)
+          (c .before .if1 .left)),
+      c .one-less .ensures .1,
     )
 
 pub remove-front-spec : {M : Type 1} → statement M

@@ -61,6 +61,7 @@ mod queries;
 mod refusal;
 mod small_quads;
 mod sound;
+mod step;
 mod thresholds;
 
 pub use estimates::{estimate, MOST_WEIGHT};
@@ -71,4 +72,5 @@ pub use queries::{contains, distance_to_boundary, nearest_segment, NearestSegmen
 pub use refusal::Refusal;
 pub use small_quads::small_quads;
 pub use sound::is_sound;
+pub use step::{preview_numbers, step_numbers, Ground, MeshCounts, MeshLists, MeshRead, Outcome, Preview, Stepper};
 pub use thresholds::{LentMesh, Results, Thresholds, MOST_THRESHOLD, NO_THRESHOLD};

@@ -161,8 +161,7 @@ module _ (xs ys : List Float) (next prev origins quads edges : List ℕ) (k : Co
       let H = shown w e in
       let does = subst (Foresees o size field a b s) (sym e) (foresees o size field a b s) .does in
       let front : r ≡ placeOn o size field a b s .state .counts .front =
-      ap (λ (c : EdgeList). c .count) l ∙ (edges-counted _ _ before ∙ (H .shows .count ∙ sym (ap (λ (h : Handled). h .state .counts .front) does))) in
-      (
+      ap (λ (c : EdgeList). c .count) l ∙ (edges-counted _ _ before ∙ (H .shows .count ∙ sym (ap (λ (h : Handled). h .state .counts .front) does))) in (
         view (sym (ap (λ (h : Handled). h .outcome) does)) (ap (λ (c : Foreseen). c .quad) e) front,
         rw (does, H .shows .links, H .shows .size) (ap (λ (c : EdgeList). c .list) l),
       )
@@ -177,8 +176,8 @@ module _ (xs ys : List Float) (next prev origins quads edges : List ℕ) (k : Co
         → PreviewTaken o size field a b s before (Shown (record { outcome = w .outcome; quad = w .quad; front = n })) left
     unfolding previewAnswer previewList
     preview-shown z w q left n l =
-        let V = front-written w q before left n l in
-        record { answer = rw (← e, eq-eqb r 0 z) (ap Shown (V .0)); list = rw (← e, eq-eqb r 0 z) (V .1) }
+        let F = front-written w q before left n l in
+        record { answer = rw (← e, eq-eqb r 0 z) (ap Shown (F .0)); list = rw (← e, eq-eqb r 0 z) (F .1) }
 
 -- ---- the refusal
 

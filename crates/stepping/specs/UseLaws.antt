@@ -85,31 +85,42 @@ module _ (s : State) where
 
 -- ---- the corners
 
-corner-below : (size : Float) (s : State) (other v : ℕ) (p : Point) (c : Corner) (n m : ℕ) → cornerAt size s other (neighbourOf v) p ≡ c
-    → (v ≢ off → v < n) → n ≤ m → cornerId m c < m + added c
+-- a corner that is reused is one of the first n nodes
+abbrev pub Below : ℕ → Corner → Type 0
+Below n (Reused id) = id < n
+Below n (Fresh x y) = Unit {0}
+
+corner-below : (size : Float) (s : State) (other v : ℕ) (p : Point) (c : Corner) (n : ℕ) → cornerAt size s other (neighbourOf v) p ≡ c
+    → (v ≢ off → v < n) → Below n c
 unfolding cornerAt neighbourOf
-corner-below size s other v p c n m e within more = by (eqb v off) refl e
+corner-below size s other v p c n e within = by (eqb v off) refl e
   where
-    fresh : Fresh (p .x) (p .y) ≡ c → cornerId m c < m + added c
-    fresh e = rw (← e) (omega arith)
+    at : v ≢ off → (t : Bool) → cond t (Reused v) (Fresh (p .x) (p .y)) ≡ c → Below n c
+    at on true e = subst (Below n) e (within on)
+    at on false e = subst (Below n) e tt
 
-    at : v ≢ off → (t : Bool) → cond t (Reused v) (Fresh (p .x) (p .y)) ≡ c → cornerId m c < m + added c
-    at on true e = rw (← e) (omega (arith, within on))
-    at on false e = fresh e
-
-    by : (t : Bool) → eqb v off ≡ t → cornerAt size s other (cond t Off (At v)) p ≡ c → cornerId m c < m + added c
-    by true r e = fresh e
+    by : (t : Bool) → eqb v off ≡ t → cornerAt size s other (cond t Off (At v)) p ≡ c → Below n c
+    by true r e = subst (Below n) e tt
     by false r e = at (eqb-false v off r) (isReused size s other v p) e
 
+below-id : (c : Corner) (n m : ℕ) → Below n c → n ≤ m → cornerId m c < m + added c
+below-id (Reused id) n m h l = omega arith
+below-id (Fresh x y) n m h l = omega arith
+
 module _ (o : Outline) (size : Float) (field : FieldRecord) (s : State) (a b : ℕ) (S : OnFront s a b) (c d : Corner) where
-  pub quad-ids : tryEdge o size field s a b ≡ Quad c d → Ids (s .counts .nodes + (added c + added d)) a b (idC s c) (idD s c d)
+  pub quad-below : tryEdge o size field s a b ≡ Quad c d → Below (s .counts .nodes) c × Below (s .counts .nodes) d
   unfolding cornerC cornerD
-  quad-ids e =
+  quad-below e =
       let A = tried o size field s a b c d e in
       let Q = quad-chosen o size s a b (A .da) (A .db) c d (A .answered) in
+      (corner-below size s b (prevOf s a) _ c _ (Q .at-c) (S .at-a), corner-below size s a (nextOf s b) _ d _ (Q .at-d) (S .at-b))
+
+  pub quad-ids : tryEdge o size field s a b ≡ Quad c d → Ids (s .counts .nodes + (added c + added d)) a b (idC s c) (idD s c d)
+  quad-ids e =
       let n = s .counts .nodes in
-      let C = corner-below size s b (prevOf s a) _ c n n (Q .at-c) (S .at-a) (omega arith) in
-      let D = corner-below size s a (nextOf s b) _ d n (n + added c) (Q .at-d) (S .at-b) (omega arith) in
+      let B = quad-below e in
+      let C = below-id c n n (B .0) (omega arith) in
+      let D = below-id d n (n + added c) (B .1) (omega arith) in
       record {
         id-a = omega (arith, S .id-a);
         id-b = omega (arith, S .id-b);

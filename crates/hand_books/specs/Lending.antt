@@ -17,7 +17,7 @@ use Rattle.domain.specs.Outline.{Outline, loopAt, pointAt, pointAfter}
 use Rattle.front.specs.declared.Corner.{Corner}
 use Rattle.front.specs.declared.Corner.the-variants.{Reused, Fresh}
 use Rattle.front.specs.declared.Ring.{Ring}
-use Rattle.front.specs.State.{State, nodePlaces, quadPlaces, edgePlaces, nextOf, hasEdge, pushNode, withFront, addFront, removeFront, pushEdge, addEdge}
+use Rattle.front.specs.State.{State, mostNodes, nodePlaces, quadPlaces, edgePlaces, nextOf, hasEdge, pushNode, withFront, addFront, removeFront, pushEdge, addEdge}
 use Rattle.front.specs.State.{pushQuad, cleared}
 use Rattle.front.specs.Place.{added, idC, idD, pushCorner, addEdges, takeOff, putOn, moveFront, place, edgesAdded, isFull}
 use Rattle.front.specs.Sampling.{cutTurn, parts, sampleSegment, sampleTurn, sampleLoop, midpoint, splitLongest, joinTurn, joinRing, ringCount, ringIn}
@@ -171,17 +171,25 @@ module _ (l : List ℕ) where
       → attemptQuad o size (In s) a b da db ≡ attemptQuad o size s a b da db
   attempt-blind o size s a b da db = sym (attempt-seen (In s) o size a b da db) ∙ attempt-seen s o size a b da db
 
+  -- node places that were lent still are, as far as the list goes
+  pub places-in : (s : State) (m : ℕ) → m ≤ nodePlaces s → m ≤ length l → m ≤ nodePlaces (In s)
+  unfolding nodePlaces
+  places-in s m h long = by _ (length (s .snapshot)) (length l) mostNodes m h long
+    where
+      by : (a p l q m : ℕ) → m ≤ min (min a p) q → m ≤ l → m ≤ min (min a l) q
+      by a p l q m h long = omega arith
+
   -- where the list has places for the nodes, a quad that fits still fits
   fits-in : (s : State) (a b : ℕ) (c d : Corner) → s .counts .nodes + (added c + added d) ≤ length l → isFull s a b c d ≡ false
       → isFull (In s) a b c d ≡ false
-  unfolding isFull nodePlaces quadPlaces edgePlaces edgesAdded hasEdge
+  unfolding isFull quadPlaces edgePlaces edgesAdded hasEdge
   fits-in s a b c d long e =
       let m = s .counts .nodes + added c + added d in
       let rest : Bool =
       ltb (quadPlaces s) (s .counts .quads + 1) || ltb (edgePlaces s) (s .counts .edges + edgesAdded s a b (idD s c d) (idC s c)) in
       let halves = neither (ltb (nodePlaces s) m) rest e in
       let few : m ≤ nodePlaces s = ltb-false (nodePlaces s) m (halves .0) in
-      let still : ltb (nodePlaces (In s)) m ≡ false = le-ltb (nodePlaces (In s)) m (omega arith) in
+      let still : ltb (nodePlaces (In s)) m ≡ false = le-ltb (nodePlaces (In s)) m (places-in s m few (omega arith)) in
       rw still (halves .1)
 
   -- ---- what is reached

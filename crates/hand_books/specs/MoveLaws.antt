@@ -1,5 +1,5 @@
 -- Every state of a sequence is reached from a sampled outline, by placings of the reference. Assumes nothing.
-use mathlib.Core.Bool.{Bool, true, false, cond}
+use mathlib.Core.Bool.{Bool, true, false, _||_, cond}
 use mathlib.Core.List.{List, [], _∷_}
 use mathlib.Core.Path.{_≡_, refl, sym, subst}
 use Prim.Native.Nat.{ℕ, suc, _+_, _≤_}
@@ -30,7 +30,7 @@ use Rattle.stepping.specs.declared.StepOutcome.the-variants.{Placed, None, Full
 use Rattle.stepping.specs.Hand.{handRefusal, Handled, handled, settledOn, placeOn, stepOn}
 use Rattle.stepping.specs.UseLaws.{there-of}
 use Rattle.hand_books.specs.Moves.{withScratch, Move, named, passes, lends, moveOn, movesOn}
-use Rattle.hand_books.specs.Lending.{sampled-blind, reached-in}
+use Rattle.hand_books.specs.Lending.{sampled-blind, places-in, reached-in}
 
 -- ---- a step
 
@@ -94,19 +94,19 @@ from-outline o size lent A = record { lent = lent; accepted = A; reached = recor
 module _ (o : Outline) (size : Float) where
   -- the outline isn't refused in lists of which another has a place for each point sampled
   accepted-in : (l : List ℕ) (lent : State) → Accepted o size lent → sampledCount o size ≤ length l → Accepted o size (withScratch l lent)
-  unfolding frontRefusal nodePlaces edgePlaces
+  unfolding frontRefusal edgePlaces
   accepted-in l lent A h =
       record { doubles = A .doubles; outline = A .outline; front = by (ltb (nodePlaces lent) n) refl (ltb (edgePlaces lent) n) refl (A .front) }
     where
       n : ℕ
       n = sampledCount o size
 
-      by : (p : Bool) → ltb (nodePlaces lent) n ≡ p → (q : Bool) → ltb (edgePlaces lent) n ≡ q → cond {A = ℕ} (cond p true q) 10 0 ≡ 0
+      by : (p : Bool) → ltb (nodePlaces lent) n ≡ p → (q : Bool) → ltb (edgePlaces lent) n ≡ q → cond {A = ℕ} (p || q) 10 0 ≡ 0
           → frontRefusal o size (withScratch l lent) ≡ 0
       by true e q f z = absurd (omega arith)
       by false e true f z = absurd (omega arith)
       by false e false f z =
-          rw (le-ltb (nodePlaces (withScratch l lent)) n (omega (arith, ltb-false (nodePlaces lent) n e, h)), f) refl
+          rw (le-ltb (nodePlaces (withScratch l lent)) n (places-in l lent n (ltb-false (nodePlaces lent) n e) h), f) refl
 
   lent-kept : (l : List ℕ) (t : State) → FromOutline o size t → t .counts .nodes ≤ length l → FromOutline o size (withScratch l t)
   lent-kept l t F h =

@@ -116,15 +116,15 @@ module _ (o : Outline) (size : Float) (field : FieldRecord) (a b : ℕ) (s : Sta
 pub counts-read : (k : Counts) (o : Outline) (size : Float) (field : FieldRecord) (a b : ℕ) (s : State) (w : HandStep)
     → w ≡ stepAnswer o size field a b s → countsLeft k w ≡ countsGiven k (stepNumbers w)
 unfolding stepAnswer
-counts-read k o size field a b s w e = by (handRefusal s a b) refl w e
+counts-read k o size field a b s w e = by (eqb (handRefusal s a b) 0) refl w e
   where
     h : Handled
     h = placeOn o size field a b s
 
-    by : (r : ℕ) → handRefusal s a b ≡ r → (w : HandStep)
-        → w ≡ cond (eqb r 0) (Done (h .outcome) (h .state .counts)) (Refused r) → countsLeft k w ≡ countsGiven k (stepNumbers w)
-    by zero z w e = rw e refl
-    by (suc r) z w e = rw e refl
+    by : (done : Bool) → eqb (handRefusal s a b) 0 ≡ done → (w : HandStep)
+        → w ≡ cond done (Done (h .outcome) (h .state .counts)) (Refused (handRefusal s a b)) → countsLeft k w ≡ countsGiven k (stepNumbers w)
+    by true z w e = rw e refl
+    by false z w e = rw (e, z) refl
 
 -- the same over the lists as they are lent and left, with the counts that the answer gives
 module _ (o : Outline) (size : Float) (field : FieldRecord) (a b : ℕ) (xs ys : List Float) (next prev origins quads edges : List ℕ) (k : Counts)
@@ -163,24 +163,28 @@ module _ (o : Outline) (size : Float) (field : FieldRecord) (a b : ℕ) (s : Sta
 
     pub sight-mesh : {n : ℕ} → w ≡ RefusedSight n → HostPreviews o size field a b s before (refusedPreview n) after
     unfolding previewReply sightRefusal previewAnswer
-    sight-mesh {n} q = record { answer = rw (sym e ∙ z) (by (previewRefusal s (length before / 2) a b) (sym q ∙ T .answer)); list = list-is }
+    sight-mesh {n} q =
+        let m = previewRefusal s (length before / 2) a b in
+        record { answer = rw (sym e ∙ z) (by m (eqb m 0) (sym q ∙ T .answer)); list = list-is }
       where
         h : Handled
         h = placeOn o size field a b s
 
-        by : (m : ℕ) → RefusedSight n ≡ cond (eqb m 0) (Shown (viewOn o size field a b s)) (RefusedSight m)
-            → refusedPreview n ≡ cond (eqb m 0) (copyNumbers s (h .outcome) (h .state)) (refusedPreview m)
-        by zero e = absurd (let z : _≡_ {A = ℕ} 0 1 = cc in omega arith)
-        by (suc m) e = let p : n ≡ suc m = cc in ap refusedPreview p
+        by : (m : ℕ) (passes : Bool) → RefusedSight n ≡ cond passes (Shown (viewOn o size field a b s)) (RefusedSight m)
+            → refusedPreview n ≡ cond passes (copyNumbers s (h .outcome) (h .state)) (refusedPreview m)
+        by m true e = absurd (let z : _≡_ {A = ℕ} 0 1 = cc in omega arith)
+        by m false e = let p : n ≡ m = cc in ap refusedPreview p
 
     -- what is shown isn't refused
     pub shown-passes : {v : View} → w ≡ Shown v → (previewRefusal s (length before / 2) a b ≡ 0) × (v ≡ viewOn o size field a b s)
     unfolding previewAnswer
-    shown-passes {v} q = by (previewRefusal s (length before / 2) a b) (sym q ∙ T .answer)
+    shown-passes {v} q =
+        let m = previewRefusal s (length before / 2) a b in by m (eqb m 0) refl (sym q ∙ T .answer)
       where
-        by : (m : ℕ) → Shown v ≡ cond (eqb m 0) (Shown (viewOn o size field a b s)) (RefusedSight m) → (m ≡ 0) × (v ≡ viewOn o size field a b s)
-        by zero e = (refl, cc)
-        by (suc m) e = absurd (let z : _≡_ {A = ℕ} 0 1 = cc in omega arith)
+        by : (m : ℕ) (passes : Bool) → eqb m 0 ≡ passes → Shown v ≡ cond passes (Shown (viewOn o size field a b s)) (RefusedSight m)
+            → (m ≡ 0) × (v ≡ viewOn o size field a b s)
+        by m true z e = (eqb-true m 0 z, cc)
+        by m false z e = absurd (let z : _≡_ {A = ℕ} 0 1 = cc in omega arith)
 
 -- the same over the lists as they are lent
 module _ (o : Outline) (size : Float) (field : FieldRecord) (a b : ℕ) (xs ys : List Float) (next prev origins quads edges : List ℕ) (k : Counts)

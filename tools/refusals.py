@@ -32,6 +32,9 @@ WORDS = {
          "name every quad of the mesh exactly once, counted from 0"),
     22: ("a quad stands before one that laid a front edge which it used up",
          "move it after every such quad, or keep the order in which the quads were placed"),
+    23: ("the lent mesh isn't sound, or the list for a preview is too short",
+         "hand over lists and counts as the last step left them, and lend two numbers for each front edge and four more"),
+    24: ("the edge isn't on the front", "name a node of the front and the node after it, in that order"),
     26: ("the list is too short for every small quad", "lend four places for each, 14,944 in all"),
 }
 

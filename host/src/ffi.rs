@@ -125,6 +125,37 @@ pub struct SmallQuadsAnswer {
     pub count: usize,
 }
 
+/// What became of the edge (0 placed, 1 none, 2 full, 3 cap), and how many nodes, quads, distinct edges and front edges there are after it. All 0 on
+/// a refusal.
+#[repr(C)]
+#[derive(Clone, Copy, Debug, PartialEq)]
+pub struct StepAnswer {
+    pub refusal: u32,
+    pub outcome: u32,
+    pub nodes: u32,
+    pub quads: usize,
+    pub edges: usize,
+    pub front: usize,
+}
+
+/// What would become of the edge, the quad that would be placed with its new nodes, and how many front edges there would be. All 0 on a refusal.
+#[repr(C)]
+#[derive(Clone, Copy, Debug, PartialEq)]
+pub struct PreviewAnswer {
+    pub refusal: u32,
+    pub outcome: u32,
+    pub a: u32,
+    pub b: u32,
+    pub d: u32,
+    pub c: u32,
+    pub new_nodes: u32,
+    pub cx: f64,
+    pub cy: f64,
+    pub dx: f64,
+    pub dy: f64,
+    pub front: usize,
+}
+
 #[link(name = "sitjorbe", kind = "static")]
 extern "C" {
     pub fn sitjorbe_contains(
@@ -314,4 +345,84 @@ extern "C" {
         pool: *mut u32,
         pool_len: usize,
     ) -> OrderAnswer;
+
+    pub fn sitjorbe_step(
+        outer: *const f64,
+        outer_len: usize,
+        holes: *const f64,
+        holes_len: usize,
+        lens: *const usize,
+        lens_len: usize,
+        size: f64,
+        xmin: f64,
+        ymin: f64,
+        h: f64,
+        nx: usize,
+        ny: usize,
+        values: *const f64,
+        values_len: usize,
+        marks: *const u8,
+        marks_len: usize,
+        xs: *mut f64,
+        xs_len: usize,
+        ys: *mut f64,
+        ys_len: usize,
+        next: *mut u32,
+        next_len: usize,
+        prev: *mut u32,
+        prev_len: usize,
+        origins: *mut u16,
+        origins_len: usize,
+        quads: *mut u32,
+        quads_len: usize,
+        edges: *mut u32,
+        edges_len: usize,
+        node_count: u32,
+        quad_count: usize,
+        edge_count: usize,
+        front_count: usize,
+        a: u32,
+        b: u32,
+    ) -> StepAnswer;
+
+    pub fn sitjorbe_preview(
+        outer: *const f64,
+        outer_len: usize,
+        holes: *const f64,
+        holes_len: usize,
+        lens: *const usize,
+        lens_len: usize,
+        size: f64,
+        xmin: f64,
+        ymin: f64,
+        h: f64,
+        nx: usize,
+        ny: usize,
+        values: *const f64,
+        values_len: usize,
+        marks: *const u8,
+        marks_len: usize,
+        xs: *const f64,
+        xs_len: usize,
+        ys: *const f64,
+        ys_len: usize,
+        next: *const u32,
+        next_len: usize,
+        prev: *const u32,
+        prev_len: usize,
+        origins: *const u16,
+        origins_len: usize,
+        quads: *const u32,
+        quads_len: usize,
+        edges: *const u32,
+        edges_len: usize,
+        node_count: u32,
+        quad_count: usize,
+        edge_count: usize,
+        front_count: usize,
+        a: u32,
+        b: u32,
+        list: *mut u32,
+        list_len: usize,
+    ) -> PreviewAnswer;
 }

@@ -70,6 +70,7 @@ mod queries;
 mod refusal;
 mod small_quads;
 mod sound;
+mod step;
 
 pub use directions::{directions, directions_in};
 pub use exam::{exam_numbers, Asked, Desk, Exam, LentMesh, MaskedReader, Node, Reader, Results, SharedResults};
@@ -82,3 +83,4 @@ pub use queries::{contains, distance_to_boundary, nearest_segment, Outline, Segm
 pub use refusal::Refusal;
 pub use small_quads::small_quads;
 pub use sound::is_sound;
+pub use step::{preview_numbers, step_numbers, Ground, MeshCounts, MeshLists, MeshRead, Outcome, Preview, Stepper};

@@ -52,6 +52,10 @@ pub enum Refusal {
     NotEachOnce = 21,
     /// A presentation order in which a quad stands before one that laid a front edge which it used up.
     TooEarly = 22,
+    /// A lent mesh that isn't sound, or a preview's list that is too short.
+    UnsoundMesh = 23,
+    /// An edge that isn't on the front.
+    NotOnFront = 24,
     /// The lent list is too short for every small quad.
     FoursNeedSpace = 26,
 }
@@ -81,6 +85,8 @@ impl Refusal {
         Refusal::NotAllowed,
         Refusal::NotEachOnce,
         Refusal::TooEarly,
+        Refusal::UnsoundMesh,
+        Refusal::NotOnFront,
         Refusal::FoursNeedSpace,
     ];
 
@@ -167,6 +173,13 @@ impl Refusal {
             Refusal::TooEarly => {
                 "a quad stands before one that laid a front edge which it used up: move it after every such quad, or keep the \
                  order in which the quads were placed"
+            }
+            Refusal::UnsoundMesh => {
+                "the lent mesh isn't sound, or the list for a preview is too short: hand over lists and counts as the last step \
+                 left them, and lend two numbers for each front edge and four more"
+            }
+            Refusal::NotOnFront => {
+                "the edge isn't on the front: name a node of the front and the node after it, in that order"
             }
             Refusal::FoursNeedSpace => {
                 "the list is too short for every small quad: lend four places for each, 14,944 in all"

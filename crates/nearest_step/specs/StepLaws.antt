@@ -8,11 +8,12 @@ use native.Mathlib.Nat.{div-eq-of-lt, mod-eq-of-lt, div-eq-of-lt-le, mul-div-mul
 use native.Mathlib.Nat.{lt-of-lt-of-le, not-le-of-lt}
 use native.Mathlib.Omega.{arith}
 use lib.Dec.{T, ltb, leb, eqb, lit<}
-use lib.IntN.{ℤ, pos, negsuc, negℤ, natAbs, _-ℤ_, _*ℤ_, pos-+ℤ-pos, pos-*ℤ-pos, +ℤ-negℤ-cancel, negℤ-+ℤ, +ℤ-assoc, +ℤ-invr}
+use lib.IntN.{ℤ, pos, negsuc, negℤ, natAbs, _-ℤ_, _*ℤ_, pos-+ℤ-pos, pos-*ℤ-pos, negℤ-+ℤ, +ℤ-assoc, +ℤ-invr}
 use lib.Pow.{pow-pos, pow-mono, pow-add, shl-lt, shl-exact}
 use lib.Ieee.{Float}
 use borrow.Author.Tests.{lt-ltb, le-ltb, ltb-true, ltb-false, eq-eqb, ne-eqb, eqb-true, eqb-false, leb-true, leb-false}
 use Rattle.laws.specs.Integer.{*ℤ-negℤ, negℤ-unique}
+use Rattle.laws.specs.Certificate.{sub-pos}
 use Rattle.numbers.specs.declared.Parts.{Parts}
 use Rattle.numbers.specs.TakenApart.{IsParts}
 use Rattle.exact.specs.Units.{W, W-pos, Val, Within, signed, signOf, sizeOf, units, size-val, sign-val, within-size}
@@ -52,15 +53,10 @@ nearest-near t w h = by (ltb w (2 * (t % w))) refl (eqb (2 * (t % w)) w) refl (e
 
 -- ---- no coordinate moves by more than 1/128
 
-natAbs-neg : (z : ℤ) → natAbs (negℤ z) ≡ natAbs z
+pub natAbs-neg : (z : ℤ) → natAbs (negℤ z) ≡ natAbs z
 natAbs-neg (pos zero) = refl
 natAbs-neg (pos (suc n)) = refl
 natAbs-neg (negsuc n) = refl
-
-minus : (m n : ℕ) → n ≤ m → pos m -ℤ pos n ≡ pos (m - n)
-minus m n h =
-    let back : m - n + n ≡ m = omega arith in
-    ap (λ (z : ℤ). z -ℤ pos n) (ap pos (sym back) ∙ sym (pos-+ℤ-pos (m - n) n)) ∙ +ℤ-negℤ-cancel (pos (m - n)) (pos n)
 
 minus-under : (m n : ℕ) → m ≤ n → pos m -ℤ pos n ≡ negℤ (pos (n - m))
 minus-under m n h =
@@ -69,11 +65,12 @@ minus-under m n h =
     (sym (+ℤ-assoc (pos (n - m)) (pos m) (negℤ (pos n)))
     ∙ (ap (λ (z : ℤ). z -ℤ pos n) (pos-+ℤ-pos (n - m) m ∙ ap pos back) ∙ +ℤ-invr (pos n)))
 
-apart : (m n d : ℕ) → m ≤ n + d → n ≤ m + d → natAbs (pos m -ℤ pos n) ≤ d
+-- two sizes that differ by at most d
+pub apart : (m n d : ℕ) → m ≤ n + d → n ≤ m + d → natAbs (pos m -ℤ pos n) ≤ d
 apart m n d h k = by (leb n m) refl
   where
     by : (t : Bool) → leb n m ≡ t → natAbs (pos m -ℤ pos n) ≤ d
-    by true e = rw (minus m n (leb-true n m e)) (omega arith)
+    by true e = rw (sub-pos n m (leb-true n m e)) (omega arith)
     by false e = let less : m ≤ n = omega (arith, leb-false n m e) in rw (minus-under m n less, natAbs-neg (pos (n - m))) (omega arith)
 
 moved-size : (a k w : ℕ) → NearHalf (64 * a) w k → natAbs (pos 128 *ℤ pos a -ℤ pos (2 * w) *ℤ pos k) ≤ w
@@ -107,6 +104,14 @@ few-steps a w h few =
     let twice : 2 * k * w ≤ 128129 * w = omega (arith, N .above, mul-assoc 2 k w, mul-comm k w) in
     let less : 2 * k ≤ 128129 = le-of-mul-le-mul-right twice h in
     omega arith
+
+natAbs-signed : (s : Bool) (a : ℕ) → natAbs (signed s a) ≡ a
+natAbs-signed false a = refl
+natAbs-signed true a = natAbs-neg (pos a)
+
+pub step-few : {x : Float} → Within 1001 x → natAbs (nearestStep x) ≤ 64064
+unfolding nearestStep
+step-few {x} w = rw (natAbs-signed (signOf x) (nearestWhole (64 * sizeOf x) W)) (few-steps (sizeOf x) W W-pos (within-size w))
 
 -- ---- a common factor
 

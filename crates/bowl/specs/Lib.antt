@@ -1,3 +1,4 @@
 pub mod Steps
 pub mod Stepped
 pub mod StepsLaws
+pub mod GivenLaws

@@ -64,7 +64,7 @@ stepsAnswer s places =
 -- ---- the step buffer
 
 -- node i's steps are stored
-abbrev pub storeTurn : List Float → List Float → ℕ → List ℤ → List ℤ
+unfoldable pub storeTurn : List Float → List Float → ℕ → List ℤ → List ℤ
 storeTurn xs ys i steps = set (set steps (2 * i) (nearestStep (getD xs i nan))) (2 * i + 1) (nearestStep (getD ys i nan))
 
 -- those of n nodes

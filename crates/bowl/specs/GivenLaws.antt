@@ -111,8 +111,7 @@ module _ (s : State) (lent : List ℤ) (r : StepsAnswer) (answer : r ≡ stepsAn
         answer = answer;
         steps = e ∙ rw (eq-eqb (r .refusal) 0 none) refl;
         near =
-            λ z i h.
-            (
+            λ z i h. (
               near-of _ _ (ap (λ (l : List ℤ). getD l (2 * i) (pos 0)) e ∙ stored-x (s .xs) (s .ys) lent n enough i h),
               near-of _ _ (ap (λ (l : List ℤ). getD l (2 * i + 1) (pos 0)) e ∙ stored-y (s .xs) (s .ys) lent n enough i h),
             );

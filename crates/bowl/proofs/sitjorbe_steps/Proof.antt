@@ -27,8 +27,7 @@ store-steps-requires c κs =
     let at-ys = answered .before .before .before .before .before .before in
     let at-xs = at-ys .before in
     let start = at-xs .before in
-    let given = given-passes (lent start) _ (ap (λ (r : StepsAnswer). r .refusal) (sym (answered .steps-answer .ensures)) ∙ c .before .if1 .taken) in
-    (
+    let given = given-passes (lent start) _ (ap (λ (r : StepsAnswer). r .refusal) (sym (answered .steps-answer .ensures)) ∙ c .before .if1 .taken) in (
       nodes-within (start .args .xs .now) (start .args .ys .now) (start .args .next .now) (start .args .prev .now) (start .args .origins .now)
           (start .args .quads .now) (start .args .edges .now) (countsOf start) (λ i h. at-xs .shared-slice-known .given i)
           (λ i h. at-ys .shared-slice-known2 .given i) (given .0),

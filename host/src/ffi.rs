@@ -102,6 +102,14 @@ pub struct EstimateAnswer {
     pub estimate: u32,
 }
 
+/// `quad` is the lowest quad that the bowl can't show, on refusal 25; else 0.
+#[repr(C)]
+#[derive(Clone, Copy, Debug)]
+pub struct StepsAnswer {
+    pub refusal: u32,
+    pub quad: usize,
+}
+
 /// `count` is how many fours are listed, 0 on a refusal.
 #[repr(C)]
 #[derive(Clone, Copy, Debug)]
@@ -292,4 +300,27 @@ extern "C" {
         pool: *mut u32,
         pool_len: usize,
     ) -> OrderAnswer;
+
+    pub fn sitjorbe_steps(
+        xs: *const f64,
+        xs_len: usize,
+        ys: *const f64,
+        ys_len: usize,
+        next: *const u32,
+        next_len: usize,
+        prev: *const u32,
+        prev_len: usize,
+        origins: *const u16,
+        origins_len: usize,
+        quads: *const u32,
+        quads_len: usize,
+        edges: *const u32,
+        edges_len: usize,
+        node_count: u32,
+        quad_count: usize,
+        edge_count: usize,
+        front_count: usize,
+        steps: *mut i32,
+        steps_len: usize,
+    ) -> StepsAnswer;
 }

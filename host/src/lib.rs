@@ -45,6 +45,11 @@
 //! assert_eq!(check_order(44, &quads, &order), Ok(()));
 //! assert!(check_order(44, &quads, &order[1..]).is_err());
 //!
+//! // For the motor bowl: the nodes in whole steps of 1/64 degree, and as the degrees that these are.
+//! let steps = mesh.steps()?;
+//! assert_eq!(steps.counts().nth(1), Some([64, 0]));
+//! assert_eq!(steps.degrees().nth(1), Some([1.0, 0.0]));
+//!
 //! // A refusal says what is wrong and what to do about it.
 //! let refusal = contains(&outline, [f64::NAN, 0.0]).unwrap_err();
 //! assert_eq!(refusal, Refusal::NotFinite);
@@ -61,6 +66,7 @@ mod queries;
 mod refusal;
 mod small_quads;
 mod sound;
+mod steps;
 mod thresholds;
 
 pub use estimates::{estimate, MOST_WEIGHT};
@@ -71,4 +77,5 @@ pub use queries::{contains, distance_to_boundary, nearest_segment, NearestSegmen
 pub use refusal::Refusal;
 pub use small_quads::small_quads;
 pub use sound::is_sound;
+pub use steps::{steps, steps_numbers, MeshCounts, MeshRead, NotShown, Steps, STEPS_PER_DEGREE};
 pub use thresholds::{LentMesh, Results, Thresholds, MOST_THRESHOLD, NO_THRESHOLD};

@@ -48,13 +48,17 @@ pub enum Refusal {
     NotEachOnce = 21,
     /// A presentation order in which a quad stands before one that laid a front edge which it used up.
     TooEarly = 22,
+    /// A lent mesh that isn't sound, or a list lent beside it that is too short.
+    UnsoundMesh = 23,
+    /// A quad that doesn't turn left at all four corners in steps of the bowl.
+    NotShown = 25,
     /// The lent list is too short for every small quad.
     FoursNeedSpace = 26,
 }
 
 impl Refusal {
     /// Every refusal, in the order of the numbers.
-    pub const ALL: [Refusal; 21] = [
+    pub const ALL: [Refusal; 23] = [
         Refusal::Lists,
         Refusal::ShortLoop,
         Refusal::NotFinite,
@@ -75,6 +79,8 @@ impl Refusal {
         Refusal::WeightTooHigh,
         Refusal::NotEachOnce,
         Refusal::TooEarly,
+        Refusal::UnsoundMesh,
+        Refusal::NotShown,
         Refusal::FoursNeedSpace,
     ];
 
@@ -153,6 +159,14 @@ impl Refusal {
             Refusal::TooEarly => {
                 "a quad stands before one that laid a front edge which it used up: move it after every such quad, or keep the \
                  order in which the quads were placed"
+            }
+            Refusal::UnsoundMesh => {
+                "the lent mesh isn't sound, or the list for its steps is too short: hand over lists and counts as a run left them, \
+                 with every coordinate within 1,001 either way, and lend two places a node for steps"
+            }
+            Refusal::NotShown => {
+                "a quad doesn't turn left at all four corners in steps of 1/64 degree, so the bowl can't show it: set a larger \
+                 size, or draw the outline so that no part of it is narrower than a step"
             }
             Refusal::FoursNeedSpace => {
                 "the list is too short for every small quad: lend four places for each, 14,944 in all"

@@ -32,9 +32,11 @@ WORDS = {
          "name every quad of the mesh exactly once, counted from 0"),
     22: ("a quad stands before one that laid a front edge which it used up",
          "move it after every such quad, or keep the order in which the quads were placed"),
-    23: ("the lent mesh isn't sound, or the list for a preview is too short",
-         "hand over lists and counts as the last step left them, and lend two numbers for each front edge and four more"),
+    23: ("the lent mesh isn't sound, or the list lent beside it is too short",
+         "hand over lists and counts as a run or the last step left them, with every coordinate within 1,001 either way; lend two numbers for each front edge and four more for a preview, and two places a node for steps"),
     24: ("the edge isn't on the front", "name a node of the front and the node after it, in that order"),
+    25: ("a quad doesn't turn left at all four corners in steps of 1/64 degree, so the bowl can't show it",
+         "set a larger size, or draw the outline so that no part of it is narrower than a step"),
     26: ("the list is too short for every small quad", "lend four places for each, 14,944 in all"),
 }
 

@@ -1,4 +1,12 @@
-//! The library's entries as they cross: the `extern "C"` functions of all crates, with each slice as two parameters, pointer and
+//! The library's entries as they cross: the `/// `quad` is the lowest quad that the bowl can't show, on refusal 25; else 0.
+#[repr(C)]
+#[derive(Clone, Copy, Debug)]
+pub struct StepsAnswer {
+    pub refusal: u32,
+    pub quad: usize,
+}
+
+extern "C"` functions of all crates, with each slice as two parameters, pointer and
 //! length, in the order of the Rattle signature, and a reference to a number as its pointer. tests/signatures.rs holds this file
 //! against their source.
 //!
@@ -425,4 +433,27 @@ extern "C" {
         list: *mut u32,
         list_len: usize,
     ) -> PreviewAnswer;
+
+    pub fn sitjorbe_steps(
+        xs: *const f64,
+        xs_len: usize,
+        ys: *const f64,
+        ys_len: usize,
+        next: *const u32,
+        next_len: usize,
+        prev: *const u32,
+        prev_len: usize,
+        origins: *const u16,
+        origins_len: usize,
+        quads: *const u32,
+        quads_len: usize,
+        edges: *const u32,
+        edges_len: usize,
+        node_count: u32,
+        quad_count: usize,
+        edge_count: usize,
+        front_count: usize,
+        steps: *mut i32,
+        steps_len: usize,
+    ) -> StepsAnswer;
 }

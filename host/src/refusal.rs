@@ -52,17 +52,19 @@ pub enum Refusal {
     NotEachOnce = 21,
     /// A presentation order in which a quad stands before one that laid a front edge which it used up.
     TooEarly = 22,
-    /// A lent mesh that isn't sound, or a preview's list that is too short.
+    /// A lent mesh that isn't sound, or a list lent beside it that is too short.
     UnsoundMesh = 23,
     /// An edge that isn't on the front.
     NotOnFront = 24,
+    /// A quad that doesn't turn left at all four corners in steps of the bowl.
+    NotShown = 25,
     /// The lent list is too short for every small quad.
     FoursNeedSpace = 26,
 }
 
 impl Refusal {
     /// Every refusal, in the order of the numbers.
-    pub const ALL: [Refusal; 23] = [
+    pub const ALL: [Refusal; 26] = [
         Refusal::Lists,
         Refusal::ShortLoop,
         Refusal::NotFinite,
@@ -87,6 +89,7 @@ impl Refusal {
         Refusal::TooEarly,
         Refusal::UnsoundMesh,
         Refusal::NotOnFront,
+        Refusal::NotShown,
         Refusal::FoursNeedSpace,
     ];
 
@@ -175,11 +178,16 @@ impl Refusal {
                  order in which the quads were placed"
             }
             Refusal::UnsoundMesh => {
-                "the lent mesh isn't sound, or the list for a preview is too short: hand over lists and counts as the last step \
-                 left them, and lend two numbers for each front edge and four more"
+                "the lent mesh isn't sound, or the list lent beside it is too short: hand over lists and counts as a run or the last step \
+                 left them, with every coordinate within 1,001 either way; lend two numbers for each front edge and four more for a preview, \
+                 and two places a node for steps"
             }
             Refusal::NotOnFront => {
                 "the edge isn't on the front: name a node of the front and the node after it, in that order"
+            }
+            Refusal::NotShown => {
+                "a quad doesn't turn left at all four corners in steps of 1/64 degree, so the bowl can't show it: set a larger \
+                 size, or draw the outline so that no part of it is narrower than a step"
             }
             Refusal::FoursNeedSpace => {
                 "the list is too short for every small quad: lend four places for each, 14,944 in all"

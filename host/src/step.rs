@@ -75,7 +75,7 @@ pub struct MeshLists<'a> {
     pub edges: &'a mut [u32],
 }
 
-/// A mesh's lists, lent to a preview, which only reads them.
+/// A mesh's lists, which are only read. Any slices may be lent; those that don't hold a sound mesh are refused.
 #[derive(Clone, Copy, Debug)]
 pub struct MeshRead<'a> {
     pub xs: &'a [f64],

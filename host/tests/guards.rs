@@ -6,8 +6,8 @@ use common::blocks::Block;
 use common::exam::ExamLists;
 use common::{by_kind, list_lengths, refused, said, used, Drawing, FieldPlaces, Lengths, Lent, Raw, RunPlaces, LISTS};
 use sitjorbe::{
-    check_order_in, direction, directions_in, ffi, least_places, pave, small_quads, Asked, FieldRecord, Lists, Memory, NotAccepted, Outline, Places, Refusal,
-    Settings, OFF,
+    check_order_in, direction, directions_in, ffi, least_places, pave, small_quads, steps, Asked, FieldRecord, Lists, Memory, MeshCounts, MeshRead,
+    NotAccepted, Outline, Places, Refusal, Settings, OFF,
 };
 
 /// Drawings and points that are accepted and refused.
@@ -328,6 +328,57 @@ fn an_order_is_read_and_written_within_its_lists() {
                 let found = check_order_in(count, quads.list(), order.list(), places.list_mut(), pool.list_mut());
                 assert_eq!(found, expected, "{count} {:?}", order.list());
             }
+        }
+    }
+}
+
+/// A mesh in read-only memory, and step buffers of several lengths in memory of their own, each between pages that can't be touched: meshes
+/// that can be shown and can't, with counts that fit and counts beyond the lists. The answers must be those of ordinary memory.
+#[cfg(target_os = "linux")]
+#[test]
+fn steps_are_read_and_written_within_their_lists() {
+    let (xs, ys) = ([0.0, 1.0, 1.0, 0.0, 2.0], [0.0, 0.0, 1.0, 1.0, 0.5]);
+    let (next, prev, origins) = ([u32::MAX, u32::MAX, 3, 4, 2], [u32::MAX, u32::MAX, 4, 2, 3], [0u16; 5]);
+    let (quads, edges) = ([0, 1, 2, 3, 0, 3, 2, 1, 9], [0, 1, 2, 3, 4]);
+    let counts = |nodes, quads, edges, front| MeshCounts { nodes, quads, edges, front };
+    for counts in [
+        counts(5, 1, 2, 3),
+        counts(5, 0, 0, 3),
+        counts(5, 2, 2, 3),
+        counts(5, 3, 2, 3),
+        counts(5, 1, 3, 3),
+        counts(6, 1, 2, 3),
+        counts(0, 0, 0, 0),
+        counts(u32::MAX, usize::MAX, usize::MAX, usize::MAX),
+    ] {
+        for (places, side) in (0..12).flat_map(|places| [(places, pages::Side::Start), (places, pages::Side::End)]) {
+            let mesh = MeshRead {
+                xs: &xs,
+                ys: &ys,
+                next: &next,
+                prev: &prev,
+                origins: &origins,
+                quads: &quads,
+                edges: &edges,
+            };
+            let mut usual = vec![7; places];
+            let expected = steps(&mesh, counts, &mut usual);
+            let [xs, ys] = [xs, ys].map(|list| pages::Pages::read_only(&list, side));
+            let [next, prev] = [next, prev].map(|list| pages::Pages::read_only(&list, side));
+            let origins = pages::Pages::read_only(&origins, side);
+            let (quads, edges) = (pages::Pages::read_only(&quads, side), pages::Pages::read_only(&edges, side));
+            let mesh = MeshRead {
+                xs: xs.list(),
+                ys: ys.list(),
+                next: next.list(),
+                prev: prev.list(),
+                origins: origins.list(),
+                quads: quads.list(),
+                edges: edges.list(),
+            };
+            let mut lent = pages::Pages::writable(&vec![7; places], side);
+            assert_eq!(steps(&mesh, counts, lent.list_mut()), expected, "{counts:?} {places}");
+            assert_eq!(lent.list(), usual, "{counts:?} {places}");
         }
     }
 }

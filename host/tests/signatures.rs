@@ -86,7 +86,7 @@ impl Declared {
         }
         for (name, kind) in self.functions.values().chain(self.structs.values()).flatten() {
             let scalar = kind.strip_prefix("*const ").or(kind.strip_prefix("*mut ")).unwrap_or(kind);
-            let known = ["bool", "u8", "u16", "u32", "u64", "usize", "f64"].contains(&scalar)
+            let known = ["bool", "u8", "u16", "u32", "u64", "i32", "usize", "f64"].contains(&scalar)
                 || self.structs.contains_key(kind);
             if !known {
                 found.push(format!("{name}: {kind} isn't a type that crosses"));

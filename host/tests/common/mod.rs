@@ -7,6 +7,7 @@ pub mod exam;
 pub mod origins;
 pub mod rng;
 pub mod sound;
+pub mod steps;
 pub mod whole;
 
 use std::hint::black_box;
@@ -107,6 +108,14 @@ impl Place for u32 {
     const FILL: u32 = 0xa5a5_a5a5;
     fn bits(self) -> u64 {
         u64::from(self)
+    }
+}
+
+impl Place for i32 {
+    const GUARD: i32 = 0x5afe_5afe;
+    const FILL: i32 = -0x5a5a_5a5a;
+    fn bits(self) -> u64 {
+        u64::from(self as u32)
     }
 }
 

@@ -1,12 +1,4 @@
-//! The library's entries as they cross: the `/// `quad` is the lowest quad that the bowl can't show, on refusal 25; else 0.
-#[repr(C)]
-#[derive(Clone, Copy, Debug)]
-pub struct StepsAnswer {
-    pub refusal: u32,
-    pub quad: usize,
-}
-
-extern "C"` functions of all crates, with each slice as two parameters, pointer and
+//! The library's entries as they cross: the `extern "C"` functions of all crates, with each slice as two parameters, pointer and
 //! length, in the order of the Rattle signature, and a reference to a number as its pointer. tests/signatures.rs holds this file
 //! against their source.
 //!
@@ -165,6 +157,14 @@ pub struct PreviewAnswer {
 }
 
 #[link(name = "sitjorbe", kind = "static")]
+/// `quad` is the lowest quad that the bowl can't show, on refusal 25; else 0.
+#[repr(C)]
+#[derive(Clone, Copy, Debug)]
+pub struct StepsAnswer {
+    pub refusal: u32,
+    pub quad: usize,
+}
+
 extern "C" {
     pub fn sitjorbe_contains(
         outer: *const f64,

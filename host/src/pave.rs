@@ -210,6 +210,11 @@ impl<'a> Mesh<'a> {
         self.quads
     }
 
+    /// The ids of all edges, two an edge, as they were lent.
+    pub(crate) fn edge_ids(&self) -> &'a [u32] {
+        self.edges
+    }
+
     /// Each quad's ids a, b, d, c, in the order in which the quads were placed.
     pub fn quads(&self) -> impl ExactSizeIterator<Item = [u32; 4]> + Clone + 'a {
         self.quads.chunks_exact(4).map(|quad| [quad[0], quad[1], quad[2], quad[3]])

@@ -12,9 +12,13 @@ from common import ROOT, SQUARE, SQUARE_LISTING, TOOLS, run
 import listings
 import outlines
 from outlines import Settings, Unusable
-from refusals import Refused, WORDS, in_words
+from refusals import Refused, in_words
 
 OPEN = SQUARE_LISTING.replace("mesh 9 4 2 still whole", "mesh 9 3 4 full open").replace("q 5 6 7 8\n", "l 5 6 7 8\n")
+# a blind spot in the square, and the listing with its points
+HOLE = "\n0.5,0.5\n0.5,1.5\n1.5,1.5\n"
+HOLED = SQUARE_LISTING.replace("mesh 9", "mesh 12").replace(
+    "q 0 1 8 7", "n 3fe0000000000000 3fe0000000000000\nn 3fe0000000000000 3ff8000000000000\nn 3ff8000000000000 3ff8000000000000\nq 0 1 8 7")
 
 # the outline is unsound, and no loop is left
 UNSOUND = SQUARE_LISTING.replace("still whole", "still open")
@@ -35,8 +39,8 @@ class Reading(unittest.TestCase):
         read = listings.read(UNSOUND)
         self.assertEqual((len(read.quads), read.front, read.whole, read.loops), (4, 2, False, []))
 
-    def test_every_refusal(self):
-        for number in WORDS:
+    def test_every_refusal_that_is_printed(self):
+        for number in listings.PRINTED:
             with self.assertRaises(Refused) as caught:
                 listings.read(f"refused {number}\n")
             self.assertEqual(str(caught.exception), in_words(number))
@@ -47,7 +51,7 @@ class Reading(unittest.TestCase):
         self.assertIn(message, str(caught.exception))
 
     def test_what_is_no_listing(self):
-        for text in ("", "\n", "refused 14\n", "refused\n", "refused x\n", "mesh 9 4 2 still\n", "mesh 9 4 2 done whole\n", "mesh 9 4 2 still closed\n"):
+        for text in ("", "\n", "refused 11\n", "refused 14\n", "refused\n", "refused x\n", "mesh 9 4 2 still\n", "mesh 9 4 2 done whole\n", "mesh 9 4 2 still closed\n"):
             self.wrong(text, "line 1: a listing begins with 'mesh'")
         self.wrong("mesh -9 4 2 still whole\n", "line 1: a whole number is wanted: -9")
         self.wrong("mesh 0 0 0 still whole\n", "line 1: 0 nodes and 0 quads are promised, and 0 lines follow")
@@ -198,15 +202,40 @@ class Drawing(unittest.TestCase):
         self.assertAlmostEqual(bx - ax, ay - cy, delta=0.02)
 
     def test_the_outline_as_the_program_read_it(self):
-        hole = "\n0.5,0.5\n0.5,1.5\n1.5,1.5\n"
-        listing = SQUARE_LISTING.replace("mesh 9", "mesh 12").replace(
-            "q 0 1 8 7", "n 3fe0000000000000 3fe0000000000000\nn 3fe0000000000000 3ff8000000000000\nn 3ff8000000000000 3ff8000000000000\nq 0 1 8 7")
-        blocks = outlines.to_blocks(outlines.read_points(SQUARE + hole), Settings(1.0, 400, 1))
-        for outline in (self.file("it.outline", blocks), self.file("it.csv", SQUARE + hole)):
-            paths, texts = self.drawn(listing, "--outline", outline)
+        blocks = outlines.to_blocks(outlines.read_points(SQUARE + HOLE), Settings(1.0, 400, 1))
+        for outline in (self.file("it.outline", blocks), self.file("it.csv", SQUARE + HOLE)):
+            paths, texts = self.drawn(HOLED, "--outline", outline)
             self.assertEqual((paths["outline"][0].count("Z"), paths["blind"][0].count("Z")), (2, 1))
             self.assertIn("blind spot", texts)
             self.assertEqual("Size 1°, 400 sweeps, 1 pass allowed." in texts, outline.suffix == ".outline")
+
+    def test_an_edge_is_lit(self):
+        blocks = outlines.to_blocks(outlines.read_points(SQUARE + HOLE), Settings(1.0, 400, 1))
+        for outline in (self.file("it.outline", blocks), self.file("it.csv", SQUARE + HOLE)):
+            rings = self.drawn(HOLED, "--outline", outline)[0]["outline"][0].split("Z")
+            corners = [ring.strip().removeprefix("M").split(" ") for ring in rings[:2]]
+            for loop, segment, words in ((0, 0, "Edge 0 of the outline is lit, from (0, 0) to (2, 0)."),
+                                         (0, 3, "Edge 3 of the outline is lit, from (0, 2) to (0, 0)."),
+                                         (1, 1, "Edge 1 of blind spot 1 is lit, from (0.5, 1.5) to (1.5, 1.5)."),
+                                         (1, 2, "Edge 2 of blind spot 1 is lit, from (1.5, 1.5) to (0.5, 0.5).")):
+                paths, texts = self.drawn(HOLED, "--outline", outline, "--edge", f"{loop},{segment}")
+                ends = corners[loop][segment], corners[loop][(segment + 1) % len(corners[loop])]
+                self.assertEqual((len(paths["edge"]), paths["edge"][0]), (2, "M{}L{}".format(*ends)), "and one in the legend")
+                self.assertTrue({words, "edge"} <= set(texts))
+        paths, texts = self.drawn(HOLED, "--outline", outline)
+        self.assertFalse("edge" in paths or "edge" in texts)
+
+    def test_an_edge_that_isnt_there(self):
+        outline = self.file("it.csv", SQUARE + HOLE)
+        for words, message in (("2,0", "there is no loop 2: the outline has 2 loops, counted from 0"),
+                               ("0,4", "loop 0 has no segment 4: it has 4 segments, counted from 0"),
+                               ("1,3", "loop 1 has no segment 3: it has 3 segments, counted from 0"),
+                               *((words, f"an edge is LOOP,SEGMENT, two whole numbers that count from 0: {words}")
+                                 for words in ("", "1", "1,", "1,2,3", "1, 2", "0x1,2", "٠,1", "1" * 5_000 + ",1"))):
+            self.assertEqual(self.draw(HOLED, "--outline", outline, "--edge", words), (2, b"", f"picture: {message}\n"))
+        status, data, said = self.draw(HOLED, "--edge", "0,0")
+        self.assertEqual((status, data), (2, b""))
+        self.assertIn("--edge needs --outline: a listing has no outline", said)
 
     def test_another_outline_is_not_drawn(self):
         other = self.file("other.csv", SQUARE.replace("2,2", "2,2.5"))
@@ -219,7 +248,7 @@ class Drawing(unittest.TestCase):
         self.assertEqual(self.draw(SQUARE_LISTING, "--outline", damaged), (1, b"", f"picture: {in_words(12)} (block 2)\n"))
 
     def test_a_refusal_is_said_in_words(self):
-        for number in WORDS:
+        for number in listings.PRINTED:
             self.assertEqual(self.draw(f"refused {number}\n"), (1, b"", f"picture: {in_words(number)}\n"))
 
     def test_what_cant_be_read(self):

@@ -16,9 +16,12 @@ use Rattle.front.specs.FrameLaws.{frame-trans}
 use Rattle.paving.specs.declared.End.{End}
 use Rattle.paving.specs.declared.End.the-variants.{Still, Passes, Cap, Full}
 use Rattle.paving.specs.Advance.{Paved, mostQuads, advance}
+use Rattle.paving.specs.Reach.{Reaches}
 use Rattle.paving.specs.ReachLaws.{Reached, advance-reaches}
 use Rattle.whole_run.specs.Run.{runRefusal, runOf}
+use Rattle.books.specs.Book.{startBook}
 use Rattle.books.specs.Holds.{BooksHold}
+use Rattle.books.specs.Areas.{FrontJoins}
 use Rattle.sampled.specs.Outlines.{outline-three}
 use Rattle.sampled.specs.Begun.{Begun, begun}
 use Rattle.sampled.specs.Starts.{starts}
@@ -27,6 +30,7 @@ use Rattle.bounded.specs.Nodes.{AllNodes}
 use Rattle.bounded.specs.Placed.{placement-holds}
 use Rattle.bounded.specs.Run.{run-bounded}
 use Rattle.books_hold.specs.Stages.{Start, QuadsTurn, standing}
+use Rattle.books_hold.specs.Areas.{start-joins}
 use Rattle.books_hold.specs.Assembled.{reached-hold}
 use Rattle.books_hold.specs.Ends.{Ended}
 use Rattle.books_hold.specs.EndLaws.{advance-ends}
@@ -66,23 +70,31 @@ module _ (o : Outline) (size : Float) (lent : State) (A : Accepted o size lent) 
   abbrev loops : List (List ℕ)
   loops = boundaryLoops o size lent
 
-  begins : Begun o (sampledCount o size) lent sampled loops
+  pub begins : Begun o (sampledCount o size) lent sampled loops
   begins = begun o size lent (outline-three o (A .outline)) (A .front)
 
-  start : Start o size sampled loops
+  pub start : Start o size sampled loops
   start = record { sound = begins .sound; matches = starts o size lent (outline-three o (A .outline)) (A .front); none = begins .quadCount }
 
-  turns : QuadsTurn o size sampled
+  -- so areas balance in any measure where the book goes through: `areas-balance`
+  pub sampled-joins : FrontJoins (startBook o size)
+  sampled-joins = start-joins o size sampled loops start
+
+  pub turns : QuadsTurn o size sampled
   turns k t a b c d r P =
       placement-holds o (A .doubles) (A .outline) (standing (start .sound) r .sound)
       (run-bounded o size (A .doubles) (A .outline) lent (A .front) r) P
+
+  -- the books of every state that is reached, by passes or by hand
+  pub reached-holds : {k : ℕ} {t : State} → Reaches o size sampled k t → BooksHold o size t
+  reached-holds r = reached-hold o size sampled loops start (begins .loops) turns r
 
   module _ (field : FieldRecord) (n : ℕ) where
     reached : Reached o size sampled (advance o size field n sampled .state)
     reached = advance-reaches o size sampled field n
 
     pub advance-holds : BooksHold o size (advance o size field n sampled .state)
-    advance-holds = reached-hold o size sampled loops start (begins .loops) turns (reached .by)
+    advance-holds = reached-holds (reached .by)
 
     pub advance-facts : RunFacts o size field n lent (advance o size field n sampled)
     advance-facts =

@@ -8,6 +8,7 @@ use native.Mathlib.Omega.{arith}
 use lib.ListN.{length, getD, take, drop, length-append, length-drop}
 use lib.Seq.{length-take-le}
 use lib.Ieee.{Float}
+use Rattle.laws.specs.Overlay.{overlay, overlay-length}
 use Rattle.laws.specs.Tabulate.{tabulate-length, tabulate-at}
 use Rattle.laws.specs.Sums.{sum-term}
 use Rattle.domain.specs.declared.Settings.{Settings}
@@ -19,7 +20,7 @@ use Rattle.outline_file.specs.declared.Head.{Head}
 use Rattle.outline_file.specs.declared.FileAnswer.{FileAnswer}
 use Rattle.outline_file.specs.declared.FileAnswer.the-variants.{Refused, Read}
 use Rattle.outline_file.specs.File.{blockAt, headLoops, headLength, headPoints, coordinateAt, filePoints, fileRefusal, Request, requestOf, outlineOf}
-use Rattle.outline_file.specs.File.{headOf, overlay, Reading, reading, readAs, readFile}
+use Rattle.outline_file.specs.File.{headOf, Reading, reading, readAs, readFile}
 use Rattle.outline_file.specs.ReadLaws.{accepted}
 use Rattle.outline_file.specs.Lent.{lent-outline}
 use Rattle.outline_file.specs.Enough.{enough}
@@ -115,10 +116,6 @@ asked file e =
       loops = rw lengths (sound .few);
     }
 
-overlaid : {A : Type 0} (l s : List A) → length l ≤ length s → length (overlay l s) ≡ length s
-unfolding overlay
-overlaid l s h = omega (arith, length-append l (drop (length l) s), length-drop (length l) s)
-
 module _ (q : Request) (a : Asked q) (points : List Float) (lens : List ℕ) where
   held : length points ≡ 496 → length lens ≡ 8 → Held (overlay (q .coordinates) points) (overlay (q .lengths) lens) (headOf q)
   unfolding headOf
@@ -127,8 +124,8 @@ module _ (q : Request) (a : Asked q) (points : List Float) (lens : List ℕ) whe
     few = omega (arith, a .few);
     some = a .some;
     loops = a .loops;
-    point-places = overlaid (q .coordinates) points (omega (arith, a .few)) ∙ long;
-    lens-places = overlaid (q .lengths) lens (omega (arith, a .loops)) ∙ longs;
+    point-places = overlay-length (q .coordinates) points (omega (arith, a .few)) ∙ long;
+    lens-places = overlay-length (q .lengths) lens (omega (arith, a .loops)) ∙ longs;
   }
 
 -- ---- what was read

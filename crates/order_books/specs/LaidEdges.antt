@@ -19,7 +19,7 @@ use Rattle.topology.specs.Links.{at, at-is}
 use Rattle.front.specs.State.{State}
 use Rattle.books.specs.Book.{edge, Book, book, Quad, quadAt, startBook, has, without, andThen, comesOff, goesOn, newNode, side, bookQuad, bookAfter}
 use Rattle.books.specs.Matches.{edgesSum}
-use Rattle.books.specs.Holds.{countEdge}
+use Rattle.books.specs.Net.{countEdge}
 use Rattle.books.specs.BookLaws.{count-sum, without-sum, Gives, gives-then}
 use Rattle.lent_mesh.specs.Mesh.{quadIn}
 use Rattle.lent_mesh.specs.Answered.{quad-same}

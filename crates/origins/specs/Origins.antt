@@ -17,7 +17,7 @@ use Rattle.front.specs.Sampling.{loopCount, loopNodes}
 use Rattle.lent_mesh.specs.declared.QuadIds.{QuadIds}
 use Rattle.lent_mesh.specs.Mesh.{quadIn}
 use Rattle.books.specs.Book.{Edge, Book, bookAfter, loopEdges}
-use Rattle.books.specs.Holds.{countEdge}
+use Rattle.books.specs.Net.{countEdge}
 
 -- ---- the numbers
 

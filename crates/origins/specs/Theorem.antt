@@ -18,7 +18,8 @@ use Rattle.front.specs.State.{State}
 use Rattle.front.specs.Sampling.{loopCount, frontRefusal}
 use Rattle.whole_run.specs.Run.{runRefusal, runOf}
 use Rattle.books.specs.Book.{Edge, edge, Book, isEdge, has, edgesTo, loopEdges, bookAfter}
-use Rattle.books.specs.Holds.{countEdge, BooksHold}
+use Rattle.books.specs.Net.{countEdge}
+use Rattle.books.specs.Holds.{BooksHold}
 use Rattle.books.specs.BookLaws.{count-sum, has-edge, Gives}
 use Rattle.sampled.specs.Outlines.{outline-three}
 use Rattle.books_hold.specs.Runs.{accepted}

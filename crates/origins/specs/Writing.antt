@@ -12,6 +12,7 @@ use lib.Seq.{sets, take-at, drop-at}
 use lib.Ieee.{Float}
 use borrow.Author.Tests.{eq-eqb, ne-eqb, leb-true, leb-false}
 use Rattle.laws.specs.Loop.{forUp, sumUp}
+use Rattle.laws.specs.Overlay.{overlay, overlay-more}
 use Rattle.domain.specs.Outline.{Outline, loopAt, holeAt, holeStart, holeLength, loopStart, outlineRefusal}
 use Rattle.domain.specs.OutlineLaws.{start-next, shaped}
 use Rattle.direction.specs.Record.{FieldRecord}
@@ -20,9 +21,7 @@ use Rattle.front.specs.Sampling.{loopCount, loopParts, loopNodes, sampledCount,
 use Rattle.paving.specs.Advance.{Paved, advance}
 use Rattle.lent_mesh.specs.declared.QuadIds.{QuadIds}
 use Rattle.lent_mesh.specs.Mesh.{quadIn}
-use Rattle.loops.specs.Listed.{overlay}
 use Rattle.loops.specs.Walked.{sets-more}
-use Rattle.loops.specs.Visits.{overlay-more}
 use Rattle.books.specs.Holds.{BooksHold}
 use Rattle.sampled.specs.Outlines.{outline-three}
 use Rattle.sampled.specs.Begun.{refusal-places}

@@ -5,7 +5,7 @@ ghost use lib.ListN.{length, replicate};
 ghost use lib.Seq.{sets};
 ghost use Rattle.domain.specs.Outline.{outline};
 ghost use Rattle.front.specs.Sampling.{sampledCount};
-ghost use Rattle.loops.specs.Listed.{overlay};
+ghost use Rattle.laws.specs.Overlay.{overlay};
 ghost use Rattle.origins.specs.Origins.{sampledOrigins, originsAfter};
 ghost use Rattle.origins.specs.Writing.{pushCount, pushAt, Numberable, Sampleable};
 

@@ -10,6 +10,7 @@ use lib.ListN.{length, take, drop, length-map}
 use lib.Seq.{length-take-le, take-append-seam}
 use lib.Ieee.{Float, binary64, fits}
 use Rattle.laws.specs.Loop.{run}
+use Rattle.laws.specs.Overlay.{overlay}
 use Rattle.domain.specs.declared.Settings.{Settings}
 use Rattle.domain.specs.Outline.{Outline, firstOf}
 use Rattle.domain.specs.Accepted.{OutlineFits, first-zero}
@@ -33,12 +34,13 @@ use Rattle.paving.specs.Advance as paving
 use Rattle.paving.specs.ReachLaws.{advance-reaches}
 use Rattle.paving.specs.Loops.{frontLoops}
 use Rattle.whole_run.specs.Run.{runRefusal, runOf}
-use Rattle.loops.specs.Listed.{Lists, overlay, written, Listable, listedIn}
+use Rattle.loops.specs.Listed.{Lists, written, Listable, listedIn}
 use Rattle.loops.specs.ListedLaws.{listed-front, sound-listable}
 use Rattle.advance.specs.Paveable.{Paveable}
 use Rattle.sampled.specs.Outlines.{outline-three}
 use Rattle.sampled.specs.Begun.{Begun, begun}
 use Rattle.books.specs.Book.{Book, quadAt, newNode, side, bookQuad, bookAfter, quadsArea}
+use Rattle.books.specs.Net.{quadsEdges}
 use Rattle.books.specs.Holds.{BooksHold, Closes, LoopsAnswered}
 use Rattle.books_hold.specs.Stages.{Standing, standing}
 use Rattle.books_hold.specs.Runs.{accepted}
@@ -160,13 +162,13 @@ module _ (o : Outline) (blocks : List ℕ) (size : Float) (g : Grid) (values : L
 module _ (o : Outline) (size : Float) (s : State) (snapshot : List ℕ) where
   books-unread : BooksHold o size s
       → BooksHold o size (stateOf (s .xs) (s .ys) (s .next) (s .prev) snapshot (s .quads) (s .edges) (s .counts))
-  unfolding bookAfter bookQuad side newNode quadAt quadsArea frontLoops
+  unfolding bookAfter bookQuad side newNode quadAt quadsEdges quadsArea frontLoops
   books-unread B =
       record {
         each =
             λ k h.
             let H = B .each k h in
-            record { book = H .book; steps = H .steps; areas = H .areas; quads = H .quads; loops = H .loops; counts = H .counts };
+            record { book = H .book; steps = H .steps; edges = H .edges; areas = H .areas; quads = H .quads; loops = H .loops; counts = H .counts };
         closes =
             λ b e.
             let C = B .closes b e in

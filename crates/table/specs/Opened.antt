@@ -39,8 +39,8 @@ use Rattle.paving.specs.Advance.{afterQuad, passTurn, copied, withSnapshot, pas
 use Rattle.paving.specs.Loops.{frontLoops}
 use Rattle.whole_run.specs.Run.{runRefusal, runOf}
 use Rattle.books.specs.Book.{filled, roomFor, edgesTo, loopEdges, startBook, has, without, comesOff, newNode, side, quadAt, bookQuad, bookAfter}
-use Rattle.books.specs.Book.{edgesArea, quadArea, quadsArea, follow}
-use Rattle.books.specs.Holds.{countEdge}
+use Rattle.books.specs.Book.{edgesSumℤ, quadEdges, quadsArea, follow}
+use Rattle.books.specs.Net.{countEdge, net, quadsEdges}
 
 unfoldable pub openedIeee : Unit {0}
 unfolding trailingZeros span climb size odd units round neg sum add sub mul div lt eq le ofInt ofFields ofBits toBits isNan
@@ -91,7 +91,8 @@ unfolding tooClose nodeOk cornerFree cornersApart nodeInside edgeCrosses edgesFr
 openedPaving = tt
 
 unfoldable pub openedBooks : Unit {0}
-unfolding filled roomFor edgesTo loopEdges startBook has without comesOff newNode side quadAt bookQuad bookAfter edgesArea quadArea quadsArea follow countEdge
+unfolding filled roomFor edgesTo loopEdges startBook has without comesOff newNode side quadAt bookQuad bookAfter edgesSumℤ quadEdges quadsArea follow
+    countEdge net quadsEdges
 openedBooks = tt
 
 unfoldable pub opened : Unit {0}

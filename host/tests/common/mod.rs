@@ -7,6 +7,7 @@ pub mod exam;
 pub mod origins;
 pub mod rng;
 pub mod sound;
+pub mod steps;
 pub mod whole;
 
 use std::hint::black_box;
@@ -107,6 +108,14 @@ impl Place for u32 {
     const FILL: u32 = 0xa5a5_a5a5;
     fn bits(self) -> u64 {
         u64::from(self)
+    }
+}
+
+impl Place for i32 {
+    const GUARD: i32 = 0x5afe_5afe;
+    const FILL: i32 = -0x5a5a_5a5a;
+    fn bits(self) -> u64 {
+        u64::from(self as u32)
     }
 }
 
@@ -370,10 +379,11 @@ impl Raw {
     }
 
     /// Every value beside the refusals, as bits.
-    pub fn values(&self) -> [u64; 7] {
-        let ffi::NearestAnswer { ax, ay, bx, by, distance, .. } = self.nearest;
+    pub fn values(&self) -> [u64; 9] {
+        let ffi::NearestAnswer { ax, ay, bx, by, distance, loop_index, segment_index, .. } = self.nearest;
+        let [loop_index, segment_index] = [loop_index, segment_index].map(|index| index as u64);
         let [ax, ay, bx, by, near, far] = [ax, ay, bx, by, distance, self.distance.distance].map(f64::to_bits);
-        [u64::from(self.contains.inside), ax, ay, bx, by, near, far]
+        [u64::from(self.contains.inside), ax, ay, bx, by, near, loop_index, segment_index, far]
     }
 }
 

@@ -1,117 +1,283 @@
-//! The library's entries as they cross: the `extern "C"` functions of all crates, with each slice as two parameters, pointer and
-//! length, in the order of the Rattle signature, and a reference to a number as its pointer. tests/signatures.rs holds this file
-//! against their source.
+//! The library's entries as they cross: the `extern "C"` functions of all crates, with each slice as two parameters, pointer and length,
+//! in the order of the Rattle signature, and a reference to a number as its pointer. Written by tools/bindings from their source.
 //!
-//! A pointer and its length must be those of one slice, and a pointer without a length that of a number; that is all an entry asks.
-//! The wrappers in the crate's root see to it.
+//! A pointer and its length must be those of one slice, and a pointer without a length that of a number; what may be written overlaps
+//! nothing else that is lent. That is all an entry asks, and the wrappers in the crate's root see to it. "Document 01" is what
+//! docs/SCOPE.md and docs/FORMATS.md set out.
 
-/// `refusal` is document 01's number, or 0. The values of a refused query are false or 0.0, here and below.
+use core::mem::{offset_of, size_of};
+
+/// The number of the shape that these declarations have: the library links only if its number is the same.
+pub const ABI: u32 = 1;
+
+/// The answer of `sitjorbe_sound`.
 #[repr(C)]
 #[derive(Clone, Copy, Debug)]
-pub struct ContainsAnswer {
-    pub refusal: u32,
-    pub inside: bool,
-}
-
-#[repr(C)]
-#[derive(Clone, Copy, Debug)]
-pub struct NearestAnswer {
-    pub refusal: u32,
-    pub ax: f64,
-    pub ay: f64,
-    pub bx: f64,
-    pub by: f64,
-    pub distance: f64,
-}
-
-#[repr(C)]
-#[derive(Clone, Copy, Debug)]
-pub struct DistanceAnswer {
-    pub refusal: u32,
-    pub distance: f64,
-}
-
-#[repr(C)]
-#[derive(Clone, Copy, Debug)]
+#[must_use = "an answer may be a refusal"]
 pub struct SoundAnswer {
+    /// The refusal's number, 0 where nothing is refused.
     pub refusal: u32,
+    /// Whether the outline is sound.
     pub sound: bool,
 }
 
-/// A field record's floats and counts; its values and marks are in the lists lent. All 0 on a refusal.
+/// The answer of `sitjorbe_small_quads`. `refusal` is 26 where the lent list is too short, 0 otherwise; `count` is how
+/// many fours are listed.
 #[repr(C)]
 #[derive(Clone, Copy, Debug)]
-pub struct FieldRecordAnswer {
-    pub refusal: u32,
-    pub xmin: f64,
-    pub ymin: f64,
-    pub h: f64,
-    pub nx: usize,
-    pub ny: usize,
-}
-
-#[repr(C)]
-#[derive(Clone, Copy, Debug)]
-pub struct DirectionAnswer {
-    pub refusal: u32,
-    pub x: f64,
-    pub y: f64,
-}
-
-/// A run's end and whether it is whole, its field record's floats and counts, and how much of each list lent it has used: nodes,
-/// quads, distinct edges, and loops with the ids in all of them. All 0 on a refusal.
-#[repr(C)]
-#[derive(Clone, Copy, Debug)]
-pub struct PaveAnswer {
-    pub refusal: u32,
-    pub end: u32,
-    pub whole: bool,
-    pub xmin: f64,
-    pub ymin: f64,
-    pub h: f64,
-    pub nx: usize,
-    pub ny: usize,
-    pub nodes: u32,
-    pub quads: usize,
-    pub edges: usize,
-    pub front: usize,
-    pub loops: usize,
-    pub ids: usize,
-}
-
-/// `place` is where a quad stands too early, on refusal 22; else 0.
-#[repr(C)]
-#[derive(Clone, Copy, Debug)]
-pub struct OrderAnswer {
-    pub refusal: u32,
-    pub place: usize,
-}
-
-/// An event's answer: only whether it was refused. All else is in what was lent.
-#[repr(C)]
-#[derive(Clone, Copy, Debug)]
-pub struct RefusalAnswer {
-    pub refusal: u32,
-}
-
-/// The estimate, in tenths of a decibel; 0 on a refusal.
-#[repr(C)]
-#[derive(Clone, Copy, Debug)]
-pub struct EstimateAnswer {
-    pub refusal: u32,
-    pub estimate: u32,
-}
-
-/// `count` is how many fours are listed, 0 on a refusal.
-#[repr(C)]
-#[derive(Clone, Copy, Debug)]
+#[must_use = "an answer may be a refusal"]
 pub struct SmallQuadsAnswer {
+    /// The refusal's number, 0 where nothing is refused.
     pub refusal: u32,
+    /// How many small quads are listed.
     pub count: usize,
 }
 
+/// The answer of `sitjorbe_estimate`. The refusal, 0 for none, and the estimate, 0 beside a refusal.
+#[repr(C)]
+#[derive(Clone, Copy, Debug)]
+#[must_use = "an answer may be a refusal"]
+pub struct EstimateAnswer {
+    /// The refusal's number, 0 where nothing is refused.
+    pub refusal: u32,
+    /// In tenths of a decibel.
+    pub estimate: u32,
+}
+
+/// The answer of `sitjorbe_order`. `refusal` is 0 where the list is accepted; 21 where some quad is absent, repeated or
+/// unknown; 22 where the quad at `place` stands too early.
+#[repr(C)]
+#[derive(Clone, Copy, Debug)]
+#[must_use = "an answer may be a refusal"]
+pub struct OrderAnswer {
+    /// The refusal's number, 0 where nothing is refused.
+    pub refusal: u32,
+    /// Where in the order a quad stands too early, on refusal 22.
+    pub place: usize,
+}
+
+/// The answer of `sitjorbe_contains`. `refusal` is document 01's number, 0 where nothing is refused. The values of a
+/// refused query are false or 0.0.
+#[repr(C)]
+#[derive(Clone, Copy, Debug)]
+#[must_use = "an answer may be a refusal"]
+pub struct ContainsAnswer {
+    /// The refusal's number, 0 where nothing is refused.
+    pub refusal: u32,
+    /// Whether the point is inside the outer loop and outside every hole.
+    pub inside: bool,
+}
+
+/// The answer of `sitjorbe_nearest_segment`.
+#[repr(C)]
+#[derive(Clone, Copy, Debug)]
+#[must_use = "an answer may be a refusal"]
+pub struct NearestAnswer {
+    /// The refusal's number, 0 where nothing is refused.
+    pub refusal: u32,
+    /// X of the segment's first end.
+    pub ax: f64,
+    /// Y of the segment's first end.
+    pub ay: f64,
+    /// X of its other end.
+    pub bx: f64,
+    /// Y of its other end.
+    pub by: f64,
+    /// From the point to the nearest segment of the outline.
+    pub distance: f64,
+}
+
+/// The answer of `sitjorbe_distance_to_boundary`.
+#[repr(C)]
+#[derive(Clone, Copy, Debug)]
+#[must_use = "an answer may be a refusal"]
+pub struct DistanceAnswer {
+    /// The refusal's number, 0 where nothing is refused.
+    pub refusal: u32,
+    /// From the point to the nearest segment of the outline.
+    pub distance: f64,
+}
+
+/// The answer of `sitjorbe_field`. A field record's floats and counts; its values and marks are in the lists lent.
+/// `refusal` is document 01's number, 0 where nothing is refused; on a refusal all else is 0.
+#[repr(C)]
+#[derive(Clone, Copy, Debug)]
+#[must_use = "an answer may be a refusal"]
+pub struct FieldRecordAnswer {
+    /// The refusal's number, 0 where nothing is refused.
+    pub refusal: u32,
+    /// The grid's left column.
+    pub xmin: f64,
+    /// The grid's lowest row.
+    pub ymin: f64,
+    /// The distance of two neighbours of the grid.
+    pub h: f64,
+    /// Nodes in a row of the grid.
+    pub nx: usize,
+    /// Nodes in a column of the grid.
+    pub ny: usize,
+}
+
+/// The answer of `sitjorbe_direction`.
+#[repr(C)]
+#[derive(Clone, Copy, Debug)]
+#[must_use = "an answer may be a refusal"]
+pub struct DirectionAnswer {
+    /// The refusal's number, 0 where nothing is refused.
+    pub refusal: u32,
+    /// The direction's first coordinate.
+    pub x: f64,
+    /// The direction's second coordinate.
+    pub y: f64,
+}
+
+/// The answer of `sitjorbe_pave`. A run's end (0 still, 1 passes, 2 cap, 3 full) and whether it is whole, its field
+/// record's floats and counts, how many nodes, quads, distinct edges and front edges it has, how many loops of the
+/// front are listed, and the ids in all of them. All else is in the lists lent. All is 0 on a refusal.
+#[repr(C)]
+#[derive(Clone, Copy, Debug)]
+#[must_use = "an answer may be a refusal"]
+pub struct PaveAnswer {
+    /// The refusal's number, 0 where nothing is refused.
+    pub refusal: u32,
+    /// How the paving ended.
+    pub end: u32,
+    /// Whether the mesh is whole; otherwise it is open.
+    pub whole: bool,
+    /// The grid's left column.
+    pub xmin: f64,
+    /// The grid's lowest row.
+    pub ymin: f64,
+    /// The distance of two neighbours of the grid.
+    pub h: f64,
+    /// Nodes in a row of the grid.
+    pub nx: usize,
+    /// Nodes in a column of the grid.
+    pub ny: usize,
+    /// How many nodes there are.
+    pub nodes: u32,
+    /// How many quads there are.
+    pub quads: usize,
+    /// How many distinct edges there are.
+    pub edges: usize,
+    /// How many edges the front has.
+    pub front: usize,
+    /// How many loops of the front are listed.
+    pub loops: usize,
+    /// How many node numbers the listed loops have in all.
+    pub ids: usize,
+}
+
+/// The answer of `sitjorbe_begin`, `sitjorbe_enter` and `sitjorbe_withdraw`. `refusal` is 0 where nothing is refused.
+#[repr(C)]
+#[derive(Clone, Copy, Debug)]
+#[must_use = "an answer may be a refusal"]
+pub struct RefusalAnswer {
+    /// The refusal's number, 0 where nothing is refused.
+    pub refusal: u32,
+}
+
+/// As C lays the answers out on x86-64.
+#[cfg(target_pointer_width = "64")]
+const _: () = {
+    assert!(offset_of!(SoundAnswer, refusal) == 0);
+    assert!(offset_of!(SoundAnswer, sound) == 4);
+    assert!(size_of::<SoundAnswer>() == 8);
+    assert!(offset_of!(SmallQuadsAnswer, refusal) == 0);
+    assert!(offset_of!(SmallQuadsAnswer, count) == 8);
+    assert!(size_of::<SmallQuadsAnswer>() == 16);
+    assert!(offset_of!(EstimateAnswer, refusal) == 0);
+    assert!(offset_of!(EstimateAnswer, estimate) == 4);
+    assert!(size_of::<EstimateAnswer>() == 8);
+    assert!(offset_of!(OrderAnswer, refusal) == 0);
+    assert!(offset_of!(OrderAnswer, place) == 8);
+    assert!(size_of::<OrderAnswer>() == 16);
+    assert!(offset_of!(ContainsAnswer, refusal) == 0);
+    assert!(offset_of!(ContainsAnswer, inside) == 4);
+    assert!(size_of::<ContainsAnswer>() == 8);
+    assert!(offset_of!(NearestAnswer, refusal) == 0);
+    assert!(offset_of!(NearestAnswer, ax) == 8);
+    assert!(offset_of!(NearestAnswer, ay) == 16);
+    assert!(offset_of!(NearestAnswer, bx) == 24);
+    assert!(offset_of!(NearestAnswer, by) == 32);
+    assert!(offset_of!(NearestAnswer, distance) == 40);
+    assert!(size_of::<NearestAnswer>() == 48);
+    assert!(offset_of!(DistanceAnswer, refusal) == 0);
+    assert!(offset_of!(DistanceAnswer, distance) == 8);
+    assert!(size_of::<DistanceAnswer>() == 16);
+    assert!(offset_of!(FieldRecordAnswer, refusal) == 0);
+    assert!(offset_of!(FieldRecordAnswer, xmin) == 8);
+    assert!(offset_of!(FieldRecordAnswer, ymin) == 16);
+    assert!(offset_of!(FieldRecordAnswer, h) == 24);
+    assert!(offset_of!(FieldRecordAnswer, nx) == 32);
+    assert!(offset_of!(FieldRecordAnswer, ny) == 40);
+    assert!(size_of::<FieldRecordAnswer>() == 48);
+    assert!(offset_of!(DirectionAnswer, refusal) == 0);
+    assert!(offset_of!(DirectionAnswer, x) == 8);
+    assert!(offset_of!(DirectionAnswer, y) == 16);
+    assert!(size_of::<DirectionAnswer>() == 24);
+    assert!(offset_of!(PaveAnswer, refusal) == 0);
+    assert!(offset_of!(PaveAnswer, end) == 4);
+    assert!(offset_of!(PaveAnswer, whole) == 8);
+    assert!(offset_of!(PaveAnswer, xmin) == 16);
+    assert!(offset_of!(PaveAnswer, ymin) == 24);
+    assert!(offset_of!(PaveAnswer, h) == 32);
+    assert!(offset_of!(PaveAnswer, nx) == 40);
+    assert!(offset_of!(PaveAnswer, ny) == 48);
+    assert!(offset_of!(PaveAnswer, nodes) == 56);
+    assert!(offset_of!(PaveAnswer, quads) == 64);
+    assert!(offset_of!(PaveAnswer, edges) == 72);
+    assert!(offset_of!(PaveAnswer, front) == 80);
+    assert!(offset_of!(PaveAnswer, loops) == 88);
+    assert!(offset_of!(PaveAnswer, ids) == 96);
+    assert!(size_of::<PaveAnswer>() == 104);
+    assert!(offset_of!(RefusalAnswer, refusal) == 0);
+    assert!(size_of::<RefusalAnswer>() == 4);
+};
+
+/// The number of the shape that the library has. It is [`ABI`], since a library of another shape doesn't link.
+#[must_use]
+pub fn abi() -> u32 {
+    // SAFETY: it takes nothing, and answers a number.
+    unsafe { sitjorbe_abi_1() }
+}
+
+/// Keeps the name of the shape's entry in every program, also in one that calls entries without the wrappers.
+#[used]
+static SHAPE: unsafe extern "C" fn() -> u32 = sitjorbe_abi_1;
+
 #[link(name = "sitjorbe", kind = "static")]
 extern "C" {
+    /// The number of the library's shape, which its name has too.
+    pub fn sitjorbe_abi_1() -> u32;
+
+    /// Whether the outline is sound; refusals 1 to 4 come first, with false.
+    pub fn sitjorbe_sound(
+        outer: *const f64,
+        outer_len: usize,
+        holes: *const f64,
+        holes_len: usize,
+        lens: *const usize,
+        lens_len: usize,
+    ) -> SoundAnswer;
+
+    /// Every small quad, on the first places of the lent list: four numbers a four, in dictionary order.
+    pub fn sitjorbe_small_quads(fours: *mut u32, fours_len: usize) -> SmallQuadsAnswer;
+
+    /// The entry. `places` and `pool` are scratch of any length: what they hold doesn't change the answer.
+    pub fn sitjorbe_order(
+        quad_count: usize,
+        quads: *const u32,
+        quads_len: usize,
+        order: *const u32,
+        order_len: usize,
+        places: *mut usize,
+        places_len: usize,
+        pool: *mut u32,
+        pool_len: usize,
+    ) -> OrderAnswer;
+
+    /// Whether the point is inside the outer loop and outside every hole.
     pub fn sitjorbe_contains(
         outer: *const f64,
         outer_len: usize,
@@ -123,6 +289,7 @@ extern "C" {
         y: f64,
     ) -> ContainsAnswer;
 
+    /// The segment of the outline nearest to the point, from a to b, and its distance.
     pub fn sitjorbe_nearest_segment(
         outer: *const f64,
         outer_len: usize,
@@ -134,6 +301,7 @@ extern "C" {
         y: f64,
     ) -> NearestAnswer;
 
+    /// The distance from the point to the nearest segment of the outline.
     pub fn sitjorbe_distance_to_boundary(
         outer: *const f64,
         outer_len: usize,
@@ -145,15 +313,9 @@ extern "C" {
         y: f64,
     ) -> DistanceAnswer;
 
-    pub fn sitjorbe_sound(
-        outer: *const f64,
-        outer_len: usize,
-        holes: *const f64,
-        holes_len: usize,
-        lens: *const usize,
-        lens_len: usize,
-    ) -> SoundAnswer;
-
+    /// The field of the outline, in the lists lent: two floats and a mark a node. Nothing is written on a refusal. The
+    /// list of blocks is scratch of any length, which searches go by as far as it has room; the answer doesn't depend
+    /// on it.
     pub fn sitjorbe_field(
         outer: *const f64,
         outer_len: usize,
@@ -171,6 +333,7 @@ extern "C" {
         blocks_len: usize,
     ) -> FieldRecordAnswer;
 
+    /// Of the field's four directions at (x, y) the one nearest to the target (tx, ty), which may be any two floats.
     pub fn sitjorbe_direction(
         xmin: f64,
         ymin: f64,
@@ -187,6 +350,9 @@ extern "C" {
         ty: f64,
     ) -> DirectionAnswer;
 
+    /// The run whole, from the field to the loops of the front, in the lists lent. Nothing is written on a refusal. The
+    /// pools and the list of blocks are scratch of any length, which searches go by as far as they have room; the
+    /// answer doesn't depend on them.
     pub fn sitjorbe_pave(
         outer: *const f64,
         outer_len: usize,
@@ -227,9 +393,11 @@ extern "C" {
         blocks_len: usize,
     ) -> PaveAnswer;
 
+    /// An exam begins: none in every place of the list, and both figures 0.
     pub fn sitjorbe_begin(thresholds: *mut u16, thresholds_len: usize, count: *mut u32, sum: *mut u32)
         -> RefusalAnswer;
 
+    /// A threshold arrives at a node, or replaces the one that stands there.
     pub fn sitjorbe_enter(
         nodes: u32,
         xs: *const f64,
@@ -247,6 +415,7 @@ extern "C" {
         threshold: u32,
     ) -> RefusalAnswer;
 
+    /// The threshold at a node is withdrawn.
     pub fn sitjorbe_withdraw(
         nodes: u32,
         xs: *const f64,
@@ -263,6 +432,7 @@ extern "C" {
         node: u32,
     ) -> RefusalAnswer;
 
+    /// The estimate in a quad at the weights u, from a towards b, and v, from a towards c: 0 to 256 across it.
     pub fn sitjorbe_estimate(
         nodes: u32,
         xs: *const f64,
@@ -278,18 +448,4 @@ extern "C" {
         u: u32,
         v: u32,
     ) -> EstimateAnswer;
-
-    pub fn sitjorbe_small_quads(fours: *mut u32, fours_len: usize) -> SmallQuadsAnswer;
-
-    pub fn sitjorbe_order(
-        quad_count: usize,
-        quads: *const u32,
-        quads_len: usize,
-        order: *const u32,
-        order_len: usize,
-        places: *mut usize,
-        places_len: usize,
-        pool: *mut u32,
-        pool_len: usize,
-    ) -> OrderAnswer;
 }

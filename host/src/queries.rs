@@ -1,7 +1,6 @@
 //! The three queries about a point and an outline.
 
-use crate::ffi;
-use crate::Refusal;
+use crate::{ffi, floats, Refusal};
 
 /// An outline as it is lent: the outer loop, and any number of holes in it.
 ///
@@ -36,6 +35,7 @@ pub struct NearestSegment {
 type Entry<T> = unsafe extern "C" fn(*const f64, usize, *const f64, usize, *const usize, usize, f64, f64) -> T;
 
 fn ask<T>(entry: Entry<T>, outline: &Outline<'_>, [x, y]: [f64; 2]) -> T {
+    floats::check();
     let Outline { outer, holes, hole_lengths: lens } = outline;
     // SAFETY: each pointer comes with the length of its slice, and the slices live until the call returns. The entries are
     // proved to read nothing else and to write nothing.

@@ -1,7 +1,7 @@
 //! Whether a drawn outline is sound.
 
 use crate::queries::Outline;
-use crate::{ffi, Refusal};
+use crate::{ffi, floats, Refusal};
 
 /// Whether an outline is sound: no two segments of one loop meet except neighbours at their common end, no two loops touch, every
 /// hole lies inside the outer loop, and no hole lies in another.
@@ -15,6 +15,7 @@ use crate::{ffi, Refusal};
 ///
 /// [`Refusal::Lists`], [`Refusal::ShortLoop`], [`Refusal::NotFinite`] and [`Refusal::TooFar`], in this order.
 pub fn is_sound(outline: &Outline<'_>) -> Result<bool, Refusal> {
+    floats::check();
     let Outline { outer, holes, hole_lengths: lens } = outline;
     // SAFETY: each pointer comes with the length of its slice, and the slices live until the call returns. The entry is proved to
     // read nothing else and to write nothing.

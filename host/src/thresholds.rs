@@ -1,5 +1,8 @@
 //! Thresholds that come and go during an exam, and the two figures that are kept of them.
 
+use alloc::vec;
+use alloc::vec::Vec;
+
 use crate::ffi;
 use crate::{Mesh, Refusal};
 
@@ -180,21 +183,25 @@ impl<'a> Thresholds<'a> {
     }
 
     /// The mesh.
+    #[must_use]
     pub fn mesh(&self) -> &LentMesh<'a> {
         &self.mesh
     }
 
     /// The thresholds by node; [`NO_THRESHOLD`] where none stands.
+    #[must_use]
     pub fn list(&self) -> &[u16] {
         &self.list
     }
 
     /// How many quads have all four thresholds.
+    #[must_use]
     pub fn complete_quads(&self) -> u32 {
         self.count
     }
 
     /// The sum of all thresholds of those quads, a node counted once for each.
+    #[must_use]
     pub fn sum(&self) -> u32 {
         self.sum
     }

@@ -411,7 +411,10 @@ SITJORBE_MUST_USE sitjorbe_sound_answer sitjorbe_sound(
 /** Every small quad, on the first places of the lent list: four numbers a four, in dictionary order. */
 SITJORBE_MUST_USE sitjorbe_small_quads_answer sitjorbe_small_quads(uint32_t *fours, size_t fours_len);
 
-/** The entry. `places` and `pool` are scratch of any length: what they hold doesn't change the answer. */
+/**
+ * Whether the quads may be tested in this order: each of them once, and after every quad that laid a front edge which
+ * it used up. `places` and `pool` are scratch of any length: what they hold doesn't change the answer.
+ */
 SITJORBE_MUST_USE sitjorbe_order_answer sitjorbe_order(
     size_t quad_count,
     const uint32_t *quads, size_t quads_len,

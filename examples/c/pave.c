@@ -8,11 +8,11 @@
  *
  * The exit status is 0 for a mesh, 1 for a refusal, 2 where something can't be read or there isn't memory.
  */
-#include <fenv.h>
 #include <inttypes.h>
 #include <stdio.h>
 #include <stdlib.h>
 #include <string.h>
+#include <xmmintrin.h>
 
 #include "sitjorbe.h"
 
@@ -129,8 +129,8 @@ int main(int count, char **words) {
     double size = count == 2 ? strtod(words[1], &rest) : 0;
     if (count != 2 || rest == words[1] || *rest)
         stop("the size of a quad's side is wanted, and the points on standard input");
-    if (fegetround() != FE_TONEAREST)
-        stop("floats must be rounded to nearest");
+    if ((_mm_getcsr() & 0xffc0) != 0x1f80)
+        stop("floats must be rounded to nearest, with no flush to zero");
     read_outline(stdin, &outline);
     for (;;) {
         lend(&memory);

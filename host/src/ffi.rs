@@ -264,7 +264,8 @@ extern "C" {
     /// Every small quad, on the first places of the lent list: four numbers a four, in dictionary order.
     pub fn sitjorbe_small_quads(fours: *mut u32, fours_len: usize) -> SmallQuadsAnswer;
 
-    /// The entry. `places` and `pool` are scratch of any length: what they hold doesn't change the answer.
+    /// Whether the quads may be tested in this order: each of them once, and after every quad that laid a front edge
+    /// which it used up. `places` and `pool` are scratch of any length: what they hold doesn't change the answer.
     pub fn sitjorbe_order(
         quad_count: usize,
         quads: *const u32,

@@ -78,6 +78,16 @@ fn seen(quad_count: usize, quads: &[u32]) -> usize {
 /// `quads` has four ids a quad, a, b, d, c, in the order in which the quads were placed, and `order` their numbers in the order in which
 /// they are to be tested.
 ///
+/// ```
+/// use sitjorbe::{check_order, nearest_order, NotAccepted};
+///
+/// // The second quad used up the front edge from 3 to 2, which the first one laid.
+/// let quads = [0, 1, 2, 3, 3, 2, 4, 5];
+/// assert_eq!(check_order(2, &quads, &[0, 1]), Ok(()));
+/// assert_eq!(check_order(2, &quads, &[1, 0]), Err(NotAccepted::TooEarly { place: 0 }));
+/// assert_eq!(nearest_order(2, &quads, &[1, 0]), [0, 1]);
+/// ```
+///
 /// # Errors
 ///
 /// [`NotAccepted::NotEachOnce`], then [`NotAccepted::TooEarly`] with the first such place.

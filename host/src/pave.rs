@@ -375,6 +375,17 @@ impl fmt::Display for TooManyPlaces {
 impl error::Error for TooManyPlaces {}
 
 /// The lists of a run, owned, for one run after the other.
+///
+/// ```
+/// use sitjorbe::{End, Memory, Outline, Places, Settings};
+///
+/// let mut memory = Memory::new(Places { field_nodes: 100, nodes: 20, quads: 20, edges: 60, points: 4 })?;
+/// let square = Outline { outer: &[0.0, 0.0, 2.0, 0.0, 2.0, 2.0, 0.0, 2.0], holes: &[], hole_lengths: &[] };
+/// let mesh = memory.pave(&square, &Settings { size: 1.0, sweeps: 400, passes: 600 })?;
+/// assert_eq!((mesh.node_count(), mesh.quad_count(), mesh.end(), mesh.is_whole()), (9, 4, End::Still, true));
+/// assert_eq!(mesh.nodes().last(), Some([1.0, 1.0]));
+/// # Ok::<(), Box<dyn std::error::Error>>(())
+/// ```
 #[derive(Clone, Debug)]
 pub struct Memory {
     /// By kind, as [`Lists::new`] takes them.

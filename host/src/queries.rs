@@ -47,6 +47,14 @@ fn ask<T>(entry: Entry<T>, outline: &Outline<'_>, [x, y]: [f64; 2]) -> T {
 /// By the even-odd rule: a loop's inside is what a ray to the right leaves by an odd number of crossings. Of the points on
 /// the outline itself some count as inside and some don't; of the unit square's corners (0, 0) does and (1, 1) doesn't.
 ///
+/// ```
+/// use sitjorbe::{contains, Outline, Refusal};
+///
+/// let square = Outline { outer: &[0.0, 0.0, 1.0, 0.0, 1.0, 1.0, 0.0, 1.0], holes: &[], hole_lengths: &[] };
+/// assert_eq!([[0.5, 0.5], [0.0, 0.0], [1.0, 1.0]].map(|point| contains(&square, point)), [true, true, false].map(Ok));
+/// assert_eq!(contains(&square, [f64::NAN, 0.0]), Err(Refusal::NotFinite));
+/// ```
+///
 /// # Errors
 ///
 /// [`Refusal::Lists`], [`Refusal::ShortLoop`], [`Refusal::NotFinite`] and [`Refusal::TooFar`] of the outline, in the order

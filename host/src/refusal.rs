@@ -6,7 +6,15 @@ use crate::ffi;
 
 /// Why the library refused. A refusal is its number alone ([`Refusal::number`]); the words are this crate's.
 ///
-/// A refused call has changed none of the memory lent to it, but scratch where the wrapper says so.
+/// A refused call has changed none of the memory lent to it, but scratch where the wrapper says so. Further refusals may come with later versions.
+///
+/// ```
+/// use sitjorbe::Refusal;
+///
+/// let refusal = Refusal::of_number(2).expect("there is one");
+/// assert_eq!(refusal, Refusal::ShortLoop);
+/// assert_eq!(refusal.to_string(), "refused (2): a loop has fewer than three points: draw at least three, or leave the loop out");
+/// ```
 #[derive(Clone, Copy, Debug, PartialEq, Eq, Hash)]
 #[non_exhaustive]
 #[repr(u32)]
@@ -104,7 +112,7 @@ impl Refusal {
             (0, _) => Ok(()),
             (_, Some(refusal)) => Err(refusal),
             (_, None) => {
-                panic!("a bug: the library, of shape {}, answered refusal {number}, which there isn't", ffi::abi())
+                panic!("a bug: the library answered refusal {number}, which shape {} doesn't have", ffi::abi())
             }
         }
     }

@@ -9,6 +9,15 @@ use crate::{ffi, floats, Refusal};
 /// This is judged exactly: each float is the fraction that it is, and there is no tolerance. A loop may run either way round. It
 /// goes through every pair of segments of a loop, and of every two loops.
 ///
+/// ```
+/// use sitjorbe::{is_sound, Outline};
+///
+/// let outline = |outer| Outline { outer, holes: &[], hole_lengths: &[] };
+/// assert_eq!(is_sound(&outline(&[0.0, 0.0, 2.0, 0.0, 2.0, 2.0, 0.0, 2.0])), Ok(true));
+/// // A figure of eight.
+/// assert_eq!(is_sound(&outline(&[0.0, 0.0, 2.0, 2.0, 2.0, 0.0, 0.0, 2.0])), Ok(false));
+/// ```
+///
 /// An unsound outline is paved all the same; its mesh is never whole.
 ///
 /// # Errors

@@ -38,6 +38,22 @@ def run(*words, folder, **environment):
     return subprocess.run(words, cwd=folder, capture_output=True, text=True)
 
 
+def compiled(text):
+    """Of what objdump shows of a library: for each function those of the library that it calls, and the bytes that it takes of the stack."""
+    calls, frames, name = {}, {}, None
+    for line in text.splitlines():
+        if head := re.match(r"[0-9a-f]+ <(.+)>:$", line):
+            name = head[1]
+            calls[name], frames[name] = set(), 8
+        elif found := re.search(r"R_X86_64_(?:PLT32|PC32)\s+(?:\.text\.)?(\S+?)[-+]0x|\bcall\s+[0-9a-f]+ <([^+>]+)>$", line):
+            calls[name].add(found[1] or found[2])
+        elif taken := re.search(r"\bpush\b|\bsub\s+\$0x([0-9a-f]+),%rsp", line):
+            frames[name] += int(taken[1], 16) if taken[1] else 8
+        elif re.search(r"\bsub\s+%\w+,%rsp", line):
+            raise ValueError(f"{name} takes stack by a number that isn't fixed: {line}")
+    return {name: called & calls.keys() for name, called in calls.items()}, frames
+
+
 @unittest.skipUnless(platform.machine() == "x86_64", "the library is for x86-64")
 @unittest.skipUnless(ARCHIVE.is_file(), "the library isn't built: tools/archive writes it")
 @needing("cc")
@@ -110,6 +126,18 @@ class Package(unittest.TestCase):
         self.assertLessEqual(kinds, set("TtrRU"))
         self.assertEqual({line.split()[0] for line in symbols.splitlines() if " U" in line}, {"memset"})
 
+    @needing("objdump")
+    def test_the_stack_is_small(self):
+        """No function calls itself, directly or through others, and the deepest chain of calls takes less than 8 KB."""
+        calls, frames = compiled(subprocess.run(["objdump", "-dr", "--no-show-raw-insn", ARCHIVE], capture_output=True, text=True, check=True).stdout)
+        depths = {}
+        while len(depths) < len(calls):
+            ready = [name for name in calls if name not in depths and calls[name] <= depths.keys()]
+            self.assertTrue(ready, f"these call themselves: {sorted(calls.keys() - depths.keys())}")
+            depths |= {name: frames[name] + max((depths[called] for called in calls[name]), default=0) for name in ready}
+        self.assertIn("sitjorbe_pave", depths)
+        self.assertLess(max(depths.values()), 8_192)
+
     # ---- another shape doesn't link
 
     def of_another_shape(self):
@@ -167,6 +195,24 @@ class Package(unittest.TestCase):
         root = self.unpacked()
         self.passes(run("cargo", "doc", "--offline", "--no-deps", folder=root / "rust", RUSTDOCFLAGS="-D warnings"))
         self.passes(run("cargo", "run", "--offline", "--quiet", "--example", "visual_field", folder=root / "rust"))
+
+
+class Compiled(unittest.TestCase):
+    def test_calls_and_stack_are_read(self):
+        text = """0000000000000000 <outer>:
+   0:	push   %rbp
+   1:	sub    $0x10,%rsp
+   2:	call   9 <outer+0x9>
+			3: R_X86_64_PLT32	.text.crate::inner-0x4
+   4:	lea    0x0(%rip),%rax
+			5: R_X86_64_PC32	.rodata.cst8-0x4
+   6:	jmp    9
+			7: R_X86_64_PLT32	memset-0x4
+0000000000000000 <crate::inner>:
+   0:	call   0 <crate::inner>"""
+        self.assertEqual(compiled(text), ({"outer": {"crate::inner"}, "crate::inner": {"crate::inner"}}, {"outer": 32, "crate::inner": 8}))
+        with self.assertRaises(ValueError):
+            compiled("0000000000000000 <outer>:\n   0:	sub    %rax,%rsp")
 
 
 def followed(block):

@@ -26,10 +26,11 @@ def words_of(kind, owner, name):
     """The words of a parameter or a field."""
     if name in KEYWORDS:
         raise Wrong(f"{owner}: {name} is a word of C or C++")
-    if name not in kind:
+    words = kind.get(f"{owner}.{name}") or kind.get(name)
+    if not words:
         which = "PARAMETERS" if kind is names.PARAMETERS else "FIELDS"
         raise Wrong(f"{owner}: {which} in tools/names.py has no words for {name}")
-    return kind[name]
+    return words
 
 
 def lent(function):

@@ -1,6 +1,7 @@
-"""What the names of the entries' parameters and of their answers' fields stand for: a name means the same wherever it stands.
+"""What the names of the entries' parameters and of their answers' fields stand for.
 
-`bindings` writes these words beside every field, and once for every parameter; a name without words is an error.
+A parameter's name means the same in every entry, and is explained once; a field's means the same in every answer, but where "Answer.field" stands below. A name
+without words is an error.
 """
 
 PARAMETERS = {

@@ -140,7 +140,16 @@ class Repository(unittest.TestCase):
     def test_every_name_has_words_and_no_words_are_left_over(self):
         used = {typed.name for function in self.reading.functions for typed in declarations.lent(function)}
         self.assertEqual(used, set(names.PARAMETERS))
-        self.assertEqual({field.name for struct in self.reading.structs for field in struct.fields}, set(names.FIELDS))
+        fields = {(struct.name, field.name) for struct in self.reading.structs for field in struct.fields}
+        own = {f"{owner}.{name}" for owner, name in fields} & set(names.FIELDS)
+        self.assertEqual({name for owner, name in fields if f"{owner}.{name}" not in own} | own, set(names.FIELDS))
+
+    def test_words_of_ones_own_go_before_others(self):
+        told = {"count": "of all", "Answer.count": "of one"}
+        self.assertEqual([declarations.words_of(told, owner, "count") for owner in ("Answer", "Other")], ["of one", "of all"])
+        for name in ("none", "class"):
+            with self.assertRaises(entries.Wrong):
+                declarations.words_of(told, "Answer", name)
 
     def test_every_entry_says_what_it_does(self):
         for function in self.reading.functions:

@@ -18,11 +18,17 @@ def version():
     return re.search(r'^version = "([^"]+)"$', (ROOT / "host/Cargo.toml").read_text(), re.MULTILINE)[1]
 
 
+class Version(argparse.Action):
+    def __call__(self, made, *_):
+        print(f"sitjorbe {version()}")
+        made.exit()
+
+
 def parser(doc):
     """The parser of a command whose help is its module's first line, then the options, then the rest."""
     about, rest = doc.split("\n", 1)
     made = argparse.ArgumentParser(description=about, epilog=rest, formatter_class=argparse.RawDescriptionHelpFormatter)
-    made.add_argument("--version", action="version", version=f"sitjorbe {version()}")
+    made.add_argument("--version", action=Version, nargs=0, help="say the repository's version")
     return made
 
 

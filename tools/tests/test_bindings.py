@@ -130,7 +130,7 @@ class Repository(unittest.TestCase):
             self.assertEqual(path.read_text(), write(self.reading), f"{path.relative_to(ROOT)}: run tools/bindings")
 
     def test_every_entry_is_found(self):
-        """By a plain search beside the reading, so that none goes unread."""
+        # By a plain search beside the reading, so that none goes unread.
         sources = [path.read_text() for path in (ROOT / "crates").glob("*/src/**/*.rt")]
         searched = re.findall(r"^(?!//).*\bfn (sitjorbe_\w+)", "\n".join(sources), re.MULTILINE)
         self.assertEqual(sorted(searched), sorted(function.name for function in self.reading.functions))

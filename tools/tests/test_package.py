@@ -128,7 +128,7 @@ class Package(unittest.TestCase):
 
     @needing("objdump")
     def test_the_stack_is_small(self):
-        """No function calls itself, directly or through others, and the deepest chain of calls takes less than 8 KB."""
+        # No function calls itself, directly or through others, and the deepest chain of calls takes less than 8 KB.
         calls, frames = compiled(subprocess.run(["objdump", "-dr", "--no-show-raw-insn", ARCHIVE], capture_output=True, text=True, check=True).stdout)
         depths = {}
         while len(depths) < len(calls):

@@ -182,13 +182,20 @@ class Package(unittest.TestCase):
         root = self.unpacked()
         (root / "rust/lib/libsitjorbe.a").unlink()
         source = "fn main() { println!(\"{}\", sitjorbe::ffi::abi()); }"
-        for words in (["check"], ["doc"], *([["clippy", "--", "-D", "warnings"]] if shutil.which("cargo-clippy") else [])):
+        for words in (["check"], ["doc"]):
             self.passes(self.cargo(root / "rust", source, *words))
         result = self.cargo(root / "rust", source, "build")
         self.assertNotEqual(result.returncode, 0)
         self.assertIn("SITJORBE_LIB_DIR", result.stderr)
         result = self.cargo(root / "rust", source, "run", "--quiet", SITJORBE_LIB_DIR=root / "lib")
         self.assertEqual(result.stdout, f"{entries.repository().number()}\n", result.stderr)
+
+    @needing("cargo", "cargo-clippy")
+    def test_the_crate_has_no_warnings(self):
+        # Nor without the library: no item lacks its words, and no answer may go unused.
+        root = self.unpacked()
+        (root / "rust/lib/libsitjorbe.a").unlink()
+        self.passes(run("cargo", "clippy", "--offline", "--", "-D", "warnings", folder=root / "rust"))
 
     @needing("cargo")
     def test_the_crates_own_pages_and_example(self):

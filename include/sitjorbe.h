@@ -50,9 +50,6 @@ SITJORBE_ASSERT(sizeof(double) == 8);
 /** The greatest weight: all the way across a quad. */
 #define SITJORBE_MOST_WEIGHT 256
 
-/** The number of the shape that these declarations have: the library links only if its number is the same. */
-#define SITJORBE_ABI 1
-
 /** What `next` and `prev` hold for a node off the front. */
 #define SITJORBE_OFF 4294967295u
 

@@ -10,7 +10,7 @@ from crates import ROOT
 from entries import Wrong
 
 WIDTH = 120
-HOST = ROOT / "host/src"
+HOST = [path for path in sorted((ROOT / "host/src").glob("*.rs")) if path.name != "ffi.rs"]  # what is written by hand
 ENUMS = {"Refusal": "REFUSED", "End": "END"}  # of the Rust crate, and the word before each name in C
 
 C_TYPES = {"bool": "bool", "usize": "size_t", "f64": "double",
@@ -54,7 +54,7 @@ def told(reading, struct):
 
 def host_enum(name):
     """The cases of an enum of the Rust crate: name, number, words."""
-    text = next(text for text in (path.read_text() for path in sorted(HOST.glob("*.rs"))) if f"pub enum {name} {{" in text)
+    text = next(text for text in (path.read_text() for path in HOST) if f"pub enum {name} {{" in text)
     body = text[text.index(f"pub enum {name} {{"):]
     body = body[:body.index("\n}")]
     cases = re.findall(r"((?:^ +///.*\n)+)^ +(\w+) = (\d+),$", body, re.MULTILINE)
@@ -64,7 +64,7 @@ def host_enum(name):
 def host_limits():
     """The numbers that are public constants of the Rust crate: name, value, words."""
     found, highest = [], {f"u{bits}::MAX": 2 ** bits - 1 for bits in (8, 16, 32)}
-    for path in sorted(HOST.glob("*.rs")):
+    for path in HOST:
         for comment, name, value in re.findall(r"((?:^ *///.*\n)+)^ *pub const (\w+): (?:u\w+) = ([\w:]+);$", path.read_text(), re.MULTILINE):
             number = highest[value] if value in highest else int(value.replace("_", ""))
             found.append((name, number, re.sub(r"\[`(\w+)`\]", r"SITJORBE_\1", " ".join(re.findall(r"/// (.*)", comment)))))

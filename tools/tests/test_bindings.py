@@ -160,6 +160,11 @@ class Repository(unittest.TestCase):
         limits = {name: number for name, number, _ in declarations.host_limits()}
         self.assertEqual((limits["OFF"], limits["NO_THRESHOLD"], limits["MOST_POINTS"]), (2 ** 32 - 1, 2 ** 16 - 1, 4_096))
 
+    def test_nothing_is_defined_twice(self):
+        defined = re.findall(r"^#define (\w+)|^    (SITJORBE_\w+) =", declarations.header(self.reading), re.MULTILINE)
+        once = {name or case for name, case in defined} - {"SITJORBE_ASSERT", "SITJORBE_MUST_USE"}
+        self.assertEqual(len(defined), len(once) + 4)
+
 
 if __name__ == "__main__":
     unittest.main()

@@ -53,6 +53,9 @@ SITJORBE_ASSERT(sizeof(double) == 8);
 /** What `next` and `prev` hold for a node off the front. */
 #define SITJORBE_OFF 4294967295u
 
+/** The most quads of a run. */
+#define SITJORBE_MOST_QUADS 250000u
+
 /** The most points that an outline may have, in all its loops together; one with more is refused. */
 #define SITJORBE_MOST_POINTS 4096
 
@@ -94,6 +97,11 @@ enum sitjorbe_refusal {
     SITJORBE_REFUSED_WRONG_CHECK = 12,
     /** A file with a wrong length, count or fill. */
     SITJORBE_REFUSED_WRONG_FILE = 13,
+    /**
+     * A list for answers that is too short, or lists of points and targets that differ in length or end in half a
+     * point.
+     */
+    SITJORBE_REFUSED_ANSWER_LISTS = 14,
     /** A node id that isn't in the mesh, or is past the lent list of thresholds. */
     SITJORBE_REFUSED_NO_NODE = 15,
     /** A threshold above 500. */
@@ -161,6 +169,10 @@ static inline const char *sitjorbe_refusal_words(uint32_t refusal) {
     case 13:
         return "refused (13): the file has a wrong length, a wrong count, or something where zeros belong: write it "
                "anew from the outline, with 1 to 8 loops, at most 248 points in all, and nothing after the last block";
+    case 14:
+        return "refused (14): the list for the answers is too short, or those of points and targets don't fit "
+               "together: lend three floats for each point, x and y for every point and as many targets, and a place "
+               "for each node of a loop that is read";
     case 15:
         return "refused (15): the node isn't in the mesh, or is past the lent list of thresholds: count nodes from 0, "
                "and lend a place for each";
@@ -233,8 +245,22 @@ SITJORBE_ASSERT(offsetof(sitjorbe_order_answer, place) == 8);
 SITJORBE_ASSERT(sizeof(sitjorbe_order_answer) == 16);
 
 /**
+ * The answer of `sitjorbe_places`. `refusal` is document 01's number, 0 where nothing is refused; on a refusal both
+ * counts are 0.
+ */
+typedef struct sitjorbe_places_answer {
+    uint32_t refusal; /**< the refusal's number, 0 where nothing is refused */
+    size_t field_nodes; /**< how many nodes the field has; with fewer places refusal 9 */
+    size_t sampled_nodes; /**< how many nodes the sampled outline has, and as many edges; with fewer places for either refusal 10 */
+} sitjorbe_places_answer;
+SITJORBE_ASSERT(offsetof(sitjorbe_places_answer, refusal) == 0);
+SITJORBE_ASSERT(offsetof(sitjorbe_places_answer, field_nodes) == 8);
+SITJORBE_ASSERT(offsetof(sitjorbe_places_answer, sampled_nodes) == 16);
+SITJORBE_ASSERT(sizeof(sitjorbe_places_answer) == 24);
+
+/**
  * The answer of `sitjorbe_contains`. `refusal` is document 01's number, 0 where nothing is refused. The values of a
- * refused query are false or 0.0.
+ * refused query are false, 0.0 or 0.
  */
 typedef struct sitjorbe_contains_answer {
     uint32_t refusal; /**< the refusal's number, 0 where nothing is refused */
@@ -252,6 +278,8 @@ typedef struct sitjorbe_nearest_answer {
     double bx; /**< x of its other end */
     double by; /**< y of its other end */
     double distance; /**< from the point to the nearest segment of the outline */
+    size_t loop_index; /**< the segment's loop: 0 for the outer one, k + 1 for hole k */
+    size_t segment_index; /**< the segment's place in its loop: 0 from the loop's first point to its second, in the order lent */
 } sitjorbe_nearest_answer;
 SITJORBE_ASSERT(offsetof(sitjorbe_nearest_answer, refusal) == 0);
 SITJORBE_ASSERT(offsetof(sitjorbe_nearest_answer, ax) == 8);
@@ -259,7 +287,9 @@ SITJORBE_ASSERT(offsetof(sitjorbe_nearest_answer, ay) == 16);
 SITJORBE_ASSERT(offsetof(sitjorbe_nearest_answer, bx) == 24);
 SITJORBE_ASSERT(offsetof(sitjorbe_nearest_answer, by) == 32);
 SITJORBE_ASSERT(offsetof(sitjorbe_nearest_answer, distance) == 40);
-SITJORBE_ASSERT(sizeof(sitjorbe_nearest_answer) == 48);
+SITJORBE_ASSERT(offsetof(sitjorbe_nearest_answer, loop_index) == 48);
+SITJORBE_ASSERT(offsetof(sitjorbe_nearest_answer, segment_index) == 56);
+SITJORBE_ASSERT(sizeof(sitjorbe_nearest_answer) == 64);
 
 /** The answer of `sitjorbe_distance_to_boundary`. */
 typedef struct sitjorbe_distance_answer {
@@ -355,23 +385,26 @@ SITJORBE_ASSERT(sizeof(sitjorbe_refusal_answer) == 4);
  * holes       the points of all holes, one hole after the other
  * lens        the number of points of each hole
  * fours       four numbers a small quad; 14,944 places are enough
- * quad_count  how many quads the mesh has
- * quads       four node numbers a quad, in the order a, b, d, c, which runs round it
- * order       quads' numbers in the order in which they are to be tested
- * places      scratch of any length, which saves time: a number a quad is enough
- * pool        scratch of any length, which saves time: eight numbers a quad, and two more, are enough
- * x           the point asked about
- * y           the point asked about
- * size        the length wanted of a quad's side, 0.01 to 100
- * sweeps      the most sweeps of the field, at most 1,000
- * values      the field's values, two floats a field node
- * marks       the field's marks, a byte a field node: 1 where the outline fixes its value, else 0
- * blocks      scratch of any length, which saves time: two numbers a point of the outline are enough
  * xmin        the field record: the grid's left column
  * ymin        the field record: the grid's lowest row
  * h           the field record: the distance of two neighbours of the grid
  * nx          the field record: nodes in a row
  * ny          the field record: nodes in a column
+ * values      the field's values, two floats a field node
+ * marks       the field's marks, a byte a field node: 1 where the outline fixes its value, else 0
+ * points      the points asked about, x then y
+ * targets     a target for each point, x then y, any floats
+ * answers     three floats a point: 0 and the direction, or the refusal's number and two zeros
+ * quad_count  how many quads the mesh has
+ * quads       four node numbers a quad, in the order a, b, d, c, which runs round it
+ * order       quads' numbers in the order in which they are to be tested
+ * places      scratch of any length, which saves time: a number a quad is enough
+ * pool        scratch of any length, which saves time: eight numbers a quad, and two more, are enough
+ * size        the length wanted of a quad's side, 0.01 to 100
+ * x           the point asked about
+ * y           the point asked about
+ * sweeps      the most sweeps of the field, at most 1,000
+ * blocks      scratch of any length, which saves time: two numbers a point of the outline are enough
  * tx          the target, any two floats
  * ty          the target, any two floats
  * passes      the passes of the paving; more than 600 count as 600
@@ -409,6 +442,23 @@ SITJORBE_MUST_USE sitjorbe_sound_answer sitjorbe_sound(
 SITJORBE_MUST_USE sitjorbe_small_quads_answer sitjorbe_small_quads(uint32_t *fours, size_t fours_len);
 
 /**
+ * Of the field's four directions at each point the one nearest to its target, which may be any two floats: three floats
+ * a point, 0 and the direction, or the number of what refuses the point and two zeros. Nothing is written where the
+ * whole list is refused.
+ */
+SITJORBE_MUST_USE uint32_t sitjorbe_directions(
+    double xmin,
+    double ymin,
+    double h,
+    size_t nx,
+    size_t ny,
+    const double *values, size_t values_len,
+    const uint8_t *marks, size_t marks_len,
+    const double *points, size_t points_len,
+    const double *targets, size_t targets_len,
+    double *answers, size_t answers_len);
+
+/**
  * Whether the quads may be tested in this order: each of them once, and after every quad that laid a front edge which
  * it used up. `places` and `pool` are scratch of any length: what they hold doesn't change the answer.
  */
@@ -419,6 +469,16 @@ SITJORBE_MUST_USE sitjorbe_order_answer sitjorbe_order(
     size_t *places, size_t places_len,
     uint32_t *pool, size_t pool_len);
 
+/**
+ * The places that a run of this outline and size can't do without. Quads, and the nodes and edges that they add, need
+ * more.
+ */
+SITJORBE_MUST_USE sitjorbe_places_answer sitjorbe_places(
+    const double *outer, size_t outer_len,
+    const double *holes, size_t holes_len,
+    const size_t *lens, size_t lens_len,
+    double size);
+
 /** Whether the point is inside the outer loop and outside every hole. */
 SITJORBE_MUST_USE sitjorbe_contains_answer sitjorbe_contains(
     const double *outer, size_t outer_len,
@@ -427,7 +487,10 @@ SITJORBE_MUST_USE sitjorbe_contains_answer sitjorbe_contains(
     double x,
     double y);
 
-/** The segment of the outline nearest to the point, from a to b, and its distance. */
+/**
+ * The segment of the outline nearest to the point, from a to b, and its distance; its loop, 0 for the outer one, and
+ * its place there.
+ */
 SITJORBE_MUST_USE sitjorbe_nearest_answer sitjorbe_nearest_segment(
     const double *outer, size_t outer_len,
     const double *holes, size_t holes_len,

@@ -16,7 +16,7 @@
 
 #include "sitjorbe.h"
 
-enum { MOST_HOLES = SITJORBE_MOST_POINTS / 3, MOST_FIELD_NODES = 250000, SWEEPS = 400, PASSES = 600 };
+enum { MOST_HOLES = SITJORBE_MOST_POINTS / 3, SWEEPS = 400, PASSES = 600 };
 
 static void stop(const char *words) {
     fprintf(stderr, "pave: %s\n", words);
@@ -100,6 +100,20 @@ static sitjorbe_pave_answer pave(const struct outline *o, double size, const str
         m->blocks, 2 * SITJORBE_MOST_POINTS);
 }
 
+/* What the run can't do without, and twice as many nodes. */
+static uint32_t count_places(const struct outline *o, double size, struct memory *m) {
+    sitjorbe_places_answer least =
+        sitjorbe_places(o->outer, o->outer_len, o->holes, o->holes_len, o->lens, o->lens_len, size);
+    m->field_nodes = least.field_nodes;
+    m->nodes = 2 * least.sampled_nodes;
+    return least.refusal;
+}
+
+static int refused(uint32_t refusal) {
+    fprintf(stderr, "pave: %s\n", sitjorbe_refusal_words(refusal));
+    return 1;
+}
+
 static uint64_t bits(double x) {
     uint64_t found;
     memcpy(&found, &x, sizeof found);
@@ -124,7 +138,7 @@ static void print(const sitjorbe_pave_answer *a, const struct memory *m) {
 
 int main(int count, char **words) {
     static struct outline outline;
-    struct memory memory = {.field_nodes = 1600, .nodes = 800};
+    struct memory memory = {0};
     char *rest = NULL;
     double size = count == 2 ? strtod(words[1], &rest) : 0;
     if (count != 2 || rest == words[1] || *rest)
@@ -132,17 +146,15 @@ int main(int count, char **words) {
     if ((_mm_getcsr() & 0xffc0) != 0x1f80)
         stop("floats must be rounded to nearest, with no flush to zero");
     read_outline(stdin, &outline);
-    for (;;) {
+    uint32_t refusal = count_places(&outline, size, &memory);
+    if (refusal)
+        return refused(refusal);
+    for (;; memory.nodes *= 2) {
         lend(&memory);
         sitjorbe_pave_answer answer = pave(&outline, size, &memory);
-        if (answer.refusal == SITJORBE_REFUSED_FIELD_NEEDS_SPACE && memory.field_nodes < MOST_FIELD_NODES) {
-            memory.field_nodes = MOST_FIELD_NODES;
-        } else if (answer.refusal == SITJORBE_REFUSED_FRONT_NEEDS_SPACE || (!answer.refusal && answer.end == SITJORBE_END_FULL)) {
-            memory.nodes *= 2;
-        } else if (answer.refusal) {
-            fprintf(stderr, "pave: %s\n", sitjorbe_refusal_words(answer.refusal));
-            return 1;
-        } else {
+        if (answer.refusal)
+            return refused(answer.refusal);
+        if (answer.end != SITJORBE_END_FULL) {
             print(&answer, &memory);
             return 0;
         }

@@ -56,8 +56,22 @@ pub struct OrderAnswer {
     pub place: usize,
 }
 
+/// The answer of `sitjorbe_places`. `refusal` is document 01's number, 0 where nothing is refused; on a refusal both
+/// counts are 0.
+#[repr(C)]
+#[derive(Clone, Copy, Debug)]
+#[must_use = "an answer may be a refusal"]
+pub struct PlacesAnswer {
+    /// The refusal's number, 0 where nothing is refused.
+    pub refusal: u32,
+    /// How many nodes the field has; with fewer places refusal 9.
+    pub field_nodes: usize,
+    /// How many nodes the sampled outline has, and as many edges; with fewer places for either refusal 10.
+    pub sampled_nodes: usize,
+}
+
 /// The answer of `sitjorbe_contains`. `refusal` is document 01's number, 0 where nothing is refused. The values of a
-/// refused query are false or 0.0.
+/// refused query are false, 0.0 or 0.
 #[repr(C)]
 #[derive(Clone, Copy, Debug)]
 #[must_use = "an answer may be a refusal"]
@@ -85,6 +99,10 @@ pub struct NearestAnswer {
     pub by: f64,
     /// From the point to the nearest segment of the outline.
     pub distance: f64,
+    /// The segment's loop: 0 for the outer one, k + 1 for hole k.
+    pub loop_index: usize,
+    /// The segment's place in its loop: 0 from the loop's first point to its second, in the order lent.
+    pub segment_index: usize,
 }
 
 /// The answer of `sitjorbe_distance_to_boundary`.
@@ -192,6 +210,10 @@ const _: () = {
     assert!(offset_of!(OrderAnswer, refusal) == 0);
     assert!(offset_of!(OrderAnswer, place) == 8);
     assert!(size_of::<OrderAnswer>() == 16);
+    assert!(offset_of!(PlacesAnswer, refusal) == 0);
+    assert!(offset_of!(PlacesAnswer, field_nodes) == 8);
+    assert!(offset_of!(PlacesAnswer, sampled_nodes) == 16);
+    assert!(size_of::<PlacesAnswer>() == 24);
     assert!(offset_of!(ContainsAnswer, refusal) == 0);
     assert!(offset_of!(ContainsAnswer, inside) == 4);
     assert!(size_of::<ContainsAnswer>() == 8);
@@ -201,7 +223,9 @@ const _: () = {
     assert!(offset_of!(NearestAnswer, bx) == 24);
     assert!(offset_of!(NearestAnswer, by) == 32);
     assert!(offset_of!(NearestAnswer, distance) == 40);
-    assert!(size_of::<NearestAnswer>() == 48);
+    assert!(offset_of!(NearestAnswer, loop_index) == 48);
+    assert!(offset_of!(NearestAnswer, segment_index) == 56);
+    assert!(size_of::<NearestAnswer>() == 64);
     assert!(offset_of!(DistanceAnswer, refusal) == 0);
     assert!(offset_of!(DistanceAnswer, distance) == 8);
     assert!(size_of::<DistanceAnswer>() == 16);
@@ -264,6 +288,27 @@ extern "C" {
     /// Every small quad, on the first places of the lent list: four numbers a four, in dictionary order.
     pub fn sitjorbe_small_quads(fours: *mut u32, fours_len: usize) -> SmallQuadsAnswer;
 
+    /// Of the field's four directions at each point the one nearest to its target, which may be any two floats: three
+    /// floats a point, 0 and the direction, or the number of what refuses the point and two zeros. Nothing is written
+    /// where the whole list is refused.
+    pub fn sitjorbe_directions(
+        xmin: f64,
+        ymin: f64,
+        h: f64,
+        nx: usize,
+        ny: usize,
+        values: *const f64,
+        values_len: usize,
+        marks: *const u8,
+        marks_len: usize,
+        points: *const f64,
+        points_len: usize,
+        targets: *const f64,
+        targets_len: usize,
+        answers: *mut f64,
+        answers_len: usize,
+    ) -> u32;
+
     /// Whether the quads may be tested in this order: each of them once, and after every quad that laid a front edge
     /// which it used up. `places` and `pool` are scratch of any length: what they hold doesn't change the answer.
     pub fn sitjorbe_order(
@@ -278,6 +323,18 @@ extern "C" {
         pool_len: usize,
     ) -> OrderAnswer;
 
+    /// The places that a run of this outline and size can't do without. Quads, and the nodes and edges that they add,
+    /// need more.
+    pub fn sitjorbe_places(
+        outer: *const f64,
+        outer_len: usize,
+        holes: *const f64,
+        holes_len: usize,
+        lens: *const usize,
+        lens_len: usize,
+        size: f64,
+    ) -> PlacesAnswer;
+
     /// Whether the point is inside the outer loop and outside every hole.
     pub fn sitjorbe_contains(
         outer: *const f64,
@@ -290,7 +347,8 @@ extern "C" {
         y: f64,
     ) -> ContainsAnswer;
 
-    /// The segment of the outline nearest to the point, from a to b, and its distance.
+    /// The segment of the outline nearest to the point, from a to b, and its distance; its loop, 0 for the outer one,
+    /// and its place there.
     pub fn sitjorbe_nearest_segment(
         outer: *const f64,
         outer_len: usize,

@@ -11,7 +11,7 @@ from entries import Wrong
 
 WIDTH = 120
 HOST = [path for path in sorted((ROOT / "host/src").glob("*.rs")) if path.name != "ffi.rs"]  # what is written by hand
-ENUMS = {"Refusal": "REFUSED", "End": "END"}  # of the Rust crate, and the word before each name in C
+ENUMS = {"Refusal": "REFUSED", "End": "END", "Outcome": "OUTCOME"}  # of the Rust crate, and the word before each name in C
 
 C_TYPES = {"bool": "bool", "usize": "size_t", "f64": "double",
            **{f"{sign}{bits}": f"{'u' if sign == 'u' else ''}int{bits}_t" for sign in "ui" for bits in (8, 16, 32, 64)}}
@@ -65,7 +65,7 @@ def host_limits():
     """The numbers that are public constants of the Rust crate: name, value, words."""
     found, highest = [], {f"u{bits}::MAX": 2 ** bits - 1 for bits in (8, 16, 32)}
     for path in HOST:
-        for comment, name, value in re.findall(r"((?:^ *///.*\n)+)^ *pub const (\w+): (?:u\w+) = ([\w:]+);$", path.read_text(), re.MULTILINE):
+        for comment, name, value in re.findall(r"((?:^ *///.*\n)+)^ *pub const (\w+): (?:[ui]\w+) = ([\w:]+);$", path.read_text(), re.MULTILINE):
             number = highest[value] if value in highest else int(value.replace("_", ""))
             found.append((name, number, re.sub(r"\[`(\w+)`\]", r"SITJORBE_\1", " ".join(re.findall(r"/// (.*)", comment)))))
     return found
@@ -288,7 +288,7 @@ def rust_function(function):
 
 
 def rust_struct(reading, struct):
-    lines = [rust_comment(told(reading, struct)), "#[repr(C)]", "#[derive(Clone, Copy, Debug)]", '#[must_use = "an answer may be a refusal"]',
+    lines = [rust_comment(told(reading, struct)), "#[repr(C)]", "#[derive(Clone, Copy, Debug, PartialEq)]", '#[must_use = "an answer may be a refusal"]',
              f"pub struct {struct.name} {{"]
     for field in struct.fields:
         about = words_of(names.FIELDS, struct.name, field.name)

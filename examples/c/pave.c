@@ -64,6 +64,7 @@ struct memory {
     size_t field_nodes, nodes;
     double *values, *xs, *ys;
     uint8_t *marks;
+    uint16_t *origins;
     uint32_t *next, *prev, *snapshot, *quads, *edges, *loops, *lengths, *node_pool, *edge_pool, *blocks;
 };
 
@@ -83,6 +84,7 @@ static void lend(struct memory *m) {
     m->next = list(m->next, m->nodes, sizeof *m->next);
     m->prev = list(m->prev, m->nodes, sizeof *m->prev);
     m->snapshot = list(m->snapshot, m->nodes, sizeof *m->snapshot);
+    m->origins = list(m->origins, m->nodes, sizeof *m->origins);
     m->quads = list(m->quads, 4 * m->nodes, sizeof *m->quads);
     m->edges = list(m->edges, 2 * 3 * m->nodes, sizeof *m->edges);
     m->loops = list(m->loops, m->nodes, sizeof *m->loops);
@@ -95,8 +97,8 @@ static void lend(struct memory *m) {
 static sitjorbe_pave_answer pave(const struct outline *o, double size, const struct memory *m) {
     return sitjorbe_pave(o->outer, o->outer_len, o->holes, o->holes_len, o->lens, o->lens_len, size, SWEEPS, PASSES,
         m->values, 2 * m->field_nodes, m->marks, m->field_nodes, m->xs, m->nodes, m->ys, m->nodes, m->next, m->nodes,
-        m->prev, m->nodes, m->snapshot, m->nodes, m->quads, 4 * m->nodes, m->edges, 2 * 3 * m->nodes, m->loops, m->nodes,
-        m->lengths, m->nodes, m->node_pool, 4 * m->nodes, m->edge_pool, 16 * 3 * m->nodes,
+        m->prev, m->nodes, m->snapshot, m->nodes, m->origins, m->nodes, m->quads, 4 * m->nodes, m->edges, 2 * 3 * m->nodes,
+        m->loops, m->nodes, m->lengths, m->nodes, m->node_pool, 4 * m->nodes, m->edge_pool, 16 * 3 * m->nodes,
         m->blocks, 2 * SITJORBE_MOST_POINTS);
 }
 

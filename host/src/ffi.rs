@@ -12,7 +12,7 @@ pub const ABI: u32 = 1;
 
 /// The answer of `sitjorbe_sound`.
 #[repr(C)]
-#[derive(Clone, Copy, Debug)]
+#[derive(Clone, Copy, Debug, PartialEq)]
 #[must_use = "an answer may be a refusal"]
 pub struct SoundAnswer {
     /// The refusal's number, 0 where nothing is refused.
@@ -24,7 +24,7 @@ pub struct SoundAnswer {
 /// The answer of `sitjorbe_small_quads`. `refusal` is 26 where the lent list is too short, 0 otherwise; `count` is how
 /// many fours are listed.
 #[repr(C)]
-#[derive(Clone, Copy, Debug)]
+#[derive(Clone, Copy, Debug, PartialEq)]
 #[must_use = "an answer may be a refusal"]
 pub struct SmallQuadsAnswer {
     /// The refusal's number, 0 where nothing is refused.
@@ -33,21 +33,10 @@ pub struct SmallQuadsAnswer {
     pub count: usize,
 }
 
-/// The answer of `sitjorbe_estimate`. The refusal, 0 for none, and the estimate, 0 beside a refusal.
-#[repr(C)]
-#[derive(Clone, Copy, Debug)]
-#[must_use = "an answer may be a refusal"]
-pub struct EstimateAnswer {
-    /// The refusal's number, 0 where nothing is refused.
-    pub refusal: u32,
-    /// In tenths of a decibel.
-    pub estimate: u32,
-}
-
 /// The answer of `sitjorbe_order`. `refusal` is 0 where the list is accepted; 21 where some quad is absent, repeated or
 /// unknown; 22 where the quad at `place` stands too early.
 #[repr(C)]
-#[derive(Clone, Copy, Debug)]
+#[derive(Clone, Copy, Debug, PartialEq)]
 #[must_use = "an answer may be a refusal"]
 pub struct OrderAnswer {
     /// The refusal's number, 0 where nothing is refused.
@@ -56,10 +45,22 @@ pub struct OrderAnswer {
     pub place: usize,
 }
 
+/// The answer of `sitjorbe_steps`. `refusal` is 23 or 25, 0 where nothing is refused; `quad` is the lowest quad that
+/// the bowl can't show, where 25 says so.
+#[repr(C)]
+#[derive(Clone, Copy, Debug, PartialEq)]
+#[must_use = "an answer may be a refusal"]
+pub struct StepsAnswer {
+    /// The refusal's number, 0 where nothing is refused.
+    pub refusal: u32,
+    /// The lowest quad that the bowl can't show, on refusal 25.
+    pub quad: usize,
+}
+
 /// The answer of `sitjorbe_places`. `refusal` is document 01's number, 0 where nothing is refused; on a refusal both
 /// counts are 0.
 #[repr(C)]
-#[derive(Clone, Copy, Debug)]
+#[derive(Clone, Copy, Debug, PartialEq)]
 #[must_use = "an answer may be a refusal"]
 pub struct PlacesAnswer {
     /// The refusal's number, 0 where nothing is refused.
@@ -73,7 +74,7 @@ pub struct PlacesAnswer {
 /// The answer of `sitjorbe_contains`. `refusal` is document 01's number, 0 where nothing is refused. The values of a
 /// refused query are false, 0.0 or 0.
 #[repr(C)]
-#[derive(Clone, Copy, Debug)]
+#[derive(Clone, Copy, Debug, PartialEq)]
 #[must_use = "an answer may be a refusal"]
 pub struct ContainsAnswer {
     /// The refusal's number, 0 where nothing is refused.
@@ -84,7 +85,7 @@ pub struct ContainsAnswer {
 
 /// The answer of `sitjorbe_nearest_segment`.
 #[repr(C)]
-#[derive(Clone, Copy, Debug)]
+#[derive(Clone, Copy, Debug, PartialEq)]
 #[must_use = "an answer may be a refusal"]
 pub struct NearestAnswer {
     /// The refusal's number, 0 where nothing is refused.
@@ -107,7 +108,7 @@ pub struct NearestAnswer {
 
 /// The answer of `sitjorbe_distance_to_boundary`.
 #[repr(C)]
-#[derive(Clone, Copy, Debug)]
+#[derive(Clone, Copy, Debug, PartialEq)]
 #[must_use = "an answer may be a refusal"]
 pub struct DistanceAnswer {
     /// The refusal's number, 0 where nothing is refused.
@@ -119,7 +120,7 @@ pub struct DistanceAnswer {
 /// The answer of `sitjorbe_field`. A field record's floats and counts; its values and marks are in the lists lent.
 /// `refusal` is document 01's number, 0 where nothing is refused; on a refusal all else is 0.
 #[repr(C)]
-#[derive(Clone, Copy, Debug)]
+#[derive(Clone, Copy, Debug, PartialEq)]
 #[must_use = "an answer may be a refusal"]
 pub struct FieldRecordAnswer {
     /// The refusal's number, 0 where nothing is refused.
@@ -138,7 +139,7 @@ pub struct FieldRecordAnswer {
 
 /// The answer of `sitjorbe_direction`.
 #[repr(C)]
-#[derive(Clone, Copy, Debug)]
+#[derive(Clone, Copy, Debug, PartialEq)]
 #[must_use = "an answer may be a refusal"]
 pub struct DirectionAnswer {
     /// The refusal's number, 0 where nothing is refused.
@@ -153,7 +154,7 @@ pub struct DirectionAnswer {
 /// record's floats and counts, how many nodes, quads, distinct edges and front edges it has, how many loops of the
 /// front are listed, and the ids in all of them. All else is in the lists lent. All is 0 on a refusal.
 #[repr(C)]
-#[derive(Clone, Copy, Debug)]
+#[derive(Clone, Copy, Debug, PartialEq)]
 #[must_use = "an answer may be a refusal"]
 pub struct PaveAnswer {
     /// The refusal's number, 0 where nothing is refused.
@@ -186,13 +187,91 @@ pub struct PaveAnswer {
     pub ids: usize,
 }
 
-/// The answer of `sitjorbe_begin`, `sitjorbe_enter` and `sitjorbe_withdraw`. `refusal` is 0 where nothing is refused.
+/// The answer of `sitjorbe_exam`. The reply as it crosses: `refusal` is 0 where nothing is refused; what isn't asked
+/// for is 0.
 #[repr(C)]
-#[derive(Clone, Copy, Debug)]
+#[derive(Clone, Copy, Debug, PartialEq)]
 #[must_use = "an answer may be a refusal"]
-pub struct RefusalAnswer {
+pub struct ExamAnswer {
     /// The refusal's number, 0 where nothing is refused.
     pub refusal: u32,
+    /// The node's first coordinate.
+    pub x: f64,
+    /// The node's second coordinate.
+    pub y: f64,
+    /// The quad's first node.
+    pub a: u32,
+    /// Its second node.
+    pub b: u32,
+    /// Its third node.
+    pub d: u32,
+    /// Its fourth node.
+    pub c: u32,
+    /// How many nodes the loop has.
+    pub length: usize,
+    /// In tenths of a decibel.
+    pub threshold: u32,
+    /// How many quads have all four thresholds.
+    pub count: u32,
+    /// The sum of those quads' thresholds.
+    pub sum: u32,
+    /// In tenths of a decibel.
+    pub estimate: u32,
+    /// The number of the outline's loop that the node came from.
+    pub origin: u32,
+}
+
+/// The answer of `sitjorbe_step`. What became of the edge (0 placed, 1 none, 2 full, 3 cap), and how many nodes, quads,
+/// distinct edges and front edges there are after it. All is 0 on a refusal.
+#[repr(C)]
+#[derive(Clone, Copy, Debug, PartialEq)]
+#[must_use = "an answer may be a refusal"]
+pub struct StepAnswer {
+    /// The refusal's number, 0 where nothing is refused.
+    pub refusal: u32,
+    /// What became of the edge, or would: 0 placed, 1 none, 2 full, 3 cap.
+    pub outcome: u32,
+    /// How many nodes there are.
+    pub nodes: u32,
+    /// How many quads there are.
+    pub quads: usize,
+    /// How many distinct edges there are.
+    pub edges: usize,
+    /// How many edges the front has.
+    pub front: usize,
+}
+
+/// The answer of `sitjorbe_preview`. What would become of the edge; the quad that would be placed, how many of its
+/// nodes would be new, and where: corners c and d have 0 for coordinates where they aren't new, and all of the quad is
+/// 0 where none would be placed; and how many front edges there would be. All is 0 on a refusal.
+#[repr(C)]
+#[derive(Clone, Copy, Debug, PartialEq)]
+#[must_use = "an answer may be a refusal"]
+pub struct PreviewAnswer {
+    /// The refusal's number, 0 where nothing is refused.
+    pub refusal: u32,
+    /// What became of the edge, or would: 0 placed, 1 none, 2 full, 3 cap.
+    pub outcome: u32,
+    /// The quad's first node.
+    pub a: u32,
+    /// Its second node.
+    pub b: u32,
+    /// Its third node.
+    pub d: u32,
+    /// Its fourth node.
+    pub c: u32,
+    /// How many of the quad's nodes would be new.
+    pub new_nodes: u32,
+    /// X of c where it would be new.
+    pub cx: f64,
+    /// Y of c where it would be new.
+    pub cy: f64,
+    /// X of d where it would be new.
+    pub dx: f64,
+    /// Y of d where it would be new.
+    pub dy: f64,
+    /// How many edges the front has.
+    pub front: usize,
 }
 
 /// As C lays the answers out on x86-64.
@@ -204,12 +283,12 @@ const _: () = {
     assert!(offset_of!(SmallQuadsAnswer, refusal) == 0);
     assert!(offset_of!(SmallQuadsAnswer, count) == 8);
     assert!(size_of::<SmallQuadsAnswer>() == 16);
-    assert!(offset_of!(EstimateAnswer, refusal) == 0);
-    assert!(offset_of!(EstimateAnswer, estimate) == 4);
-    assert!(size_of::<EstimateAnswer>() == 8);
     assert!(offset_of!(OrderAnswer, refusal) == 0);
     assert!(offset_of!(OrderAnswer, place) == 8);
     assert!(size_of::<OrderAnswer>() == 16);
+    assert!(offset_of!(StepsAnswer, refusal) == 0);
+    assert!(offset_of!(StepsAnswer, quad) == 8);
+    assert!(size_of::<StepsAnswer>() == 16);
     assert!(offset_of!(PlacesAnswer, refusal) == 0);
     assert!(offset_of!(PlacesAnswer, field_nodes) == 8);
     assert!(offset_of!(PlacesAnswer, sampled_nodes) == 16);
@@ -255,8 +334,40 @@ const _: () = {
     assert!(offset_of!(PaveAnswer, loops) == 88);
     assert!(offset_of!(PaveAnswer, ids) == 96);
     assert!(size_of::<PaveAnswer>() == 104);
-    assert!(offset_of!(RefusalAnswer, refusal) == 0);
-    assert!(size_of::<RefusalAnswer>() == 4);
+    assert!(offset_of!(ExamAnswer, refusal) == 0);
+    assert!(offset_of!(ExamAnswer, x) == 8);
+    assert!(offset_of!(ExamAnswer, y) == 16);
+    assert!(offset_of!(ExamAnswer, a) == 24);
+    assert!(offset_of!(ExamAnswer, b) == 28);
+    assert!(offset_of!(ExamAnswer, d) == 32);
+    assert!(offset_of!(ExamAnswer, c) == 36);
+    assert!(offset_of!(ExamAnswer, length) == 40);
+    assert!(offset_of!(ExamAnswer, threshold) == 48);
+    assert!(offset_of!(ExamAnswer, count) == 52);
+    assert!(offset_of!(ExamAnswer, sum) == 56);
+    assert!(offset_of!(ExamAnswer, estimate) == 60);
+    assert!(offset_of!(ExamAnswer, origin) == 64);
+    assert!(size_of::<ExamAnswer>() == 72);
+    assert!(offset_of!(StepAnswer, refusal) == 0);
+    assert!(offset_of!(StepAnswer, outcome) == 4);
+    assert!(offset_of!(StepAnswer, nodes) == 8);
+    assert!(offset_of!(StepAnswer, quads) == 16);
+    assert!(offset_of!(StepAnswer, edges) == 24);
+    assert!(offset_of!(StepAnswer, front) == 32);
+    assert!(size_of::<StepAnswer>() == 40);
+    assert!(offset_of!(PreviewAnswer, refusal) == 0);
+    assert!(offset_of!(PreviewAnswer, outcome) == 4);
+    assert!(offset_of!(PreviewAnswer, a) == 8);
+    assert!(offset_of!(PreviewAnswer, b) == 12);
+    assert!(offset_of!(PreviewAnswer, d) == 16);
+    assert!(offset_of!(PreviewAnswer, c) == 20);
+    assert!(offset_of!(PreviewAnswer, new_nodes) == 24);
+    assert!(offset_of!(PreviewAnswer, cx) == 32);
+    assert!(offset_of!(PreviewAnswer, cy) == 40);
+    assert!(offset_of!(PreviewAnswer, dx) == 48);
+    assert!(offset_of!(PreviewAnswer, dy) == 56);
+    assert!(offset_of!(PreviewAnswer, front) == 64);
+    assert!(size_of::<PreviewAnswer>() == 72);
 };
 
 /// The number of the shape that the library has. It is [`ABI`], since a library of another shape doesn't link.
@@ -322,6 +433,31 @@ extern "C" {
         pool: *mut u32,
         pool_len: usize,
     ) -> OrderAnswer;
+
+    /// The nodes of a lent mesh in whole steps of 1/64 degree, each coordinate at the nearest step, halves at the even
+    /// one. The mesh is only read, and the buffer is written once nothing is refused.
+    pub fn sitjorbe_steps(
+        xs: *const f64,
+        xs_len: usize,
+        ys: *const f64,
+        ys_len: usize,
+        next: *const u32,
+        next_len: usize,
+        prev: *const u32,
+        prev_len: usize,
+        origins: *const u16,
+        origins_len: usize,
+        quads: *const u32,
+        quads_len: usize,
+        edges: *const u32,
+        edges_len: usize,
+        node_count: u32,
+        quad_count: usize,
+        edge_count: usize,
+        front_count: usize,
+        steps: *mut i32,
+        steps_len: usize,
+    ) -> StepsAnswer;
 
     /// The places that a run of this outline and size can't do without. Quads, and the nodes and edges that they add,
     /// need more.
@@ -409,9 +545,10 @@ extern "C" {
         ty: f64,
     ) -> DirectionAnswer;
 
-    /// The run whole, from the field to the loops of the front, in the lists lent. Nothing is written on a refusal. The
-    /// pools and the list of blocks are scratch of any length, which searches go by as far as they have room; the
-    /// answer doesn't depend on them.
+    /// The run whole, from the field to the loops of the front, in the lists lent. `origins` gets for each node the
+    /// number of the outline's loop that it came from. Nothing is written on a refusal. The pools and the list of
+    /// blocks are scratch of any length, which searches go by as far as they have room; the answer doesn't depend on
+    /// them.
     pub fn sitjorbe_pave(
         outer: *const f64,
         outer_len: usize,
@@ -436,6 +573,8 @@ extern "C" {
         prev_len: usize,
         snapshot: *mut u32,
         snapshot_len: usize,
+        origins: *mut u16,
+        origins_len: usize,
         quads: *mut u32,
         quads_len: usize,
         edges: *mut u32,
@@ -452,59 +591,118 @@ extern "C" {
         blocks_len: usize,
     ) -> PaveAnswer;
 
-    /// An exam begins: none in every place of the list, and both figures 0.
-    pub fn sitjorbe_begin(thresholds: *mut u16, thresholds_len: usize, count: *mut u32, sum: *mut u32)
-        -> RefusalAnswer;
-
-    /// A threshold arrives at a node, or replaces the one that stands there.
-    pub fn sitjorbe_enter(
-        nodes: u32,
-        xs: *const f64,
-        xs_len: usize,
-        ys: *const f64,
-        ys_len: usize,
-        quad_count: usize,
-        quads: *const u32,
-        quads_len: usize,
-        thresholds: *mut u16,
-        thresholds_len: usize,
-        count: *mut u32,
-        sum: *mut u32,
-        node: u32,
-        threshold: u32,
-    ) -> RefusalAnswer;
-
-    /// The threshold at a node is withdrawn.
-    pub fn sitjorbe_withdraw(
-        nodes: u32,
-        xs: *const f64,
-        xs_len: usize,
-        ys: *const f64,
-        ys_len: usize,
-        quad_count: usize,
-        quads: *const u32,
-        quads_len: usize,
-        thresholds: *mut u16,
-        thresholds_len: usize,
-        count: *mut u32,
-        sum: *mut u32,
-        node: u32,
-    ) -> RefusalAnswer;
-
-    /// The estimate in a quad at the weights u, from a towards b, and v, from a towards c: 0 to 256 across it.
-    pub fn sitjorbe_estimate(
-        nodes: u32,
-        xs: *const f64,
-        xs_len: usize,
-        ys: *const f64,
-        ys_len: usize,
-        quad_count: usize,
-        quads: *const u32,
-        quads_len: usize,
-        thresholds: *const u16,
-        thresholds_len: usize,
-        quad: usize,
+    /// One request of one role to an exam. 20 comes before all else; where anything is refused, nothing lent is
+    /// written.
+    pub fn sitjorbe_exam(
+        role: u32,
+        operation: u32,
+        item: u32,
+        value: u32,
         u: u32,
         v: u32,
-    ) -> EstimateAnswer;
+        nodes: u32,
+        xs: *const f64,
+        xs_len: usize,
+        ys: *const f64,
+        ys_len: usize,
+        quad_count: usize,
+        quads: *const u32,
+        quads_len: usize,
+        next: *const u32,
+        next_len: usize,
+        prev: *const u32,
+        prev_len: usize,
+        origins: *const u16,
+        origins_len: usize,
+        thresholds: *mut u16,
+        thresholds_len: usize,
+        count: *mut u32,
+        sum: *mut u32,
+        reply: *mut u32,
+        reply_len: usize,
+    ) -> ExamAnswer;
+
+    /// A step on the front edge a to b, in the mesh lent: one quad placed or none. Refusals are 1 to 7, 11, 23 and 24,
+    /// in that order. New nodes take what stands in `origins` at node a.
+    pub fn sitjorbe_step(
+        outer: *const f64,
+        outer_len: usize,
+        holes: *const f64,
+        holes_len: usize,
+        lens: *const usize,
+        lens_len: usize,
+        size: f64,
+        xmin: f64,
+        ymin: f64,
+        h: f64,
+        nx: usize,
+        ny: usize,
+        values: *const f64,
+        values_len: usize,
+        marks: *const u8,
+        marks_len: usize,
+        xs: *mut f64,
+        xs_len: usize,
+        ys: *mut f64,
+        ys_len: usize,
+        next: *mut u32,
+        next_len: usize,
+        prev: *mut u32,
+        prev_len: usize,
+        origins: *mut u16,
+        origins_len: usize,
+        quads: *mut u32,
+        quads_len: usize,
+        edges: *mut u32,
+        edges_len: usize,
+        node_count: u32,
+        quad_count: usize,
+        edge_count: usize,
+        front_count: usize,
+        a: u32,
+        b: u32,
+    ) -> StepAnswer;
+
+    /// What a step on the front edge a to b would do, and in the list the front edges that it would leave, u then v, by
+    /// their first node: an edge takes two numbers. The mesh is only read.
+    pub fn sitjorbe_preview(
+        outer: *const f64,
+        outer_len: usize,
+        holes: *const f64,
+        holes_len: usize,
+        lens: *const usize,
+        lens_len: usize,
+        size: f64,
+        xmin: f64,
+        ymin: f64,
+        h: f64,
+        nx: usize,
+        ny: usize,
+        values: *const f64,
+        values_len: usize,
+        marks: *const u8,
+        marks_len: usize,
+        xs: *const f64,
+        xs_len: usize,
+        ys: *const f64,
+        ys_len: usize,
+        next: *const u32,
+        next_len: usize,
+        prev: *const u32,
+        prev_len: usize,
+        origins: *const u16,
+        origins_len: usize,
+        quads: *const u32,
+        quads_len: usize,
+        edges: *const u32,
+        edges_len: usize,
+        node_count: u32,
+        quad_count: usize,
+        edge_count: usize,
+        front_count: usize,
+        a: u32,
+        b: u32,
+        list: *mut u32,
+        list_len: usize,
+    ) -> PreviewAnswer;
 }

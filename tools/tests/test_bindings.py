@@ -137,6 +137,11 @@ class Repository(unittest.TestCase):
         self.assertEqual(sorted(name for names in entries.by_crate(crates.dependencies()).values() for name in names), sorted(searched))
         self.assertIn("sitjorbe_pave", searched)
 
+    def test_every_way_to_an_exam_asks_for_a_role(self):
+        # Beside an entry that asks for none, the roles would be no more than a wish.
+        to_results = [function for function in self.reading.functions if "thresholds" in [typed.name for typed in function.parameters]]
+        self.assertEqual([(function.name, function.parameters[0].name) for function in to_results], [("sitjorbe_exam", "role")])
+
     def test_every_name_has_words_and_no_words_are_left_over(self):
         used = {typed.name for function in self.reading.functions for typed in declarations.lent(function)}
         self.assertEqual(used, set(names.PARAMETERS))

@@ -103,7 +103,7 @@ fn runs_beside_the_model() {
     let (mut runs, mut with_holes, mut round_holes, mut full) = (0, 0, 0, 0);
     while runs < 6_000 {
         let drawing = drawing(&mut rng);
-        let settings = Settings { size: 0.9 + 0.5 * rng.unit(), sweeps: 20, passes: rng.pick(&[0, 1, 2, 5, 600, 600]) };
+        let settings = Settings { size: 1.3 + 0.6 * rng.unit(), sweeps: 5, passes: rng.pick(&[0, 1, 2, 5, 600, 600]) };
         let front = sampled(&drawing, &settings);
         let nodes = memory.pave(&drawing.outline(), &settings).unwrap().node_count();
         let mut lengths = list_lengths(AMPLE);

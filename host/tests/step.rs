@@ -36,6 +36,12 @@ impl Owned {
         MeshRead { xs, ys, next, prev, origins, quads, edges }
     }
 
+    /// A step, with the counts as they are.
+    fn step(&mut self, floor: &Floor, edge: [u32; 2]) -> sitjorbe::ffi::StepAnswer {
+        let counts = self.counts;
+        step_numbers(&floor.ground(), &mut self.lists(), counts, edge)
+    }
+
     /// Every bit of every list.
     fn bits(&self) -> Vec<Vec<u64>> {
         let Owned { xs, ys, next, prev, origins, quads, edges, .. } = self;
@@ -177,7 +183,7 @@ fn document_01s_square_looked_at_and_stepped() {
     assert_eq!(stepper.preview([4, OFF]).map(|_| ()), Err(Refusal::NotOnFront));
 
     // The other three in turn, and the loop of two that is left answers none.
-    for edge in [[0, 1], [1, 2], [5, 6]] {
+    for edge in [[5, 6], [2, 3], [0, 1]] {
         assert_eq!(stepper.step(edge), Ok(Outcome::Placed), "{edge:?}");
     }
     assert_eq!((stepper.counts().nodes, stepper.counts().quads, stepper.counts().front), (9, 4, 2));
@@ -214,7 +220,7 @@ fn new_nodes_take_the_number_of_node_a() {
     let (floor, mut mesh) = square();
     mesh.origins = (0..17).map(|k| 65_535 - k).collect();
     let before = mesh.origins.clone();
-    assert_eq!(step_numbers(&floor.ground(), &mut mesh.lists(), mesh.counts, [3, 4]).nodes, 9);
+    assert_eq!(mesh.step(&floor, [3, 4]).nodes, 9);
     assert_eq!(mesh.origins[8], before[3]);
     assert_eq!((&mesh.origins[..8], &mesh.origins[9..]), (&before[..8], &before[9..]));
 }
@@ -325,7 +331,7 @@ fn refusals_in_their_order() {
     type Damage = (u32, fn(&mut Floor, &mut Owned, &mut [u32; 2]));
     let damages: [Damage; 10] = [
         (1, |floor, _, _| floor.drawing.hole_lengths = vec![1]),
-        (2, |floor, _, _| floor.drawing.hole_lengths = vec![0]),
+        (2, |floor, _, _| floor.drawing.outer.truncate(4)),
         (3, |floor, _, _| floor.drawing.outer[3] = f64::NAN),
         (4, |floor, _, _| floor.drawing.outer[2] = 1_000.0f64.next_up()),
         (5, |floor, _, _| floor.size = -0.0),
@@ -428,19 +434,21 @@ fn the_smallest_meshes_of_23() {
 fn damage(rng: &mut Rng, mesh: &mut Owned) {
     let n = mesh.counts.nodes as usize;
     let (u, v) = (rng.below(n), rng.below(n));
+    let edges = mesh.counts.edges.clamp(1, mesh.edges.len() / 2);
+    let quads = mesh.counts.quads.clamp(1, mesh.quads.len() / 4);
     let wild = [n as u32, n as u32 + 1, OFF - 1, OFF, 0, v as u32];
     let far = [1_001.0, -1_001.0, 1_001.0f64.next_up(), -(1_001.0f64.next_up()), f64::NAN, f64::INFINITY, 1e300, 0.5];
     match rng.below(18) {
         0 => mesh.counts.nodes = rng.pick(&[0, 1, n as u32 - 1, n as u32 + 1, n as u32 + 9, n as u32 + 10, OFF - 1, OFF]),
         1 => mesh.counts.quads = rng.pick(&[0, mesh.quads.len() / 4, mesh.quads.len() / 4 + 1, usize::MAX, 1 << 62]),
         2 => mesh.counts.edges = rng.pick(&[0, mesh.edges.len() / 2, mesh.edges.len() / 2 + 1, usize::MAX, 1 << 63]),
-        3 => mesh.counts.front = rng.pick(&[0, 1, mesh.counts.front + 1, mesh.counts.front.wrapping_sub(1), usize::MAX]),
+        3 => mesh.counts.front = rng.pick(&[0, 1, mesh.counts.front.wrapping_add(1), mesh.counts.front.wrapping_sub(1), usize::MAX]),
         4 => mesh.next[u] = rng.pick(&wild),
         5 => mesh.prev[u] = rng.pick(&wild),
         6 => mesh.xs[u] = rng.pick(&far),
         7 => mesh.ys[u] = rng.pick(&far),
-        8 if mesh.counts.quads > 0 => mesh.quads[rng.below(4 * mesh.counts.quads)] = rng.pick(&wild),
-        9 => mesh.edges[rng.below(2 * mesh.counts.edges)] = rng.pick(&wild),
+        8 => mesh.quads[rng.below(4 * quads)] = rng.pick(&wild),
+        9 => mesh.edges[rng.below(2 * edges)] = rng.pick(&wild),
         // The same list of links, turned another way: two front edges exchange their ends. Loops of any length, or of one, come of it.
         10 | 11 => {
             let (a, b) = (mesh.next[u], mesh.next[v]);
@@ -451,11 +459,11 @@ fn damage(rng: &mut Rng, mesh: &mut Owned) {
         }
         // An edge the wrong way round, or twice.
         12 => {
-            let k = rng.below(mesh.counts.edges);
+            let k = rng.below(edges);
             mesh.edges.swap(2 * k, 2 * k + 1);
         }
         13 => {
-            let (k, m) = (rng.below(mesh.counts.edges), rng.below(mesh.counts.edges));
+            let (k, m) = (rng.below(edges), rng.below(edges));
             let pair = [mesh.edges[2 * m], mesh.edges[2 * m + 1]];
             mesh.edges[2 * k..2 * k + 2].copy_from_slice(&pair);
         }
@@ -464,12 +472,12 @@ fn damage(rng: &mut Rng, mesh: &mut Owned) {
             let a = mesh.next[u];
             if a != OFF {
                 (mesh.next[u], mesh.prev[a as usize]) = (OFF, OFF);
-                mesh.counts.front -= 1;
+                mesh.counts.front = mesh.counts.front.wrapping_sub(1);
             }
         }
         15 => mesh.origins.truncate(rng.pick(&[n, n - 1, n + 1, 0])),
         16 => mesh.xs.truncate(rng.pick(&[n, n + 1])),
-        _ => mesh.counts.edges = rng.below(mesh.counts.edges + 1),
+        _ => mesh.counts.edges = rng.below(edges + 1),
     }
 }
 
@@ -533,20 +541,20 @@ fn readings_of_the_mesh_edges() {
     // The edges aren't listed: all four are added, where a run's mesh gets two.
     let (floor, mut mesh) = square();
     mesh.counts.edges = 0;
-    let step = step_numbers(&floor.ground(), &mut mesh.lists(), mesh.counts, [3, 4]);
+    let step = mesh.step(&floor, [3, 4]);
     assert_eq!((step.refusal, step.outcome, step.edges), (0, 0, 4));
     assert_eq!(mesh.edges[..8], [3, 4, 4, 5, 5, 8, 3, 8]);
     // The first pair stored the wrong way round isn't found: the edge is added again.
     let (floor, mut mesh) = square();
     mesh.edges.swap(0, 1);
-    let step = step_numbers(&floor.ground(), &mut mesh.lists(), mesh.counts, [0, 1]);
+    let step = mesh.step(&floor, [0, 1]);
     assert_eq!((step.refusal, step.outcome, step.edges), (0, 0, 11));
     let (floor, mut mesh) = square();
-    assert_eq!(step_numbers(&floor.ground(), &mut mesh.lists(), mesh.counts, [0, 1]).edges, 10);
+    assert_eq!(mesh.step(&floor, [0, 1]).edges, 10);
     // A node linked to itself: its edge has no length, so none.
     let (floor, mut mesh) = square();
     (mesh.next[8], mesh.prev[8], mesh.xs[8], mesh.ys[8]) = (8, 8, 1.0, 1.0);
     (mesh.counts.nodes, mesh.counts.front) = (9, 9);
-    let step = step_numbers(&floor.ground(), &mut mesh.lists(), mesh.counts, [8, 8]);
+    let step = mesh.step(&floor, [8, 8]);
     assert_eq!((step.refusal, step.outcome), (0, Outcome::None as u32));
 }

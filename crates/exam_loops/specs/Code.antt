@@ -14,7 +14,7 @@ use Rattle.laws.specs.Loop.{forUp, Scan, scan-hit, scan-next, scan-none}
 use Rattle.topology.specs.Links.{off, linkOf, link-in, link-read}
 use Rattle.topology.specs.Walk.{walkBy, prepend, walk-off}
 use Rattle.topology.specs.Listing.{listing, walks}
-use Rattle.loops.specs.Listed.{overlay}
+use Rattle.laws.specs.Overlay.{overlay}
 use Rattle.exam_loops.specs.declared.FoundLoop.{FoundLoop}
 use Rattle.exam_loops.specs.Loops.{linksBack, arePaired, linksSound, linkedLoops, loopNumbered, loopReading, loopRead, readInto, readLoop}
 use Rattle.exam_loops.specs.Walks.{walk-under, walk-closed, walk-onward, walk-first, walk-along, starts-none}

@@ -5,7 +5,7 @@ use Rattle.laws.specs.Loop.{forUp, anyUp}
 use Rattle.topology.specs.Links.{off, linkOf}
 use Rattle.topology.specs.Walk.{walkBy, prepend}
 use Rattle.topology.specs.Listing.{listing, addLoop}
-use Rattle.loops.specs.Listed.{overlay}
+use Rattle.laws.specs.Overlay.{overlay}
 use Rattle.exam_loops.specs.Loops.{linksBack, arePaired, linksSound, linkedLoops, loopNumbered, loopReading, loopRead, readInto, readLoop}
 
 -- nodes 0, 4, 2 and 1, 5, 3 make two loops, and 6 is off the front

@@ -7,7 +7,7 @@ use lib.ListN.{length}
 use Rattle.laws.specs.Loop.{anyUp}
 use Rattle.topology.specs.Links.{off, linkOf}
 use Rattle.topology.specs.Listing.{walks}
-use Rattle.loops.specs.Listed.{overlay}
+use Rattle.laws.specs.Overlay.{overlay}
 use Rattle.exam_loops.specs.declared.LoopRead.{LoopRead}
 
 -- ---- links, of n nodes

@@ -17,7 +17,7 @@ use Rattle.topology.specs.Front.{headOr}
 use Rattle.front.specs.State.{State}
 use Rattle.front.specs.Sampling.{loopCount, loopNodes, sampledCount, frontRefusal, fromBoundary, boundaryLoops, loopIds}
 use Rattle.front.specs.Sampling.{ringIn, ringAt, ringOf, sampleLoop}
-use Rattle.books.specs.Book.{Edge, roomFor, edgesTo, loopEdges, startBook}
+use Rattle.books.specs.Book.{roomFor, edgesTo, loopEdges, startBook}
 use Rattle.books.specs.BookLaws.{matches-nodes}
 use Rattle.sampled.specs.Lists.{all-append, all-tabulate}
 use Rattle.sampled.specs.Rings.{ring-longest, ring-in, ids-all}
@@ -26,7 +26,7 @@ use Rattle.sampled.specs.Turn.{sampled-count, cuts-three, split-count}
 use Rattle.sampled.specs.Outlines.{Threes}
 use Rattle.sampled.specs.Begun.{Places, stateAt, fits, ready, refusal-places, begun}
 use Rattle.sampled.specs.Starts.{room-for, starts}
-use Rattle.origins.specs.Origins.{originOf, loopOrigins, sampledOrigins, SameOrigin, SameAlong}
+use Rattle.origins.specs.Origins.{originOf, loopOrigins, sampledOrigins, SameAlong}
 use Rattle.origins.specs.Steps.{Numbered}
 
 -- ---- the numbers of the samples

@@ -139,7 +139,8 @@ module _ (n a id w u v : ℕ) (s : State) (b : Book) (l : List ℕ) (N : Numbere
       let S = same-join A (there (F .same)) in
       rw (push-old a id l (S .right)) (record { numbered = F .numbered; extends = extends-same l; same = S })
 
-  side-new : (x y : Float) → id ≡ length (b .xs) → SideNumbered n a id l (pushOrigin a id l) (goesOn (edge v u) (book (b .xs ++ x ∷ []) (b .ys ++ y ∷ []) (b .front)))
+  side-new : (x y : Float) → id ≡ length (b .xs)
+      → SideNumbered n a id l (pushOrigin a id l) (goesOn (edge v u) (book (b .xs ++ x ∷ []) (b .ys ++ y ∷ []) (b .front)))
   side-new x y new =
       rw (push-new a id l (new ∙ sym (N .long)))
       (record {
@@ -243,7 +244,9 @@ module _ (n : ℕ) (o : Outline) (size : Float) (s : State) where
       let l = originsAfter o size (s .quads) k in
       record {
         numbered = Q .numbered;
-        each = below-next (λ i. SameInQuad (quadOrigins (quadIn (s .quads) k) l) (quadIn (s .quads) i)) k (λ i h. quad-kept (Q .extends) (A .each i h)) (Q .quad);
+        each =
+            below-next (λ i. SameInQuad (quadOrigins (quadIn (s .quads) k) l) (quadIn (s .quads) i)) k
+            (λ i h. quad-kept (Q .extends) (A .each i h)) (Q .quad);
         old = below-next (λ i. quadIn (s .quads) i .a < length (originsAfter o size (s .quads) i)) k (A .old) (Q .old);
       }
 

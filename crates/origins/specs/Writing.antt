@@ -7,7 +7,7 @@ use mathlib.Core.Bool.{Bool, true, false, cond}
 use native.Mathlib.Numerals.{add-one}
 use native.Mathlib.Omega.{arith}
 use lib.Dec.{eqb, leb}
-use lib.ListN.{length, getD, set, take, drop, replicate, length-append, length-drop, length-take, length-replicate, replicate-append-replicate, List·getD-append}
+use lib.ListN.{length, set, drop, replicate, length-append, length-take, length-replicate, replicate-append-replicate, List·getD-append}
 use lib.Seq.{sets, take-at, drop-at}
 use lib.Ieee.{Float}
 use borrow.Author.Tests.{eq-eqb, ne-eqb, leb-true, leb-false}
@@ -153,7 +153,8 @@ push-length a id l = by (eqb id (length l))
     by false = refl
 
 -- the next node of a list that is being written
-pub push-over : (a id n : ℕ) (l s : List ℕ) → length l ≡ n → a < n → pushCount id n ≤ length s → pushAt a id n (overlay l s) ≡ overlay (pushOrigin a id l) s
+pub push-over : (a id n : ℕ) (l s : List ℕ) → length l ≡ n → a < n → pushCount id n ≤ length s
+    → pushAt a id n (overlay l s) ≡ overlay (pushOrigin a id l) s
 unfolding pushOrigin overlay
 push-over a id n l s e old room =
     by (eqb id n) room ∙ ap (λ (m : ℕ). overlay (cond (eqb id m) (l ++ originOf l a ∷ []) l) s) (sym e)

@@ -6,6 +6,7 @@ use Prim.Native.Nat.{ℕ, min}
 use lib.Dec.{ltb}
 use lib.ListN.{length, take, drop}
 use lib.Ieee.{Float}
+use Rattle.laws.specs.Overlay.{overlay}
 use Rattle.numbers.specs.Float.{zeroF}
 use Rattle.domain.specs.declared.Settings.{Settings}
 use Rattle.domain.specs.Outline.{Outline, firstOf}
@@ -150,7 +151,7 @@ acceptedIn o set l =
     let p = loops.listedIn (s .counts) (s .next) (s .snapshot) (l .loops) (l .lengths) in
     ran (pavedAnswer (r .field .grid) (r .paving .end) (s .counts) (p .listed) (isWhole o (p .listed .count)))
     (lent (r .field .lists .values) (r .field .lists .marks) (s .xs) (s .ys) (s .next) (s .prev) (p .marks)
-    (loops.overlay (originsAfter o (set .size) (s .quads) (s .counts .quads)) (l .origins)) (s .quads) (s .edges) (p .loops) (p .lengths))
+    (overlay (originsAfter o (set .size) (s .quads) (s .counts .quads)) (l .origins)) (s .quads) (s .edges) (p .loops) (p .lengths))
 
 unfoldable pub acceptedRun : Outline → Settings → Lent → Ran
 acceptedRun o set l = let r = acceptedIn o set (narrowed l) in ran (r .answer) (widened l (r .lists))

@@ -17,11 +17,11 @@ same-length c = search needs
 returns : tie.Need-returns
 returns c = edge-known _ _ _ _ (sym (c .before .has-edge .ensures) ∙ c .if1 .taken)
 
-smaller-requires : tie.Need-smaller-requires
-smaller-requires c κs = search needs
+min-u32-requires : tie.Need-min-u32-requires
+min-u32-requires c κs = search needs
 
-larger-requires : tie.Need-larger-requires
-larger-requires c κs = search needs
+max-u32-requires : tie.Need-max-u32-requires
+max-u32-requires c κs = search needs
 
 mul-edges : tie.Need-mul-edges
 mul-edges c = search needs
@@ -51,7 +51,7 @@ same-length-2 : tie.Need-same-length-2
 same-length-2 c = search needs
 
 returns-2 : tie.Need-returns-2
-returns-2 c = rw (c .before .smaller .ensures, c .larger .ensures) (edge-new _ _ _ _ (sym (c .before .before .before .has-edge .ensures) ∙ c .before .before .if1 .left))
+returns-2 c = rw (c .before .min-u32 .ensures, c .max-u32 .ensures) (edge-new _ _ _ _ (sym (c .before .before .before .has-edge .ensures) ∙ c .before .before .if1 .left))
 
 pub add-edge-spec : {M : Type 1} → statement M
 add-edge-spec =
@@ -60,8 +60,8 @@ add-edge-spec =
     has-edge-requires
     same-length
     returns
-    smaller-requires
-    larger-requires
+    min-u32-requires
+    max-u32-requires
     mul-edges
     mul-edges-2
     slice-write-edges

@@ -36,7 +36,8 @@ push-origin-requires c κs =
     let at-loop = past-test .before in
     let at-number-samples = at-loop .before .before .before in
     let start = at-number-samples .before .before .before .before .before .before .before in
-    numbering-first _ _ _ (at-loop .loop .inv) (past-test .loop-test .taken) (start .pre) (at-number-samples .number-samples .kept .1 .1 .1 .1 .0) (at-quad-at .quad-at .ensures)
+    let long = at-number-samples .number-samples .kept .1 .1 .1 .1 .0 in
+    numbering-first _ _ _ (at-loop .loop .inv) (past-test .loop-test .taken) (start .pre) long (at-quad-at .quad-at .ensures)
 
 push-origin-requires-2 : tie.Need-push-origin-requires-2 Inv-loop μ-loop
 push-origin-requires-2 c κs =
@@ -46,7 +47,8 @@ push-origin-requires-2 c κs =
     let at-loop = past-test .before in
     let at-number-samples = at-loop .before .before .before in
     let start = at-number-samples .before .before .before .before .before .before .before in
-    numbering-second _ _ _ (at-loop .loop .inv) (past-test .loop-test .taken) (start .pre) (at-number-samples .number-samples .kept .1 .1 .1 .1 .0) (at-quad-at .quad-at .ensures)
+    let long = at-number-samples .number-samples .kept .1 .1 .1 .1 .0 in
+    numbering-second _ _ _ (at-loop .loop .inv) (past-test .loop-test .taken) (start .pre) long (at-quad-at .quad-at .ensures)
     (at-push-origin .push-origin .last .0) (at-push-origin .push-origin .ensures .0) (at-push-origin .push-origin .kept .0)
 
 add-k : tie.Need-add-k Inv-loop μ-loop
@@ -69,9 +71,11 @@ loop-again c =
     let at-loop = past-test .before in
     let at-number-samples = at-loop .before .before .before in
     let start = at-number-samples .before .before .before .before .before .before .before in
-    numbering-next _ _ _ (at-loop .loop .inv) (past-test .loop-test .taken) (start .pre) (at-number-samples .number-samples .kept .1 .1 .1 .1 .0) (at-quad-at .quad-at .ensures)
-    (at-push-origin .push-origin .ensures .0) (at-push-origin2 .push-origin2 .ensures .0) (at-push-origin .push-origin .ensures .1) (at-push-origin2 .push-origin2 .ensures .1)
-    (at-push-origin .push-origin .kept .0) (at-push-origin2 .push-origin2 .kept .0)
+    let long = at-number-samples .number-samples .kept .1 .1 .1 .1 .0 in
+    let with-c = at-push-origin .push-origin in
+    let with-d = at-push-origin2 .push-origin2 in
+    numbering-next _ _ _ (at-loop .loop .inv) (past-test .loop-test .taken) (start .pre) long (at-quad-at .quad-at .ensures)
+    (with-c .ensures .0) (with-d .ensures .0) (with-c .ensures .1) (with-d .ensures .1) (with-c .kept .0) (with-d .kept .0)
 
 same-length : tie.Need-same-length Inv-loop μ-loop
 same-length c =
@@ -82,8 +86,8 @@ same-length c =
 returns : tie.Need-returns Inv-loop μ-loop
 returns c =
     let at-loop = c .before in
-    let at-number-samples = at-loop .before .before .before in
-    numbering-all _ _ _ (at-loop .loop .inv) (c .loop-test .left) _ (sym (at-number-samples .number-samples .kept .1 .1 .1 .1 .0)) (at-number-samples .number-samples .ensures .1)
+    let samples = at-loop .before .before .before .number-samples in
+    numbering-all _ _ _ (at-loop .loop .inv) (c .loop-test .left) _ (sym (samples .kept .1 .1 .1 .1 .0)) (samples .ensures .1)
 
 pub number-nodes-spec : {M : Type 1} → statement M
 number-nodes-spec =

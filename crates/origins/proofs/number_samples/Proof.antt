@@ -88,7 +88,8 @@ loop-again c =
     let W = at-loop .loop .inv in
     let e = after-loop-points .loop-points .ensures in
     let exact = parts-exact _ _ _ W (past-test .loop-test .taken) e (start .pre .few) (after-loop-parts .loop-parts .ensures) in
-    numbered-next _ _ _ W (past-test .loop-test .taken) e (start .pre .room) (c .next-start .ensures) (ap evenUp exact) (after-fill .fill-number .ensures) (after-fill .fill-number .kept .0)
+    numbered-next _ _ _ W (past-test .loop-test .taken) e (start .pre .room) (c .next-start .ensures) (ap evenUp exact)
+    (after-fill .fill-number .ensures) (after-fill .fill-number .kept .0)
 
 same-length : tie.Need-same-length Inv-loop μ-loop
 same-length c = c .before .loop .inv .long

@@ -1,6 +1,5 @@
 -- `run::pave` meets its contract: refused, with nothing written; or run, in the part of the snapshot that counts. Assumes nothing.
-use mathlib.Core.Path.{_≡_, _∙_, refl, sym, ap}
-use Prim.Native.Nat.{min}
+use mathlib.Core.Path.{_≡_, _∙_, refl, sym}
 use native.Mathlib.Omega.{arith}
 use lib.Seq.{length-take-le}
 use Rattle.domain.specs.Outline.{Outline, outline}

@@ -1,8 +1,9 @@
 //! The whole run: the field, the sampled outline, the paving, and the loops of the front that is left.
 
-use std::{array, error, fmt};
+use alloc::vec::Vec;
+use core::{array, error, fmt};
 
-use crate::ffi;
+use crate::{ffi, floats};
 use crate::{FieldRecord, Outline, Refusal};
 
 /// What an exam sets for a run.
@@ -33,6 +34,8 @@ pub struct Lists<'a> {
     pub prev: &'a mut [u32],
     /// A place a node, for the run's own use: it is left with 1 for a node on the front, 0 for one off it.
     pub snapshot: &'a mut [u32],
+    /// The number of the outline's loop that a node came from.
+    pub origins: &'a mut [u16],
     /// Four ids a quad, in the order a, b, d, c, which runs round it.
     pub quads: &'a mut [u32],
     /// Two ids a distinct edge, the smaller first.
@@ -51,8 +54,13 @@ pub struct Lists<'a> {
 }
 
 impl<'a> Lists<'a> {
-    /// The lists by kind, each kind in the order of the fields: `values`, `xs`, `ys`; `marks`; `next` to `blocks`.
-    pub fn new(floats: [&'a mut [f64]; 3], marks: &'a mut [u8], numbers: [&'a mut [u32]; 10]) -> Lists<'a> {
+    /// The lists by kind, each kind in the order of the fields: `values`, `xs`, `ys`; `marks`; `origins`; `next` to `blocks`.
+    pub fn new(
+        floats: [&'a mut [f64]; 3],
+        marks: &'a mut [u8],
+        origins: &'a mut [u16],
+        numbers: [&'a mut [u32]; 10],
+    ) -> Lists<'a> {
         let [values, xs, ys] = floats;
         let [next, prev, snapshot, quads, edges, loops, lengths, node_pool, edge_pool, blocks] = numbers;
         Lists {
@@ -63,6 +71,7 @@ impl<'a> Lists<'a> {
             next,
             prev,
             snapshot,
+            origins,
             quads,
             edges,
             loops,
@@ -125,6 +134,7 @@ pub struct Mesh<'a> {
     ys: &'a [f64],
     next: &'a [u32],
     prev: &'a [u32],
+    origins: &'a [u16],
     quads: &'a [u32],
     edges: &'a [u32],
     front: usize,
@@ -134,53 +144,72 @@ pub struct Mesh<'a> {
 
 impl<'a> Mesh<'a> {
     /// How the paving ended.
+    #[must_use]
     pub fn end(&self) -> End {
         self.end
     }
 
-    /// Whether the mesh is whole: the front has no loop of three or more left. Otherwise it is open.
+    /// Whether the mesh is whole: the front has no loop of three or more left, and the outline is sound ([`crate::is_sound`]).
+    /// Otherwise it is open.
+    #[must_use]
     pub fn is_whole(&self) -> bool {
         self.whole
     }
 
     /// The field's record.
+    #[must_use]
     pub fn record(&self) -> FieldRecord {
         self.record
     }
 
     /// The field's values and marks, just as [`crate::direction`] asks for them.
+    #[must_use]
     pub fn field(&self) -> (&'a [f64], &'a [u8]) {
         (self.values, self.marks)
     }
 
     /// The number of nodes.
+    #[must_use]
     pub fn node_count(&self) -> usize {
         self.xs.len()
     }
 
     /// The number of quads.
+    #[must_use]
     pub fn quad_count(&self) -> usize {
         self.quads.len() / 4
     }
 
     /// The number of distinct edges.
+    #[must_use]
     pub fn edge_count(&self) -> usize {
         self.edges.len() / 2
     }
 
     /// The number of front edges.
+    #[must_use]
     pub fn front_count(&self) -> usize {
         self.front
     }
 
     /// The number of listed loops.
+    #[must_use]
     pub fn loop_count(&self) -> usize {
         self.lengths.len()
     }
 
     /// Each node's coordinates, by id.
+    #[must_use]
     pub fn nodes(&self) -> impl ExactSizeIterator<Item = [f64; 2]> + Clone + 'a {
         self.xs.iter().zip(self.ys).map(|(&x, &y)| [x, y])
+    }
+
+    /// For each node, by id, the number of the outline's loop that it came from: 0 is the outer loop, and k + 1 hole k. A node that was sampled
+    /// has its loop's number, and any other that of the node a of the quad it came with. No quad has nodes of two numbers, and no loop of the
+    /// front has.
+    #[must_use]
+    pub fn origins(&self) -> &'a [u16] {
+        self.origins
     }
 
     /// The nodes' first coordinates and their second ones, as they were lent.
@@ -193,12 +222,19 @@ impl<'a> Mesh<'a> {
         self.quads
     }
 
+    /// The ids of all edges, two an edge, as they were lent.
+    pub(crate) fn edge_ids(&self) -> &'a [u32] {
+        self.edges
+    }
+
     /// Each quad's ids a, b, d, c, in the order in which the quads were placed.
+    #[must_use]
     pub fn quads(&self) -> impl ExactSizeIterator<Item = [u32; 4]> + Clone + 'a {
         self.quads.chunks_exact(4).map(|quad| [quad[0], quad[1], quad[2], quad[3]])
     }
 
     /// Each distinct edge, the smaller id first, in the order in which they came.
+    #[must_use]
     pub fn edges(&self) -> impl ExactSizeIterator<Item = [u32; 2]> + Clone + 'a {
         self.edges.chunks_exact(2).map(|edge| [edge[0], edge[1]])
     }
@@ -209,11 +245,14 @@ impl<'a> Mesh<'a> {
     }
 
     /// The links of the front: for each node the next one and the one before, or [`OFF`].
+    #[must_use]
     pub fn links(&self) -> (&'a [u32], &'a [u32]) {
         (self.next, self.prev)
     }
 
-    /// The loops of the front that have three nodes or more, each from its smallest id; none if the mesh is whole.
+    /// The loops of the front that have three nodes or more, each from its smallest id; none if the mesh is whole, or open only
+    /// because its outline is unsound.
+    #[must_use]
     pub fn front_loops(&self) -> impl ExactSizeIterator<Item = &'a [u32]> + Clone + 'a {
         let ids = self.loops;
         let mut start = 0;
@@ -248,6 +287,7 @@ pub fn pave<'a>(outline: &Outline<'_>, settings: &Settings, mut lists: Lists<'a>
         ys: &lists.ys[..nodes],
         next: &lists.next[..nodes],
         prev: &lists.prev[..nodes],
+        origins: &lists.origins[..nodes],
         quads: &lists.quads[..4 * answer.quads],
         edges: &lists.edges[..2 * answer.edges],
         front,
@@ -258,6 +298,7 @@ pub fn pave<'a>(outline: &Outline<'_>, settings: &Settings, mut lists: Lists<'a>
 
 /// As [`pave`], with the numbers as they cross.
 pub fn pave_numbers(outline: &Outline<'_>, settings: &Settings, lists: &mut Lists<'_>) -> ffi::PaveAnswer {
+    floats::check();
     let Outline { outer, holes, hole_lengths: lens } = outline;
     // SAFETY: each pointer comes with the length of its slice, and the slices live until the call returns; those that may be
     // written are borrowed for that. The entry is proved to read and write nothing else.
@@ -286,6 +327,8 @@ pub fn pave_numbers(outline: &Outline<'_>, settings: &Settings, lists: &mut List
             lists.prev.len(),
             lists.snapshot.as_mut_ptr(),
             lists.snapshot.len(),
+            lists.origins.as_mut_ptr(),
+            lists.origins.len(),
             lists.quads.as_mut_ptr(),
             lists.quads.len(),
             lists.edges.as_mut_ptr(),
@@ -323,12 +366,14 @@ pub struct Places {
 impl Places {
     /// Lengths of `node_pool` and `edge_pool` that are enough: eight numbers hold three places, a node takes one place, and an edge seldom
     /// more than five. Where a length is beyond a `usize` it is [`usize::MAX`], and no list is so long.
+    #[must_use]
     pub fn pools(&self) -> [usize; 2] {
         [self.nodes.saturating_mul(4), self.edges.saturating_mul(16)]
     }
 
     /// A length of `blocks` that is always enough: 16 points take four numbers, and each loop, which has at least three points, four more. No outline
     /// that is paved has more than [`Outline::MOST_POINTS`].
+    #[must_use]
     pub fn blocks(&self) -> usize {
         2 * self.points.min(Outline::MOST_POINTS)
     }
@@ -357,11 +402,23 @@ impl fmt::Display for TooManyPlaces {
 impl error::Error for TooManyPlaces {}
 
 /// The lists of a run, owned, for one run after the other.
+///
+/// ```
+/// use sitjorbe::{End, Memory, Outline, Places, Settings};
+///
+/// let mut memory = Memory::new(Places { field_nodes: 100, nodes: 20, quads: 20, edges: 60, points: 4 })?;
+/// let square = Outline { outer: &[0.0, 0.0, 2.0, 0.0, 2.0, 2.0, 0.0, 2.0], holes: &[], hole_lengths: &[] };
+/// let mesh = memory.pave(&square, &Settings { size: 1.0, sweeps: 400, passes: 600 })?;
+/// assert_eq!((mesh.node_count(), mesh.quad_count(), mesh.end(), mesh.is_whole()), (9, 4, End::Still, true));
+/// assert_eq!(mesh.nodes().last(), Some([1.0, 1.0]));
+/// # Ok::<(), Box<dyn std::error::Error>>(())
+/// ```
 #[derive(Clone, Debug)]
 pub struct Memory {
     /// By kind, as [`Lists::new`] takes them.
     floats: [Vec<f64>; 3],
     marks: Vec<u8>,
+    origins: Vec<u16>,
     numbers: [Vec<u32>; 10],
 }
 
@@ -376,18 +433,19 @@ impl Memory {
         let [node_pool, edge_pool] = places.pools();
         let (values, quads, edges) = (field_nodes.saturating_mul(2), quads.saturating_mul(4), edges.saturating_mul(2));
         // A loop is sampled with four nodes at least: where `n` has places for these, a quarter of it has one for each loop.
-        let [marks] = zeros([field_nodes])?;
+        let ([marks], [origins]) = (zeros([field_nodes])?, zeros([n])?);
         Ok(Memory {
             floats: zeros([values, n, n])?,
             marks,
+            origins,
             numbers: zeros([n, n, n, quads, edges, n, n / 4, node_pool, edge_pool, places.blocks()])?,
         })
     }
 
     /// The lists, to lend them.
     pub fn lists(&mut self) -> Lists<'_> {
-        let Memory { floats, marks, numbers } = self;
-        Lists::new(floats.each_mut().map(Vec::as_mut_slice), marks, numbers.each_mut().map(Vec::as_mut_slice))
+        let Memory { floats, marks, origins, numbers } = self;
+        Lists::new(floats.each_mut().map(Vec::as_mut_slice), marks, origins, numbers.each_mut().map(Vec::as_mut_slice))
     }
 
     /// Paves an outline with quads. The mesh is read out of this memory, and lasts until the next run in it.

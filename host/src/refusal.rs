@@ -1,11 +1,22 @@
 //! The refusals of document 01 and of the papers, with words for people.
 
-use std::{error, fmt};
+use core::{error, fmt};
+
+use crate::ffi;
 
 /// Why the library refused. A refusal is its number alone ([`Refusal::number`]); the words are this crate's.
 ///
-/// A refused call has changed none of the memory lent to it, but scratch where the wrapper says so.
+/// A refused call has changed none of the memory lent to it, but scratch where the wrapper says so. Further refusals may come with later versions.
+///
+/// ```
+/// use sitjorbe::Refusal;
+///
+/// let refusal = Refusal::of_number(2).expect("there is one");
+/// assert_eq!(refusal, Refusal::ShortLoop);
+/// assert_eq!(refusal.to_string(), "refused (2): a loop has fewer than three points: draw at least three, or leave the loop out");
+/// ```
 #[derive(Clone, Copy, Debug, PartialEq, Eq, Hash)]
+#[non_exhaustive]
 #[repr(u32)]
 pub enum Refusal {
     /// A coordinate list of odd length, hole lengths that don't add up to the hole points, or more than 4,096 points.
@@ -34,31 +45,37 @@ pub enum Refusal {
     WrongCheck = 12,
     /// A file with a wrong length, count or fill.
     WrongFile = 13,
+    /// A list for answers that is too short, or lists of points and targets that differ in length or end in half a point.
+    AnswerLists = 14,
     /// A node id that isn't in the mesh, or is past the lent list of thresholds.
     NoNode = 15,
     /// A threshold above 500.
     ThresholdTooHigh = 16,
     /// A withdrawal where no threshold stands.
     NoThreshold = 17,
-    /// A quad that isn't in the mesh, or lacks a threshold.
-    NoEstimate = 18,
+    /// A quad that isn't in the mesh, or lacks a threshold where its estimate is asked for.
+    NoQuad = 18,
     /// A weight above 256.
     WeightTooHigh = 19,
+    /// An unknown role, or an operation that its role lacks.
+    NotAllowed = 20,
     /// A presentation order in which some quad is absent, repeated or unknown.
     NotEachOnce = 21,
     /// A presentation order in which a quad stands before one that laid a front edge which it used up.
     TooEarly = 22,
-    /// A lent mesh that isn't sound, or a preview's list that is too short.
+    /// A lent mesh that isn't sound, or a list lent beside it that is too short.
     UnsoundMesh = 23,
     /// An edge that isn't on the front.
     NotOnFront = 24,
+    /// A quad that doesn't turn left at all four corners in steps of the bowl.
+    NotShown = 25,
     /// The lent list is too short for every small quad.
     FoursNeedSpace = 26,
 }
 
 impl Refusal {
     /// Every refusal, in the order of the numbers.
-    pub const ALL: [Refusal; 23] = [
+    pub const ALL: [Refusal; 26] = [
         Refusal::Lists,
         Refusal::ShortLoop,
         Refusal::NotFinite,
@@ -72,24 +89,29 @@ impl Refusal {
         Refusal::NoFieldRecord,
         Refusal::WrongCheck,
         Refusal::WrongFile,
+        Refusal::AnswerLists,
         Refusal::NoNode,
         Refusal::ThresholdTooHigh,
         Refusal::NoThreshold,
-        Refusal::NoEstimate,
+        Refusal::NoQuad,
         Refusal::WeightTooHigh,
+        Refusal::NotAllowed,
         Refusal::NotEachOnce,
         Refusal::TooEarly,
         Refusal::UnsoundMesh,
         Refusal::NotOnFront,
+        Refusal::NotShown,
         Refusal::FoursNeedSpace,
     ];
 
     /// Its number: 1 to 13 are document 01's, those above are the papers'.
+    #[must_use]
     pub fn number(self) -> u32 {
         self as u32
     }
 
     /// The refusal with this number, if there is one.
+    #[must_use]
     pub fn of_number(number: u32) -> Option<Refusal> {
         Refusal::ALL.into_iter().find(|refusal| refusal.number() == number)
     }
@@ -104,7 +126,9 @@ impl Refusal {
         match (number, Refusal::of_number(number)) {
             (0, _) => Ok(()),
             (_, Some(refusal)) => Err(refusal),
-            (_, None) => panic!("a bug: the library answered refusal {number}, which there isn't"),
+            (_, None) => {
+                panic!("a bug: the library answered refusal {number}, which shape {} doesn't have", ffi::abi())
+            }
         }
     }
 
@@ -141,6 +165,10 @@ impl Refusal {
                 "the file has a wrong length, a wrong count, or something where zeros belong: write it anew from the outline, \
                  with 1 to 8 loops, at most 248 points in all, and nothing after the last block"
             }
+            Refusal::AnswerLists => {
+                "the list for the answers is too short, or those of points and targets don't fit together: lend three floats for each \
+                 point, x and y for every point and as many targets, and a place for each node of a loop that is read"
+            }
             Refusal::NoNode => {
                 "the node isn't in the mesh, or is past the lent list of thresholds: count nodes from 0, and lend a place for each"
             }
@@ -148,10 +176,14 @@ impl Refusal {
                 "the threshold is above 500: give it in tenths of a decibel, 0 to 500; to take one back, withdraw it"
             }
             Refusal::NoThreshold => "no threshold stands at the node: enter one first, or look whether it was withdrawn already",
-            Refusal::NoEstimate => {
+            Refusal::NoQuad => {
                 "the quad isn't in the mesh, or lacks a threshold: count quads from 0, and enter the thresholds of all its nodes"
             }
             Refusal::WeightTooHigh => "a weight is above 256: give weights from 0 to 256, which is all the way across the quad",
+            Refusal::NotAllowed => {
+                "the role is unknown or lacks the operation: ask as the desk (1), a reader (2) or a masked reader (3), and as a role that \
+                 may ask this"
+            }
             Refusal::NotEachOnce => {
                 "the order leaves a quad out, names one twice or names one that isn't there: name every quad of the mesh exactly \
                  once, counted from 0"
@@ -161,11 +193,16 @@ impl Refusal {
                  order in which the quads were placed"
             }
             Refusal::UnsoundMesh => {
-                "the lent mesh isn't sound, or the list for a preview is too short: hand over lists and counts as the last step \
-                 left them, and lend two numbers for each front edge and four more"
+                "the lent mesh isn't sound, or the list lent beside it is too short: hand over lists and counts as a run or the last step \
+                 left them, with every coordinate within 1,001 either way; lend two numbers for each front edge and four more for a preview, \
+                 and two places a node for steps"
             }
             Refusal::NotOnFront => {
                 "the edge isn't on the front: name a node of the front and the node after it, in that order"
+            }
+            Refusal::NotShown => {
+                "a quad doesn't turn left at all four corners in steps of 1/64 degree, so the bowl can't show it: set a larger \
+                 size, or draw the outline so that no part of it is narrower than a step"
             }
             Refusal::FoursNeedSpace => {
                 "the list is too short for every small quad: lend four places for each, 14,944 in all"

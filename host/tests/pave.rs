@@ -8,7 +8,7 @@ use std::fs;
 use common::blocks::{listed, Block};
 use common::{list_lengths, refused, said, used, Drawing, Lengths, Lent, RunPlaces, LISTS};
 use sitjorbe::{
-    contains, ffi, field, pave_numbers, End, Memory, Mesh, Outline, Places, Refusal, Settings, TooManyPlaces,
+    contains, ffi, field, is_sound, pave_numbers, End, Memory, Mesh, Outline, Places, Refusal, Settings, TooManyPlaces,
 };
 
 /// The places that document 01's program lends; a file has at most 248 points.
@@ -70,6 +70,29 @@ fn a_square_of_side_four_gets_its_25_nodes() {
     let mut sorted = nodes.clone();
     sorted.sort_by(|a, b| a.partial_cmp(b).unwrap());
     assert!(sorted.into_iter().eq(grid(5)));
+}
+
+#[test]
+fn slits_are_paved_alike_and_whole_only_if_sound() {
+    const LEAST: f64 = f64::from_bits(1);
+    let (mut memory, mut quads) = (Memory::new(PROGRAM).unwrap(), Vec::new());
+    for (e, f, whole) in [
+        (-LEAST, LEAST, true),
+        (0.0, 0.0, false),
+        (LEAST, LEAST, false),
+        (LEAST, 0.0, false),
+        (-0.001, 0.001, true),
+        (0.001, 0.001, false),
+        (0.001, 0.0, false),
+    ] {
+        let slit = Drawing::slit(e, f);
+        let mesh = memory.pave(&slit.outline(), &USUAL).unwrap();
+        assert_eq!((mesh.node_count(), mesh.quad_count(), mesh.front_count()), (10, 4, 2), "{e} {f}");
+        assert_eq!((mesh.end(), mesh.loop_count(), mesh.is_whole()), (End::Still, 0, whole), "{e} {f}");
+        assert_eq!(is_sound(&slit.outline()), Ok(whole), "{e} {f}");
+        quads.push(mesh.quads().collect::<Vec<_>>());
+    }
+    assert!(quads.iter().all(|same| *same == quads[0]));
 }
 
 /// The lower left corner of a unit square that is run to the left, from whichever corner.
@@ -148,7 +171,7 @@ fn a_run_ends_where_the_lists_are_full() {
     };
     ends(list_lengths(SQUARE), 4, End::Still, "just enough");
     // The first quad needs node 8, each has a place, and the new edges are 1 8 and 7 8, then 3 8, then 5 8, then none.
-    for list in ["xs", "ys", "next", "prev", "snapshot", "loops"] {
+    for list in ["xs", "ys", "next", "prev", "snapshot", "origins", "loops"] {
         ends(shorter(list, 1), 0, End::Full, list);
     }
     for (by, quads) in [(1, 3), (4, 3), (5, 2), (8, 2), (9, 1), (13, 0), (16, 0)] {
@@ -203,7 +226,7 @@ fn a_mesh_does_not_depend_on_the_pools() {
     let expected = said(&Memory::new(PROGRAM).unwrap().pave(&ring().outline(), &settings).unwrap());
     for (node_pool, edge_pool) in [(0, 0), (3, 3), (4, 4), (100, 40), (40, 100), (500, 9_000), (4_000, 1_000)] {
         let mut lengths = list_lengths(PROGRAM);
-        [lengths[11], lengths[12]] = [node_pool, edge_pool];
+        [lengths[12], lengths[13]] = [node_pool, edge_pool];
         let mut places = RunPlaces::new(lengths);
         let mesh = places.pave(&ring().outline(), &settings).unwrap();
         assert_eq!(said(&mesh), expected, "pools of {node_pool} and {edge_pool}");
@@ -223,7 +246,7 @@ fn a_mesh_does_not_depend_on_the_blocks() {
     let expected = said(&mesh);
     for length in [0, 3, 4, 7, 8, needed / 2, needed - 4, needed - 1, needed, 2 * drawing.points(), 1_000] {
         let mut lengths = list_lengths(PROGRAM);
-        lengths[13] = length;
+        lengths[14] = length;
         let mut places = RunPlaces::new(lengths);
         let mesh = places.pave(&drawing.outline(), &USUAL).unwrap();
         assert_eq!(said(&mesh), expected, "{length} numbers");
@@ -264,7 +287,7 @@ impl Asked {
         assert_eq!((end, whole, [xmin, ymin, h].map(f64::to_bits), nodes), (0, false, [0; 3], 0), "{what}");
         assert_eq!([nx, ny, quads, edges, front, loops, ids], [0; 7], "{what}");
         assert!(lent.kept(), "{what}: the outline is written");
-        assert_eq!(places.written_past([0; 14]), [""; 0], "{what}");
+        assert_eq!(places.written_past([0; LISTS.len()]), [""; 0], "{what}");
         let mut places = RunPlaces::new(self.lengths);
         let refusal = places.pave(&self.drawing.outline(), &self.settings).err();
         assert_eq!(refusal, Refusal::of_number(number), "{what}: through the wrapper");
@@ -282,7 +305,7 @@ const CAUSES: [fn(&mut Asked); 10] = [
     |asked| asked.drawing.outer.chunks_mut(2).chain(asked.drawing.holes.chunks_mut(2)).for_each(|point| point[0] = 3.0),
     |asked| asked.settings.sweeps = 1_001,
     |asked| asked.lengths[1] = 1,
-    |asked| asked.lengths[8] = 0,
+    |asked| asked.lengths[9] = 0,
 ];
 
 #[test]
@@ -360,10 +383,10 @@ fn every_cause_is_refused_alone() {
 fn the_shortest_list_counts() {
     let square = || Drawing::square(2.0);
     let mut needed = list_lengths(Places { nodes: 8, quads: 0, edges: 8, ..SQUARE });
-    needed[10] = 1;
+    needed[11] = 1;
     let just = Asked { drawing: square(), settings: USUAL, lengths: needed };
     assert_eq!((just.raw().0.refusal, just.raw().0.end), (0, End::Full as u32));
-    let numbers = [9, 9, 10, 10, 10, 10, 10, 0, 10, 10, 10, 0, 0, 0];
+    let numbers = [9, 9, 10, 10, 10, 10, 10, 10, 0, 10, 10, 10, 0, 0, 0];
     for (k, number) in numbers.into_iter().enumerate().filter(|(_, number)| *number != 0) {
         for length in [needed[k] - 1, 0] {
             let mut lengths = list_lengths(PROGRAM);
@@ -379,7 +402,7 @@ fn lengths_has_a_place_for_each_loop() {
     for (drawing, loops) in [(Drawing::square(2.0), 1), (ring(), 2)] {
         let asked = |places| {
             let mut lengths = list_lengths(PROGRAM);
-            lengths[10] = places;
+            lengths[11] = places;
             Asked { drawing: drawing.clone(), settings: USUAL, lengths }
         };
         let ample = said(&RunPlaces::new(list_lengths(PROGRAM)).pave(&drawing.outline(), &USUAL).unwrap());
@@ -391,7 +414,7 @@ fn lengths_has_a_place_for_each_loop() {
     }
     // Nothing paved: every loop is listed, and each has its length.
     let mut lengths = list_lengths(PROGRAM);
-    lengths[10] = 2;
+    lengths[11] = 2;
     let mut lists = RunPlaces::new(lengths);
     let mesh = lists.pave(&ring().outline(), &Settings { passes: 0, ..USUAL }).unwrap();
     assert_eq!((mesh.loop_count(), mesh.is_whole()), (2, false));

@@ -19,7 +19,9 @@ use Rattle.paving.specs.Advance.{Paved, mostQuads, advance}
 use Rattle.paving.specs.Reach.{Reaches}
 use Rattle.paving.specs.ReachLaws.{Reached, advance-reaches}
 use Rattle.whole_run.specs.Run.{runRefusal, runOf}
+use Rattle.books.specs.Book.{startBook}
 use Rattle.books.specs.Holds.{BooksHold}
+use Rattle.books.specs.Areas.{FrontJoins}
 use Rattle.sampled.specs.Outlines.{outline-three}
 use Rattle.sampled.specs.Begun.{Begun, begun}
 use Rattle.sampled.specs.Starts.{starts}
@@ -28,6 +30,7 @@ use Rattle.bounded.specs.Nodes.{AllNodes}
 use Rattle.bounded.specs.Placed.{placement-holds}
 use Rattle.bounded.specs.Run.{run-bounded}
 use Rattle.books_hold.specs.Stages.{Start, QuadsTurn, standing}
+use Rattle.books_hold.specs.Areas.{start-joins}
 use Rattle.books_hold.specs.Assembled.{reached-hold}
 use Rattle.books_hold.specs.Ends.{Ended}
 use Rattle.books_hold.specs.EndLaws.{advance-ends}
@@ -73,6 +76,10 @@ module _ (o : Outline) (size : Float) (lent : State) (A : Accepted o size lent) 
   pub start : Start o size sampled loops
   start = record { sound = begins .sound; matches = starts o size lent (outline-three o (A .outline)) (A .front); none = begins .quadCount }
 
+  -- so areas balance in any measure where the book goes through: `areas-balance`
+  pub sampled-joins : FrontJoins (startBook o size)
+  sampled-joins = start-joins o size sampled loops start
+
   pub turns : QuadsTurn o size sampled
   turns k t a b c d r P =
       placement-holds o (A .doubles) (A .outline) (standing (start .sound) r .sound)
@@ -89,7 +96,7 @@ module _ (o : Outline) (size : Float) (lent : State) (A : Accepted o size lent) 
     pub advance-holds : BooksHold o size (advance o size field n sampled .state)
     advance-holds = reached-holds (reached .by)
 
-    advance-facts : RunFacts o size field n lent (advance o size field n sampled)
+    pub advance-facts : RunFacts o size field n lent (advance o size field n sampled)
     advance-facts =
         let run = advance o size field n sampled in
         let ends = advance-ends o size field sampled loops start n in

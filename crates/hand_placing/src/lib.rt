@@ -22,8 +22,8 @@ fn has_edge(edges: &[u32], n: usize, u: u32, v: u32) -> bool
     requires { ⌜ 2 * n ≤ length (now edges) ⌝ }
     ensures { λ r. ⌜ r ≡ edgeIn (now (edges .entry)) n u v ⌝ }
 {
-    let lo = front::smaller(u, v);
-    let hi = front::larger(u, v);
+    let lo = numbers::min_u32(u, v);
+    let hi = numbers::max_u32(u, v);
     let mut k = 0;
     while k < n {
         if edges[2 * k] == lo {
@@ -44,8 +44,8 @@ fn add_edge(edges: &mut [u32], n: usize, u: u32, v: u32) -> usize
     if has_edge(edges, n, u, v) {
         return n;
     }
-    let lo = front::smaller(u, v);
-    let hi = front::larger(u, v);
+    let lo = numbers::min_u32(u, v);
+    let hi = numbers::max_u32(u, v);
     edges[2 * n] = lo;
     edges[2 * n + 1] = hi;
     n + 1

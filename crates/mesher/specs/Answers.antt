@@ -1,10 +1,8 @@
 -- The answers as they cross to the host: document 01's number and the values, for each case of an answer. Definitions only.
 -- The number 0 says that nothing is refused; the values of a refusal are false or 0.0.
-use mathlib.Core.Bool.{Bool, false, _&&_}
 use mathlib.Core.List.{List}
 use mathlib.Core.Path.{_≡_}
 use Prim.Native.Nat.{ℕ}
-use lib.Dec.{eqb}
 use lib.Ieee.{Float}
 use Rattle.numbers.specs.Float.{zeroF}
 use Rattle.direction.specs.declared.Grid.{Grid}
@@ -17,8 +15,8 @@ use Rattle.crossfield.specs.Field.{FieldResult}
 use Rattle.domain.specs.declared.Settings.{Settings}
 use Rattle.domain.specs.Outline.{Outline}
 use Rattle.front.specs.State.{State, stateOf, counted}
-use Rattle.topology.specs.LongLoops.{isWhole}
 use Rattle.books.specs.Holds.{BooksAnswered}
+use Rattle.origins.specs.Origins.{OriginsAnswered}
 use Rattle.run.specs.declared.Paved.{Paved}
 use Rattle.run.specs.Run.{Lent, Ran, runAnswer}
 use Rattle.mesher.specs.declared.FieldRecordAnswer.{FieldRecordAnswer}
@@ -58,7 +56,7 @@ paveNumbers p =
     record {
       refusal = p .refusal;
       end = p .end;
-      whole = eqb (p .refusal) 0 && isWhole (p .listed .count);
+      whole = p .whole;
       xmin = p .grid .xmin;
       ymin = p .grid .ymin;
       h = p .grid .h;
@@ -98,3 +96,5 @@ pub record HostPaves (o : Outline) (set : Settings) (before : Lent) (r : PaveAns
   -- the exact books of the outline, the size and what is answered hold: the quads and coordinates, the loops listed, and whether it is whole: demand 3
   pub books : r .refusal ≡ 0
       → BooksAnswered o (set .size) (stateAnswered r after) (r .loops) (r .ids) (after .loops) (after .lengths) (r .whole)
+  -- every node answered has the number of the outline's loop that it came from, and no front loop and no quad ever has nodes of two: paper 9
+  pub origins : r .refusal ≡ 0 → OriginsAnswered o (set .size) (stateAnswered r after) (before .origins) (after .origins)

@@ -3,15 +3,17 @@ use mathlib.Core.Path.{_≡_, refl}
 use mathlib.Core.Bool.{Bool, true, false}
 use mathlib.Core.List.{List, [], _∷_}
 use Prim.Native.Nat.{ℕ}
+use lib.ListN.{length}
 use Rattle.numbers.specs.Float.{bits, zeroF, oneF, twoF, fourF, halfF}
 use Rattle.domain.specs.Outline.{Outline, outline, point}
 use Rattle.domain.specs.declared.Settings.{Settings}
+use Rattle.soundness.specs.Answer.{isWhole}
 use Rattle.direction.specs.Record.{FieldLists, fieldLists}
 use Rattle.front.specs.State.{State, counted, node}
 use Rattle.front.specs.Sampling.{fromBoundary, boundaryLoops, sampledCount}
 use Rattle.paving.specs.declared.End.the-variants.{Still}
 use Rattle.paving.specs.Advance.{paved}
-use Rattle.paving.specs.Loops.{frontLoops, whole}
+use Rattle.paving.specs.Loops.{frontLoops}
 use Rattle.whole_run.specs.Run.{runOf}
 use Rattle.books.specs.Book.{filled, roomFor}
 use Rattle.table.specs.Opened.{opened}
@@ -19,14 +21,14 @@ use Rattle.table.specs.Opened.{opened}
 abbrev square : Outline
 square = outline (zeroF ∷ zeroF ∷ twoF ∷ zeroF ∷ twoF ∷ twoF ∷ zeroF ∷ twoF ∷ []) [] []
 
-abbrev settings : Settings
+abbrev pub settings : Settings
 settings = record { size = oneF; sweeps = 400; passes = 600 }
 
 -- room for 49 field nodes, 10 nodes, 5 quads and 14 edges, with old contents
-abbrev lentField : FieldLists
+abbrev pub lentField : FieldLists
 lentField = fieldLists (filled 98 fourF) (filled 49 7)
 
-abbrev lent : State
+abbrev pub lent : State
 lent =
     record {
       xs = filled 10 fourF;
@@ -39,7 +41,7 @@ lent =
       counts = counted 3 1 4 1;
     }
 
-abbrev n : ℕ
+abbrev pub n : ℕ
 n = 4294967295
 
 -- places past the counts keep their contents
@@ -60,7 +62,7 @@ pub square-run : runOf square settings lentField lent .paving ≡ paved end Stil
 unfolding opened
 square-run = refl
 
-pub square-whole : whole end ≡ true
+pub square-whole : isWhole square (length (frontLoops end)) ≡ true
 unfolding opened
 square-whole = refl
 

@@ -17,11 +17,11 @@ same-length c = search needs
 returns : tie.Need-returns
 returns c = edge-known _ _ _ _ (sym (c .before .has-edge .ensures) ∙ c .if1 .taken)
 
-smaller-requires : tie.Need-smaller-requires
-smaller-requires c κs = search needs
+min-u32-requires : tie.Need-min-u32-requires
+min-u32-requires c κs = search needs
 
-larger-requires : tie.Need-larger-requires
-larger-requires c κs = search needs
+max-u32-requires : tie.Need-max-u32-requires
+max-u32-requires c κs = search needs
 
 mul-edges : tie.Need-mul-edges
 mul-edges c = search needs
@@ -60,7 +60,7 @@ returns-2 : tie.Need-returns-2
 returns-2 c =
     let at-if1 = c .before .before in
     let at-has-edge = at-if1 .before in
-    rw (c .before .smaller .ensures, c .larger .ensures) (edge-new _ _ _ _ (sym (at-has-edge .has-edge .ensures) ∙ at-if1 .if1 .left))
+    rw (c .before .min-u32 .ensures, c .max-u32 .ensures) (edge-new _ _ _ _ (sym (at-has-edge .has-edge .ensures) ∙ at-if1 .if1 .left))
 
 pub add-edge-spec : {M : Type 1} → statement M
 add-edge-spec =
@@ -69,8 +69,8 @@ add-edge-spec =
     has-edge-requires
     same-length
     returns
-    smaller-requires
-    larger-requires
+    min-u32-requires
+    max-u32-requires
     mul-edges
     mul-edges-2
     slice-write-edges

@@ -17,11 +17,11 @@ Inv-loop edges n u v lo hi k₀ k = Scan (edgeIs edges lo hi) n k
 abbrev μ-loop : tie.MeasureT-loop
 μ-loop edges n u v lo hi k₀ k = n - k
 
-smaller-requires : tie.Need-smaller-requires Inv-loop μ-loop
-smaller-requires c κs = search needs
+min-u32-requires : tie.Need-min-u32-requires Inv-loop μ-loop
+min-u32-requires c κs = search needs
 
-larger-requires : tie.Need-larger-requires Inv-loop μ-loop
-larger-requires c κs = search needs
+max-u32-requires : tie.Need-max-u32-requires Inv-loop μ-loop
+max-u32-requires c κs = search needs
 
 loop-holds : tie.Need-loop-holds Inv-loop μ-loop
 loop-holds c = scan-start _ _
@@ -52,9 +52,9 @@ returns c =
     let at-if1 = c .before .before in
     let at-loop-test = at-if1 .before .before in
     let at-loop = at-loop-test .before in
-    let at-larger = at-loop .before in
-    let at-smaller = at-larger .before in
-    rw (← at-smaller .smaller .ensures, ← at-larger .larger .ensures)
+    let at-max-u32 = at-loop .before in
+    let at-min-u32 = at-max-u32 .before in
+    rw (← at-min-u32 .min-u32 .ensures, ← at-max-u32 .max-u32 .ensures)
     (scan-hit _ (at-loop .loop .inv) (at-loop-test .loop-test .taken) (simp (eq-eqb _ _ (at-if1 .if1 .taken), eq-eqb _ _ (c .if2 .taken))))
 
 add-k : tie.Need-add-k Inv-loop μ-loop
@@ -72,9 +72,9 @@ loop-again c =
 
 returns-2 : tie.Need-returns-2 Inv-loop μ-loop
 returns-2 c =
-    let at-larger = c .before .before in
-    let at-smaller = at-larger .before in
-    rw (← at-smaller .smaller .ensures, ← at-larger .larger .ensures) (scan-none _ (c .before .loop .inv) (c .loop-test .left))
+    let at-max-u32 = c .before .before in
+    let at-min-u32 = at-max-u32 .before in
+    rw (← at-min-u32 .min-u32 .ensures, ← at-max-u32 .max-u32 .ensures) (scan-none _ (c .before .loop .inv) (c .loop-test .left))
 
 pub has-edge-spec : {M : Type 1} → statement M
 has-edge-spec =
@@ -82,8 +82,8 @@ has-edge-spec =
     (tie.spec
     Inv-loop
     μ-loop
-    smaller-requires
-    larger-requires
+    min-u32-requires
+    max-u32-requires
     loop-holds
     mul-if1
     mul-if1-2

@@ -2,6 +2,8 @@
 
 use std::cmp::Ordering;
 
+use sitjorbe::{End, Settings};
+
 use crate::csv::Field;
 use crate::exact::Exact;
 use crate::run::Paved;
@@ -156,9 +158,21 @@ fn capital(words: &str) -> String {
     rest.next().map_or(String::new(), |first| first.to_uppercase().collect::<String>() + rest.as_str())
 }
 
+/// Why a run stopped before nothing more could be placed, if it did.
+pub fn stopped(paved: &Paved) -> Option<String> {
+    let why = match paved.end {
+        End::Still => return None,
+        End::Passes => "every pass allowed was used: allow more with --passes",
+        End::Cap => "it has 250,000 quads, and no mesh has more: set a larger size",
+        End::Full => "there was no place left for another quad",
+    };
+    Some(format!("The paving stopped early: {why}."))
+}
+
 /// The counts and how good the quads are, a sentence a line.
-pub fn sentences(figures: &Figures) -> Vec<String> {
-    let mut lines = vec![format!("{}, {}.", counted(figures.nodes, "node"), counted(figures.quads, "quad"))];
+pub fn sentences(figures: &Figures, settings: &Settings) -> Vec<String> {
+    let counts = [counted(figures.nodes, "node"), counted(figures.quads, "quad")].join(", ");
+    let mut lines = vec![format!("{counts}; size {}°.", short(settings.size))];
     if let Some(quality) = figures.quality {
         lines.push(quality_in_words(&quality));
     }

@@ -9,8 +9,11 @@ mod csv;
 mod exact;
 mod figures;
 mod files;
+mod hill;
 mod pave;
+mod polar;
 mod run;
+mod sheet;
 mod svg;
 mod words;
 

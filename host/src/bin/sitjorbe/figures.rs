@@ -2,7 +2,7 @@
 
 use std::cmp::Ordering;
 
-use sitjorbe::{End, Settings};
+use sitjorbe::{is_sound, End, Outline, Settings};
 
 use crate::csv::Field;
 use crate::exact::Exact;
@@ -38,11 +38,12 @@ pub struct Figures {
     pub share: Option<f64>,
     pub whole: bool,
     pub sound: bool,
+    /// Whether some quads lie on each other, so that less is covered than the share says; none where that isn't known.
+    pub overlaps: Option<bool>,
     /// None where there are no quads.
     pub quality: Option<Quality>,
+    /// A patch a loop.
     pub patches: Vec<Patch>,
-    /// Twice the area that is paved.
-    pub paved: Exact,
 }
 
 /// Twice the area of a sound field: the outer loop's, less those of its holes.
@@ -56,37 +57,58 @@ pub fn field_area(field: &Field) -> Exact {
     areas.fold(outer, |rest, hole| rest.plus(&hole.negated()))
 }
 
+fn corners(paved: &Paved, quad: &[u32; 4]) -> [[f64; 2]; 4] {
+    quad.map(|id| paved.nodes[id as usize])
+}
+
+/// Twice the area of all quads.
+pub fn paved_area(paved: &Paved) -> Exact {
+    area_of(paved, paved.quads.iter())
+}
+
+fn area_of<'a>(paved: &Paved, quads: impl Iterator<Item = &'a [u32; 4]>) -> Exact {
+    let areas = quads.map(|quad| Exact::doubled_area(&corners(paved, quad)));
+    areas.fold(Exact::ZERO, |sum, area| sum.plus(&area))
+}
+
+/// Whether quads lie on each other, which shows in what is left open: then its rings aren't those of an outline, outer and inner ones. Not known where they
+/// have more points than an outline may.
+fn overlaps(paved: &Paved) -> Option<bool> {
+    let mut rings: Vec<&Vec<u32>> = paved.left.iter().collect();
+    rings.sort_by_key(|ring| paved.origins[ring[0] as usize]);
+    let Some((outer, inner)) = rings.split_first() else {
+        return Some(false);
+    };
+    let flat = |ring: &Vec<u32>| ring.iter().flat_map(|id| paved.nodes[*id as usize]).collect::<Vec<f64>>();
+    let holes: Vec<f64> = inner.iter().flat_map(|ring| flat(ring)).collect();
+    let lengths: Vec<usize> = inner.iter().map(|ring| ring.len()).collect();
+    let sound = is_sound(&Outline { outer: &flat(outer), holes: &holes, hole_lengths: &lengths }).ok()?;
+    Some(!sound)
+}
+
 /// The figures of a field's mesh.
 pub fn of(field: &Field, paved: &Paved) -> Figures {
     let total = field_area(field);
-    let corners = |quad: &[u32; 4]| quad.map(|id| paved.nodes[id as usize]);
-    let area = |quads: &[&[u32; 4]]| {
-        let areas = quads.iter().map(|quad| Exact::doubled_area(&corners(quad)));
-        areas.fold(Exact::ZERO, |sum, area| sum.plus(&area))
-    };
     let share = |area: &Exact| (paved.sound && total.sign() == Ordering::Greater).then(|| area.over(&total));
     let patch = |(k, name): (usize, &String)| {
-        let of_loop = |id: u32| usize::from(paved.origins[id as usize]) == k;
-        let quads: Vec<&[u32; 4]> = paved.quads.iter().filter(|quad| of_loop(quad[0])).collect();
+        let quads = || paved.quads.iter().filter(|quad| usize::from(paved.origins[quad[0] as usize]) == k);
         Patch {
             name: name.clone(),
             nodes: paved.origins.iter().filter(|origin| usize::from(**origin) == k).count(),
-            quads: quads.len(),
-            share: share(&area(&quads)),
-            quality: quality(quads.iter().map(|quad| corners(quad))),
+            quads: quads().count(),
+            share: share(&area_of(paved, quads())),
+            quality: quality(quads().map(|quad| corners(paved, quad))),
         }
     };
-    let all: Vec<&[u32; 4]> = paved.quads.iter().collect();
-    let paved_area = area(&all);
     Figures {
         nodes: paved.nodes.len(),
         quads: paved.quads.len(),
-        share: share(&paved_area),
+        share: share(&paved_area(paved)),
         whole: paved.whole,
         sound: paved.sound,
-        quality: quality(paved.quads.iter().map(corners)),
+        overlaps: if paved.sound { overlaps(paved) } else { None },
+        quality: quality(paved.quads.iter().map(|quad| corners(paved, quad))),
         patches: field.names.iter().enumerate().map(patch).collect(),
-        paved: paved_area,
     }
 }
 
@@ -130,26 +152,46 @@ fn quality(quads: impl Iterator<Item = [[f64; 2]; 4]>) -> Option<Quality> {
 
 // ---- in words
 
-/// A share in whole percent, and what is left of it; where rounding would say all or nothing of what is neither, a bound.
-pub fn percents(share: f64) -> [String; 2] {
-    let percent = (100.0 * share).round();
-    match share {
-        _ if percent >= 100.0 && share < 1.0 => ["more than 99 %".to_string(), "less than 1 %".to_string()],
-        _ if percent <= 0.0 && share > 0.0 => ["less than 1 %".to_string(), "more than 99 %".to_string()],
-        _ => [format!("{percent} %"), format!("{} %", 100.0 - percent)],
+/// A share in whole percent; where rounding would say all or nothing of what is neither, a bound.
+pub fn percent(share: f64) -> String {
+    match (100.0 * share).round() {
+        rounded if rounded >= 100.0 && share < 1.0 - ROUNDING => "more than 99 %".to_string(),
+        rounded if rounded <= 0.0 && share > 0.0 => "less than 1 %".to_string(),
+        rounded => format!("{rounded} %"),
     }
 }
 
-/// What matters most, in a sentence: how much of the field is measured, and how much nowhere.
-pub fn verdict(figures: &Figures) -> String {
-    match figures.share {
-        None => "The outline isn't sound, so how much of the field is paved can't be said.".to_string(),
-        _ if figures.whole => "All of the field is paved.".to_string(),
-        _ if figures.quads == 0 => "None of the field is paved: it is measured nowhere.".to_string(),
-        Some(share) => {
-            let [paved, open] = percents(share.min(1.0 - 1e-9));
-            format!("{} of the field is paved; the red part, {open}, is measured nowhere.", capital(&paved))
-        }
+/// An outline's samples are rounded, so the share of a whole mesh may differ from 1 by less than this.
+const ROUNDING: f64 = 1e-9;
+
+/// What is left of a share, so that the two make up 100 %.
+fn rest(share: f64) -> String {
+    match percent(share).as_str() {
+        "more than 99 %" => "less than 1 %".to_string(),
+        "less than 1 %" => "more than 99 %".to_string(),
+        _ => format!("{} %", 100.0 - (100.0 * share).round()),
+    }
+}
+
+/// What matters most, in a sentence: how much of the field is measured, and how much nowhere. In a picture that part is red.
+pub fn verdict(figures: &Figures, is_picture: bool) -> String {
+    let Some(share) = figures.share else {
+        return "The outline isn't sound, so how much of the field is paved can't be said.".to_string();
+    };
+    let red = if is_picture { "the red part, " } else { "" };
+    let comma = if is_picture { "," } else { "" };
+    let words = match () {
+        () if figures.whole => "All of the field is paved.".to_string(),
+        () if figures.quads == 0 => "None of the field is paved: it is measured nowhere.".to_string(),
+        () => format!(
+            "{} of the field is paved; {red}{}{comma} is measured nowhere.",
+            capital(&percent(share)),
+            rest(share)
+        ),
+    };
+    match figures.overlaps {
+        Some(true) => words + " Some quads lie on each other, so even less is covered.",
+        _ => words,
     }
 }
 
@@ -177,23 +219,25 @@ pub fn sentences(figures: &Figures, settings: &Settings) -> Vec<String> {
         lines.push(quality_in_words(&quality));
     }
     if figures.patches.len() > 1 {
-        lines.extend(figures.patches.iter().map(patch_in_words));
+        lines.extend(figures.patches.iter().enumerate().map(patch_in_words));
     }
     lines
 }
 
 fn quality_in_words(quality: &Quality) -> String {
+    let times = |aspect: f64| short((aspect * 10.0).round() / 10.0);
     format!(
-        "Smallest angle {:.0}°, median {:.0}°; a quad's longest side is {} times its shortest at most, {} in the median.",
+        "Smallest angle of a quad {:.0}°, in the median {:.0}°; its longest side is at most {} times its shortest, in the median {}.",
         quality.least_angle,
         quality.median_angle,
-        short((quality.greatest_aspect * 10.0).round() / 10.0),
-        short((quality.median_aspect * 10.0).round() / 10.0)
+        times(quality.greatest_aspect),
+        times(quality.median_aspect)
     )
 }
 
-fn patch_in_words(patch: &Patch) -> String {
-    let share = patch.share.map_or(String::new(), |share| format!(", {} of the field", percents(share)[0]));
+fn patch_in_words((k, patch): (usize, &Patch)) -> String {
+    let name = if k == 0 { "from the outline".to_string() } else { format!("round “{}”", patch.name) };
+    let share = patch.share.map_or(String::new(), |share| format!(", {} of the field", percent(share)));
     let angle = patch.quality.map_or(String::new(), |quality| format!(", smallest angle {:.0}°", quality.least_angle));
-    format!("Along “{}”: {}, {}{share}{angle}.", patch.name, counted(patch.nodes, "node"), counted(patch.quads, "quad"))
+    format!("Paved {name}: {}, {}{share}{angle}.", counted(patch.nodes, "node"), counted(patch.quads, "quad"))
 }

@@ -10,14 +10,29 @@ use crate::{Status, CANT, REFUSED};
 pub enum Failure {
     Refused(String),
     Cant(String),
+    /// As `Cant`, where the words name the file already.
+    Named(String),
 }
 
 impl Failure {
+    /// The same, each line with the name of the file that it is about.
+    pub fn of(self, name: &str) -> Failure {
+        let named = |words: String| {
+            let lines: Vec<String> = words.lines().map(|line| format!("{name}: {line}")).collect();
+            lines.join("\n")
+        };
+        match self {
+            Failure::Refused(words) => Failure::Refused(named(words)),
+            Failure::Cant(words) => Failure::Cant(named(words)),
+            Failure::Named(words) => Failure::Named(words),
+        }
+    }
+
     /// Says it; the exit status that it gives.
     pub fn said(&self) -> Status {
         let (words, status) = match self {
             Failure::Refused(words) => (words, REFUSED),
-            Failure::Cant(words) => (words, CANT),
+            Failure::Cant(words) | Failure::Named(words) => (words, CANT),
         };
         say(words);
         status
@@ -48,7 +63,8 @@ pub fn named(path: &str) -> &str {
 }
 
 fn cant(name: &str, error: &io::Error) -> Failure {
-    Failure::Cant(format!("{name}: {error}"))
+    let told = error.to_string();
+    Failure::Named(format!("{name}: {}", told.split(" (os error").next().unwrap_or("")))
 }
 
 /// More bytes than this aren't read.
@@ -63,10 +79,10 @@ pub fn read_text(path: &str) -> Result<String, Failure> {
     };
     read.map_err(|error| cant(named(path), &error))?;
     if bytes.len() as u64 > MOST_BYTES {
-        return Err(Failure::Cant(format!("{}: it is larger than 256 MiB, which no field is", named(path))));
+        return Err(Failure::Named(format!("{}: it is larger than 256 MiB, which no field is", named(path))));
     }
     let text = String::from_utf8(bytes);
-    let text = text.map_err(|_| Failure::Cant(format!("{}: this isn't text: save it as CSV UTF-8", named(path))))?;
+    let text = text.map_err(|_| Failure::Named(format!("{}: this isn't text: save it as CSV UTF-8", named(path))))?;
     Ok(lines_fed(text.strip_prefix('\u{feff}').unwrap_or(&text)))
 }
 

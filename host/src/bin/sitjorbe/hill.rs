@@ -31,10 +31,7 @@ pub fn of(paved: &Paved, thresholds: &str, name: &str) -> Result<Hill, Failure> 
     let mesh = LentMesh { nodes: xs.len() as u32, xs: &xs, ys: &ys, quad_count: paved.quads.len(), quads };
     let mut exam = Thresholds::begin(mesh);
     for (line, row) in (1..).zip(thresholds.lines()) {
-        enter(&mut exam, row).map_err(|failure| match failure {
-            Failure::Refused(words) => Failure::Refused(format!("{name}: line {line}: {words}")),
-            Failure::Cant(words) => Failure::Cant(format!("{name}: line {line}: {words}")),
-        })?;
+        enter(&mut exam, row).map_err(|failure| failure.of(&format!("{name}: line {line}")))?;
     }
     let mut shades = vec![];
     for quad in 0..paved.quads.len() {

@@ -5,15 +5,24 @@
 #![forbid(unsafe_code)]
 
 mod args;
+mod best;
+mod check;
 mod csv;
 mod exact;
 mod figures;
 mod files;
+mod formats;
 mod hill;
+mod json;
+mod mesh_json;
 mod pave;
 mod polar;
+mod progress;
+mod quality;
+mod refused;
 mod run;
 mod sheet;
+mod sound;
 mod svg;
 mod words;
 
@@ -65,6 +74,8 @@ fn dispatch(words: &[String]) -> Status {
         "-h" | "--help" | "help" => files::print(HELP).map(|()| DONE),
         "-V" | "--version" => files::print(&format!("sitjorbe {}\n", env!("CARGO_PKG_VERSION"))).map(|()| DONE),
         "pave" => pave::command(rest),
+        "check" => check::command(rest),
+        "quality" => quality::command(rest),
         _ => Err(Failure::Cant(format!("there is no command {command}; sitjorbe --help names them"))),
     };
     answer.unwrap_or_else(|failure| failure.said())

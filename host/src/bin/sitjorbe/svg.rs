@@ -14,6 +14,35 @@ pub enum Eye {
 }
 
 impl Eye {
+    /// `right` or `left`.
+    pub fn name(self) -> &'static str {
+        match self {
+            Eye::Right => "right",
+            Eye::Left => "left",
+        }
+    }
+
+    /// The eye with a name, or with the letters that clinics write.
+    pub fn of_name(name: &str) -> Option<Eye> {
+        match name.to_ascii_lowercase().as_str() {
+            "right" | "od" => Some(Eye::Right),
+            "left" | "os" => Some(Eye::Left),
+            _ => None,
+        }
+    }
+
+    /// Whether a field has a loop where this eye has no blind spot and the other has: 10 to 20 degrees to the nose, about the horizontal.
+    pub fn blind_spot_is_nasal(self, field: &Field) -> bool {
+        let nasal = |points: &Vec<Point>| {
+            let mean = |sum: f64| sum / points.len() as f64;
+            let (x, y) =
+                (mean(points.iter().map(|point| point.x).sum()), mean(points.iter().map(|point| point.y).sum()));
+            let to_the_nose = if self == Eye::Right { -x } else { x };
+            (10.0..20.0).contains(&to_the_nose) && y.abs() < 6.0
+        };
+        field.loops.iter().skip(1).any(nasal)
+    }
+
     /// As it stands above a picture.
     fn words(self) -> &'static str {
         match self {
@@ -215,7 +244,7 @@ fn numbers(sheet: &Sheet, paved: &Paved) -> String {
 
 /// What stands below the picture. All of it is worked out from the mesh that is drawn.
 fn captions(figures: &Figures, paved: &Paved, look: &Look) -> Vec<String> {
-    let mut lines = vec![verdict(figures)];
+    let mut lines = vec![verdict(figures, true)];
     lines.extend(crate::figures::stopped(paved));
     lines.extend(look.hill.iter().map(|hill| hill.words.clone()));
     lines.extend(sentences(figures, &paved.settings));
@@ -244,10 +273,11 @@ fn legend(sheet: &Sheet, field: &Field, paved: &Paved, look: &Look, top: f64) ->
         let words = if k == 0 { "paved from the outline".to_string() } else { format!("paved round “{name}”") };
         shown.push((format!("patch{}", colour_of(k)), words));
     }
+    let blind = if field.names.len() == 2 { &field.names[1] } else { "blind spots" };
     let more = [
         ("open", "measured nowhere", !paved.left.is_empty()),
         ("lacking", "no estimate: a threshold lacks", look.hill.as_ref().is_some_and(|hill| hill.lacking > 0)),
-        ("blind", "blind spot", field.loops.len() > 1),
+        ("blind", blind, field.loops.len() > 1),
         ("fixation", "fixation", sheet.holds([0.0, 0.0])),
     ];
     shown.extend(

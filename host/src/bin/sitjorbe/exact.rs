@@ -130,11 +130,4 @@ impl Exact {
         let below = |k: usize| top.checked_sub(k).map_or(0.0, |place| self.0[place] as f64);
         (self.0[top] as f64 + below(1) * 2f64.powi(-64) + below(2) * 2f64.powi(-128), top)
     }
-
-    /// The number of units of 1 that half of it is: an area of a doubled one.
-    pub fn halved(&self) -> f64 {
-        let mut one = Exact::ZERO;
-        one.add(2.0, 1.0);
-        self.over(&one)
-    }
 }

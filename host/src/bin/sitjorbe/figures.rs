@@ -226,12 +226,16 @@ pub fn sentences(figures: &Figures, settings: &Settings) -> Vec<String> {
 
 fn quality_in_words(quality: &Quality) -> String {
     let times = |aspect: f64| short((aspect * 10.0).round() / 10.0);
+    let sides = match times(quality.greatest_aspect) {
+        alike if alike == "1" => "all its sides are alike".to_string(),
+        most => format!(
+            "its longest side is at most {most} times its shortest, in the median {}",
+            times(quality.median_aspect)
+        ),
+    };
     format!(
-        "Smallest angle of a quad {:.0}°, in the median {:.0}°; its longest side is at most {} times its shortest, in the median {}.",
-        quality.least_angle,
-        quality.median_angle,
-        times(quality.greatest_aspect),
-        times(quality.median_aspect)
+        "Smallest angle of a quad {:.0}°, in the median {:.0}°; {sides}.",
+        quality.least_angle, quality.median_angle
     )
 }
 

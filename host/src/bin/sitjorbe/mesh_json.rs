@@ -6,7 +6,7 @@ use crate::csv::{Field, Point};
 use crate::figures::{Figures, Quality};
 use crate::json::{self, Value};
 use crate::run::{Drawing, Paved};
-use crate::svg::{Eye, Look};
+use crate::svg::Look;
 
 const FORMAT: &str = "sitjorbe-mesh-1";
 /// No node of a run is beyond this either way.
@@ -93,11 +93,10 @@ pub fn report(file: &str, paved: &Paved, figures: &Figures) -> Value {
     Value::Map(pairs)
 }
 
-/// A mesh that was read: its field, itself, and how it was to look.
+/// A mesh that was read, and its field.
 pub struct Read {
     pub field: Field,
     pub paved: Paved,
-    pub look: Look,
 }
 
 /// The mesh that a text is, or what is wrong with it. Whether it is whole and its outline sound is judged anew.
@@ -134,9 +133,7 @@ pub fn read(text: &str) -> Result<Read, String> {
         quads,
         left,
     };
-    let eye = value.get("eye").and_then(Value::as_text).and_then(Eye::of_name);
-    let title = value.get("title").and_then(Value::as_text).unwrap_or("").to_string();
-    Ok(Read { field, paved, look: Look { title, eye, ..Look::default() } })
+    Ok(Read { field, paved })
 }
 
 /// Every value of a list, or which isn't one.

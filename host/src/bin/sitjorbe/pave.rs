@@ -197,8 +197,8 @@ impl Call {
         for fault in if paved.sound { vec![] } else { sound::faults(field) } {
             files::say(&format!("{}: unsound: {fault}", named(file)));
         }
-        let mut lines = tried.to_vec();
-        lines.push(format!("{}: {}", named(file), figures::verdict(figures, false)));
+        let mut lines = vec![format!("{}: {}", named(file), figures::verdict(figures, false))];
+        lines.extend(tried.iter().cloned());
         lines.extend(figures::stopped(paved));
         lines.extend(figures::sentences(figures, &paved.settings));
         self.say(&lines.join("\n  "))

@@ -87,13 +87,22 @@ pub fn labels(sheet: &Sheet, labels: &mut Labels) -> String {
     }
     for radius in radii(sheet) {
         let words = format!("{}°", short(radius));
-        let places: Vec<Place> =
-            MERIDIANS.map(f64::from).iter().map(|meridian| on_circle(sheet, *meridian, radius)).collect();
+        let places = circle_places(sheet, radius);
         if let Some((at, anchor)) = labels.take(&words, TEXT, frame, &places) {
             drawn += &text(at, anchor, "degrees", &words);
         }
     }
     drawn
+}
+
+/// On the horizontal and the vertical, then on the other meridians, then anywhere on the circle: toward the frame's middle first.
+fn circle_places(sheet: &Sheet, radius: f64) -> Vec<Place> {
+    let middle = [(sheet.left + sheet.right) / 2.0, (sheet.low + sheet.high) / 2.0];
+    let [width, height] = sheet.frame();
+    let toward = middle[1].atan2(middle[0]).to_degrees();
+    let widest = (width.hypot(height) / sheet.scale / radius).to_degrees().min(180.0);
+    let others = (0..=40).flat_map(|k| [1.0, -1.0].map(|side| toward + side * widest * f64::from(k) / 40.0));
+    MERIDIANS.map(f64::from).into_iter().chain(others).map(|meridian| on_circle(sheet, meridian, radius)).collect()
 }
 
 fn on_circle(sheet: &Sheet, meridian: f64, radius: f64) -> Place {

@@ -41,7 +41,7 @@ pub fn command(words: &[String]) -> Result<Status, Failure> {
 fn say(file: &str, json: bool) -> Result<(), Failure> {
     let mesh = mesh_json::read(&files::read_text(file)?).map_err(Failure::Cant)?;
     check_balance(&mesh)?;
-    let Read { field, paved, .. } = mesh;
+    let Read { field, paved } = mesh;
     let figures = figures::of(&field, &paved);
     if json {
         return files::print(&format!("{}\n", mesh_json::report(file, &paved, &figures)));
@@ -54,7 +54,7 @@ fn say(file: &str, json: bool) -> Result<(), Failure> {
 
 /// Quads and what is left open make up a sound outline's area.
 fn check_balance(mesh: &Read) -> Result<(), Failure> {
-    let Read { field, paved, .. } = mesh;
+    let Read { field, paved } = mesh;
     let total = figures::field_area(field);
     if !paved.sound || total.sign() != Ordering::Greater {
         return Ok(());

@@ -23,14 +23,14 @@ pub struct Sheet {
 }
 
 impl Sheet {
-    /// A sheet for these points, its frame's top so far down.
-    pub fn of(points: impl Iterator<Item = [f64; 2]>, y: f64) -> Sheet {
+    /// A sheet for these points, its frame's top so far down, and so many times as large as is usual.
+    pub fn of(points: impl Iterator<Item = [f64; 2]>, y: f64, zoom: f64) -> Sheet {
         let start = [f64::INFINITY, f64::NEG_INFINITY, f64::INFINITY, f64::NEG_INFINITY];
         let [left, right, low, high] =
             points.fold(start, |[l, r, b, t], [x, y]| [l.min(x), r.max(x), b.min(y), t.max(y)]);
         let pad = (right - left).max(high - low).max(1e-6) / 30.0;
         let (left, right, low, high) = (left - pad, right + pad, low - pad, high + pad);
-        let scale = (MOST_WIDTH / (right - left)).min(MOST_HEIGHT / (high - low));
+        let scale = zoom * (MOST_WIDTH / (right - left)).min(MOST_HEIGHT / (high - low));
         let spare = (LEAST_WIDTH - scale * (right - left)).max(0.0) / 2.0;
         Sheet { left, right, low, high, scale, x: SIDE + spare, y }
     }
@@ -131,6 +131,11 @@ pub struct Labels {
 pub type Place = ([f64; 2], Anchor);
 
 impl Labels {
+    /// Keeps a square clear of labels.
+    pub fn reserve(&mut self, [x, y]: [f64; 2], half: f64) {
+        self.boxes.push([x - half, x + half, y - half, y + half]);
+    }
+
     /// The first place at which words stand clear of all labels before, and inside the limits given; it is taken.
     pub fn take(&mut self, words: &str, size: f64, limits: [f64; 4], places: &[Place]) -> Option<Place> {
         let width = text_width(words, size);

@@ -84,6 +84,9 @@ const LINE: f64 = 19.0;
 /// A quad's lines, and its corners' dots, are drawn where its sides have so many pixels.
 const SIDES_SEEN: f64 = 2.5;
 const NODES_SEEN: f64 = 9.0;
+/// Sides have so many where nodes have their numbers, unless the sheet would be too large.
+const NUMBERS_SEEN: f64 = 26.0;
+const MOST_ZOOM: f64 = 8.0;
 
 const RULES: &str = "\
 text{font:13px sans-serif;fill:#1a1a1a}.title{font-size:17px;font-weight:bold}.verdict{font-weight:bold;font-size:14px}\
@@ -92,18 +95,19 @@ text{font:13px sans-serif;fill:#1a1a1a}.title{font-size:17px;font-weight:bold}.v
 .open{fill:url(#hatch);stroke:#b3261e;stroke-width:2.2;stroke-linejoin:round;fill-rule:evenodd}.blind{fill:#3a3a3a}\
 .outline{fill:none;stroke:#111;stroke-width:1.8;stroke-linejoin:round}.nodes{fill:#1c2f45}\
 .halo{fill:none;stroke:#fff;stroke-width:2;stroke-opacity:.45}.polar{fill:none;stroke:#333;stroke-width:.7;stroke-opacity:.75}\
-.cross{fill:none;stroke:#fff;stroke-width:5}.fixation{fill:none;stroke:#111;stroke-width:2}.lacking{fill:#fff;stroke:#777;stroke-dasharray:3 2;stroke-width:1}.frame{fill:none;stroke:#999;stroke-width:.8}";
+.cross{fill:none;stroke:#fff;stroke-width:5}.fixation{fill:none;stroke:#111;stroke-width:2}.lacking{fill:url(#dots);stroke:#8a6a00;stroke-width:1}.frame{fill:none;stroke:#999;stroke-width:.8}";
 
-/// What is left open is told by its hatching too, not by colour alone.
-const HATCH: &str = r##"<pattern id="hatch" width="7" height="7" patternUnits="userSpaceOnUse" patternTransform="rotate(45)"><rect width="7" height="7" fill="#f6b5a6"/><path d="M0,0V7" stroke="#b3261e" stroke-width="1.6"/></pattern>"##;
+/// What is left open and what has no estimate is told by a pattern too, not by colour alone.
+const PATTERNS: &str = r##"<pattern id="dots" width="7" height="7" patternUnits="userSpaceOnUse"><rect width="7" height="7" fill="#fdf0bd"/><circle cx="3.5" cy="3.5" r="1.3" fill="#8a6a00"/></pattern><pattern id="hatch" width="7" height="7" patternUnits="userSpaceOnUse" patternTransform="rotate(45)"><rect width="7" height="7" fill="#f6b5a6"/><path d="M0,0V7" stroke="#b3261e" stroke-width="1.6"/></pattern>"##;
 
 /// The picture as an SVG document.
 pub fn draw(field: &Field, paved: &Paved, figures: &Figures, look: &Look) -> String {
     let points = || field.loops.iter().flatten().map(|point| [point.x, point.y]).chain(paved.nodes.iter().copied());
-    let flat = Sheet::of(points(), 0.0);
-    let within = flat.width() - 2.0 * 24.0;
+    let usual = Sheet::of(points(), 0.0, 1.0);
+    let zoom = if look.numbers { (NUMBERS_SEEN / side_in_pixels(&usual, paved)).clamp(1.0, MOST_ZOOM) } else { 1.0 };
+    let within = Sheet::of(points(), 0.0, zoom).width() - 2.0 * 24.0;
     let (head, top) = heading(look, within);
-    let sheet = Sheet::of(points(), top);
+    let sheet = Sheet::of(points(), top, zoom);
     let mut body = head + &mesh(&sheet, field, paved, look) + &scale(&sheet, look);
     if look.numbers {
         body += &numbers(&sheet, paved);
@@ -132,7 +136,7 @@ fn document(sheet: &Sheet, height: f64, look: &Look, lines: &[String], body: &st
         concat!(
             r#"<svg xmlns="http://www.w3.org/2000/svg" role="img" width="{width:.0}" height="{height:.0}" viewBox="0 0 {width:.1} {height:.1}">"#,
             "\n<title>{title}</title>\n<desc>{about}</desc>\n<style>{rules}{colours}</style>\n",
-            r#"<defs>{hatch}<clipPath id="frame"><rect {frame}/></clipPath></defs>"#,
+            r#"<defs>{patterns}<clipPath id="frame"><rect {frame}/></clipPath></defs>"#,
             "\n",
             r##"<rect width="100%" height="100%" fill="#fff"/>"##,
             "\n{body}</svg>\n"
@@ -143,7 +147,7 @@ fn document(sheet: &Sheet, height: f64, look: &Look, lines: &[String], body: &st
         about = escaped(&lines.join(" ")),
         rules = RULES,
         colours = colours,
-        hatch = HATCH,
+        patterns = PATTERNS,
         frame = frame,
         body = body
     )
@@ -180,7 +184,8 @@ fn mesh(sheet: &Sheet, field: &Field, paved: &Paved, look: &Look) -> String {
     }
     let ring = |points: &Vec<Point>| sheet.ring(points.iter().map(|point| [point.x, point.y]));
     let left: String = paved.left.iter().map(|ids| sheet.ring(ids.iter().map(at))).collect();
-    drawn += &path("open", &left);
+    drawn += &path("open", &left)
+        .replace("<path", &format!(r#"<path style="stroke-width:{:.2}""#, (side / 5.0).clamp(0.3, 2.2)));
     drawn += &path("blind", &field.loops.iter().skip(1).map(ring).collect::<String>());
     drawn += &path("outline", &field.loops.iter().map(ring).collect::<String>());
     if side >= NODES_SEEN {
@@ -217,12 +222,14 @@ fn scale(sheet: &Sheet, look: &Look) -> String {
         sheet.x, sheet.y
     ) + "\n";
     drawn += &polar::lines(sheet);
+    let mut labels = Labels::default();
     if sheet.holds([0.0, 0.0]) {
         let [x, y] = sheet.at([0.0, 0.0]);
+        labels.reserve([x, y], 8.0);
         let cross = format!("M{:.1},{y:.1}h14M{x:.1},{:.1}v14", x - 7.0, y - 7.0);
         drawn += &(path("cross", &cross) + &path("fixation", &cross));
     }
-    drawn += &polar::labels(sheet, &mut Labels::default());
+    drawn += &polar::labels(sheet, &mut labels);
     drawn += &text([across, sheet.y - 28.0], Anchor::Middle, "side", "superior");
     drawn += &text([across, sheet.bottom() + 38.0], Anchor::Middle, "side", "inferior");
     if let Some([left, right]) = look.eye.map(Eye::sides) {

@@ -12,8 +12,8 @@ FURTHEST = 1_001  # proved of every run
 ENDS = {
     "still": "the last pass placed nothing",
     "passes": "every pass allowed was used",
-    "cap": "stopped at 250,000 quads",
-    "full": "stopped before a quad that no space was lent for",
+    "cap": "250,000 quads are the most",
+    "full": "no space was lent for another quad",
 }
 
 

@@ -5,9 +5,12 @@ import struct
 from typing import NamedTuple
 
 from outlines import Point, Unusable
-from refusals import WORDS, Refused
+from refusals import Refused
 
 FURTHEST = 1_001  # proved of every run
+
+# What the program refuses by: document 01's numbers of a file and of a run.
+PRINTED = (*range(1, 11), 12, 13)
 
 ENDS = {
     "still": "the last pass placed nothing",
@@ -47,7 +50,7 @@ def whole_number(word, below=None):
 
 def read_first(words):
     """Counts of nodes, quads and front edges, the end, and whether it is whole."""
-    if words[:1] == ["refused"] and len(words) == 2 and words[1].isdecimal() and int(words[1]) in WORDS:
+    if words[:1] == ["refused"] and len(words) == 2 and words[1].isdecimal() and int(words[1]) in PRINTED:
         raise Refused(int(words[1]))
     if words[:1] != ["mesh"] or len(words) != 6 or words[4] not in ENDS or words[5] not in ("whole", "open"):
         raise Unusable("a listing begins with 'mesh', three counts, the end, and 'whole' or 'open'; or with 'refused' and a number")

@@ -85,10 +85,11 @@ fn drawn(rng: &mut Rng) -> (Drawing, f64) {
 fn spoilt(rng: &mut Rng) -> (Drawing, f64) {
     let (mut drawing, mut size) = drawn(rng);
     for _ in 0..rng.between(1, 2) {
-        let place = rng.below(drawing.outer.len());
-        let hole = rng.below(drawing.holes.len().max(1));
+        let [place, hole] = [&drawing.outer, &drawing.holes].map(|list| rng.below(list.len().max(1)));
         match rng.below(10) {
-            0 => drawing.outer[place] = rng.pick(&[f64::NAN, f64::INFINITY, 1e3, -1e3, 1e3f64.next_up()]),
+            0 if !drawing.outer.is_empty() => {
+                drawing.outer[place] = rng.pick(&[f64::NAN, f64::INFINITY, 1e3, -1e3, 1e3f64.next_up()]);
+            }
             1 => drawing.outer.truncate(place),
             2 => drawing.holes.truncate(hole),
             3 => drawing.hole_lengths.push(rng.pick(&[0, 1, 3, usize::MAX])),
@@ -96,7 +97,7 @@ fn spoilt(rng: &mut Rng) -> (Drawing, f64) {
             5 => size = rng.pick(&[0.01, 0.01f64.next_down(), 100.0, 100f64.next_up(), f64::MAX]),
             6 => drawing.outer.iter_mut().step_by(2).for_each(|x| *x = 0.5),
             7 => drawing.holes.iter_mut().for_each(|x| *x *= 1e3),
-            8 => drawing.outer = drawing.outer.repeat(1 + 4_200 / drawing.points()),
+            8 => drawing.outer = drawing.outer.repeat(1 + 4_200 / drawing.points().max(1)),
             _ => drawing.outer.iter_mut().for_each(|x| *x *= 1e-300),
         }
     }

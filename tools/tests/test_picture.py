@@ -10,7 +10,7 @@ from common import SQUARE, SQUARE_LISTING, TOOLS, run
 import listings
 import outlines
 from outlines import Settings, Unusable
-from refusals import Refused, WORDS, in_words
+from refusals import Refused, in_words
 
 OPEN = SQUARE_LISTING.replace("mesh 9 4 2 still whole", "mesh 9 3 4 full open").replace("q 5 6 7 8\n", "l 5 6 7 8\n")
 # a blind spot in the square, and the listing with its points
@@ -37,8 +37,8 @@ class Reading(unittest.TestCase):
         read = listings.read(UNSOUND)
         self.assertEqual((len(read.quads), read.front, read.whole, read.loops), (4, 2, False, []))
 
-    def test_every_refusal(self):
-        for number in WORDS:
+    def test_every_refusal_that_is_printed(self):
+        for number in listings.PRINTED:
             with self.assertRaises(Refused) as caught:
                 listings.read(f"refused {number}\n")
             self.assertEqual(str(caught.exception), in_words(number))
@@ -49,7 +49,7 @@ class Reading(unittest.TestCase):
         self.assertIn(message, str(caught.exception))
 
     def test_what_is_no_listing(self):
-        for text in ("", "\n", "refused 14\n", "refused\n", "refused x\n", "mesh 9 4 2 still\n", "mesh 9 4 2 done whole\n", "mesh 9 4 2 still closed\n"):
+        for text in ("", "\n", "refused 11\n", "refused 14\n", "refused\n", "refused x\n", "mesh 9 4 2 still\n", "mesh 9 4 2 done whole\n", "mesh 9 4 2 still closed\n"):
             self.wrong(text, "line 1: a listing begins with 'mesh'")
         self.wrong("mesh -9 4 2 still whole\n", "line 1: a whole number is wanted: -9")
         self.wrong("mesh 0 0 0 still whole\n", "line 1: 0 nodes and 0 quads are promised, and 0 lines follow")
@@ -182,7 +182,7 @@ class Drawing(unittest.TestCase):
         self.assertEqual(self.draw(SQUARE_LISTING, "--outline", damaged), (1, b"", f"picture: {in_words(12)} (block 2)\n"))
 
     def test_a_refusal_is_said_in_words(self):
-        for number in WORDS:
+        for number in listings.PRINTED:
             self.assertEqual(self.draw(f"refused {number}\n"), (1, b"", f"picture: {in_words(number)}\n"))
 
     def test_what_cant_be_read(self):

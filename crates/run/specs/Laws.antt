@@ -10,6 +10,7 @@ use lib.ListN.{length, take, drop, length-map}
 use lib.Seq.{length-take-le, take-append-seam}
 use lib.Ieee.{Float, binary64, fits}
 use Rattle.laws.specs.Loop.{run}
+use Rattle.laws.specs.Overlay.{overlay}
 use Rattle.domain.specs.declared.Settings.{Settings}
 use Rattle.domain.specs.Outline.{Outline, firstOf}
 use Rattle.domain.specs.Accepted.{OutlineFits, first-zero}
@@ -33,7 +34,7 @@ use Rattle.paving.specs.Advance as paving
 use Rattle.paving.specs.ReachLaws.{advance-reaches}
 use Rattle.paving.specs.Loops.{frontLoops}
 use Rattle.whole_run.specs.Run.{runRefusal, runOf}
-use Rattle.loops.specs.Listed.{Lists, overlay, written, Listable, listedIn}
+use Rattle.loops.specs.Listed.{Lists, written, Listable, listedIn}
 use Rattle.loops.specs.ListedLaws.{listed-front, sound-listable}
 use Rattle.advance.specs.Paveable.{Paveable}
 use Rattle.sampled.specs.Outlines.{outline-three}

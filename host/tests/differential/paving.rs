@@ -251,6 +251,8 @@ struct Tally {
     outlines: usize,
     answers: BTreeMap<String, usize>,
     whole: usize,
+    /// Open, with no loop left: the outline is unsound.
+    unsound: usize,
     nodes: usize,
     quads: usize,
     /// How far the nodes' and the edges' pools served runs that weren't refused.
@@ -294,6 +296,7 @@ impl Tally {
         let (answer, used, mut faults) = match (library, expected) {
             (Ok(mesh), Ok((outcome, _))) => {
                 self.whole += usize::from(mesh.is_whole());
+                self.unsound += usize::from(!mesh.is_whole() && mesh.loop_count() == 0);
                 self.nodes += mesh.node_count();
                 self.quads += mesh.quad_count();
                 let full = mesh.end() == End::Full;
@@ -374,7 +377,14 @@ impl Tally {
 
     /// As `finish`; fails also if there are fewer runs whose blocks matter, for any one reason.
     fn finish_where_blocks_matter(self, what: &str, expected: &[&str], fewest: usize) {
-        let Tally { outlines, answers, whole, nodes, quads, faults, .. } = &self;
+        self.finish_answers(what, expected);
+        self.finish_pools(what);
+        self.blocks.finish(what, self.outlines / 200, fewest);
+    }
+
+    /// Prints what was answered; fails on a fault, or if one of these answers is rare.
+    fn finish_answers(&self, what: &str, expected: &[&str]) {
+        let Tally { outlines, answers, whole, nodes, quads, faults, .. } = self;
         let runs: usize = answers.values().sum();
         let counts: Vec<String> = answers.iter().map(|(answer, count)| format!("{answer}: {count}")).collect();
         println!(
@@ -386,8 +396,6 @@ impl Tally {
         for answer in expected {
             assert!(answers.get(*answer).is_some_and(|&count| count >= outlines / 200), "{what}: {answer} is rare");
         }
-        self.finish_pools(what);
-        self.blocks.finish(what, outlines / 200, fewest);
     }
 }
 
@@ -480,6 +488,21 @@ fn runs_of_lists_that_do_not_fit() {
 #[test]
 fn runs_in_tight_places() {
     runs("tight", &USUAL);
+}
+
+/// Paper 4's family, of which the reference leaves no loop: whole and open by soundness alone.
+#[test]
+fn runs_of_slits() {
+    let (outlines, seed) = (number("SITJORBE_OUTLINES", 2_000), number("SITJORBE_SEED", 1));
+    let (mut tally, mut rng) = (Tally::default(), Rng(seed));
+    for place in 0..outlines {
+        tally.outline(&mut rng, generated("slits", seed, place));
+    }
+    let (whole, unsound, few) = (tally.whole, tally.unsound, tally.outlines / 2);
+    println!("runs, slits: {whole} whole, {unsound} open with no loop left");
+    assert!(whole > few && unsound > few, "{whole} whole, {unsound} open with no loop left");
+    // No quad of theirs makes a node, so no pool of nodes runs out on the way.
+    tally.finish_answers("runs, slits", &["still", "passes", "full (quads)", "full (edges)", "9", "10"]);
 }
 
 #[test]

@@ -415,7 +415,7 @@ fn numbers_and_hills() {
     assert!(
         svg.contains(">250</text>")
             && svg.contains("196 of 216 quads have all four")
-            && svg.contains("no estimate: a threshold lacks")
+            && svg.contains("no estimate: a threshold is missing")
     );
     for (thresholds, status, part) in [
         ("0,501\n", 1, "line 1: refused (16)"),
@@ -662,4 +662,31 @@ fn hostile_meshes() {
     // A mesh isn't whole because it says so.
     let said = call(&["quality", "-"], mesh.replace("\"whole\":false", "\"whole\":true").as_bytes());
     assert!(said.status == 0 && !said.out.contains("All of the field"), "{}", said.out);
+}
+
+// ---- the documents
+
+/// Every call that the documents show, in a folder with the examples, as it is shown.
+#[test]
+fn the_calls_that_the_documents_show() {
+    let folder = folder("documents");
+    std::os::unix::fs::symlink(root().join("examples").canonicalize().expect("it is there"), folder.join("examples"))
+        .expect("a link");
+    fs::create_dir(folder.join("tools")).expect("a folder");
+    std::os::unix::fs::symlink(env!("CARGO_BIN_EXE_sitjorbe"), folder.join("tools/sitjorbe")).expect("a link");
+    let mut shown = 0;
+    for page in ["README.md", "docs/COMMAND.md", "examples/README.md", "host/README.md", "tools/README.md"] {
+        let text = read(root().join(page).to_str().expect("a name"));
+        for line in text.lines().map(str::trim_start).filter(|line| line.starts_with("tools/sitjorbe ")) {
+            let output = Command::new("bash").args(["-c", line]).current_dir(&folder).output().expect("bash");
+            assert!(output.status.success(), "{page}: {line}: {}", String::from_utf8_lossy(&output.stderr));
+            shown += 1;
+        }
+    }
+    assert!(shown >= 15, "{shown} calls are shown");
+    for made in
+        ["right-eye.svg", "right-eye.vtk", "right-eye.json", "left-eye.msh", "hill.svg", "upper.svg", "numbers.svg"]
+    {
+        assert!(folder.join(made).exists(), "{made}");
+    }
 }

@@ -116,8 +116,8 @@ pub fn draw(field: &Field, paved: &Paved, figures: &Figures, look: &Look) -> Str
     let (words, mut y) = below(&lines, sheet.bottom() + 62.0, within);
     body += &words;
     if let Some(hill) = &look.hill {
-        body += &hill.scale([24.0, y], within);
-        y += 44.0;
+        body += &hill.scale([24.0, y + 4.0], within);
+        y += 48.0;
     }
     let (rows, y) = legend(&sheet, field, paved, look, y);
     document(&sheet, y + 4.0, look, &lines, &(body + &rows))
@@ -283,7 +283,7 @@ fn legend(sheet: &Sheet, field: &Field, paved: &Paved, look: &Look, top: f64) ->
     let blind = if field.names.len() == 2 { &field.names[1] } else { "blind spots" };
     let more = [
         ("open", "measured nowhere", !paved.left.is_empty()),
-        ("lacking", "no estimate: a threshold lacks", look.hill.as_ref().is_some_and(|hill| hill.lacking > 0)),
+        ("lacking", "no estimate: a threshold is missing", look.hill.as_ref().is_some_and(|hill| hill.lacking > 0)),
         ("blind", blind, field.loops.len() > 1),
         ("fixation", "fixation", sheet.holds([0.0, 0.0])),
     ];

@@ -385,6 +385,102 @@ fn pictures_say_what_they_show() {
     assert!(!read(&out).contains("nasal"), "no eye is guessed");
 }
 
+/// A document's labels of circles and meridians: words and box.
+fn degrees(svg: &str) -> Vec<(String, [f64; 4])> {
+    let label = |line: &str| {
+        let attribute = |name: &str| line.split(&format!(" {name}=\"")).nth(1).and_then(|rest| rest.split('"').next());
+        let number = |name: &str| attribute(name).expect("it is there").parse::<f64>().expect("a number");
+        let words = line.split('>').nth(1).and_then(|rest| rest.split('<').next()).expect("it has words").to_string();
+        let (width, x, y) = (0.58 * 11.0 * words.chars().count() as f64, number("x"), number("y"));
+        let left = match attribute("text-anchor") {
+            None => x,
+            Some("middle") => x - width / 2.0,
+            _ => x - width,
+        };
+        (words, [left, left + width, y - 10.0, y + 2.0])
+    };
+    svg.lines().filter(|line| line.contains("class=\"degrees\"")).map(label).collect()
+}
+
+#[test]
+fn labels_dont_collide_or_vanish() {
+    let fields = [
+        (read(root().join("examples/right-eye.csv").to_str().expect("a name")), "3.6"),
+        (read(root().join("examples/hemianopia.csv").to_str().expect("a name")), "2.65"),
+        ("0,0\n60,0\n60,3\n0,3\n".to_string(), "1"),
+        ("-1,-40\n2,-40\n2,50\n-1,50\n".to_string(), "1"),
+        ("-0.01,-0.01\n30,-0.01\n30,40\n".to_string(), "2"),
+        (SQUARE.to_string(), "5"),
+    ];
+    for (field, size) in fields {
+        let svg = call(&["pave", "-", "--size", size, "-o", "-"], field.as_bytes()).out;
+        let labels = degrees(&svg);
+        for meridian in (0..360).step_by(30) {
+            assert!(labels.iter().any(|(words, _)| *words == format!("{meridian}°")), "{field}: {meridian}°");
+        }
+        for (k, (words, a)) in labels.iter().enumerate() {
+            for (other, b) in &labels[..k] {
+                assert!(a[1] < b[0] || b[1] < a[0] || a[3] < b[2] || b[3] < a[2], "{field}: {words} and {other}");
+            }
+        }
+        assert!(labels.len() > 13, "circles have degrees too");
+    }
+    let far = call(&["pave", "-", "--size", "0.1", "-o", "-"], b"100,100\n101,100\n101,100.8\n").out;
+    assert!(degrees(&far).len() > 5);
+}
+
+/// The fills of a document's patches, of what is open and blind, and white, in linear light.
+fn fills(svg: &str) -> Vec<[f64; 3]> {
+    let light = |words: &str| {
+        [1, 3, 5].map(|k| {
+            let x = f64::from(u8::from_str_radix(&words[k..k + 2], 16).expect("a colour")) / 255.0;
+            if x <= 0.04045 {
+                x / 12.92
+            } else {
+                ((x + 0.055) / 1.055).powf(2.4)
+            }
+        })
+    };
+    let after = |mark: &str| svg.split(mark).nth(1).map(light).unwrap_or_else(|| panic!("no {mark}"));
+    let mut fills: Vec<[f64; 3]> = (0..6).map(|k| after(&format!(".patch{k}{{fill:"))).collect();
+    fills.extend([after("<pattern id=\"hatch\" width=\"7\" height=\"7\" patternUnits=\"userSpaceOnUse\" patternTransform=\"rotate(45)\"><rect width=\"7\" height=\"7\" fill=\""), after(".blind{fill:"), [1.0; 3]]);
+    fills
+}
+
+/// A colour of linear light as CIE L*a*b*, where differences are about as large as they look.
+fn lab([r, g, b]: [f64; 3]) -> [f64; 3] {
+    let root = |t: f64| if t > 0.008856 { t.cbrt() } else { 7.787 * t + 16.0 / 116.0 };
+    let x = root((0.4124 * r + 0.3576 * g + 0.1805 * b) / 0.95047);
+    let y = root(0.2126 * r + 0.7152 * g + 0.0722 * b);
+    let z = root((0.0193 * r + 0.1192 * g + 0.9505 * b) / 1.08883);
+    [116.0 * y - 16.0, 500.0 * (x - y), 200.0 * (y - z)]
+}
+
+/// As a reader sees it who has all cones, and who lacks the long, the middle or the short ones (Machado, Oliveira and Fernandes 2009).
+const READERS: [[[f64; 3]; 3]; 4] = [
+    [[1.0, 0.0, 0.0], [0.0, 1.0, 0.0], [0.0, 0.0, 1.0]],
+    [[0.152286, 1.052583, -0.204868], [0.114503, 0.786281, 0.099216], [-0.003882, -0.048116, 1.051998]],
+    [[0.367322, 0.860646, -0.227968], [0.280085, 0.672501, 0.047413], [-0.011820, 0.042940, 0.968881]],
+    [[1.255528, -0.076749, -0.178779], [-0.078411, 0.930809, 0.147602], [0.004733, 0.691367, 0.303900]],
+];
+
+#[test]
+fn every_reader_tells_the_colours_apart() {
+    let svg = call(&["pave", "-", "--size", "2", "-o", "-"], SQUARE.as_bytes()).out;
+    for reader in READERS {
+        let seen = |colour: &[f64; 3]| {
+            lab(reader.map(|row| row.iter().zip(colour).map(|(a, b)| a * b).sum::<f64>().clamp(0.0, 1.0)))
+        };
+        let colours: Vec<[f64; 3]> = fills(&svg).iter().map(seen).collect();
+        for (k, a) in colours.iter().enumerate() {
+            for (other, b) in colours[..k].iter().enumerate() {
+                let apart = a.iter().zip(b).map(|(x, y)| (x - y).powi(2)).sum::<f64>().sqrt();
+                assert!(apart > 12.0, "colours {other} and {k} are {apart:.1} apart");
+            }
+        }
+    }
+}
+
 #[test]
 fn a_blind_spot_on_the_wrong_side_is_noted() {
     let [right, left] =

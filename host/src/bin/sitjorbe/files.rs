@@ -47,10 +47,13 @@ pub fn say(words: &str) {
     }
 }
 
-/// Prints to standard output.
+/// Prints to standard output. Where what reads it has closed it, as `head` does, nobody wants the rest.
 pub fn print(text: &str) -> Result<(), Failure> {
     let mut out = io::stdout().lock();
-    out.write_all(text.as_bytes()).and_then(|()| out.flush()).map_err(|error| cant("standard output", &error))
+    match out.write_all(text.as_bytes()).and_then(|()| out.flush()) {
+        Err(error) if error.kind() != io::ErrorKind::BrokenPipe => Err(cant("standard output", &error)),
+        _ => Ok(()),
+    }
 }
 
 /// The name of a file, or of standard input.

@@ -110,7 +110,7 @@ fn on_circle(sheet: &Sheet, meridian: f64, radius: f64) -> Place {
     ([x, y + 0.35 * TEXT], Anchor::Middle)
 }
 
-/// Outside the frame where the meridian leaves it; else on the meridian, farther and farther in.
+/// Outside the frame where the meridian leaves it, or a little along the frame from there; else on the meridian, farther and farther in.
 fn meridian_places(sheet: &Sheet, meridian: u32) -> Vec<Place> {
     let meridian = f64::from(meridian);
     let Some([from, to]) = span(sheet, meridian) else {
@@ -118,13 +118,18 @@ fn meridian_places(sheet: &Sheet, meridian: u32) -> Vec<Place> {
     };
     let [x, y] = sheet.at(point(meridian, to));
     let [width, height] = sheet.frame();
-    let outside = match () {
-        () if x >= sheet.x + width - 0.5 => ([x + 6.0, y + 0.35 * TEXT], Anchor::Start),
-        () if x <= sheet.x + 0.5 => ([x - 6.0, y + 0.35 * TEXT], Anchor::End),
-        () if y <= sheet.y + 0.5 => ([x, y - 6.0], Anchor::Middle),
-        () if y >= sheet.y + height - 0.5 => ([x, y + 16.0], Anchor::Middle),
+    let (outside, along) = match () {
+        () if x >= sheet.x + width - 0.5 => (([x + 6.0, y + 0.35 * TEXT], Anchor::Start), [0.0, 5.0]),
+        () if x <= sheet.x + 0.5 => (([x - 6.0, y + 0.35 * TEXT], Anchor::End), [0.0, 5.0]),
+        () if y <= sheet.y + 0.5 => (([x, y - 6.0], Anchor::Middle), [10.0, 0.0]),
+        () if y >= sheet.y + height - 0.5 => (([x, y + 16.0], Anchor::Middle), [10.0, 0.0]),
         () => return vec![],
     };
+    let shifted = |k: i32| {
+        let ([x, y], anchor) = outside;
+        ([x + f64::from(k) * along[0], y + f64::from(k) * along[1]], anchor)
+    };
+    let aside = (0..=6).flat_map(|k| [shifted(k), shifted(-k)]);
     let inside = (1..10).map(|k| on_circle(sheet, meridian, to - (to - from) * (f64::from(k) - 0.5) / 10.0));
-    [outside].into_iter().chain(inside).collect()
+    aside.chain(inside).collect()
 }

@@ -71,14 +71,15 @@ pub struct Look {
     pub hill: Option<crate::hill::Hill>,
 }
 
-/// The colours of patches, fill and line: the outline's, then those of blind spots. Told apart by readers who see no red or no green; blue and yellow by all.
+/// The colours of patches, fill and line: the outline's, then those of blind spots. Readers who lack a kind of cone tell the fills apart too, and all of
+/// them from what is open, blind or blank; tests/command.rs works that out.
 const PATCHES: [[&str; 2]; 6] = [
     ["#d3e5f5", "#2b659e"],
-    ["#fbe596", "#8a6a00"],
-    ["#e9cfe4", "#84396c"],
-    ["#c6e8dc", "#00614a"],
-    ["#fbd3ab", "#96530a"],
-    ["#d9d9f7", "#4a44a0"],
+    ["#fbe084", "#7a5c00"],
+    ["#9191fa", "#24248c"],
+    ["#64af64", "#12450f"],
+    ["#cda0cd", "#5f235f"],
+    ["#919182", "#33332a"],
 ];
 const LINE: f64 = 19.0;
 /// A quad's lines, and its corners' dots, are drawn where its sides have so many pixels.

@@ -91,3 +91,27 @@ def read(text):
     except Unusable as error:
         raise Unusable(f"line {line}: {error}") from None
     return Listing(read_rows["n"], read_rows["q"], front, end, whole, read_rows["l"])
+
+
+def origins(listing):
+    """The number of the outline's loop that each node came from, 0 for the outer loop and k + 1 for blind spot k.
+
+    A listing doesn't have the numbers, and they follow from it. The nodes of a quad have one number, and so have those of a loop of the front: that is
+    proved of every run. And all nodes of a number hang together so, since an edge of a sampled loop is on the front left, or a quad used it up.
+    The samples come loop after loop: numbers rise with the least node of each.
+    """
+    least = list(range(len(listing.nodes)))
+
+    def find(node):
+        while least[node] != node:
+            least[node] = least[least[node]]
+            node = least[node]
+        return node
+
+    for first, *rest in listing.quads + listing.loops:
+        for node in rest:
+            low, high = sorted((find(first), find(node)))
+            least[high] = low
+    found = [find(node) for node in range(len(listing.nodes))]
+    number = {node: k for k, node in enumerate(sorted(set(found)))}
+    return [number[node] for node in found]

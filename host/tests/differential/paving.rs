@@ -16,7 +16,8 @@ use sitjorbe::{End, FieldRecord, Mesh, Places, Refusal, Settings, OFF};
 use crate::blocks::{Blocks, Counts};
 use crate::cases::{self, Filed, Needs, Pools, Rng, Scratch, Setting};
 use crate::common::book::{self, Answered, Sampled};
-use crate::common::{bits, used, Drawing, Guarded, Lent, RunPlaces};
+use crate::common::origins::{fault, origins};
+use crate::common::{bits, used, Drawing, Guarded, Lent, RunPlaces, LISTS};
 
 /// Enough for most outlines that are generated.
 const AMPLE: Places = Places { field_nodes: 2_500, nodes: 1_500, quads: 1_500, edges: 4_500, points: 300 };
@@ -217,8 +218,14 @@ impl Asked {
         if !links_agree(mesh) {
             faults.push("prev".to_string());
         }
+        let quads = answered(mesh).quads;
+        let numbers = origins(&self.drawing, self.settings.size, &quads);
+        if mesh.origins() != numbers {
+            faults.push("origins".to_string());
+        }
         if books {
             faults.extend(book::check(self.sampled(), &answered(mesh)).err());
+            faults.extend(fault(&numbers, &self.sampled().edges, &quads));
         }
         faults
     }
@@ -306,7 +313,7 @@ impl Tally {
             (library, expected) => {
                 let [library, reference] = [library.err(), expected.as_ref().err().copied()];
                 let fault = (library != reference).then(|| format!("refused {library:?}, not {reference:?}"));
-                (library.unwrap_or(0).to_string(), [0; 14], fault.into_iter().collect())
+                (library.unwrap_or(0).to_string(), [0; LISTS.len()], fault.into_iter().collect())
             }
         };
         faults.extend(lists.written_past(used).iter().map(|name| format!("{name} written")));

@@ -1,6 +1,6 @@
 //! The hill of vision: quads shaded by the library's estimates between thresholds at the nodes, dark where little is seen.
 
-use sitjorbe::{LentMesh, Refusal, Thresholds, MOST_WEIGHT};
+use sitjorbe::{Desk, Exam, LentMesh, Reader, Refusal, MOST_WEIGHT};
 
 use crate::files::Failure;
 use crate::run::Paved;
@@ -27,31 +27,33 @@ pub struct Hill {
 /// The hill of a mesh, from thresholds as text: a node and tenths of a decibel a line.
 pub fn of(paved: &Paved, thresholds: &str, name: &str) -> Result<Hill, Failure> {
     let (xs, ys): (Vec<f64>, Vec<f64>) = paved.nodes.iter().map(|[x, y]| (*x, *y)).unzip();
-    let quads = paved.quads.as_flattened();
-    let mesh = LentMesh { nodes: xs.len() as u32, xs: &xs, ys: &ys, quad_count: paved.quads.len(), quads };
-    let mut exam = Thresholds::begin(mesh);
+    let (quad_count, quads) = (paved.quads.len(), paved.quads.as_flattened());
+    // The links of the front aren't read.
+    let nodes = xs.len() as u32;
+    let mesh = LentMesh { nodes, xs: &xs, ys: &ys, quad_count, quads, origins: &paved.origins, ..LentMesh::default() };
+    let mut exam = Exam::begin(mesh);
     for (line, row) in (1..).zip(thresholds.lines()) {
-        enter(&mut exam, row).map_err(|failure| failure.of(&format!("{name}: line {line}")))?;
+        enter(&mut exam.desk(), row).map_err(|failure| failure.of(&format!("{name}: line {line}")))?;
     }
     let mut shades = vec![];
-    for quad in 0..paved.quads.len() {
-        match shades_of(&exam, quad) {
+    for quad in 0..quad_count as u32 {
+        match shades_of(&exam.reader(), quad) {
             Ok(rows) => shades.push(Some(rows)),
-            Err(Refusal::NoEstimate) => shades.push(None),
+            Err(Refusal::NoQuad) => shades.push(None),
             Err(refusal) => return Err(Failure::Refused(refusal.to_string())),
         }
     }
     let lacking = shades.iter().filter(|rows| rows.is_none()).count();
     let words = format!(
         "Shaded by estimates between thresholds: {} of {} have all four.",
-        exam.complete_quads(),
+        exam.reader().figures().0,
         counted(shades.len(), "quad")
     );
     Ok(Hill { shades, lacking, words })
 }
 
 /// Enters the threshold that a line has. A `#` begins a comment; node and threshold have a comma or a semicolon between.
-fn enter(exam: &mut Thresholds<'_>, row: &str) -> Result<(), Failure> {
+fn enter(desk: &mut Desk<'_>, row: &str) -> Result<(), Failure> {
     let told = row.split('#').next().unwrap_or("").trim();
     if told.is_empty() {
         return Ok(());
@@ -59,14 +61,14 @@ fn enter(exam: &mut Thresholds<'_>, row: &str) -> Result<(), Failure> {
     let numbers: Option<Vec<u32>> = told.split([',', ';']).map(|word| word.trim().parse().ok()).collect();
     match numbers.as_deref() {
         Some(&[node, threshold]) => {
-            exam.enter(node, threshold).map_err(|refusal| Failure::Refused(refusal.to_string()))
+            desk.enter(node, threshold).map_err(|refusal| Failure::Refused(refusal.to_string()))
         }
         _ => Err(Failure::Cant("a node's number and its threshold in tenths of a decibel are wanted".to_string())),
     }
 }
 
 /// The shade of each patch of a quad, row by row.
-fn shades_of(exam: &Thresholds<'_>, quad: usize) -> Result<[[usize; PATCHES]; PATCHES], Refusal> {
+fn shades_of(exam: &Reader<'_>, quad: u32) -> Result<[[usize; PATCHES]; PATCHES], Refusal> {
     let mut rows = [[0; PATCHES]; PATCHES];
     for (row, v) in rows.iter_mut().zip((SIDE / 2..).step_by(SIDE as usize)) {
         for (shade, u) in row.iter_mut().zip((SIDE / 2..).step_by(SIDE as usize)) {

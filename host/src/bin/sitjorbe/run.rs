@@ -73,38 +73,15 @@ pub fn pave(field: &Field, settings: &Settings) -> Result<Paved, NotPaved> {
             growth *= 2;
             continue;
         }
-        let quads: Vec<[u32; 4]> = mesh.quads().collect();
         return Ok(Paved {
             settings: *settings,
             end: mesh.end(),
             whole: mesh.is_whole(),
             sound,
-            origins: origins(field, settings.size, mesh.node_count(), &quads),
+            origins: mesh.origins().to_vec(),
             nodes: mesh.nodes().collect(),
-            quads,
+            quads: mesh.quads().collect(),
             left: mesh.front_loops().map(<[u32]>::to_vec).collect(),
         });
     }
-}
-
-/// The loop that each node came from: a sampled node from its own, one that a quad added from that of the quad's first node.
-fn origins(field: &Field, size: f64, nodes: usize, quads: &[[u32; 4]]) -> Vec<u16> {
-    let mut origins = vec![];
-    for (k, points) in (0u16..).zip(&field.loops) {
-        let ends = points.iter().zip(points.iter().cycle().skip(1));
-        let parts = ends.map(|(a, b)| {
-            let (dx, dy) = (a.x - b.x, a.y - b.y);
-            (((dx * dx + dy * dy).sqrt() / (1.05 * size)).ceil() as usize).max(1)
-        });
-        origins.resize(origins.len() + parts.sum::<usize>().next_multiple_of(2), k);
-    }
-    for [a, _, d, c] in quads {
-        for id in [*c, *d] {
-            if id as usize == origins.len() {
-                origins.push(origins[*a as usize]);
-            }
-        }
-    }
-    origins.resize(nodes, 0);
-    origins
 }

@@ -6,8 +6,8 @@ use common::blocks::Block;
 use common::exam::ExamLists;
 use common::{by_kind, list_lengths, refused, said, used, Drawing, FieldPlaces, Lengths, Lent, Raw, RunPlaces, LISTS};
 use sitjorbe::{
-    check_order_in, direction, directions_in, ffi, least_places, pave, small_quads, steps, Asked, FieldRecord, Lists,
-    Memory, MeshCounts, MeshRead, NotAccepted, Outline, Places, Refusal, Settings, OFF,
+    check_order_in, direction, directions_in, ffi, least_places, pave, small_quads, steps, Asked, FieldRecord, Lists, Memory, MeshCounts, MeshRead,
+    NotAccepted, Outline, Places, Refusal, Settings, OFF,
 };
 
 /// Drawings and points that are accepted and refused.

@@ -250,7 +250,6 @@ pub struct Stepper<'a> {
     size: f64,
     memory: &'a mut Memory,
     record: FieldRecord,
-    origins: Vec<u16>,
     counts: MeshCounts,
     list: Vec<u32>,
 }
@@ -271,9 +270,6 @@ impl<'a> Stepper<'a> {
     ///
     /// Those of [`Memory::pave`].
     pub fn after(outline: Outline<'a>, settings: &Settings, memory: &'a mut Memory) -> Result<Stepper<'a>, Refusal> {
-        let sampled = Settings { passes: 0, ..*settings };
-        let mesh = memory.pave(&outline, &sampled)?;
-        let loops = loops_of(mesh.links().0);
         let mesh = memory.pave(&outline, settings)?;
         let record = mesh.record();
         let counts = MeshCounts {
@@ -282,18 +278,8 @@ impl<'a> Stepper<'a> {
             edges: mesh.edge_count(),
             front: mesh.front_count(),
         };
-        let mut origins = loops;
-        for [a, _, d, c] in mesh.quads() {
-            for id in [c, d] {
-                if id as usize == origins.len() {
-                    origins.push(origins[a as usize]);
-                }
-            }
-        }
-        let places = memory.lists().xs.len();
-        origins.resize(places, 0);
-        let list = vec![0; 2 * places.saturating_add(2)];
-        Ok(Stepper { outline, size: settings.size, memory, record, origins, counts, list })
+        let list = vec![0; 2 * memory.lists().next.len().saturating_add(2)];
+        Ok(Stepper { outline, size: settings.size, memory, record, counts, list })
     }
 
     /// Steps on the front edge from a node to the next one.
@@ -316,7 +302,7 @@ impl<'a> Stepper<'a> {
             ys: lists.ys,
             next: lists.next,
             prev: lists.prev,
-            origins: &mut self.origins,
+            origins: lists.origins,
             quads: lists.quads,
             edges: lists.edges,
         };
@@ -347,7 +333,7 @@ impl<'a> Stepper<'a> {
             ys: lists.ys,
             next: lists.next,
             prev: lists.prev,
-            origins: &self.origins,
+            origins: lists.origins,
             quads: lists.quads,
             edges: lists.edges,
         };
@@ -400,32 +386,15 @@ impl<'a> Stepper<'a> {
     }
 
     /// The number of the outline's loop that each node came from: 0 for the outer one.
-    #[must_use]
-    pub fn origins(&self) -> &[u16] {
-        &self.origins[..self.counts.nodes as usize]
+    pub fn origins(&mut self) -> &[u16] {
+        let count = self.counts.nodes as usize;
+        &self.memory.lists().origins[..count]
     }
-}
-
-/// Which loop each node of a sampled outline came from: the nodes of a loop have numbers one after the other.
-fn loops_of(next: &[u32]) -> Vec<u16> {
-    let mut origins = Vec::with_capacity(next.len());
-    let mut number = 0;
-    while let Some(&second) = next.get(origins.len()) {
-        let start = origins.len() as u32;
-        let (mut id, mut length) = (second, 1);
-        while id != start {
-            id = next[id as usize];
-            length += 1;
-        }
-        origins.resize(origins.len() + length, number);
-        number += 1;
-    }
-    origins
 }
 
 #[cfg(test)]
 mod tests {
-    use super::{loops_of, Outcome};
+    use super::Outcome;
 
     #[test]
     fn outcomes_are_the_papers() {
@@ -439,11 +408,5 @@ mod tests {
     #[should_panic(expected = "a bug: the library answered outcome 4")]
     fn an_unknown_number_is_a_bug() {
         Outcome::of_number(4);
-    }
-
-    #[test]
-    fn loops_are_numbered_in_their_order() {
-        assert_eq!(loops_of(&[1, 2, 3, 0, 7, 4, 5, 6]), [0, 0, 0, 0, 1, 1, 1, 1]);
-        assert_eq!(loops_of(&[]), []);
     }
 }

@@ -114,7 +114,12 @@ pub struct MeshRead<'a> {
 /// # Errors
 ///
 /// In the answer: 1 to 7 of outline and size, 11 of the field, 23 of the mesh, 24 of the edge. Nothing is written then.
-pub fn step_numbers(ground: &Ground<'_>, lists: &mut MeshLists<'_>, counts: MeshCounts, edge: [u32; 2]) -> ffi::StepAnswer {
+pub fn step_numbers(
+    ground: &Ground<'_>,
+    lists: &mut MeshLists<'_>,
+    counts: MeshCounts,
+    edge: [u32; 2],
+) -> ffi::StepAnswer {
     floats::check();
     let Ground { outline: Outline { outer, holes, hole_lengths: lens }, size, record, values, marks } = *ground;
     // SAFETY: each pointer comes with the length of its slice, and the slices live until the call returns; those that may be
@@ -278,7 +283,8 @@ impl<'a> Stepper<'a> {
             edges: mesh.edge_count(),
             front: mesh.front_count(),
         };
-        let list = vec![0; 2 * memory.lists().next.len().saturating_add(2)];
+        let places = memory.lists().xs.len();
+        let list = vec![0; 2 * places.saturating_add(2)];
         Ok(Stepper { outline, size: settings.size, memory, record, counts, list })
     }
 
@@ -385,10 +391,10 @@ impl<'a> Stepper<'a> {
         links.filter(|(_, &next)| next != OFF).map(|(id, &next)| [id, next]).collect()
     }
 
-    /// The number of the outline's loop that each node came from: 0 for the outer one.
-    pub fn origins(&mut self) -> &[u16] {
+    /// The number of the outline's loop that each node came from, by id: 0 for the outer one.
+    pub fn origins(&mut self) -> Vec<u16> {
         let count = self.counts.nodes as usize;
-        &self.memory.lists().origins[..count]
+        self.memory.lists().origins[..count].to_vec()
     }
 }
 
@@ -398,7 +404,8 @@ mod tests {
 
     #[test]
     fn outcomes_are_the_papers() {
-        let found: Vec<(u32, String)> = Outcome::ALL.iter().map(|outcome| (*outcome as u32, outcome.to_string())).collect();
+        let found: Vec<(u32, String)> =
+            Outcome::ALL.iter().map(|outcome| (*outcome as u32, outcome.to_string())).collect();
         let words = ["placed", "none", "full", "cap"].map(String::from);
         assert_eq!(found, (0..).zip(words).collect::<Vec<_>>());
         assert_eq!(Outcome::ALL.map(|outcome| Outcome::of_number(outcome as u32)), Outcome::ALL);

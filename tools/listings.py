@@ -80,8 +80,8 @@ def read(text):
         loops = len(rows) - 1 - nodes - quads
         if loops < 0 or nodes == 0:
             raise Unusable(f"{nodes:,} nodes and {quads:,} quads are promised, and {len(rows) - 1:,} lines follow")
-        if whole != (loops == 0):
-            raise Unusable(f"'whole' is for no loops and 'open' for some; lines after the quads: {loops:,}")
+        if whole and loops:  # where there is none, 'open' says that the outline is unsound
+            raise Unusable(f"'whole' is for no loops; lines after the quads: {loops:,}")
         read_rows = {"n": [], "q": [], "l": []}
         for line, kind in enumerate("n" * nodes + "q" * quads + "l" * loops, start=2):
             read_rows[kind].append(read_row(rows[line - 1], kind, nodes))

@@ -19,6 +19,8 @@ WORDS = {
          "the file is damaged, so fetch it again, or write it anew from the outline"),
     13: ("the file has a wrong length, a wrong count, or something where zeros belong",
          "write it anew from the outline, with 1 to 8 loops, at most 248 points in all, and nothing after the last block"),
+    14: ("the list for the answers is too short, or those of points and targets don't fit together",
+         "lend three floats for each point, x and y for every point and as many targets, and a place for each node of a loop that is read"),
     15: ("the node isn't in the mesh, or is past the lent list of thresholds", "count nodes from 0, and lend a place for each"),
     16: ("the threshold is above 500", "give it in tenths of a decibel, 0 to 500; to take one back, withdraw it"),
     17: ("no threshold stands at the node", "enter one first, or look whether it was withdrawn already"),

@@ -5,7 +5,7 @@
 use std::env;
 use std::process::ExitCode;
 
-use sitjorbe::{contains, distance_to_boundary, nearest_segment, NearestSegment, Outline};
+use sitjorbe::{contains, distance_to_boundary, nearest_segment, Outline, Segment};
 use sitjorbe::{End, Memory, Mesh, Places, Settings};
 
 /// A right eye's field in degrees, seen from the eye: x to the right, where the temple is, y upwards; the middle is where the
@@ -59,6 +59,8 @@ fn say(mesh: &Mesh<'_>) {
     println!("  ended {}: {}", mesh.end(), why(mesh.end()));
     if mesh.is_whole() {
         println!("  whole: nothing is left to pave");
+    } else if mesh.loop_count() == 0 {
+        println!("  open: the outline is unsound, and nothing is left to pave");
     }
     for front in mesh.front_loops() {
         println!("  open: the front keeps a loop of {} nodes", front.len());
@@ -84,9 +86,12 @@ fn ask(what: &str, point: [f64; 2]) {
         Err(refusal) => return println!("  {refusal}"),
     }
     match nearest_segment(&FIELD, point) {
-        Ok(NearestSegment { a, b, .. }) => {
-            let of = if FIELD.holes.chunks_exact(2).any(|p| p == a) { "blind spot" } else { "field" };
-            println!("  nearest part of the outline: the {of}'s, from ({}, {}) to ({}, {})", a[0], a[1], b[0], b[1]);
+        Ok(Segment { loop_index, segment_index, a, b, .. }) => {
+            let of = if loop_index == 0 { "field" } else { "blind spot" };
+            println!(
+                "  nearest edge: the {of}'s number {segment_index}, from ({}, {}) to ({}, {})",
+                a[0], a[1], b[0], b[1]
+            );
         }
         Err(refusal) => println!("  {refusal}"),
     }

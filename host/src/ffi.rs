@@ -22,6 +22,8 @@ pub struct NearestAnswer {
     pub bx: f64,
     pub by: f64,
     pub distance: f64,
+    pub loop_index: usize,
+    pub segment_index: usize,
 }
 
 #[repr(C)]
@@ -77,6 +79,15 @@ pub struct PaveAnswer {
     pub front: usize,
     pub loops: usize,
     pub ids: usize,
+}
+
+/// The field's nodes and those of the sampled outline; both 0 on a refusal.
+#[repr(C)]
+#[derive(Clone, Copy, Debug)]
+pub struct PlacesAnswer {
+    pub refusal: u32,
+    pub field_nodes: usize,
+    pub sampled_nodes: usize,
 }
 
 /// `place` is where a quad stands too early, on refusal 22; else 0.
@@ -186,6 +197,34 @@ extern "C" {
         tx: f64,
         ty: f64,
     ) -> DirectionAnswer;
+
+    pub fn sitjorbe_directions(
+        xmin: f64,
+        ymin: f64,
+        h: f64,
+        nx: usize,
+        ny: usize,
+        values: *const f64,
+        values_len: usize,
+        marks: *const u8,
+        marks_len: usize,
+        points: *const f64,
+        points_len: usize,
+        targets: *const f64,
+        targets_len: usize,
+        answers: *mut f64,
+        answers_len: usize,
+    ) -> u32;
+
+    pub fn sitjorbe_places(
+        outer: *const f64,
+        outer_len: usize,
+        holes: *const f64,
+        holes_len: usize,
+        lens: *const usize,
+        lens_len: usize,
+        size: f64,
+    ) -> PlacesAnswer;
 
     pub fn sitjorbe_pave(
         outer: *const f64,

@@ -5,7 +5,7 @@
 //! each crosses as a pointer and a length ([`ffi`]), and gives the refusals' numbers their words ([`Refusal`]).
 //!
 //! ```
-//! use sitjorbe::{contains, direction, distance_to_boundary, field, nearest_segment, Outline, Refusal};
+//! use sitjorbe::{contains, direction, directions, distance_to_boundary, field, nearest_segment, Outline, Refusal};
 //! use sitjorbe::{check_order, nearest_order, End, Memory, Places, Settings};
 //!
 //! // A square with a square hole.
@@ -20,6 +20,7 @@
 //!
 //! let nearest = nearest_segment(&outline, [7.0, 5.0])?;
 //! assert_eq!((nearest.a, nearest.b, nearest.distance), ([8.0, 0.0], [8.0, 8.0], 1.0));
+//! assert_eq!((nearest.loop_index, nearest.segment_index), (0, 1), "the outer loop's second side");
 //!
 //! // The cross field for elements of size 2, after at most 400 sweeps: two floats and a mark a node, in memory lent for it,
 //! // and two numbers for each of the outline's eight points, which save it time.
@@ -32,8 +33,14 @@
 //! let toward = direction(&record, &values[..2 * nodes], &marks[..nodes], [0.0, 4.0], [0.1, -1.0])?;
 //! assert_eq!(toward, [0.0, -1.0]);
 //!
-//! // The whole run, in memory that is kept for one run after the other: the outline paved with quads of size 1.
-//! let mut memory = Memory::new(Places { field_nodes: 1_600, nodes: 800, quads: 800, edges: 2_400, points: 8 })?;
+//! // The same for a list of points and their targets, with the field looked through once. A point may be refused by itself.
+//! let (points, targets) = ([[0.0, 4.0], [4.0, f64::NAN]], [[0.1, -1.0], [1.0, 0.0]]);
+//! let all = directions(&record, &values[..2 * nodes], &marks[..nodes], &points, &targets)?;
+//! assert_eq!(all, [Ok([0.0, -1.0]), Err(Refusal::NotFinite)]);
+//!
+//! // The whole run, in memory that is kept for one run after the other: the outline paved with quads of size 1. The library says how many places it
+//! // can't do without; those for quads, and the nodes and edges that they add, are a guess.
+//! let mut memory = Memory::new(Places::for_outline(&outline, 1.0, 1)?)?;
 //! let mesh = memory.pave(&outline, &Settings { size: 1.0, sweeps: 400, passes: 600 })?;
 //! assert_eq!((mesh.node_count(), mesh.quad_count(), mesh.end()), (80, 44, End::Still));
 //! assert_eq!(mesh.quads().next(), Some([0, 1, 40, 31]));
@@ -52,22 +59,26 @@
 //! # Ok::<(), Box<dyn std::error::Error>>(())
 //! ```
 
+mod directions;
 mod estimates;
 pub mod ffi;
 mod field;
 mod order;
 mod pave;
+mod places;
 mod queries;
 mod refusal;
 mod small_quads;
 mod sound;
 mod thresholds;
 
+pub use directions::{directions, directions_in};
 pub use estimates::{estimate, MOST_WEIGHT};
 pub use field::{direction, field, FieldRecord};
 pub use order::{check_order, check_order_in, nearest_order, order_numbers, NotAccepted, OrderScratch};
 pub use pave::{pave, pave_numbers, End, Lists, Memory, Mesh, Places, Settings, TooManyPlaces, OFF};
-pub use queries::{contains, distance_to_boundary, nearest_segment, NearestSegment, Outline};
+pub use places::{least_places, LeastPlaces};
+pub use queries::{contains, distance_to_boundary, nearest_segment, Outline, Segment};
 pub use refusal::Refusal;
 pub use small_quads::small_quads;
 pub use sound::is_sound;

@@ -138,7 +138,8 @@ impl<'a> Mesh<'a> {
         self.end
     }
 
-    /// Whether the mesh is whole: the front has no loop of three or more left. Otherwise it is open.
+    /// Whether the mesh is whole: the front has no loop of three or more left, and the outline is sound ([`crate::is_sound`]).
+    /// Otherwise it is open.
     pub fn is_whole(&self) -> bool {
         self.whole
     }
@@ -213,7 +214,8 @@ impl<'a> Mesh<'a> {
         (self.next, self.prev)
     }
 
-    /// The loops of the front that have three nodes or more, each from its smallest id; none if the mesh is whole.
+    /// The loops of the front that have three nodes or more, each from its smallest id; none if the mesh is whole, or open only
+    /// because its outline is unsound.
     pub fn front_loops(&self) -> impl ExactSizeIterator<Item = &'a [u32]> + Clone + 'a {
         let ids = self.loops;
         let mut start = 0;

@@ -21,9 +21,13 @@ impl Outline<'_> {
     pub const MOST_POINTS: usize = 4_096;
 }
 
-/// A segment of an outline, and how far it is from the point that was asked about.
+/// A segment of an outline by its name, and how far it is from the point that was asked about.
 #[derive(Clone, Copy, Debug, PartialEq)]
-pub struct NearestSegment {
+pub struct Segment {
+    /// Its loop: 0 for the outer one, k + 1 for hole k.
+    pub loop_index: usize,
+    /// Its place in the loop: 0 from the loop's first point to its second, in the order in which they are lent.
+    pub segment_index: usize,
     /// The end that comes first in its loop.
     pub a: [f64; 2],
     /// The other end.
@@ -58,13 +62,16 @@ pub fn contains(outline: &Outline<'_>, point: [f64; 2]) -> Result<bool, Refusal>
 
 /// The segment of the outline that is nearest to a point: of equally near ones the first, the outer loop before the holes.
 ///
+/// Its name tells it from any other segment with the same ends, as in a loop that is run twice. What is answered is always a
+/// segment of the outline: the loop is one of its loops, the place one of that loop's segments, one a point.
+///
 /// # Errors
 ///
 /// Those of [`contains`].
-pub fn nearest_segment(outline: &Outline<'_>, point: [f64; 2]) -> Result<NearestSegment, Refusal> {
+pub fn nearest_segment(outline: &Outline<'_>, point: [f64; 2]) -> Result<Segment, Refusal> {
     let answer = ask(ffi::sitjorbe_nearest_segment, outline, point);
-    let ffi::NearestAnswer { refusal, ax, ay, bx, by, distance } = answer;
-    Refusal::check(refusal).map(|()| NearestSegment { a: [ax, ay], b: [bx, by], distance })
+    let ffi::NearestAnswer { refusal, ax, ay, bx, by, distance, loop_index, segment_index } = answer;
+    Refusal::check(refusal).map(|()| Segment { loop_index, segment_index, a: [ax, ay], b: [bx, by], distance })
 }
 
 /// The distance from a point to the nearest segment of the outline.

@@ -34,6 +34,8 @@ pub enum Refusal {
     WrongCheck = 12,
     /// A file with a wrong length, count or fill.
     WrongFile = 13,
+    /// A list for answers that is too short, or lists of points and targets that differ in length or end in half a point.
+    AnswerLists = 14,
     /// A node id that isn't in the mesh, or is past the lent list of thresholds.
     NoNode = 15,
     /// A threshold above 500.
@@ -54,7 +56,7 @@ pub enum Refusal {
 
 impl Refusal {
     /// Every refusal, in the order of the numbers.
-    pub const ALL: [Refusal; 21] = [
+    pub const ALL: [Refusal; 22] = [
         Refusal::Lists,
         Refusal::ShortLoop,
         Refusal::NotFinite,
@@ -68,6 +70,7 @@ impl Refusal {
         Refusal::NoFieldRecord,
         Refusal::WrongCheck,
         Refusal::WrongFile,
+        Refusal::AnswerLists,
         Refusal::NoNode,
         Refusal::ThresholdTooHigh,
         Refusal::NoThreshold,
@@ -134,6 +137,10 @@ impl Refusal {
             Refusal::WrongFile => {
                 "the file has a wrong length, a wrong count, or something where zeros belong: write it anew from the outline, \
                  with 1 to 8 loops, at most 248 points in all, and nothing after the last block"
+            }
+            Refusal::AnswerLists => {
+                "the list for the answers is too short, or those of points and targets don't fit together: lend three floats for each \
+                 point, x and y for every point and as many targets, and a place for each node of a loop that is read"
             }
             Refusal::NoNode => {
                 "the node isn't in the mesh, or is past the lent list of thresholds: count nodes from 0, and lend a place for each"

@@ -2,7 +2,7 @@
 
 mod common;
 
-use common::book::{balances, check, Answered, Sampled};
+use common::book::{balances, check, nets, Answered, Sampled};
 use common::whole::{unit, Whole};
 
 /// Document 01's square (0,0) (2,0) (2,2) (0,2) at size 1, as sampled.
@@ -112,6 +112,32 @@ fn areas_that_do_not_balance_are_found() {
         spoil(&mut sampled, &mut run);
         assert!(!balances(&sampled, &run), "spoiler {k}");
     }
+}
+
+/// What is spoilt in figures, and whether the areas still balance: those of a loop along one straight line are 0, its figures aren't.
+const UNNETTED: [(Spoiler, bool); 7] = [
+    (|_, run| run.quads.truncate(3), false),
+    (|_, run| run.quads.push(run.quads[2]), false),
+    (|_, run| run.quads[0].swap(2, 3), false),
+    (|_, run| run.next[8] = None, false),
+    (|sampled, _| sampled.edges.truncate(4), false),
+    (|_, run| [(0, 1), (1, 2), (2, 0)].iter().for_each(|&(u, v)| run.next[u] = Some(v)), true),
+    (|sampled, _| sampled.edges.extend([(6, 0), (0, 7), (7, 6)]), true),
+];
+
+#[test]
+fn figures_that_do_not_agree_are_found() {
+    assert!(nets(&square(), &square_run()) && nets(&square(), &stopped_run()) && nets(&square(), &unpaved(&square())));
+    for (k, (spoil, balanced)) in UNNETTED.iter().enumerate() {
+        let (mut sampled, mut run) = (square(), square_run());
+        spoil(&mut sampled, &mut run);
+        assert!(!nets(&sampled, &run), "spoiler {k}");
+        assert_eq!(balances(&sampled, &run), *balanced, "spoiler {k}");
+    }
+    // A loop of two nets nothing, wherever it is.
+    let mut run = square_run();
+    (run.next[0], run.next[4]) = (Some(4), Some(0));
+    assert!(nets(&square(), &run) && balances(&square(), &run));
 }
 
 #[test]

@@ -5,8 +5,8 @@ mod common;
 use common::blocks::Block;
 use common::{by_kind, list_lengths, refused, said, used, Drawing, FieldPlaces, Lengths, Lent, Raw, RunPlaces};
 use sitjorbe::{
-    check_order_in, direction, estimate, ffi, pave, small_quads, LentMesh, Lists, Memory, NotAccepted, Outline, Places,
-    Refusal, Results, Settings,
+    check_order_in, direction, directions_in, estimate, ffi, least_places, pave, small_quads, FieldRecord, LentMesh,
+    Lists, Memory, NotAccepted, Outline, Places, Refusal, Results, Settings,
 };
 
 /// Drawings and points that are accepted and refused.
@@ -59,6 +59,21 @@ fn lists_are_read_within_their_bounds() {
     }
 }
 
+/// The same for the counts of what to lend.
+#[cfg(target_os = "linux")]
+#[test]
+fn places_are_counted_within_their_lists() {
+    for (drawing, [size, _]) in queries() {
+        let usual = least_places(&drawing.outline(), size);
+        for side in [pages::Side::Start, pages::Side::End] {
+            let outline = [&drawing.outer, &drawing.holes].map(|list| pages::Pages::read_only(list, side));
+            let lengths = pages::Pages::read_only(&drawing.hole_lengths, side);
+            let outline = Outline { outer: outline[0].list(), holes: outline[1].list(), hole_lengths: lengths.list() };
+            assert_eq!(least_places(&outline, size), usual, "{size} {drawing:?}");
+        }
+    }
+}
+
 /// Of several blocks: more points a loop.
 fn finer() -> Drawing {
     queries()[0].0.cut(9)
@@ -101,6 +116,43 @@ fn a_field_is_written_and_read_within_its_lists() {
         for point in [[1.5, 1.7], [-1e3, -1e3], [1e3, 1e3], [record.xmin, record.ymin]] {
             let of_pages = direction(&record, lent_values.list(), lent_marks.list(), point, [0.3, -1.0]);
             assert_eq!(of_pages, direction(&record, values, marks, point, [0.3, -1.0]), "{point:?}");
+        }
+    }
+}
+
+/// The record's lists, points and targets in read-only memory, and the answers, as many as there are points or a float's place fewer, in memory of
+/// their own, each with memory beside it that can't be touched.
+#[cfg(target_os = "linux")]
+#[test]
+fn directions_are_read_and_written_within_their_lists() {
+    let (values, marks) = ([0.5, -1.0].repeat(12), [1; 12]);
+    let (points, targets) = ([[0.3, 2.5], [-1e3, 1e3], [f64::NAN, 0.0], [2e3, 0.0], [2.0, 1.0]], [[0.3, -1.0]; 5]);
+    let record = FieldRecord { xmin: 0.0, ymin: 0.0, h: 1.0, nx: 4, ny: 3 };
+    let single = |k: usize| direction(&record, &values, &marks, points[k], targets[k]);
+    for side in [pages::Side::Start, pages::Side::End] {
+        let (values, marks) = (pages::Pages::read_only(&values, side), pages::Pages::read_only(&marks, side));
+        for count in 0..=5 {
+            let [points, targets] = [&points, &targets].map(|list| pages::Pages::read_only(&list[..count], side));
+            let mut enough = pages::Pages::writable(&vec![[7.5; 3]; count], side);
+            let answers = enough.list_mut();
+            let found = directions_in(&record, values.list(), marks.list(), points.list(), targets.list(), answers);
+            assert_eq!(found.unwrap().collect::<Vec<_>>(), (0..count).map(single).collect::<Vec<_>>());
+
+            let short = (3 * count).saturating_sub(1);
+            let mut places = pages::Pages::writable(&vec![7.5; short], side);
+            let FieldRecord { xmin, ymin, h, nx, ny } = record;
+            let ((values, values_len), (marks, marks_len)) = (values.parts(), marks.parts());
+            let [points, targets] = [points.parts().0, targets.parts().0].map(<*const [f64; 2]>::cast);
+            let to = places.list_mut().as_mut_ptr();
+            // SAFETY: each pointer comes with its list's length, of points and targets twice as many floats.
+            let number = unsafe {
+                let (two, lists) = (2 * count, (values, values_len, marks, marks_len));
+                ffi::sitjorbe_directions(
+                    xmin, ymin, h, nx, ny, lists.0, lists.1, lists.2, lists.3, points, two, targets, two, to, short,
+                )
+            };
+            assert_eq!(number, if count == 0 { 0 } else { 14 });
+            assert!(places.list().iter().all(|place| *place == 7.5));
         }
     }
 }

@@ -8,7 +8,7 @@ use std::fs;
 use common::blocks::{listed, Block};
 use common::{list_lengths, refused, said, used, Drawing, Lengths, Lent, RunPlaces, LISTS};
 use sitjorbe::{
-    contains, ffi, field, pave_numbers, End, Memory, Mesh, Outline, Places, Refusal, Settings, TooManyPlaces,
+    contains, ffi, field, is_sound, pave_numbers, End, Memory, Mesh, Outline, Places, Refusal, Settings, TooManyPlaces,
 };
 
 /// The places that document 01's program lends; a file has at most 248 points.
@@ -70,6 +70,29 @@ fn a_square_of_side_four_gets_its_25_nodes() {
     let mut sorted = nodes.clone();
     sorted.sort_by(|a, b| a.partial_cmp(b).unwrap());
     assert!(sorted.into_iter().eq(grid(5)));
+}
+
+#[test]
+fn slits_are_paved_alike_and_whole_only_if_sound() {
+    const LEAST: f64 = f64::from_bits(1);
+    let (mut memory, mut quads) = (Memory::new(PROGRAM).unwrap(), Vec::new());
+    for (e, f, whole) in [
+        (-LEAST, LEAST, true),
+        (0.0, 0.0, false),
+        (LEAST, LEAST, false),
+        (LEAST, 0.0, false),
+        (-0.001, 0.001, true),
+        (0.001, 0.001, false),
+        (0.001, 0.0, false),
+    ] {
+        let slit = Drawing::slit(e, f);
+        let mesh = memory.pave(&slit.outline(), &USUAL).unwrap();
+        assert_eq!((mesh.node_count(), mesh.quad_count(), mesh.front_count()), (10, 4, 2), "{e} {f}");
+        assert_eq!((mesh.end(), mesh.loop_count(), mesh.is_whole()), (End::Still, 0, whole), "{e} {f}");
+        assert_eq!(is_sound(&slit.outline()), Ok(whole), "{e} {f}");
+        quads.push(mesh.quads().collect::<Vec<_>>());
+    }
+    assert!(quads.iter().all(|same| *same == quads[0]));
 }
 
 /// The lower left corner of a unit square that is run to the left, from whichever corner.

@@ -3,7 +3,7 @@
 mod common;
 
 use common::{refused, Drawing, Lent, Raw};
-use sitjorbe::{contains, distance_to_boundary, nearest_segment, NearestSegment, Refusal};
+use sitjorbe::{contains, distance_to_boundary, nearest_segment, Refusal, Segment};
 
 /// A square of side 8 with a square hole from (2, 2) to (4, 4).
 fn square_with_hole() -> Drawing {
@@ -41,11 +41,17 @@ fn a_loop_through_itself_counts_even_and_odd() {
 fn the_nearest_segment_is_the_first_of_equals() {
     let drawing = square_with_hole();
     let nearest = |point| nearest_segment(&drawing.outline(), point);
-    let segment = |a, b, distance| Ok(NearestSegment { a, b, distance });
-    assert_eq!(nearest([7.0, 5.0]), segment([8.0, 0.0], [8.0, 8.0], 1.0));
-    assert_eq!(nearest([6.0, 2.0]), segment([0.0, 0.0], [8.0, 0.0], 2.0), "before the right side and the hole");
-    assert_eq!(nearest([3.0, 3.5]), segment([2.0, 4.0], [4.0, 4.0], 0.5));
-    assert_eq!(nearest([11.0, 12.0]), segment([8.0, 0.0], [8.0, 8.0], 5.0), "to the corner, by the first side at it");
+    let segment = |[loop_index, segment_index]: [usize; 2], a, b, distance| {
+        Ok(Segment { loop_index, segment_index, a, b, distance })
+    };
+    assert_eq!(nearest([7.0, 5.0]), segment([0, 1], [8.0, 0.0], [8.0, 8.0], 1.0));
+    assert_eq!(nearest([6.0, 2.0]), segment([0, 0], [0.0, 0.0], [8.0, 0.0], 2.0), "before the right side and the hole");
+    assert_eq!(nearest([3.0, 3.5]), segment([1, 1], [2.0, 4.0], [4.0, 4.0], 0.5));
+    assert_eq!(
+        nearest([11.0, 12.0]),
+        segment([0, 1], [8.0, 0.0], [8.0, 8.0], 5.0),
+        "to the corner, by the first side at it"
+    );
 }
 
 #[test]
@@ -93,6 +99,6 @@ fn a_refusals_values_are_zero() {
         // SAFETY: each pointer comes with its list's length.
         let raw = unsafe { Raw::ask(lent.outer.parts(), lent.holes.parts(), lent.hole_lengths.parts(), point) };
         assert_eq!(raw.refusals(), [number; 3], "{what}");
-        assert_eq!(raw.values(), [0; 7], "{what}");
+        assert_eq!(raw.values(), [0; 9], "{what}");
     }
 }

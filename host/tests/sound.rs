@@ -3,7 +3,8 @@
 
 mod common;
 
-use common::{refused, sound, Drawing, Lent};
+use common::sound::{self, Side};
+use common::{refused, Drawing, Lent};
 use sitjorbe::{ffi, is_sound, Refusal};
 
 fn drawn(loops: &[&[[f64; 2]]]) -> Drawing {
@@ -11,11 +12,6 @@ fn drawn(loops: &[&[[f64; 2]]]) -> Drawing {
 }
 
 const SQUARE: [[f64; 2]; 4] = [[0.0, 0.0], [4.0, 0.0], [4.0, 4.0], [0.0, 4.0]];
-
-/// A square with a slit whose mouth is `e` wide on either side of 0 at the height `f`.
-fn slit(e: f64, f: f64) -> Drawing {
-    drawn(&[&[[-1.0, -2.0], [1.0, -2.0], [1.0, 0.0], [-e, f], [0.0, -1.0], [e, f], [-1.0, 0.0]]])
-}
 
 #[test]
 fn the_readings() {
@@ -56,16 +52,16 @@ fn the_readings() {
             false,
         ),
         ("minus zero", drawn(&[&[[-0.0, 0.0], [4.0, -0.0], [4.0, 4.0], [0.0, 4.0]]]), true),
-        ("slit open by the least float", slit(-LEAST, LEAST), true),
-        ("slit shut", slit(0.0, 0.0), false),
-        ("slit crossed by the least float", slit(LEAST, LEAST), false),
-        ("slit overlapping", slit(LEAST, 0.0), false),
-        ("slit open", slit(-0.001, 0.001), true),
-        ("slit crossed", slit(0.001, 0.001), false),
+        ("slit open by the least float", Drawing::slit(-LEAST, LEAST), true),
+        ("slit shut", Drawing::slit(0.0, 0.0), false),
+        ("slit crossed by the least float", Drawing::slit(LEAST, LEAST), false),
+        ("slit overlapping", Drawing::slit(LEAST, 0.0), false),
+        ("slit open", Drawing::slit(-0.001, 0.001), true),
+        ("slit crossed", Drawing::slit(0.001, 0.001), false),
     ];
     for (what, drawing, expected) in cases {
         assert_eq!(is_sound(&drawing.outline()), Ok(expected), "{what}");
-        assert_eq!(sound::is_sound(&drawing), expected, "{what}: the model");
+        assert_eq!(sound::is_sound(&drawing.loops()), expected, "{what}: the model");
     }
 }
 
@@ -153,6 +149,19 @@ impl Draw {
         }
     }
 
+    /// Four points of which the last, p, is near the line from the first to the second; the third is left of it. None where p isn't
+    /// left of the other two sides of that triangle. With them, on which side of the line p is.
+    fn near_side(&mut self) -> Option<([[f64; 2]; 4], Side)> {
+        let scale = f64::from_bits((1 + self.below(1030)) << 52);
+        let wild = self.below(3) == 0;
+        let mut point = || if wild { [self.float(), self.float()] } else { self.lattice(9).map(|x| (x - 4.0) * scale) };
+        let (a, b, q) = (point(), point(), point());
+        let (a, b) = if sound::side(a, b, q) == Side::Right { (b, a) } else { (a, b) };
+        let p = self.near_line(a, b);
+        let left = [[a, b, q], [b, q, p], [q, a, p]].iter().all(|&[u, v, w]| sound::side(u, v, w) == Side::Left);
+        left.then(|| ([a, b, q, p], sound::side(a, b, p)))
+    }
+
     /// Loops on a small lattice: crossing, touching, nested, or none of these.
     fn on_lattice(&mut self) -> Drawing {
         let loops = 1 + self.below(3);
@@ -177,7 +186,7 @@ fn compare(kind: &str, count: usize, mut next: impl FnMut() -> Drawing) {
     let mut found = [0, 0];
     for _ in 0..count {
         let drawing = next();
-        let expected = sound::is_sound(&drawing);
+        let expected = sound::is_sound(&drawing.loops());
         assert_eq!(is_sound(&drawing.outline()), Ok(expected), "{kind}: {drawing:?}");
         found[usize::from(expected)] += 1;
     }
@@ -195,4 +204,21 @@ fn outlines_on_a_lattice_beside_the_model() {
 fn near_degenerate_outlines_beside_the_model() {
     let mut draw = Draw(0x5eed_0005);
     compare("near degenerate", outlines(50_000), || draw.near_degenerate());
+}
+
+/// The loop a, b, q, p, with p near the line from a to b, is sound exactly if p is left of it: the sign of one orientation, at any
+/// exponent, beside whole numbers of any size.
+#[test]
+fn near_degenerate_sides_beside_whole_numbers() {
+    let (mut draw, mut found) = (Draw(0x5eed_0006), [0; 3]);
+    let count = outlines(1_000_000);
+    while found.iter().sum::<usize>() < count {
+        let Some((points, side)) = draw.near_side() else { continue };
+        let drawing = drawn(&[&points]);
+        assert_eq!(is_sound(&drawing.outline()), Ok(side == Side::Left), "{points:?}");
+        found[side as usize] += 1;
+    }
+    let [left, on, right] = found;
+    println!("sides: {left} to the left, {on} on the line, {right} to the right, no difference");
+    assert!(found.iter().all(|&n| n > count / 20), "each side must occur: {found:?}");
 }

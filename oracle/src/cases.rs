@@ -17,6 +17,7 @@ const LEAST: f64 = f64::from_bits(1);
 pub fn all(list: &mut List) {
     worked_examples(list);
     readings(list);
+    unsound(list);
     pairs(list);
     loop_by_loop(list);
     refused_outlines(list);
@@ -60,6 +61,22 @@ fn readings(list: &mut List) {
     list.expect("refused 9", "reading 11 counts beyond 32 bits", Draft::of(&corners(1_000.0)).size(0.01).file());
     let tie = [[0.0, 0.0], [3.0, 0.0], [1.0, 2.0], [0.0, 2.0]];
     list.add("reading 14 branches tie", Draft::of(&tie).size(2.0).file());
+}
+
+/// Paper 4: outlines of which the reference leaves no loop, whatever the width of the slit's mouth. `e` is half of it, `f` its height.
+fn unsound(list: &mut List) {
+    let slit = |e: f64, f: f64| {
+        let points = [[-1.0, -2.0], [1.0, -2.0], [1.0, 0.0], [-e, f], [0.0, -1.0], [e, f], [-1.0, 0.0]];
+        Draft::of(&points).file()
+    };
+    list.expect("still open", "slit shut", slit(0.0, 0.0));
+    for (e, what) in [(LEAST, "5e-324"), (0.001, "0.001")] {
+        list.expect("still whole", &format!("slit gaping {what}"), slit(-e, e));
+        list.expect("still open", &format!("slit crossed {what}"), slit(e, e));
+        list.expect("still open", &format!("slit overlapping {what}"), slit(e, 0.0));
+    }
+    let spike = [[0.0, 0.0], [2.0, 0.0], [2.0, 2.0], [1.0, 2.0], [1.0, 1.0], [1.0, 2.0], [0.0, 2.0]];
+    list.expect("still open", "spike to the same point", Draft::of(&spike).file());
 }
 
 /// The square that reaches so far either way.

@@ -116,7 +116,7 @@ impl Differences {
     fn count_runs(&mut self, place: usize, question: &Question, runs: [&Run; 2]) {
         for (k, run) in runs.into_iter().enumerate() {
             self.quads[k] += run.quads.len();
-            self.whole[k] += usize::from(run.whole());
+            self.whole[k] += usize::from(run.whole);
         }
         let [run, other] = runs;
         let mesh = |run: &Run| (run.quads.clone(), run.front.clone(), run.loops.clone(), run.end);

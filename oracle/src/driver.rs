@@ -5,6 +5,7 @@
 
 use super::{bounds, distance, Cell, CrossField, Domain, Options, Paving, Sizing, TwoDError};
 use crate::file;
+use crate::sound::is_sound;
 use crate::terms::{check_point, Drawing, End, FieldRecord, Lent, Outline, Refusal, Run, Settings};
 
 const MOST_SWEEPS: u64 = 1_000;
@@ -207,13 +208,17 @@ impl Paving {
         End::Passes
     }
 
-    fn answer(self, end: End) -> Run {
+    /// What is answered of a paving of the outline. Of all this the outline's soundness alone isn't the reference's.
+    fn answer(self, outline: Outline<'_>, end: End) -> Run {
+        let (drawn, loops) = (outline.loops(), self.front_loops());
+        let flat: Vec<&[f64]> = drawn.iter().map(|points| points.as_flattened()).collect();
         let sorted = |mut pairs: Vec<(usize, usize)>| {
             pairs.sort_unstable();
             pairs
         };
         Run {
-            loops: self.front_loops(),
+            whole: loops.is_empty() && is_sound(&flat),
+            loops,
             front: sorted(self.next.iter().map(|(&u, &v)| (u, v)).collect()),
             edges: sorted(self.edge_set.iter().copied().collect()),
             nodes: self.points.iter().map(|&[x, y, _]| [x, y]).collect(),
@@ -243,7 +248,7 @@ fn sample(region: &Region, size: f64, lent: &Lent) -> Result<Paving, Refusal> {
 pub fn front(outline: Outline<'_>, size: f64, lent: &Lent) -> Result<Run, Refusal> {
     let region = Region::new(outline)?;
     Settings::check_size(size)?;
-    Ok(sample(&region, size, lent)?.answer(End::Passes))
+    Ok(sample(&region, size, lent)?.answer(outline, End::Passes))
 }
 
 /// The whole run, from the field to `front_loops`: refusals 1 to 10.
@@ -264,7 +269,7 @@ pub fn pave_again(
     let mut paving = sample(&region, size, lent)?;
     let Field { field } = field.get_or_insert_with(|| Field::build(&region, size, sweeps));
     let end = paving.advance_to_end(field, &region.domain, size, passes);
-    Ok(paving.answer(end))
+    Ok(paving.answer(outline, end))
 }
 
 /// The whole run of a file: 12 and 13, then the rest.
@@ -281,5 +286,5 @@ pub fn pave_in_one_call(outline: Outline<'_>, settings: Settings) -> Result<Run,
     let field = Field::build(&region, size, sweeps);
     let mut paving = Paving::from_boundary(&region.domain, size).expect("the reference samples an outline not refused");
     paving.advance(&field.field, &region.domain, size, usize::try_from(passes).unwrap_or(usize::MAX));
-    Ok(paving.answer(End::Passes))
+    Ok(paving.answer(outline, End::Passes))
 }

@@ -12,6 +12,13 @@ pub mod live;
 pub mod stand_ins;
 pub mod terms;
 
+/// Paper 4's judgement, in whole numbers of any size, which the host's tests make too.
+#[path = "../../host/tests/common/sound.rs"]
+pub mod sound;
+
+#[path = "../../host/tests/common/whole.rs"]
+pub mod whole;
+
 #[path = "../target/patched.rs"]
 #[allow(dead_code)]
 pub mod patched;

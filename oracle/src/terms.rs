@@ -203,19 +203,14 @@ pub struct Run {
     pub edges: Vec<(usize, usize)>,
     pub loops: Vec<Vec<usize>>,
     pub end: End,
-}
-
-impl Run {
-    /// Whole exactly if `front_loops` lists nothing.
-    pub fn whole(&self) -> bool {
-        self.loops.is_empty()
-    }
+    /// `front_loops` lists nothing, which is document 01's word and the reference's; and the outline is sound (document 02, paper 4).
+    pub whole: bool,
 }
 
 /// The listing, as the program prints it.
 impl fmt::Display for Run {
     fn fmt(&self, f: &mut fmt::Formatter<'_>) -> fmt::Result {
-        let word = if self.whole() { "whole" } else { "open" };
+        let word = if self.whole { "whole" } else { "open" };
         let (nodes, quads, front) = (self.nodes.len(), self.quads.len(), self.front.len());
         writeln!(f, "mesh {nodes} {quads} {front} {} {word}", self.end.name())?;
         for node in &self.nodes {

@@ -33,3 +33,11 @@ SQUARE = "0,0\n2,0\n2,2\n0,2\n"
 
 # Document 01's listing of it, which the program is held to whenever it is checked.
 SQUARE_LISTING = (ROOT / "crates/pave/stdout").read_text()
+
+LEAST = 5e-324
+
+
+def slit(e, f):
+    """A square with a slit whose mouth is e wide on either side of 0 at the height f, as points."""
+    points = [(-1, -2), (1, -2), (1, 0), (-e, f), (0, -1), (e, f), (-1, 0)]
+    return "".join(f"{x!r},{y!r}\n" for x, y in points)

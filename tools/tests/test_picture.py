@@ -13,6 +13,13 @@ from outlines import Settings, Unusable
 from refusals import Refused, WORDS, in_words
 
 OPEN = SQUARE_LISTING.replace("mesh 9 4 2 still whole", "mesh 9 3 4 full open").replace("q 5 6 7 8\n", "l 5 6 7 8\n")
+# a blind spot in the square, and the listing with its points
+HOLE = "\n0.5,0.5\n0.5,1.5\n1.5,1.5\n"
+HOLED = SQUARE_LISTING.replace("mesh 9", "mesh 12").replace(
+    "q 0 1 8 7", "n 3fe0000000000000 3fe0000000000000\nn 3fe0000000000000 3ff8000000000000\nn 3ff8000000000000 3ff8000000000000\nq 0 1 8 7")
+
+# the outline is unsound, and no loop is left
+UNSOUND = SQUARE_LISTING.replace("still whole", "still open")
 
 
 class Reading(unittest.TestCase):
@@ -25,6 +32,10 @@ class Reading(unittest.TestCase):
     def test_an_open_one(self):
         read = listings.read(OPEN)
         self.assertEqual((len(read.quads), read.front, read.end, read.whole, read.loops), (3, 4, "full", False, [[5, 6, 7, 8]]))
+
+    def test_an_unsound_one(self):
+        read = listings.read(UNSOUND)
+        self.assertEqual((len(read.quads), read.front, read.whole, read.loops), (4, 2, False, []))
 
     def test_every_refusal(self):
         for number in WORDS:
@@ -59,9 +70,8 @@ class Reading(unittest.TestCase):
         self.wrong(changed(11, "q 0 1 8"), "line 11: a quad has four nodes")
         self.wrong(changed(11, "q 0 1 8  7"), "line 11: a quad has four nodes")
         self.wrong("\n".join(lines[:-2]), "line 1: 9 nodes and 4 quads are promised, and 12 lines follow")
-        self.wrong(SQUARE_LISTING + "l 1 2 3\n", "line 1: 'whole' is for no loops and 'open' for some; lines after the quads: 1")
+        self.wrong(SQUARE_LISTING + "l 1 2 3\n", "line 1: 'whole' is for no loops; lines after the quads: 1")
         self.wrong(OPEN.replace("l 5 6 7 8", "l 5 6"), "line 14: a loop that is listed has three nodes or more")
-        self.wrong(OPEN.replace("l 5 6 7 8\n", ""), "line 1: 'whole' is for no loops and 'open' for some; lines after the quads: 0")
 
 
 class Drawing(unittest.TestCase):
@@ -107,6 +117,11 @@ class Drawing(unittest.TestCase):
                       "Ended full: stopped before a quad that no space was lent for.", "left open"):
             self.assertIn(words, texts)
 
+    def test_an_unsound_one(self):
+        paths, texts = self.drawn(UNSOUND)
+        self.assertNotIn("open", paths)
+        self.assertIn("Open: the outline is unsound, and nothing is left to pave.", texts)
+
     def test_where_points_fall(self):
         paths, _ = self.drawn(SQUARE_LISTING)
         quad = re.match("M(.*?)Z", paths["quads"][0]).group(1)
@@ -116,15 +131,40 @@ class Drawing(unittest.TestCase):
         self.assertAlmostEqual(bx - ax, ay - cy, delta=0.02)
 
     def test_the_outline_as_the_program_read_it(self):
-        hole = "\n0.5,0.5\n0.5,1.5\n1.5,1.5\n"
-        listing = SQUARE_LISTING.replace("mesh 9", "mesh 12").replace(
-            "q 0 1 8 7", "n 3fe0000000000000 3fe0000000000000\nn 3fe0000000000000 3ff8000000000000\nn 3ff8000000000000 3ff8000000000000\nq 0 1 8 7")
-        blocks = outlines.to_blocks(outlines.read_points(SQUARE + hole), Settings(1.0, 400, 1))
-        for outline in (self.file("it.outline", blocks), self.file("it.csv", SQUARE + hole)):
-            paths, texts = self.drawn(listing, "--outline", outline)
+        blocks = outlines.to_blocks(outlines.read_points(SQUARE + HOLE), Settings(1.0, 400, 1))
+        for outline in (self.file("it.outline", blocks), self.file("it.csv", SQUARE + HOLE)):
+            paths, texts = self.drawn(HOLED, "--outline", outline)
             self.assertEqual((paths["outline"][0].count("Z"), paths["blind"][0].count("Z")), (2, 1))
             self.assertIn("blind spot", texts)
             self.assertEqual("Size 1°, 400 sweeps, 1 pass allowed." in texts, outline.suffix == ".outline")
+
+    def test_an_edge_is_lit(self):
+        blocks = outlines.to_blocks(outlines.read_points(SQUARE + HOLE), Settings(1.0, 400, 1))
+        for outline in (self.file("it.outline", blocks), self.file("it.csv", SQUARE + HOLE)):
+            rings = self.drawn(HOLED, "--outline", outline)[0]["outline"][0].split("Z")
+            corners = [ring.strip().removeprefix("M").split(" ") for ring in rings[:2]]
+            for loop, segment, words in ((0, 0, "Edge 0 of the outline is lit, from (0, 0) to (2, 0)."),
+                                         (0, 3, "Edge 3 of the outline is lit, from (0, 2) to (0, 0)."),
+                                         (1, 1, "Edge 1 of blind spot 1 is lit, from (0.5, 1.5) to (1.5, 1.5)."),
+                                         (1, 2, "Edge 2 of blind spot 1 is lit, from (1.5, 1.5) to (0.5, 0.5).")):
+                paths, texts = self.drawn(HOLED, "--outline", outline, "--edge", f"{loop},{segment}")
+                ends = corners[loop][segment], corners[loop][(segment + 1) % len(corners[loop])]
+                self.assertEqual((len(paths["edge"]), paths["edge"][0]), (2, "M{}L{}".format(*ends)), "and one in the legend")
+                self.assertTrue({words, "edge"} <= set(texts))
+        paths, texts = self.drawn(HOLED, "--outline", outline)
+        self.assertFalse("edge" in paths or "edge" in texts)
+
+    def test_an_edge_that_isnt_there(self):
+        outline = self.file("it.csv", SQUARE + HOLE)
+        for words, message in (("2,0", "there is no loop 2: the outline has 2 loops, counted from 0"),
+                               ("0,4", "loop 0 has no segment 4: it has 4 segments, counted from 0"),
+                               ("1,3", "loop 1 has no segment 3: it has 3 segments, counted from 0"),
+                               *((words, f"an edge is LOOP,SEGMENT, two whole numbers that count from 0: {words}")
+                                 for words in ("", "1", "1,", "1,2,3", "1, 2", "0x1,2", "٠,1", "1" * 5_000 + ",1"))):
+            self.assertEqual(self.draw(HOLED, "--outline", outline, "--edge", words), (2, b"", f"picture: {message}\n"))
+        status, data, said = self.draw(HOLED, "--edge", "0,0")
+        self.assertEqual((status, data), (2, b""))
+        self.assertIn("--edge needs --outline: a listing has no outline", said)
 
     def test_another_outline_is_not_drawn(self):
         other = self.file("other.csv", SQUARE.replace("2,2", "2,2.5"))

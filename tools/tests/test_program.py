@@ -8,11 +8,17 @@ import tempfile
 import unittest
 
 import common
-from common import ORACLE, ROOT, SQUARE, SQUARE_LISTING, TOOLS, ask, run
+from common import LEAST, ORACLE, ROOT, SQUARE, SQUARE_LISTING, TOOLS, ask, run, slit
 
 PROGRAM = ROOT / "target/bin/pave"
 REPLAY = ROOT / "target/bin/replay"
 LONGEST = 4_608
+
+ACROSS = "the segments from line 3 to line 4 and from line 6 to line 7 meet"
+BACK = "the segments from line 4 to line 5 and from line 5 to line 6 lie on each other"
+
+# half the width of a slit's mouth and its height, the word, and what is said
+SLITS = [(-LEAST, LEAST, "whole", ""), (0, 0, "open", BACK), (LEAST, LEAST, "open", ACROSS), (-0.001, 0.001, "whole", ""), (0.001, 0.001, "open", ACROSS)]
 
 
 def printed(data):
@@ -62,6 +68,17 @@ class Program(unittest.TestCase):
             status, said, wrong = run(TOOLS / "pave", points, picture, "--size", "0.001")
             self.assertEqual((status, said, picture.exists()), (1, b"", False))
             self.assertIn("refused (6)", wrong)
+
+    def test_slits_are_paved_and_said(self):
+        """Paper 4's family: the mesh is the same at every width of the mouth, and whole only where the two sides don't meet."""
+        with tempfile.TemporaryDirectory() as folder:
+            points, picture = pathlib.Path(folder, "slit.csv"), pathlib.Path(folder, "slit.svg")
+            for e, f, word, unsound in SLITS:
+                points.write_text(slit(e, f))
+                status, said, wrong = run(TOOLS / "pave", points, picture, "--size", "1")
+                self.assertEqual((status, said), (0, f"mesh 10 4 2 still {word}\n".encode()), (e, f))
+                self.assertEqual("outline: unsound: the segments from" in wrong, word == "open", wrong)
+                self.assertIn(unsound, wrong)
 
 
 @unittest.skipUnless(os.access(REPLAY, os.X_OK), "the program isn't built")

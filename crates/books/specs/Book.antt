@@ -11,7 +11,6 @@ use lib.Ieee.{Float, nan}
 use Rattle.laws.specs.Loop.{forUp}
 use Rattle.numbers.specs.Float.{zeroF}
 use Rattle.domain.specs.Outline.{Outline}
-use Rattle.exact.specs.Units.{units}
 use Rattle.exact.specs.Corner.{Vector, cross}
 use Rattle.topology.specs.Links.{off}
 use Rattle.topology.specs.Front.{headOr}
@@ -124,7 +123,7 @@ bookTurn s k b = andThen b (bookQuad s (quadAt s k))
 unfoldable pub bookAfter : Outline → Float → State → ℕ → Option Book
 bookAfter o size s k = forUp k (bookTurn s) (some (startBook o size))
 
--- ---- areas, doubled
+-- ---- areas, doubled, in whole numbers: `measure` says how many units a coordinate is, or how many of any other step
 
 abbrev pub xOf : Book → ℕ → Float
 xOf b id = getD (b .xs) id nan
@@ -132,29 +131,34 @@ xOf b id = getD (b .xs) id nan
 abbrev pub yOf : Book → ℕ → Float
 yOf b id = getD (b .ys) id nan
 
--- where node id is, in units
-abbrev pub placeOf : Book → ℕ → Vector
-placeOf b id = record { x = units (xOf b id); y = units (yOf b id) }
+-- where node id is
+abbrev pub placeOf : (Float → ℤ) → Book → ℕ → Vector
+placeOf measure b id = record { x = measure (xOf b id); y = measure (yOf b id) }
 
 -- x(u)·y(v) − x(v)·y(u) of the edge u to v
-abbrev pub areaOf : Book → ℕ → ℕ → ℤ
-areaOf b u v = cross (placeOf b u) (placeOf b v)
+abbrev pub areaOf : (Float → ℤ) → Book → ℕ → ℕ → ℤ
+areaOf measure b u v = cross (placeOf measure b u) (placeOf measure b v)
 
-unfoldable pub edgesArea : Book → List Edge → ℤ
-edgesArea b [] = pos 0
-edgesArea b (e ∷ es) = areaOf b (e .from) (e .to) +ℤ edgesArea b es
+-- a weight over the edges of a list
+unfoldable pub edgesSumℤ : (ℕ → ℕ → ℤ) → List Edge → ℤ
+edgesSumℤ w [] = pos 0
+edgesSumℤ w (e ∷ es) = w (e .from) (e .to) +ℤ edgesSumℤ w es
 
 -- the signed area of the front
-abbrev pub frontArea : Book → ℤ
-frontArea b = edgesArea b (b .front)
+abbrev pub frontArea : (Float → ℤ) → Book → ℤ
+frontArea measure b = edgesSumℤ (areaOf measure b) (b .front)
 
--- the signed area of a quad, run a, b, d, c
-unfoldable pub quadArea : Book → Quad → ℤ
-quadArea b q = areaOf b (q .a) (q .b) +ℤ areaOf b (q .b) (q .d) +ℤ areaOf b (q .d) (q .c) +ℤ areaOf b (q .c) (q .a)
+-- the edges of a quad, run a, b, d, c
+unfoldable pub quadEdges : Quad → List Edge
+quadEdges q = edge (q .a) (q .b) ∷ edge (q .b) (q .d) ∷ edge (q .d) (q .c) ∷ edge (q .c) (q .a) ∷ []
+
+-- the signed area of a quad
+abbrev pub quadArea : (Float → ℤ) → Book → Quad → ℤ
+quadArea measure b q = edgesSumℤ (areaOf measure b) (quadEdges q)
 
 -- the sum of the signed areas of the first k quads
-unfoldable pub quadsArea : Book → State → ℕ → ℤ
-quadsArea b s k = forUp k (λ i sum. sum +ℤ quadArea b (quadAt s i)) (pos 0)
+unfoldable pub quadsArea : (Float → ℤ) → Book → State → ℕ → ℤ
+quadsArea measure b s k = forUp k (λ i sum. sum +ℤ quadArea measure b (quadAt s i)) (pos 0)
 
 -- ---- following the front
 

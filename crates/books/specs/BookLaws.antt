@@ -1,13 +1,15 @@
--- Laws of books: quads that stay where they are; edges that are counted, are there and come off; and what a match gives: as many nodes
--- and edges, and the sum of any antisymmetric weight, the area among them.
+-- Laws of books: quads that stay where they are; edges that are counted, are there and come off; what a match gives: as many nodes
+-- and edges, and the sum of any antisymmetric weight; and that an area is such a weight.
 use Prim.Native.Nat.{ℕ, _+_, _*_, _<_}
 use mathlib.Core.List.{List, [], _∷_}
 use mathlib.Core.Path.{_≡_, refl, sym, _∙_, ap, ap₂}
+use mathlib.Core.Option.{Option, none, some}
 use mathlib.Core.Bool.{Bool, true, false, cond, _&&_, _||_}
 use native.Mathlib.Omega.{arith}
-use lib.IntN.{ℤ, pos, negℤ, _+ℤ_, _*ℤ_, negℤ-negℤ, negℤ-+ℤ, +ℤ-comm, *ℤ-comm}
+use lib.IntN.{ℤ, negℤ, _+ℤ_, _-ℤ_, _*ℤ_, negℤ-negℤ, negℤ-+ℤ, +ℤ-comm, *ℤ-comm}
 use lib.Dec.{eqb}
 use lib.ListN.{length}
+use lib.Ieee.{Float}
 use lib.Seq.{length-take-le}
 use borrow.Author.Tests.{eqb-true, eqb-false, eq-eqb, ne-eqb}
 use Rattle.laws.specs.Tests.{both}
@@ -18,14 +20,9 @@ use Rattle.topology.specs.Balance.{frontSumℤ, Antisymmetric, difference, diff
 use Rattle.front.specs.State.{State, nodePlaces}
 use Rattle.front.specs.Sound.{Sound, Frame}
 use Rattle.front.specs.FrameLaws.{extends-at}
-use Rattle.books.specs.Book.{Edge, edge, Book, isEdge, has, without, quadAt, areaOf, edgesArea}
+use Rattle.books.specs.Book.{Edge, edge, Book, isEdge, has, without, andThen, quadAt, areaOf, edgesSumℤ}
+use Rattle.books.specs.Net.{countEdge}
 use Rattle.books.specs.Matches.{edgesSum, Matches}
-use Rattle.books.specs.Holds.{countEdge}
-
--- a weight over ℤ over the edges of a list
-unfoldable pub edgesSumℤ : (ℕ → ℕ → ℤ) → List Edge → ℤ
-edgesSumℤ w [] = pos 0
-edgesSumℤ w (e ∷ es) = w (e .from) (e .to) +ℤ edgesSumℤ w es
 
 -- ---- quads
 
@@ -40,6 +37,17 @@ frame-quad s t F k h =
       extends-at _ _ (s .quads) (t .quads) E (4 * k + 2) 0 (omega arith),
       extends-at _ _ (s .quads) (t .quads) E (4 * k + 3) 0 (omega arith),
     )
+
+-- ---- steps that may fail
+
+-- such a step gives only books with P
+abbrev pub Gives : (Book → Type 0) → Option Book → Type 0
+Gives P none = Unit {0}
+Gives P (some b) = P b
+
+pub gives-then : (P Q : Book → Type 0) (f : Book → Option Book) (m : Option Book) → Gives P m → ((b : Book) → P b → Gives Q (f b)) → Gives Q (andThen m f)
+gives-then P Q f none p next = tt
+gives-then P Q f (some b) p next = next b p
 
 -- ---- counts of edges
 
@@ -124,7 +132,7 @@ matches-edges n s ls b S M = sym (edges-length (b .front)) ∙ (M .sums one ∙ 
 
 -- an antisymmetric weight over the book's front is that over the loops
 module _ (w : ℕ → ℕ → ℤ) (anti : Antisymmetric w) where
-  edges-is : (es : List Edge) → edgesSumℤ w es ≡ difference (edgesSum (gain w) es) (edgesSum (flip (gain w)) es)
+  pub edges-is : (es : List Edge) → edgesSumℤ w es ≡ difference (edgesSum (gain w) es) (edgesSum (flip (gain w)) es)
   unfolding edgesSumℤ edgesSum
   edges-is [] = sym difference-zero
   edges-is (e ∷ es) = rw (weight-is w anti (e .from) (e .to), edges-is es) (difference-add _ _ _ _)
@@ -135,23 +143,13 @@ module _ (w : ℕ → ℕ → ℤ) (anti : Antisymmetric w) where
 
 -- ---- areas
 
+-- what is taken off and what it is taken off change places with the sign
+pub sub-flip : (m k : ℤ) → k -ℤ m ≡ negℤ (m -ℤ k)
+sub-flip m k = sym (negℤ-+ℤ m (negℤ k) ∙ (ap (λ (z : ℤ). negℤ m +ℤ z) (negℤ-negℤ k) ∙ +ℤ-comm (negℤ m) k))
+
 cross-anti : (p q : Vector) → cross q p ≡ negℤ (cross p q)
 unfolding cross
-cross-anti p q =
-    let m = p .x *ℤ q .y in
-    let k = p .y *ℤ q .x in
-    rw (*ℤ-comm (q .x) (p .y), *ℤ-comm (q .y) (p .x))
-    (sym (negℤ-+ℤ m (negℤ k) ∙ (ap (λ (z : ℤ). negℤ m +ℤ z) (negℤ-negℤ k) ∙ +ℤ-comm (negℤ m) k)))
+cross-anti p q = rw (*ℤ-comm (q .x) (p .y), *ℤ-comm (q .y) (p .x)) (sub-flip (p .x *ℤ q .y) (p .y *ℤ q .x))
 
-pub area-anti : (b : Book) → Antisymmetric (areaOf b)
-area-anti b u v = cross-anti _ _
-
-pub area-sum : (b : Book) (es : List Edge) → edgesArea b es ≡ edgesSumℤ (areaOf b) es
-unfolding edgesArea edgesSumℤ
-area-sum b [] = refl
-area-sum b (e ∷ es) = rw (area-sum b es)
-
--- the area of a matching book's front, with the coordinates of any book, is that of the loops
-pub matches-area : (s : State) (ls : List (List ℕ)) (b : Book) → Matches s ls b → (c : Book)
-    → edgesArea c (b .front) ≡ frontSumℤ (areaOf c) ls
-matches-area s ls b M c = area-sum c (b .front) ∙ matches-sum (areaOf c) (area-anti c) s ls b M
+pub area-anti : (measure : Float → ℤ) (b : Book) → Antisymmetric (areaOf measure b)
+area-anti measure b u v = cross-anti _ _

@@ -1,9 +1,9 @@
 -- Demand 3: what holds of a run's books before the first quad, after each one, and where the run stops. Statements only.
 use mathlib.Core.Path.{_≡_}
-use mathlib.Core.Bool.{Bool, true, cond, not}
+use mathlib.Core.Bool.{Bool, true, not}
 use mathlib.Core.Logic.{_↔_}
 use mathlib.Core.Option.{Option, some}
-use mathlib.Core.List.{List, [], _∷_, map, flatten}
+use mathlib.Core.List.{List, map, flatten}
 use Prim.Native.Nat.{ℕ, _+_, _*_, _<_, _≤_}
 use lib.IntN.{ℤ, _+ℤ_}
 use lib.Dec.{T}
@@ -15,8 +15,11 @@ use Rattle.front.specs.Sampling.{loopCount, sampledCount}
 use Rattle.topology.specs.Sums.{All, Even}
 use Rattle.topology.specs.LongLoops.{LongLoops}
 use Rattle.paving.specs.Loops.{frontLoops}
+use Rattle.soundness.specs.Sound.{outlineSound}
+use Rattle.exact.specs.Units.{units}
 use Rattle.exact.specs.Corner.{Vector, step, sineAboveThird, isShort}
-use Rattle.books.specs.Book.{Edge, edge, Book, Quad, startBook, quadAt, bookAfter, xOf, yOf, loopEdges, frontArea, quadsArea, follow, isEdge}
+use Rattle.books.specs.Book.{Book, Quad, startBook, quadAt, bookAfter, xOf, yOf, loopEdges, frontArea, quadsArea, follow}
+use Rattle.books.specs.Net.{countEdge, net, quadsEdges}
 
 -- the exact step from node u to node v
 abbrev pub stepOf : Book → ℕ → ℕ → Vector
@@ -34,11 +37,6 @@ pub record QuadHolds (book : Book) (q : Quad) : Type 0 where
   pub at-d : CornerHolds book (q .b) (q .d) (q .c)
   pub at-c : CornerHolds book (q .d) (q .c) (q .a)
 
--- how often the edge from u to v stands in a list
-unfoldable pub countEdge : ℕ → ℕ → List Edge → ℕ
-countEdge u v [] = 0
-countEdge u v (e ∷ es) = cond (isEdge (edge u v) e) 1 0 + countEdge u v es
-
 -- one closed loop for each loop of the outline, of an even number of edges; each edge of the front is in exactly one, and no node has two edges out
 pub record LoopsHold (o : Outline) (b : Book) : Type 0 where
   pub loops : List (List ℕ)
@@ -53,8 +51,10 @@ pub record HoldsAfter (o : Outline) (size : Float) (s : State) (k : ℕ) : Type 
   pub book : Book
   -- each step of the book went through
   pub steps : bookAfter o size s k ≡ some book
+  -- paper 14: for every u and v, the steps from u to v less those back are on the start's front what they are in the quads and on the front left
+  pub edges : (u v : ℕ) → net u v (startBook o size .front) ≡ net u v (quadsEdges s k) +ℤ net u v (book .front)
   -- the start's area is the sum of the quads' and of the front left
-  pub areas : frontArea (startBook o size) ≡ quadsArea book s k +ℤ frontArea book
+  pub areas : frontArea units (startBook o size) ≡ quadsArea units book s k +ℤ frontArea units book
   pub quads : (i : ℕ) → i < k → QuadHolds book (quadAt s i)
   pub loops : LoopsHold o book
   -- front edges plus twice the quads plus the points sampled make twice the nodes
@@ -76,7 +76,7 @@ pub record BooksHold (o : Outline) (size : Float) (s : State) : Type 0 where
 
 -- ---- what is answered of the loops
 
--- n loops are listed, with m ids in all of them, in the lists `loops` and `lengths`, and it is said whether the front is whole
+-- n loops are listed, with m ids in all of them, in the lists `loops` and `lengths`, and it is said whether the run is whole
 pub record LoopsAnswered (o : Outline) (b : Book) (n m : ℕ) (loops lengths : List ℕ) (said : Bool) : Type 0 where
   -- the loops listed are the book's of three or more
   pub listed : List (List ℕ)
@@ -86,8 +86,8 @@ pub record LoopsAnswered (o : Outline) (b : Book) (n m : ℕ) (loops lengths : L
   -- their ids one after the other, and the length of each
   pub nodes : take m loops ≡ flatten listed
   pub each : take n lengths ≡ map length listed
-  -- whole exactly if every loop of the book has two nodes
-  pub whole : (L : LoopsHold o b) → (said ≡ true) ↔ All (λ l. length l ≡ 2) (L .loops)
+  -- whole exactly if every loop of the book has two nodes, and the outline as drawn is sound
+  pub whole : (L : LoopsHold o b) → (said ≡ true) ↔ (All (λ l. length l ≡ 2) (L .loops) × (outlineSound o ≡ true))
 
 -- demand 3 of a run that left the state s and answered so of its loops
 pub record BooksAnswered (o : Outline) (size : Float) (s : State) (n m : ℕ) (loops lengths : List ℕ) (said : Bool) : Type 0 where

@@ -1,30 +1,27 @@
--- What a stage gives of coordinates: its book has the nodes where the run answers them; so areas balance, and each quad turns left.
-use Prim.Native.Nat.{ℕ, _+_, _<_, _≤_}
-use mathlib.Core.List.{List, [], _∷_}
-use mathlib.Core.Path.{_≡_, refl, sym, _∙_, ap, ap₂}
+-- What a stage gives of edges and of coordinates: paper 14's figures, from which the areas follow (books' Areas); the book has the nodes where the run
+-- answers them, so each quad turns left.
+use Prim.Native.Nat.{ℕ, _<_}
+use mathlib.Core.List.{List}
+use mathlib.Core.Path.{_≡_, sym, _∙_, ap, ap₂}
 use native.Mathlib.Omega.{arith}
 use lib.IntN.{ℤ, _+ℤ_}
-use lib.ListN.{take, getD}
-use lib.Seq.{getD-take}
+use lib.ListN.{length, take, getD}
+use lib.Seq.{getD-take, length-take-le}
 use lib.Ieee.{Float, nan}
-use Rattle.laws.specs.Loop.{forUp}
-use Rattle.domain.specs.declared.Point.{Point}
 use Rattle.domain.specs.Outline.{Outline}
-use Rattle.exact.specs.Units.{units}
-use Rattle.exact.specs.Corner.{Vector, cross}
-use Rattle.topology.specs.Links.{at, at-self, linkOf}
+use Rattle.topology.specs.Links.{at, linkOf}
 use Rattle.topology.specs.Front.{source, target}
-use Rattle.topology.specs.Balance.{frontSumℤ}
-use Rattle.front.specs.State.{State, nodeIn, node}
-use Rattle.front.specs.Sampling.{sampledCount}
-use Rattle.front.specs.Sound.{Sound, Frame}
-use Rattle.front.specs.FrameLaws.{frame-trans}
-use Rattle.books.specs.Book.{Edge, Book, quadAt, startBook, areaOf, edgesArea, frontArea, quadArea, quadsArea}
-use Rattle.books.specs.Matches.{edgesSum, Matches}
-use Rattle.books.specs.BookLaws.{area-anti, matches-area}
+use Rattle.front.specs.State.{State, nodePlaces, nodeIn, node}
+use Rattle.front.specs.Sound.{Frame}
+use Rattle.books.specs.Book.{Book, quadAt, startBook}
+use Rattle.books.specs.Net.{net, quadsEdges}
+use Rattle.books.specs.Matches.{Matches}
+use Rattle.books.specs.BookLaws.{matches-sum}
+use Rattle.books.specs.NetLaws.{netWeight, net-anti, net-sum}
+use Rattle.books.specs.Areas.{FrontJoins}
 use Rattle.books.specs.Holds.{QuadHolds}
 use Rattle.bounded.specs.Corners.{nodeOf}
-use Rattle.books_hold.specs.Stages.{quadsSum, Start, Stage}
+use Rattle.books_hold.specs.Stages.{Start, Stage}
 
 -- ---- the nodes of a book
 
@@ -42,47 +39,33 @@ module _ (t final : State) (ls : List (List ℕ)) (b : Book) (F : Frame t final)
         coordinate (final .ys) (b .ys) (F .ys .before ∙ M .ys) id h,
       )
 
--- ---- areas
+-- ---- figures and areas
 
-abbrev inUnits : Point → Vector
-inUnits p = record { x = units (p .x); y = units (p .y) }
-
--- where two books have the ends of all edges at the same points, the area is the same
-area-same : (b c : Book) (es : List Edge) → ((u v : ℕ) → 0 < edgesSum (at u v) es → areaOf b u v ≡ areaOf c u v)
-    → edgesArea b es ≡ edgesArea c es
-unfolding edgesArea edgesSum
-area-same b c [] same = refl
-area-same b c (e ∷ es) same =
-    rw (same (e .from) (e .to) (omega (arith, at-self (e .from) (e .to))), area-same b c es (λ u v h. same u v (omega arith)))
-
-quads-area : (b : Book) (s : State) (k : ℕ) → quadsSum (areaOf b) s k ≡ quadsArea b s k
-unfolding quadsSum quadsArea quadArea
-quads-area b s k = refl
-
-module _ (o : Outline) (size : Float) (s : State) (ls : List (List ℕ)) (S : Start o size s ls) (final : State) (k : ℕ) (t : State)
-    (Y : Stage o size s ls final k t) where
-  -- an edge of the start has the same area in both books
-  edge-area : (u v : ℕ) → 0 < edgesSum (at u v) (startBook o size .front) → areaOf (startBook o size) u v ≡ areaOf (Y .book) u v
-  unfolding nodeIn
-  edge-area u v h =
+module _ (o : Outline) (size : Float) (s : State) (ls : List (List ℕ)) (S : Start o size s ls) where
+  -- the edges sampled join nodes sampled
+  pub start-joins : FrontJoins (startBook o size)
+  unfolding nodePlaces
+  start-joins u v h =
       let n = s .counts .nodes in
       let L = S .sound .front .loops in
       let there = rw (S .matches .sums (at u v)) at h in
       let hu = source n (linkOf n (s .next)) ls L u v there in
       let hv = target n (linkOf n (s .next)) ls L u v there in
-      let more = Y .earlier .nodes in
-      let first = book-node s final ls (startBook o size) (frame-trans s t final (Y .earlier) (Y .later)) (S .matches) in
-      let now = book-node t final (Y .loops) (Y .book) (Y .later) (Y .matches) in
-      ap₂ (λ (p q : Point). cross (inUnits p) (inUnits q)) (first u hu ∙ sym (now u (omega arith))) (first v hv ∙ sym (now v (omega arith)))
+      let xs = ap length (sym (S .matches .xs)) ∙ length-take-le n (s .xs) (omega (arith, S .sound .nodes-fit)) in
+      let ys = ap length (sym (S .matches .ys)) ∙ length-take-le n (s .ys) (omega (arith, S .sound .nodes-fit)) in
+      ((omega (arith, xs), omega (arith, ys)), (omega (arith, xs), omega (arith, ys)))
 
-  -- the start's area is the sum of the quads' and of the front left
-  pub areas : frontArea (startBook o size) ≡ quadsArea (Y .book) final k +ℤ frontArea (Y .book)
-  areas =
-      let B = Y .book in
-      area-same (startBook o size) B (startBook o size .front) edge-area
-      ∙ (matches-area s ls (startBook o size) (S .matches) B
-      ∙ (Y .balance (areaOf B) (area-anti B)
-      ∙ ap₂ (λ (y z : ℤ). y +ℤ z) (quads-area B final k) (sym (matches-area t (Y .loops) B (Y .matches) B))))
+  module _ (final : State) (k : ℕ) (t : State) (Y : Stage o size s ls final k t) where
+    -- the balance of the weight that counts u to v
+    pub edges : (u v : ℕ) → net u v (startBook o size .front) ≡ net u v (quadsEdges final k) +ℤ net u v (Y .book .front)
+    edges u v =
+        let w = netWeight u v in
+        let anti = net-anti u v in
+        sym (net-sum u v (startBook o size .front))
+        ∙ (matches-sum w anti s ls (startBook o size) (S .matches)
+        ∙ (Y .balance w anti
+        ∙ ap₂ (λ (x y : ℤ). x +ℤ y) (net-sum u v (quadsEdges final k))
+        (sym (matches-sum w anti t (Y .loops) (Y .book) (Y .matches)) ∙ net-sum u v (Y .book .front))))
 
 -- ---- corners
 

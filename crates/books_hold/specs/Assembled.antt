@@ -6,6 +6,7 @@ use mathlib.Core.Option.{some}
 use native.Mathlib.Omega.{arith}
 use lib.ListN.{length}
 use lib.Ieee.{Float}
+use Rattle.exact.specs.Units.{units}
 use Rattle.domain.specs.Outline.{Outline}
 use Rattle.front.specs.State.{State}
 use Rattle.front.specs.Sampling.{loopCount, sampledCount}
@@ -13,17 +14,20 @@ use Rattle.front.specs.FrameLaws.{frame-same}
 use Rattle.paving.specs.Reach.{Reaches}
 use Rattle.books.specs.Book.{Book, bookAfter}
 use Rattle.books.specs.Holds.{HoldsAfter, Closes, BooksHold}
+use Rattle.books.specs.Areas.{areas-balance}
 use Rattle.books_hold.specs.Stages.{Start, Stage, QuadsTurn, stage-at, stage-before}
-use Rattle.books_hold.specs.Areas.{areas, quads-turn}
+use Rattle.books_hold.specs.Areas.{start-joins, edges, quads-turn}
 use Rattle.books_hold.specs.Fronts.{loops-hold, counts-hold, closes}
 
 module _ (o : Outline) (size : Float) (s : State) (ls : List (List ℕ)) (S : Start o size s ls) (number : length ls ≡ loopCount o) where
   holds-after : (final : State) (k : ℕ) (t : State) → Stage o size s ls final k t → HoldsAfter o size final k
   holds-after final k t Y =
+      let E = edges o size s ls S final k t Y in
       record {
         book = Y .book;
         steps = Y .steps;
-        areas = areas o size s ls S final k t Y;
+        edges = E;
+        areas = areas-balance o size final k (Y .book) (Y .steps) (start-joins o size s ls S) units E;
         quads = quads-turn o size s ls final k t Y;
         loops = loops-hold (sampledCount o size) t (Y .loops) (Y .book) (Y .sound) (Y .matches) o (Y .number ∙ number);
         counts = rw (Y .quads) at (counts-hold (sampledCount o size) t (Y .loops) (Y .book) (Y .sound) (Y .matches));

@@ -7,6 +7,7 @@ use lib.Dec.{T}
 use lib.ListN.{length}
 use lib.Ieee.{Float}
 use Rattle.domain.specs.Outline.{Outline}
+use Rattle.exact.specs.Units.{units}
 use Rattle.exact.specs.Corner.{sineAboveThird, isShort}
 use Rattle.front.specs.State.{State}
 use Rattle.front.specs.Sampling.{sampledCount}
@@ -37,7 +38,7 @@ pub record DemandedAfter (o : Outline) (size : Float) (s : State) (k : ℕ) : Ty
   pub book : Book
   pub steps : bookAfter o size s k ≡ some book
   -- the signed area of the sampled front at the start is the sum of the quads' signed areas plus the signed area of the front left
-  pub areas : frontArea (startBook o size) ≡ quadsArea book s k +ℤ frontArea book
+  pub areas : frontArea units (startBook o size) ≡ quadsArea units book s k +ℤ frontArea units book
   -- each quad turns left at all four corners, with sine above 1/3; excepted are only corners at a side shorter than 1e-150
   pub quads : (i : ℕ) → i < k → QuadDemanded book (sampledCount o size) (quadAt s i)
   -- the front has one closed loop for each loop of the outline, of an even number of edges

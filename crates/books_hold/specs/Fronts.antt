@@ -22,7 +22,8 @@ use Rattle.paving.specs.Loops.{frontLoops}
 use Rattle.books.specs.Book.{Edge, Book, loopEdges, follow}
 use Rattle.books.specs.Matches.{edgesSum, Matches}
 use Rattle.books.specs.BookLaws.{count-sum, matches-nodes, matches-edges}
-use Rattle.books.specs.Holds.{countEdge, LoopsHold, Closes}
+use Rattle.books.specs.Net.{countEdge}
+use Rattle.books.specs.Holds.{LoopsHold, Closes}
 use Rattle.sampled.specs.Starts.{sum-loops}
 
 -- ---- following edges

@@ -18,7 +18,9 @@ use Rattle.paving.specs.declared.End.the-variants.{Still, Passes, Cap, Full}
 use Rattle.paving.specs.Advance.{Paved, mostQuads, advance}
 use Rattle.paving.specs.ReachLaws.{Reached, advance-reaches}
 use Rattle.whole_run.specs.Run.{runRefusal, runOf}
+use Rattle.books.specs.Book.{startBook}
 use Rattle.books.specs.Holds.{BooksHold}
+use Rattle.books.specs.Areas.{FrontJoins}
 use Rattle.sampled.specs.Outlines.{outline-three}
 use Rattle.sampled.specs.Begun.{Begun, begun}
 use Rattle.sampled.specs.Starts.{starts}
@@ -27,6 +29,7 @@ use Rattle.bounded.specs.Nodes.{AllNodes}
 use Rattle.bounded.specs.Placed.{placement-holds}
 use Rattle.bounded.specs.Run.{run-bounded}
 use Rattle.books_hold.specs.Stages.{Start, QuadsTurn, standing}
+use Rattle.books_hold.specs.Areas.{start-joins}
 use Rattle.books_hold.specs.Assembled.{reached-hold}
 use Rattle.books_hold.specs.Ends.{Ended}
 use Rattle.books_hold.specs.EndLaws.{advance-ends}
@@ -71,6 +74,10 @@ module _ (o : Outline) (size : Float) (lent : State) (A : Accepted o size lent) 
 
   start : Start o size sampled loops
   start = record { sound = begins .sound; matches = starts o size lent (outline-three o (A .outline)) (A .front); none = begins .quadCount }
+
+  -- so areas balance in any measure where the book goes through: `areas-balance`
+  pub sampled-joins : FrontJoins (startBook o size)
+  sampled-joins = start-joins o size sampled loops start
 
   turns : QuadsTurn o size sampled
   turns k t a b c d r P =

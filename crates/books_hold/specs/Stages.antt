@@ -7,7 +7,7 @@ use mathlib.Core.Bool.{Bool, true, false}
 use mathlib.Core.Option.{Option, some}
 use native.Mathlib.Omega.{arith}
 use lib.Dec.{leb}
-use lib.IntN.{ℤ, pos, _+ℤ_, +ℤ-assoc, +ℤ-idl}
+use lib.IntN.{ℤ, _+ℤ_, +ℤ-assoc, +ℤ-idl}
 use lib.ListN.{length}
 use lib.Ieee.{Float}
 use borrow.Author.Tests.{leb-true, leb-false}
@@ -24,7 +24,9 @@ use Rattle.front.specs.FrameLaws.{frame-same, frame-trans, frame-node}
 use Rattle.paving.specs.Checks.{cornersOf}
 use Rattle.paving.specs.Advance.{withSnapshot}
 use Rattle.paving.specs.Reach.{Placement, Reaches, begin, snapshot, placed}
-use Rattle.books.specs.Book.{Book, Quad, quadAt, andThen, bookQuad, startBook, bookAfter}
+use Rattle.books.specs.Book.{Book, Quad, quadAt, andThen, bookQuad, startBook, bookAfter, edgesSumℤ, quadEdges}
+use Rattle.books.specs.Net.{quadsEdges}
+use Rattle.books.specs.NetLaws.{sum-joined, quad-sum}
 use Rattle.books.specs.BookLaws.{frame-quad}
 use Rattle.books.specs.Matches.{Matches}
 use Rattle.books.specs.Holds.{QuadHolds}
@@ -34,13 +36,6 @@ use Rattle.books.specs.Booked.{booked}
 use Rattle.books.specs.Snapshot.{snapshot-frame, snapshot-sound, snapshot-matches}
 
 -- ---- definitions
-
--- a weight over the sides of a quad, and over those of the first k quads that s answers
-abbrev pub sidesSum : (ℕ → ℕ → ℤ) → Quad → ℤ
-sidesSum w q = quadSumℤ w (q .a) (q .b) (q .d) (q .c)
-
-unfoldable pub quadsSum : (ℕ → ℕ → ℤ) → State → ℕ → ℤ
-quadsSum w s k = forUp k (λ i sum. sum +ℤ sidesSum w (quadAt s i)) (pos 0)
 
 -- where a state has the nodes of a quad
 abbrev pub pointsIn : State → Quad → Corners
@@ -78,7 +73,7 @@ pub record Stage (o : Outline) (size : Float) (s : State) (ls : List (List ℕ))
   pub steps : bookAfter o size final k ≡ some book
   pub matches : Matches t loops book
   -- whatever changes its sign with the direction of an edge: the start's front is the quads and the front left
-  pub balance : (w : ℕ → ℕ → ℤ) → Antisymmetric w → frontSumℤ w ls ≡ quadsSum w final k +ℤ frontSumℤ w loops
+  pub balance : (w : ℕ → ℕ → ℤ) → Antisymmetric w → frontSumℤ w ls ≡ edgesSumℤ w (quadsEdges final k) +ℤ frontSumℤ w loops
   pub each : (i : ℕ) → i < k → Answers (t .counts .nodes) final (quadAt final i)
 
 -- ---- from one stage to the next
@@ -89,7 +84,7 @@ answers-more m n final q h A =
 
 module _ (o : Outline) (size : Float) (s : State) (ls : List (List ℕ)) (final : State) where
   start-stage : Start o size s ls → Frame s final → Stage o size s ls final 0 s
-  unfolding bookAfter quadsSum forUp
+  unfolding bookAfter quadsEdges edgesSumℤ forUp
   start-stage S F =
       record {
         quads = S .none;
@@ -136,6 +131,9 @@ module _ (o : Outline) (size : Float) (s : State) (ls : List (List ℕ)) (final 
         ap (quadAt final) (sym (S .quads))
         ∙ (frame-quad (place a b c d t) final F (t .counts .quads) (omega (arith, after .quads)) ∙ after .quad)
 
+    last-sum : (w : ℕ → ℕ → ℤ) → quadSumℤ w a b (idD t c d) (idC t c) ≡ edgesSumℤ w (quadEdges (quadAt final k))
+    last-sum w = sym (ap (λ (q : Quad). edgesSumℤ w (quadEdges q)) last-quad ∙ quad-sum w quad)
+
     last-points : pointsIn final quad ≡ cornersOf t a b c d
     last-points =
         let u = place a b c d t in
@@ -173,7 +171,7 @@ module _ (o : Outline) (size : Float) (s : State) (ls : List (List ℕ)) (final 
             subst (λ (j : ℕ). Answers (place a b c d t .counts .nodes) final (quadAt final j)) last last-answers
 
     placed-stage : Stage o size s ls final (suc k) (place a b c d t)
-    unfolding bookAfter quadsSum forUp
+    unfolding bookAfter quadsEdges forUp
     placed-stage =
         let B = booked (sampledCount o size) t (S .loops) o size a b c d (place a b c d t) final (S .sound) P after F (S .book) (S .matches) in
         record {
@@ -190,9 +188,10 @@ module _ (o : Outline) (size : Float) (s : State) (ls : List (List ℕ)) (final 
           matches = B .matches;
           balance = λ w anti.
               S .balance w anti
-              ∙ (ap (λ (z : ℤ). quadsSum w final k +ℤ z) (after .balance w anti)
-              ∙ (sym (+ℤ-assoc (quadsSum w final k) (sidesSum w quad) (frontSumℤ w (after .loops)))
-              ∙ ap (λ (q : Quad). quadsSum w final k +ℤ sidesSum w q +ℤ frontSumℤ w (after .loops)) (sym last-quad)));
+              ∙ (ap (λ (z : ℤ). edgesSumℤ w (quadsEdges final k) +ℤ z)
+              (after .balance w anti ∙ ap (λ (z : ℤ). z +ℤ frontSumℤ w (after .loops)) (last-sum w))
+              ∙ (sym (+ℤ-assoc (edgesSumℤ w (quadsEdges final k)) (edgesSumℤ w (quadEdges (quadAt final k))) (frontSumℤ w (after .loops)))
+              ∙ ap (λ (z : ℤ). z +ℤ frontSumℤ w (after .loops)) (sym (sum-joined w (quadsEdges final k) (quadEdges (quadAt final k))))));
           each = each-answers;
         }
 

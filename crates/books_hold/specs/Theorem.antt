@@ -15,9 +15,9 @@ use Rattle.books_hold.specs.Runs.{accepted, advance-holds}
 -- THE EXACT BOOKS OF EVERY RUN HOLD. Take any outline o, any settings (the size, the sweeps and the passes allowed) and any lists f and
 -- lent, of whatever lengths and contents, that document 01 refuses none of. The reference's run on them, `runOf`, leaves a state; and
 -- before its first quad, after each one and where it stops, the book that is fed the outline, the size and the quads and node coordinates
--- answered has gone through, its areas balance, its quads turn left with sine above 1/3, its front is one even closed loop for each loop
--- of the outline, and its counts agree; in the end its nodes, front, counts and loops are the run's. That the outline's floats are
--- doubles is what a slice of f64 holds.
+-- answered has gone through, its edges net and its areas balance, its quads turn left with sine above 1/3, its front is one even closed
+-- loop for each loop of the outline, and its counts agree; in the end its nodes, front, counts and loops are the run's. That the
+-- outline's floats are doubles is what a slice of f64 holds.
 pub books-hold : (o : Outline) (set : Settings) (f : FieldLists) (lent : State) → OutlineFits o → runRefusal o set f lent ≡ 0
     → BooksHold o (set .size) (runOf o set f lent .paving .state)
 unfolding runOf

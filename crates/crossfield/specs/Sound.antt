@@ -39,19 +39,19 @@ record Ends (n : Near) : Type 0 where
   a : PointWithin 1000 1000 (n .a)
   b : PointWithin 1000 1000 (n .b)
 
-nearer-ends : (p a b : Point) (best : Near) → PointWithin 1000 1000 a → PointWithin 1000 1000 b → Ends best → Ends (nearer p a b best)
+nearer-ends : (p a b : Point) (k i : ℕ) (best : Near) → PointWithin 1000 1000 a → PointWithin 1000 1000 b → Ends best → Ends (nearer p a b k i best)
 unfolding nearer
-nearer-ends p a b best h k e = pick (lt (pointSegmentDistance p a b) (best .distance))
+nearer-ends p a b k i best within-a within-b e = pick (lt (pointSegmentDistance p a b) (best .distance))
   where
-    pick : (t : Bool) → Ends (cond t (near a b (pointSegmentDistance p a b)) best)
-    pick true = record { a = h; b = k }
+    pick : (t : Bool) → Ends (cond t (near a b (pointSegmentDistance p a b) k i) best)
+    pick true = record { a = within-a; b = within-b }
     pick false = e
 
-loop-ends : (p : Point) (s : List Float) (best : Near) → LoopWithin s → Ends best → Ends (nearestInLoop p s best)
+loop-ends : (p : Point) (s : List Float) (k : ℕ) (best : Near) → LoopWithin s → Ends best → Ends (nearestInLoop p s k best)
 unfolding nearestInLoop
-loop-ends p s best h e =
-    forUp-keeps (λ (i : ℕ) (n : Near). Ends n) (points s) (segmentTurn p s) best e
-    (λ i n l e. nearer-ends p (pointAt s i) (pointAfter s i) n (h i l) (after-within s h i l) e)
+loop-ends p s k best h e =
+    forUp-keeps (λ (i : ℕ) (n : Near). Ends n) (points s) (segmentTurn p s k) best e
+    (λ i n l e. nearer-ends p (pointAt s i) (pointAfter s i) k i n (h i l) (after-within s h i l) e)
 
 origin-within : Within 1000 zeroF
 unfolding ofBits W
@@ -60,9 +60,9 @@ origin-within = record { sign = false; size = 0; val = (refl, refl); small = lit
 nearest-ends : (o : Outline) → OutlineFits o → Accepted o → (p : Point) → Ends (nearestSegment o p)
 unfolding nearestSegment
 nearest-ends o held a p =
-    forUp-keeps (λ (k : ℕ) (n : Near). Ends n) (length (o .lens)) (holeTurn o p) (nearestInLoop p (o .outer) nowhere)
-    (loop-ends p (o .outer) nowhere (outer-near o held a) (record { a = origin; b = origin }))
-    (λ k n h e. loop-ends p (holeAt o k) n (hole-near o held a k h) e)
+    forUp-keeps (λ (k : ℕ) (n : Near). Ends n) (length (o .lens)) (holeTurn o p) (nearestInLoop p (o .outer) 0 nowhere)
+    (loop-ends p (o .outer) 0 nowhere (outer-near o held a) (record { a = origin; b = origin }))
+    (λ k n h e. loop-ends p (holeAt o k) (suc k) n (hole-near o held a k h) e)
   where
     origin : PointWithin 1000 1000 (point zeroF zeroF)
     origin = record { x = origin-within; y = origin-within }

@@ -38,7 +38,7 @@ ceil-le n d K D h = le-of-suc (div-lt-iff-lt-mul D .1 (below n d K (K * d) D h r
     below n d K m D h e = let t = suc-mul K d in omega arith
 
 -- what is at most K has at most K cells
-cells-le : (x : Float) (s : Bool) (a K : ℕ) → Val x s a → a ≤ K * W → ceilCount x ≤ K
+pub cells-le : (x : Float) (s : Bool) (a K : ℕ) → Val x s a → a ≤ K * W → ceilCount x ≤ K
 unfolding ceilCount
 cells-le nan s a K v h = absurd v
 cells-le (inf t) s a K v h = absurd v
@@ -275,39 +275,51 @@ half-floor a n w h l = omega arith
 half-high : (a n w : ℕ) → a ≤ 100 * w → n ≤ 2 * a → n ≤ 200 * w
 half-high a n w h l = omega arith
 
-size-units : (w a : ℕ) → 1000000000000 ≤ w → 99 * w ≤ 10000 * a → 1000000 ≤ a
+pub size-units : (w a : ℕ) → 1000000000000 ≤ w → 99 * w ≤ 10000 * a → 1000000 ≤ a
 size-units w a h l = omega arith
 
-start : (size : Float) (a : ℕ) → Val size false a → least-units ≤ a → a ≤ 100 * W → Grown 0 (halfF ⊗ size)
-unfolding half-within least
-start size a v low high =
-    let p = mul-law {K = 1} {L = 100} half-within (record { sign = false; size = a; val = v; small = high }) tt tt in
-    let floor = over W least-units a least-large low in
-    let x = half-units * a in
-    let e : 2 * x ≡ a * W = sym (mul-assoc 2 half-units a) ∙ ap (λ (z : ℕ). z * a) half-twice ∙ mul-comm W a in
-    let l = mul-le-mul-right W (size-units W a (le-trans (lit≤ {m = 1000000000000} {n = 10 ^ 36} tt) W-big) floor) in
-    let more = le-of-mul-le-mul-right (le-trans (le-of-eq (mul-assoc 10 a W))
-    (le-trans (half-lower (p .size * W) x (a * W) W (p .near .1) e l) (le-of-eq (sym (mul-assoc 21 (p .size) W))))) W-pos in
-    let twice = le-of-mul-le-mul-right (le-trans (half-upper (p .size * W) x (a * W) W (p .near .0) e (least-one W (a * W) l))
-    (le-of-eq (sym (mul-assoc 2 a W)))) W-pos in
-    let lower = half-floor a (p .size) W floor more in
-    record { size = p .size; val = p .val; low = lower; floor = lower; high = half-high a (p .size) W high twice }
-  where
-    over : (w u a : ℕ) → 99 * w ≤ 10000 * u → u ≤ a → 99 * w ≤ 10000 * a
-    over w u a h l = omega arith
+-- a size that refusals 5 and 6 let pass: from 0.0099 to 100
+pub record Sized (size : Float) : Type 0 where
+  pub units : ℕ
+  pub val : Val size false units
+  pub low : 99 * W ≤ 10000 * units
+  pub high : units ≤ 100 * W
 
-pub start-size : (size : Float) → T (fits binary64 size) → sizeRefusal size ≡ 0 → Grown 0 (halfF ⊗ size)
+pub sized : (size : Float) → T (fits binary64 size) → sizeRefusal size ≡ 0 → Sized size
 unfolding sizeRefusal
-start-size size held e =
+sized size held e =
     let five = cond-zero (not (isFinite size) || le size zeroF) 4 (cond (lt size leastSize || lt mostSize size) 6 0) e in
     let six = neither (lt size leastSize) (lt mostSize size) (cond-zero (lt size leastSize || lt mostSize size) 5 0 (five .1) .0) in
     let whole = neither (not (isFinite size)) (le size zeroF) (five .0) in
     let v = val-of size (rw (not-false (isFinite size) (whole .0)) tt) held in
     let plus = above-of-not-le size zeroF (signOf size) (sizeOf size) 0 v zero-val (rw (whole .1) tt) in
     let w : Val size false (sizeOf size) = subst (λ (s : Bool). Val size s (sizeOf size)) (plus .0) v in
-    start size (sizeOf size) w
-    (leb→le least-units (sizeOf size) (not-lt-val size leastSize false false (sizeOf size) least-units w least-val .0 (rw (six .0) tt) .le))
-    (leb→le (sizeOf size) (100 * W) (not-lt-val mostSize size false false (100 * W) (sizeOf size) most-val w .0 (rw (six .1) tt) .le))
+    let least = leb→le least-units (sizeOf size) (not-lt-val size leastSize false false (sizeOf size) least-units w least-val .0 (rw (six .0) tt) .le) in
+    record {
+      units = sizeOf size;
+      val = w;
+      low = over W least-units (sizeOf size) least-large least;
+      high = leb→le (sizeOf size) (100 * W) (not-lt-val mostSize size false false (100 * W) (sizeOf size) most-val w .0 (rw (six .1) tt) .le);
+    }
+  where
+    over : (w u a : ℕ) → 99 * w ≤ 10000 * u → u ≤ a → 99 * w ≤ 10000 * a
+    over w u a h l = omega arith
+
+pub start-size : (size : Float) → T (fits binary64 size) → sizeRefusal size ≡ 0 → Grown 0 (halfF ⊗ size)
+unfolding half-within least
+start-size size held e =
+    let from = sized size held e in
+    let a = from .units in
+    let p = mul-law {K = 1} {L = 100} half-within (record { sign = false; size = a; val = from .val; small = from .high }) tt tt in
+    let x = half-units * a in
+    let e : 2 * x ≡ a * W = sym (mul-assoc 2 half-units a) ∙ ap (λ (z : ℕ). z * a) half-twice ∙ mul-comm W a in
+    let l = mul-le-mul-right W (size-units W a (le-trans (lit≤ {m = 1000000000000} {n = 10 ^ 36} tt) W-big) (from .low)) in
+    let more = le-of-mul-le-mul-right (le-trans (le-of-eq (mul-assoc 10 a W))
+    (le-trans (half-lower (p .size * W) x (a * W) W (p .near .1) e l) (le-of-eq (sym (mul-assoc 21 (p .size) W))))) W-pos in
+    let twice = le-of-mul-le-mul-right (le-trans (half-upper (p .size * W) x (a * W) W (p .near .0) e (least-one W (a * W) l))
+    (le-of-eq (sym (mul-assoc 2 a W)))) W-pos in
+    let lower = half-floor a (p .size) W (from .low) more in
+    record { size = p .size; val = p .val; low = lower; floor = lower; high = half-high a (p .size) W (from .high) twice }
 
 -- ---- the grid of an outline and a size that are not refused has at most 250,000 nodes
 

@@ -18,6 +18,7 @@ use Rattle.exact.specs.Units.{W, Val, val-of, sizeOf}
 use Rattle.exact.specs.Order.{lt-val, le-val, not-le-val}
 use Rattle.domain.specs.declared.Point.{Point}
 use Rattle.domain.specs.Outline.{pointAt}
+use Rattle.blocks.specs.ReachLaws.{max-fits}
 use Rattle.direction.specs.declared.Grid.{Grid}
 use Rattle.direction.specs.RecordLaws.{true-of}
 use Rattle.direction.specs.Record.{nodeAt}
@@ -136,15 +137,6 @@ step (fin s k d) nan hw hc n = and-true (lt (fin s k d) steady)
 step (fin s k d) (inf true) hw hc n = and-true (lt (fin s k d) steady)
 step (fin s k d) (inf false) hw hc n = and-false (lt (fin s k d) steady)
 step (fin s k d) (fin t m e) hw hc n = finite-max s t k m d e hw hc
-
-max-fits : (w c : Float) → T (fits binary64 w) → T (fits binary64 c) → T (fits binary64 (maxF w c))
-unfolding maxF
-max-fits w c hw hc = pick (isNan w) (lt w c)
-  where
-    pick : (x y : Bool) → T (fits binary64 (cond x c (cond y c w)))
-    pick true y = hc
-    pick false true = hc
-    pick false false = hw
 
 max-number : (w c : Float) → isNan w ≡ false → isNan (maxF w c) ≡ false
 unfolding maxF isNan lt

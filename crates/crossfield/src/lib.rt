@@ -127,7 +127,7 @@ fn spacing(width: f64, height: f64, h: f64) -> f64
     grown
 }
 
-fn grid_of(b: Bounds, size: f64) -> Grid
+pub fn grid_of(b: Bounds, size: f64) -> Grid
     requires { ⌜ gridNodes (gridOf b size) ≤ mostFieldNodes ⌝ }
     ensures { λ r. ⌜ r ≡ gridOf b size ⌝ }
 {
@@ -294,6 +294,8 @@ fn seed_row<'a>(
         a: domain::point_at(outer, 0),
         b: domain::point_at(outer, 1),
         distance: 0.0,
+        loop_index: 0,
+        segment_index: 0,
     };
     let mut i = 0;
     while i < nx {

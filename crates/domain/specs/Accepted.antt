@@ -1,6 +1,6 @@
 -- What the refusals 1 to 4 leave of an outline: `Accepted`. And `loop-within`: where the outline's floats are doubles, every point of every loop
 -- is within 1,000. Assumes nothing.
-use mathlib.Core.Bool.{Bool, true, false, cond}
+use mathlib.Core.Bool.{Bool, true, false, _||_, cond}
 use mathlib.Core.List.{List}
 use mathlib.Core.Logic.{inl, inr}
 use mathlib.Core.Path.{_≡_, refl, sym, ap, _∙_, subst}
@@ -20,7 +20,7 @@ use Rattle.exact.specs.Order.{within-abs}
 use Rattle.domain.specs.declared.Point.{Point}
 use Rattle.domain.specs.Outline.{Outline, holeLength, holeStart, holeAt, loopAt, points, pointAt, pointAfter}
 use Rattle.domain.specs.Outline.{firstOf, anyFloat, notFinite, farthest, beyond}
-use Rattle.domain.specs.Outline.{misshapen, loopRefusal, holeRefusal, loopsRefusal, farRefusal, outlineRefusal}
+use Rattle.domain.specs.Outline.{misshapen, loopRefusal, holeRefusal, loopsRefusal, farRefusal, outlineRefusal, pointRefusal}
 
 -- ---- what owning floats of type f64 tells: they are doubles
 
@@ -125,6 +125,18 @@ farthest-val = (refl, refl)
 
 coordinate-within : (x : Float) → T (fits binary64 x) → isFinite x ≡ true → beyond x ≡ false → Within 1000 x
 coordinate-within x t f e = within-abs 1000 x farthest farthest-val t (rw f tt) (rw e tt)
+
+-- a query's point that isn't refused is within 1,000
+pub point-within : (p : Point) → PointFits p → pointRefusal p ≡ 0 → PointWithin 1000 1000 p
+unfolding pointRefusal
+point-within p f e =
+    let some = cond-zero (notFinite (p .x) || notFinite (p .y)) 2 _ e in
+    let finite = neither (notFinite (p .x)) (notFinite (p .y)) (some .0) in
+    let near = neither (beyond (p .x)) (beyond (p .y)) (cond-zero (beyond (p .x) || beyond (p .y)) 3 0 (some .1) .0) in
+    record {
+      x = coordinate-within (p .x) (f .x) (not-false _ (finite .0)) (near .0);
+      y = coordinate-within (p .y) (f .y) (not-false _ (finite .1)) (near .1);
+    }
 
 -- every point of a loop is within 1,000
 abbrev pub LoopWithin : List Float → Type 0

@@ -1,4 +1,5 @@
 pub mod Accepted
+pub mod Examples
 pub mod Inside
 pub mod Outline
 pub mod OutlineLaws

@@ -55,31 +55,34 @@ footOf p a b =
 unfoldable pub pointSegmentDistance : Point → Point → Point → Float
 pointSegmentDistance p a b = sqrt (squaredDistance p (footOf p a b))
 
-abbrev pub near : Point → Point → Float → Near
-near a b distance = record { a = a; b = b; distance = distance }
+-- a segment's ends and its distance; and its name, segment i of loop k
+abbrev pub near : Point → Point → Float → ℕ → ℕ → Near
+near a b distance k i = record { a = a; b = b; distance = distance; «loop_index» = k; «segment_index» = i }
 
 -- what the search starts with
 abbrev pub nowhere : Near
-nowhere = near (point zeroF zeroF) (point zeroF zeroF) infinityF
+nowhere = near (point zeroF zeroF) (point zeroF zeroF) infinityF 0 0
 
--- a to b where it is nearer to p than the best so far: so of equals the first stays
-unfoldable pub nearer : Point → Point → Point → Near → Near
-nearer p a b best =
+-- a to b, segment i of loop k, where it is nearer to p than the best so far: so of equals the first stays
+unfoldable pub nearer : Point → Point → Point → ℕ → ℕ → Near → Near
+nearer p a b k i best =
     let d = pointSegmentDistance p a b in
-    cond (lt d (best .distance)) (near a b d) best
+    cond (lt d (best .distance)) (near a b d k i) best
 
-abbrev pub segmentTurn : Point → List Float → ℕ → Near → Near
-segmentTurn p s i best = nearer p (pointAt s i) (pointAfter s i) best
+abbrev pub segmentTurn : Point → List Float → ℕ → ℕ → Near → Near
+segmentTurn p s k i best = nearer p (pointAt s i) (pointAfter s i) k i best
 
-unfoldable pub nearestInLoop : Point → List Float → Near → Near
-nearestInLoop p s best = forUp (points s) (segmentTurn p s) best
+-- s has the points of loop k
+unfoldable pub nearestInLoop : Point → List Float → ℕ → Near → Near
+nearestInLoop p s k best = forUp (points s) (segmentTurn p s k) best
 
+-- hole k is loop k + 1
 abbrev pub holeTurn : Outline → Point → ℕ → Near → Near
-holeTurn o p k best = nearestInLoop p (holeAt o k) best
+holeTurn o p k best = nearestInLoop p (holeAt o k) (suc k) best
 
--- `nearest_segment`: the outer loop's segments, then each hole's
+-- `nearest_segment`, with the segment's name (paper 3): the outer loop's segments, then each hole's
 unfoldable pub nearestSegment : Outline → Point → Near
-nearestSegment o p = forUp (length (o .lens)) (holeTurn o p) (nearestInLoop p (o .outer) nowhere)
+nearestSegment o p = forUp (length (o .lens)) (holeTurn o p) (nearestInLoop p (o .outer) 0 nowhere)
 
 -- `distance_to_boundary`
 abbrev pub distanceToBoundary : Outline → Point → Float

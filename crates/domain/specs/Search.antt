@@ -2,7 +2,7 @@
 -- that it finds the same is a law (SearchLaws).
 use mathlib.Core.Bool.{_&&_, cond}
 use mathlib.Core.List.{List}
-use Prim.Native.Nat.{ℕ}
+use Prim.Native.Nat.{ℕ, suc}
 use lib.ListN.{length}
 use lib.Ieee.{Float, lt}
 use Rattle.laws.specs.Loop.{forUp}
@@ -21,21 +21,21 @@ abbrev pub searchStart : Search
 searchStart = search nowhere infinityF
 
 -- one segment: its root is compared only where its square is below the best one's
-unfoldable pub searched : Point → Point → Point → Search → Search
-searched p a b best =
+unfoldable pub searched : Point → Point → Point → ℕ → ℕ → Search → Search
+searched p a b k i best =
     let squared = squaredDistance p (footOf p a b) in
     let d = sqrt squared in
-    cond (lt squared (best .squared) && lt d (best .near .distance)) (search (near a b d) squared) best
+    cond (lt squared (best .squared) && lt d (best .near .distance)) (search (near a b d k i) squared) best
 
-abbrev pub searchTurn : Point → List Float → ℕ → Search → Search
-searchTurn p s i best = searched p (pointAt s i) (pointAfter s i) best
+abbrev pub searchTurn : Point → List Float → ℕ → ℕ → Search → Search
+searchTurn p s k i best = searched p (pointAt s i) (pointAfter s i) k i best
 
-unfoldable pub searchLoop : Point → List Float → Search → Search
-searchLoop p s best = forUp (points s) (searchTurn p s) best
+unfoldable pub searchLoop : Point → List Float → ℕ → Search → Search
+searchLoop p s k best = forUp (points s) (searchTurn p s k) best
 
 abbrev pub searchHole : Outline → Point → ℕ → Search → Search
-searchHole o p k best = searchLoop p (holeAt o k) best
+searchHole o p k best = searchLoop p (holeAt o k) (suc k) best
 
 -- the search over all loops, from the best so far
 unfoldable pub searchFrom : Outline → Point → Search → Search
-searchFrom o p best = forUp (length (o .lens)) (searchHole o p) (searchLoop p (o .outer) best)
+searchFrom o p best = forUp (length (o .lens)) (searchHole o p) (searchLoop p (o .outer) 0 best)

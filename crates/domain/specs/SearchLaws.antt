@@ -3,6 +3,7 @@
 use mathlib.Core.Bool.{Bool, true, false, not, _&&_, cond, true≢false}
 use mathlib.Core.List.{List}
 use mathlib.Core.Path.{_≡_, refl, sym, ap, _∙_, subst}
+use Prim.Native.Nat.{ℕ, suc}
 use lib.Dec.{T}
 use lib.ListN.{length}
 use lib.Ieee.{Float, binary64, fits, lt}
@@ -37,25 +38,25 @@ squared-fits : (p q : Point) → T (fits binary64 (squaredDistance p q))
 unfolding squaredDistance
 squared-fits p q = add-fits binary64 _ _
 
-pub finds-segment : (p a b : Point) (s : Search) (n : Near) → Finds s n → Finds (searched p a b s) (nearer p a b n)
+pub finds-segment : (p a b : Point) (k i : ℕ) (s : Search) (n : Near) → Finds s n → Finds (searched p a b k i s) (nearer p a b k i n)
 unfolding searched nearer pointSegmentDistance
-finds-segment p a b s n f = rw (← f .same) (decide (lt y (s .squared)) refl (lt (sqrt y) (s .near .distance)) refl)
+finds-segment p a b k i s n f = rw (← f .same) (decide (lt y (s .squared)) refl (lt (sqrt y) (s .near .distance)) refl)
   where
     y : Float
     y = squaredDistance p (footOf p a b)
 
     decide : (u : Bool) → lt y (s .squared) ≡ u → (v : Bool) → lt (sqrt y) (s .near .distance) ≡ v
-        → Finds (cond (u && v) (search (near a b (sqrt y)) y) s) (cond v (near a b (sqrt y)) (s .near))
+        → Finds (cond (u && v) (search (near a b (sqrt y) k i) y) s) (cond v (near a b (sqrt y) k i) (s .near))
     decide true e true g = record { same = refl; held = squared-fits p (footOf p a b); root = refl }
     decide true e false g = record { same = refl; held = f .held; root = f .root }
     decide false e true g = absurd (true≢false (sym g ∙ ap (lt (sqrt y)) (f .root) ∙ not-nearer (s .squared) y (f .held) (squared-fits p (footOf p a b)) e))
     decide false e false g = record { same = refl; held = f .held; root = f .root }
 
-finds-loop : (p : Point) (l : List Float) (s : Search) (n : Near) → Finds s n → Finds (searchLoop p l s) (nearestInLoop p l n)
+finds-loop : (p : Point) (l : List Float) (k : ℕ) (s : Search) (n : Near) → Finds s n → Finds (searchLoop p l k s) (nearestInLoop p l k n)
 unfolding searchLoop nearestInLoop
-finds-loop p l s n f =
-    forUp-related Finds (points l) (searchTurn p l) (segmentTurn p l) s n f
-    (λ i t m g. finds-segment p (pointAt l i) (pointAfter l i) t m g)
+finds-loop p l k s n f =
+    forUp-related Finds (points l) (searchTurn p l k) (segmentTurn p l k) s n f
+    (λ i t m g. finds-segment p (pointAt l i) (pointAfter l i) k i t m g)
 
 finds-start : Finds searchStart nowhere
 unfolding root
@@ -64,9 +65,9 @@ finds-start = record { same = refl; held = inf-fits binary64 false; root = refl 
 finds-all : (o : Outline) (p : Point) → Finds (searchFrom o p searchStart) (nearestSegment o p)
 unfolding searchFrom nearestSegment
 finds-all o p =
-    forUp-related Finds (length (o .lens)) (searchHole o p) (holeTurn o p) (searchLoop p (o .outer) searchStart) (nearestInLoop p (o .outer) nowhere)
-    (finds-loop p (o .outer) searchStart nowhere finds-start)
-    (λ k s n f. finds-loop p (holeAt o k) s n f)
+    forUp-related Finds (length (o .lens)) (searchHole o p) (holeTurn o p) (searchLoop p (o .outer) 0 searchStart) (nearestInLoop p (o .outer) 0 nowhere)
+    (finds-loop p (o .outer) 0 searchStart nowhere finds-start)
+    (λ k s n f. finds-loop p (holeAt o k) (suc k) s n f)
 
 -- both searches find the same segment, bit for bit
 pub search-same : (o : Outline) (p : Point) → searchFrom o p searchStart .near ≡ nearestSegment o p

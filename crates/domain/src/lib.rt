@@ -15,11 +15,13 @@ pub struct Point {
     pub y: f64,
 }
 
-// A segment's ends and its distance.
+// A segment's ends and its distance; its loop, 0 for the outer one and k + 1 for hole k; and its place there, 0 for the segment from the loop's first point.
 pub struct Near {
     pub a: Point,
     pub b: Point,
     pub distance: f64,
+    pub loop_index: usize,
+    pub segment_index: usize,
 }
 
 // The nearest segment so far, and the square of its distance.
@@ -300,15 +302,28 @@ pub fn foot_of(p: Point, a: Point, b: Point) -> Point
 }
 
 // One segment of the search: the root is taken only where the square beats the best one's.
-pub fn search_segment(p: Point, a: Point, b: Point, best: Search) -> Search
-    ensures { λ r. ⌜ r ≡ searched p a b best ⌝ }
+pub fn search_segment(
+    p: Point,
+    a: Point,
+    b: Point,
+    loop_index: usize,
+    segment_index: usize,
+    best: Search,
+) -> Search
+    ensures { λ r. ⌜ r ≡ searched p a b «loop_index» «segment_index» best ⌝ }
 {
     let squared = squared_distance(p, foot_of(p, a, b));
     if squared < best.squared {
         let distance = numbers::sqrt_f64(squared);
         let found = best.near;
         if distance < found.distance {
-            let near = Near { a, b, distance };
+            let near = Near {
+                a,
+                b,
+                distance,
+                loop_index,
+                segment_index,
+            };
             return Search { near, squared };
         }
     }
@@ -324,6 +339,8 @@ pub fn search_start() -> Search
         a: origin,
         b: origin,
         distance: infinity,
+        loop_index: 0,
+        segment_index: 0,
     };
     Search {
         near,

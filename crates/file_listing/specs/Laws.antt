@@ -1,12 +1,14 @@
 -- Laws of what the program prints: `lists-whole` (what a buffer holds that has places for the listing), `read-listed` (the listing is that of what was
 -- read) and `start-decides` (of endless input the first 4,609 bytes decide). Assumes nothing.
 use mathlib.Core.Path.{_≡_, refl, sym, ap, _∙_, subst}
+use mathlib.Core.Bool.{false}
 use mathlib.Core.List.{List, []}
 use Prim.Native.Nat.{ℕ, zero, suc, _-_, _*_, _/_, _≤_}
 use native.Mathlib.Omega.{arith}
 use lib.ListN.{length, getD, take, drop, length-append, length-drop}
 use lib.Seq.{length-take-le}
 use lib.Ieee.{Float}
+use Rattle.laws.specs.Overlay.{overlay, overlay-length}
 use Rattle.laws.specs.Tabulate.{tabulate-length, tabulate-at}
 use Rattle.laws.specs.Sums.{sum-term}
 use Rattle.domain.specs.declared.Settings.{Settings}
@@ -18,12 +20,12 @@ use Rattle.outline_file.specs.declared.Head.{Head}
 use Rattle.outline_file.specs.declared.FileAnswer.{FileAnswer}
 use Rattle.outline_file.specs.declared.FileAnswer.the-variants.{Refused, Read}
 use Rattle.outline_file.specs.File.{blockAt, headLoops, headLength, headPoints, coordinateAt, filePoints, fileRefusal, Request, requestOf, outlineOf}
-use Rattle.outline_file.specs.File.{headOf, overlay, Reading, reading, readAs, readFile}
+use Rattle.outline_file.specs.File.{headOf, Reading, reading, readAs, readFile}
 use Rattle.outline_file.specs.ReadLaws.{accepted}
 use Rattle.outline_file.specs.Lent.{lent-outline}
 use Rattle.outline_file.specs.Enough.{enough}
 use Rattle.listing.specs.declared.Heading.{Heading}
-use Rattle.listing.specs.Listing.{refusedListing, listing}
+use Rattle.listing.specs.Listing.{heading, refusedListing, listing}
 use Rattle.listing.specs.Buffer.{Buffer, buffer, written}
 use Rattle.listing.specs.Fits.{listing-fits, written-front}
 use Rattle.file_listing.specs.Program.{programLent, headingOf, ranListing, outlineListing, programListing, Lists}
@@ -114,10 +116,6 @@ asked file e =
       loops = rw lengths (sound .few);
     }
 
-overlaid : {A : Type 0} (l s : List A) → length l ≤ length s → length (overlay l s) ≡ length s
-unfolding overlay
-overlaid l s h = omega (arith, length-append l (drop (length l) s), length-drop (length l) s)
-
 module _ (q : Request) (a : Asked q) (points : List Float) (lens : List ℕ) where
   held : length points ≡ 496 → length lens ≡ 8 → Held (overlay (q .coordinates) points) (overlay (q .lengths) lens) (headOf q)
   unfolding headOf
@@ -126,8 +124,8 @@ module _ (q : Request) (a : Asked q) (points : List Float) (lens : List ℕ) whe
     few = omega (arith, a .few);
     some = a .some;
     loops = a .loops;
-    point-places = overlaid (q .coordinates) points (omega (arith, a .few)) ∙ long;
-    lens-places = overlaid (q .lengths) lens (omega (arith, a .loops)) ∙ longs;
+    point-places = overlay-length (q .coordinates) points (omega (arith, a .few)) ∙ long;
+    lens-places = overlay-length (q .lengths) lens (omega (arith, a .loops)) ∙ longs;
   }
 
 -- ---- what was read
@@ -204,7 +202,7 @@ unfolding listing
 refused-listed {number} h e = lists-whole e (short number h)
   where
     none : Heading
-    none = record { nodes = 0; quads = 0; front = 0; end = 0; loops = 0 }
+    none = heading 0 0 0 0 false 0
 
     short : (number : ℕ) → (number ≡ 0 → ⊥) → length (refusedListing number) ≤ 117681
     short zero h = absurd (h refl)

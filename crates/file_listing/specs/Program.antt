@@ -12,7 +12,7 @@ use Rattle.run.specs.declared.Paved.{Paved}
 use Rattle.run.specs.Run.{Lent, lent, Ran, runAnswer}
 use Rattle.outline_file.specs.File.{outlineOf, fileRefusal, requestOf}
 use Rattle.listing.specs.declared.Heading.{Heading}
-use Rattle.listing.specs.Listing.{refusedListing, listing}
+use Rattle.listing.specs.Listing.{heading, refusedListing, listing}
 use Rattle.listing.specs.Buffer.{buffer, written}
 
 -- ---- what the program lends: 1,600 field nodes, 800 nodes, 800 quads, 2,400 edges
@@ -35,7 +35,7 @@ programLent =
 -- of a run's answer what the first line says
 unfoldable pub headingOf : Paved → Heading
 headingOf r =
-    record { nodes = r .counts .nodes; quads = r .counts .quads; front = r .counts .front; end = r .end; loops = r .listed .count }
+    heading (r .counts .nodes) (r .counts .quads) (r .counts .front) (r .end) (r .whole) (r .listed .count)
 
 -- the listing of a run's answer, in the lists as the run leaves them
 unfoldable pub ranListing : Ran → List ℕ

@@ -19,6 +19,7 @@ fn heading(r: Paved) -> Heading
         quads: counts.quads,
         front: counts.front,
         end: r.end,
+        whole: r.whole,
         loops: listed.count,
     }
 }

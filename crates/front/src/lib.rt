@@ -142,18 +142,6 @@ fn put_corners(c: Corner, d: Corner, xs: &mut [f64], ys: &mut [f64], n: u32)
 
 // ---- the mesh edges
 
-pub fn smaller(u: u32, v: u32) -> u32
-    ensures { λ r. ⌜ r ≡ min u v ⌝ }
-{
-    if u < v { u } else { v }
-}
-
-pub fn larger(u: u32, v: u32) -> u32
-    ensures { λ r. ⌜ r ≡ max u v ⌝ }
-{
-    if u < v { v } else { u }
-}
-
 fn unless(known: bool) -> usize
     ensures { λ r. ⌜ (r ≡ unless known) × (r ≤ 1) ⌝ }
 {
@@ -175,8 +163,8 @@ fn put_edge(edges: &mut [u32], known: bool, n: usize, u: u32, v: u32)
     if known {
         return;
     }
-    let lo = smaller(u, v);
-    let hi = larger(u, v);
+    let lo = numbers::min_u32(u, v);
+    let hi = numbers::max_u32(u, v);
     edges[2 * n] = lo;
     edges[2 * n + 1] = hi;
 }

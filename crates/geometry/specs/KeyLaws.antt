@@ -47,7 +47,8 @@ apart-by : (a b : ℕ) (t : Bool) → ltb a b ≡ t → natAbs (cond t (negsuc (
 apart-by a b true e = let below = ltb-true a b e in omega arith
 apart-by a b false e = let above = ltb-false a b e in omega arith
 
-apart : (a b : ℕ) → natAbs (subℕ a b) ≡ (a - b) + (b - a)
+-- how far apart two whole numbers are
+pub apart : (a b : ℕ) → natAbs (subℕ a b) ≡ (a - b) + (b - a)
 apart a b = apart-by a b (ltb a b) refl
 
 pub gap-of : (k l : ℤ) → SFits w64 k → SFits w64 l → gap k l ≡ (offset k - offset l) + (offset l - offset k)

@@ -14,7 +14,7 @@ use Rattle.geometry.specs.declared.Key.{Key}
 use Rattle.geometry.specs.declared.Corners.{Corners}
 use Rattle.geometry.specs.Keys.{gap, atMost, lesser, greater, spansOf, rangesMeet, rectanglesMeet, nearKeys, between}
 use Rattle.geometry.specs.Keys.{keyOf, edgeBucket, spansKept, isTooClose, tooCloseAt, lowest, highest, isInBox, inBoxAt, isCandidate, candidateAt}
-use Rattle.geometry.specs.KeyLaws.{at-most}
+use Rattle.geometry.specs.KeyLaws.{at-most, apart}
 use Rattle.index.specs.Pool.{Within}
 use Rattle.index.specs.Rects.{shifted, rectOf, rectAt, rectAround, rectEmpty, nodeRect, edgeRect, Meets}
 
@@ -51,14 +51,6 @@ in-order (negsuc a) (negsuc b) e = let h = leb-true b a e in omega arith
 
 pub shifted-order : (k l : ℤ) → atMost k l ≡ true → shifted k ≤ shifted l
 shifted-order k l e = in-order k l (at-most k l ∙ e)
-
--- how far apart two whole numbers are
-apart : (a b : ℕ) → natAbs (subℕ a b) ≡ (a - b) + (b - a)
-apart a b = by (ltb a b) refl
-  where
-    by : (t : Bool) → ltb a b ≡ t → natAbs (cond t (negsuc (b - suc a)) (pos (a - b))) ≡ (a - b) + (b - a)
-    by true e = let below = ltb-true a b e in omega arith
-    by false e = let above = ltb-false a b e in omega arith
 
 pub shifted-near : (k l : ℤ) → (shifted k ≤ shifted l + gap k l) × (shifted l ≤ shifted k + gap k l)
 unfolding shifted

@@ -387,7 +387,7 @@ pub fn is_known_across(
         ys,
         edges,
         n,
-        front::smaller(v, u),
-        front::larger(v, u),
+        numbers::min_u32(v, u),
+        numbers::max_u32(v, u),
     )
 }

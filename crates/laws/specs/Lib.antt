@@ -3,6 +3,7 @@ pub mod Chain
 pub mod Examples
 pub mod Integer
 pub mod Loop
+pub mod Overlay
 pub mod Ring
 pub mod Sums
 pub mod Tabulate

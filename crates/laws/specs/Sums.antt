@@ -2,7 +2,7 @@
 use mathlib.Core.Path.{_≡_, refl, ap}
 use mathlib.Core.Bool.{Bool, false, _||_}
 use mathlib.Core.Logic.{⊎-elim}
-use Prim.Native.Nat.{ℕ, zero, suc, _+_, _<_, _≤_}
+use Prim.Native.Nat.{ℕ, zero, suc, _+_, _*_, _<_, _≤_}
 use native.Mathlib.Nat.{eq-or-lt-of-le, le-of-suc-le-suc}
 use native.Mathlib.Omega.{arith}
 use Rattle.laws.specs.Loop.{forUp, forUp-same, sumUp, anyUp, anyTurn}
@@ -32,6 +32,16 @@ module _ (f : ℕ → ℕ) where
   pub sum-least : ((i : ℕ) → 1 ≤ f i) → (n : ℕ) → n ≤ sumUp n f
   sum-least h zero = omega arith
   sum-least h (suc n) = omega (arith, sum-suc n, sum-least h n, h n)
+
+-- n terms of at most b
+pub sum-most : (n b : ℕ) (f : ℕ → ℕ) → ((k : ℕ) → f k ≤ b) → sumUp n f ≤ b * n
+sum-most zero b f h = omega (arith, sum-zero f)
+sum-most (suc n) b f h = omega (arith, sum-suc f n, sum-most n b f h, h n)
+
+-- terms that are at most those of another sum
+pub sum-below : (n : ℕ) (f g : ℕ → ℕ) → ((k : ℕ) → f k ≤ g k) → sumUp n f ≤ sumUp n g
+sum-below zero f g h = omega (arith, sum-zero f)
+sum-below (suc n) f g h = omega (arith, sum-suc f n, sum-suc g n, sum-below n f g h, h n)
 
 -- ---- searches
 

@@ -8,9 +8,9 @@ use native.Mathlib.Nat.{pow-suc}
 use native.Mathlib.Omega.{arith}
 use lib.Dec.{ltb}
 use lib.Ieee.{Float}
-use borrow.Author.Tests.{lt-ltb, le-ltb, ne-eqb}
+use borrow.Author.Tests.{lt-ltb, le-ltb}
 use Rattle.listing.specs.declared.Heading.{Heading}
-use Rattle.listing.specs.Listing.{decimalOf, decimal, hexOf, hexDigit, endWord, wholeWord, refusedListing, meshListing, listing}
+use Rattle.listing.specs.Listing.{decimalOf, decimal, hexOf, hexDigit, endWord, refusedListing, meshListing, listing}
 
 -- ---- digits
 
@@ -47,10 +47,6 @@ end-full zero h₀ h₁ h₂ = absurd (h₀ refl)
 end-full (suc zero) h₀ h₁ h₂ = absurd (h₁ refl)
 end-full (suc (suc zero)) h₀ h₁ h₂ = absurd (h₂ refl)
 end-full (suc (suc (suc n))) h₀ h₁ h₂ = refl
-
-pub word-open : (n : ℕ) → (n ≡ 0 → ⊥) → wholeWord n ≡ wholeWord 1
-unfolding wholeWord
-word-open n h = rw (ne-eqb n 0 h)
 
 -- ---- refused, or a mesh
 

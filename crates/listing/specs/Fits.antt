@@ -9,7 +9,6 @@ use lib.Dec.{ltb}
 use lib.Ieee.{Float, binary64, toBits}
 use lib.ListN.{length, take, drop, replicate, length-append, length-take, length-drop, length-replicate}
 use lib.Seq.{take-append-seam}
-use Rattle.topology.specs.LongLoops.{isWhole}
 use Rattle.listing.specs.declared.Heading.{Heading}
 use Rattle.listing.specs.Text.{ascii}
 use Rattle.listing.specs.Listing.{decimalOf, decimal, hexOf, hexDigit, hexBits, spaced, row, rows, nodeLine, nodeLines, quadLines, loopLines}
@@ -77,18 +76,15 @@ end-length (suc zero) = omega arith
 end-length (suc (suc zero)) = omega arith
 end-length (suc (suc (suc n))) = omega arith
 
-whole-length : (n : ℕ) → length (wholeWord n) ≤ 6
+whole-length : (whole : Bool) → length (wholeWord whole) ≤ 6
 unfolding wholeWord
-whole-length n = by (isWhole n)
-  where
-    by : (b : Bool) → length (cond b (ascii " whole") (ascii " open")) ≤ 6
-    by true = omega arith
-    by false = omega arith
+whole-length true = omega arith
+whole-length false = omega arith
 
 head-length : (h : Heading) → length (headLine h) ≤ 81
 unfolding headLine
 head-length h =
-    simp length-append (omega (arith, spaced-length (h .nodes ∷ h .quads ∷ h .front ∷ []), end-length (h .end), whole-length (h .loops)))
+    simp length-append (omega (arith, spaced-length (h .nodes ∷ h .quads ∷ h .front ∷ []), end-length (h .end), whole-length (h .whole)))
 
 -- ---- the listing
 

@@ -1,19 +1,18 @@
 -- The listing: the bytes that the program prints (document 01, "File and listing"), from what the run answers and the lists as it leaves
 -- them. Definitions only.
-use mathlib.Core.Bool.{cond}
+use mathlib.Core.Bool.{Bool, cond}
 use mathlib.Core.List.{List, [], _∷_, _++_}
 use Prim.Native.Nat.{ℕ, zero, suc, _+_, _-_, _/_, _%_, min}
 use Prim.Native.Char.{code}
 use lib.Dec.{ltb}
 use lib.ListN.{length, take, drop, replicate}
 use lib.Ieee.{Float, binary64, toBits}
-use Rattle.topology.specs.LongLoops.{isWhole}
 use Rattle.listing.specs.declared.Heading.{Heading}
 use Rattle.listing.specs.Text.{ascii}
 
--- what the first line says: of the run's answer its counts, its end's number, and how many loops are listed
-abbrev pub heading : ℕ → ℕ → ℕ → ℕ → ℕ → Heading
-heading nodes quads front end loops = record { nodes = nodes; quads = quads; front = front; end = end; loops = loops }
+-- what the first line says: of the run's answer its counts, its end's number, and whether it is whole; and how many loops are listed
+abbrev pub heading : ℕ → ℕ → ℕ → ℕ → Bool → ℕ → Heading
+heading nodes quads front end whole loops = record { nodes = nodes; quads = quads; front = front; end = end; whole = whole; loops = loops }
 
 -- ---- numbers
 
@@ -81,13 +80,13 @@ endWord (suc zero) = ascii " passes"
 endWord (suc (suc zero)) = ascii " cap"
 endWord (suc (suc (suc n))) = ascii " full"
 
--- whole or open, where so many loops are listed
-unfoldable pub wholeWord : ℕ → List ℕ
-wholeWord n = cond (isWhole n) (ascii " whole") (ascii " open")
+-- whole or open
+unfoldable pub wholeWord : Bool → List ℕ
+wholeWord whole = cond whole (ascii " whole") (ascii " open")
 
 -- the counts of nodes, quads and front edges, the end, whole or open
 unfoldable pub headLine : Heading → List ℕ
-headLine h = ascii "mesh" ++ spaced (h .nodes ∷ h .quads ∷ h .front ∷ []) ++ endWord (h .end) ++ wholeWord (h .loops) ++ ascii "\n"
+headLine h = ascii "mesh" ++ spaced (h .nodes ∷ h .quads ∷ h .front ∷ []) ++ endWord (h .end) ++ wholeWord (h .whole) ++ ascii "\n"
 
 -- ---- the listing
 

@@ -10,12 +10,13 @@ ghost use Rattle.listing.specs.Buffer.{buffer, Wrote, written};
 ghost use Rattle.listing.specs.Listing.{decimal, hexDigit, hexOf, spaced, row, nodeLine, nodeLines, quadLines, loopLines};
 ghost use Rattle.listing.specs.Listing.{endWord, wholeWord, headLine, refusedListing, meshListing, listing};
 
-// What the first line says of a mesh: `end` is the run's number, `loops` how many loops are listed.
+// What the first line says of a mesh, `end` by the run's number; and `loops`, how many loops are listed.
 pub struct Heading {
     pub nodes: u32,
     pub quads: usize,
     pub front: usize,
     pub end: u32,
+    pub whole: bool,
     pub loops: usize,
 }
 
@@ -199,10 +200,10 @@ fn put_end(out: &mut [u8], at: usize, end: u32) -> usize
     put_all(out, at, b" full")
 }
 
-fn put_whole(out: &mut [u8], at: usize, loops: usize) -> usize
-    ensures { λ r. ⌜ Wrote (wholeWord loops) (buffer (now (out .entry)) at) (buffer (now (out .exit)) r) ⌝ }
+fn put_whole(out: &mut [u8], at: usize, whole: bool) -> usize
+    ensures { λ r. ⌜ Wrote (wholeWord whole) (buffer (now (out .entry)) at) (buffer (now (out .exit)) r) ⌝ }
 {
-    if loops == 0 {
+    if whole {
         return put_all(out, at, b" whole");
     }
     put_all(out, at, b" open")
@@ -216,7 +217,7 @@ fn put_heading(out: &mut [u8], at: usize, h: Heading) -> usize
     let third = put_number(out, second, h.quads);
     let fourth = put_number(out, third, h.front);
     let fifth = put_end(out, fourth, h.end);
-    let last = put_whole(out, fifth, h.loops);
+    let last = put_whole(out, fifth, h.whole);
     put(out, last, b'\n')
 }
 

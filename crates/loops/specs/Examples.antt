@@ -6,10 +6,11 @@ use Rattle.topology.specs.Links.{off, linkOf}
 use Rattle.topology.specs.Walk.{walkBy, prepend}
 use Rattle.topology.specs.Listing.{listing, addLoop}
 use Rattle.laws.specs.Loop.{forUp}
+use Rattle.laws.specs.Overlay.{overlay}
 use Rattle.laws.specs.Tabulate.{tabulate}
 use mathlib.Core.List.{flatten}
 use Rattle.front.specs.State as state
-use Rattle.loops.specs.Listed.{lists, counted, overlay, loopsIn, frontMark, written, listedIn}
+use Rattle.loops.specs.Listed.{lists, counted, loopsIn, frontMark, written, listedIn}
 
 -- Seven nodes: 0 and 6 make a loop of two, 1, 4, 2 and 5 one of four, and 3 is off the front. The eighth place is no node's.
 pub one-of-two : listedIn (state.counted 7 0 0 6) (6 ∷ 4 ∷ 5 ∷ off ∷ 2 ∷ 1 ∷ 0 ∷ 1 ∷ [])

@@ -1,10 +1,11 @@
 -- What `front_loops` leaves in the lists lent to it, and what it answers. Definitions only.
 use mathlib.Core.Bool.{cond}
-use mathlib.Core.List.{List, _++_, map, flatten}
+use mathlib.Core.List.{List, map, flatten}
 use mathlib.Core.Path.{_≡_}
 use Prim.Native.Nat.{ℕ, _≤_}
 use lib.Dec.{eqb}
-use lib.ListN.{length, drop}
+use lib.ListN.{length}
+use Rattle.laws.specs.Overlay.{overlay}
 use Rattle.laws.specs.Tabulate.{tabulate}
 use Rattle.topology.specs.Sums.{frontSum, one}
 use Rattle.topology.specs.Links.{off, linkOf}
@@ -26,10 +27,6 @@ lists marks loops lengths listed = record { marks = marks; loops = loops; length
 -- so many loops, with so many ids in all of them
 abbrev pub counted : ℕ → ℕ → Listed
 counted count ids = record { count = count; ids = ids }
-
--- l on the first places of s; the others keep their contents
-unfoldable pub overlay : List ℕ → List ℕ → List ℕ
-overlay l s = l ++ drop (length l) s
 
 -- `front_loops`, from the counts and the links alone
 unfoldable pub loopsIn : Counts → List ℕ → List (List ℕ)

@@ -1,100 +1,35 @@
 -- `front_loops` from its parts: the marks cleared, then every node visited.
 use mathlib.Core.Bool.{Bool, true, false, cond}
-use mathlib.Core.List.{List, _++_}
+use mathlib.Core.List.{List}
 use mathlib.Core.Path.{_≡_, refl, sym, _∙_, ap, subst, fun-ext}
 use Prim.Native.Nat.{ℕ, suc, zero, _+_, _-_, _<_, _≤_}
 use native.Mathlib.Nat.{le-antisymm}
 use native.Mathlib.Omega.{arith}
 use lib.Dec.{eqb, ltb}
-use lib.ListN.{length, getD, set, take, drop, replicate, length-append, length-drop, length-replicate, getD-replicate, List·getD-append}
-use lib.Seq.{ext-getD, getD-append-add, getD-take, length-take-le}
-use borrow.Author.Fill.{fill-none, fill-more}
+use lib.ListN.{length, getD, take}
+use lib.Seq.{ext-getD, getD-take, length-take-le}
 use borrow.Author.Tests.{eqb-true, eqb-false, ltb-true, ltb-false}
 use Rattle.laws.specs.Loop.{forUp}
-use Rattle.laws.specs.Tabulate.{tabulate, tabulate-length, tabulate-at}
+use Rattle.laws.specs.Overlay.{overlay, filled-length, filled-at, filled-past}
+use Rattle.laws.specs.Tabulate.{tabulate}
 use Rattle.topology.specs.Sums.{total, front-one, total-ext}
 use Rattle.topology.specs.Links.{off, linkOf, link-in, link-out}
 use Rattle.topology.specs.Front.{Loops, target}
 use Rattle.topology.specs.Walk.{walkBy, count, nodes, cycles, link-count}
 use Rattle.topology.specs.Listing.{walks, ifListed, walks-list, walks-total}
 use Rattle.topology.specs.Pigeonhole.{ids-most}
-use Rattle.topology.specs.LongLoops.{isWhole}
 use Rattle.front.specs.State.{State, nextOf, nodePlaces}
 use Rattle.front.specs.Sound.{Sound}
 use Rattle.front.specs.declared.Counts.{Counts}
-use Rattle.paving.specs.Loops.{frontLoops, whole}
-use Rattle.loops.specs.Listed.{Lists, lists, counted, overlay, loopsIn, frontMark, written, listedIn, Listable}
+use Rattle.paving.specs.Loops.{frontLoops}
+use Rattle.loops.specs.Listed.{Lists, lists, counted, loopsIn, frontMark, written, listedIn, Listable}
 use Rattle.loops.specs.Walked.{linksIn}
 use Rattle.loops.specs.Found.{count-turn, listed-count, on-loop}
 use Rattle.loops.specs.Visits.{visit, visitAll, marksAfter, after-length, after-at, visits-written, Startable}
 
 -- the marks of the first n nodes cleared
-unfoldable pub cleared : ℕ → List ℕ → List ℕ
-cleared n marks = replicate n 0 ++ drop n marks
-
--- ---- a list of n places, and what stands past them
-
-past : (l s : List ℕ) (v : ℕ) → length l ≤ v → getD (l ++ s) v 0 ≡ getD s (v - length l) 0
-past l s v h =
-    let e : v ≡ length l + (v - length l) = omega arith in
-    ap (λ (i : ℕ). getD (l ++ s) i 0) e ∙ getD-append-add l s (v - length l) 0
-
-module _ (n : ℕ) (marks : List ℕ) (fits : n ≤ length marks) where
-  pub cleared-length : length (cleared n marks) ≡ length marks
-  unfolding cleared
-  cleared-length = omega (arith, length-append (replicate n 0) (drop n marks), length-replicate {A = ℕ} n 0, length-drop n marks)
-
-  pub cleared-at : (v : ℕ) → v < n → getD (cleared n marks) v 0 ≡ 0
-  unfolding cleared
-  cleared-at v h =
-      List·getD-append (replicate n 0) (drop n marks) 0 v (omega (arith, length-replicate {A = ℕ} n 0)) ∙ getD-replicate n v 0 0 h
-
-  cleared-past : (v : ℕ) → n ≤ v → getD (cleared n marks) v 0 ≡ getD (drop n marks) (v - n) 0
-  unfolding cleared
-  cleared-past v h =
-      past (replicate n 0) (drop n marks) v (omega (arith, length-replicate {A = ℕ} n 0))
-      ∙ ap (λ (k : ℕ). getD (drop n marks) (v - k) 0) (length-replicate {A = ℕ} n 0)
-
-  module _ (f : ℕ → ℕ) where
-    shown-length : length (overlay (tabulate n f) marks) ≡ length marks
-    unfolding overlay
-    shown-length =
-        let e = tabulate-length n f in
-        omega (arith, length-append (tabulate n f) (drop (length (tabulate n f)) marks), e, length-drop (length (tabulate n f)) marks)
-
-    shown-at : (v : ℕ) → v < n → getD (overlay (tabulate n f) marks) v 0 ≡ f v
-    unfolding overlay
-    shown-at v h =
-        List·getD-append (tabulate n f) (drop (length (tabulate n f)) marks) 0 v (omega (arith, tabulate-length n f)) ∙ tabulate-at n f v 0 h
-
-    shown-past : (v : ℕ) → n ≤ v → getD (overlay (tabulate n f) marks) v 0 ≡ getD (drop n marks) (v - n) 0
-    unfolding overlay
-    shown-past v h =
-        past (tabulate n f) (drop (length (tabulate n f)) marks) v (omega (arith, tabulate-length n f))
-        ∙ ap (λ (k : ℕ). getD (drop k marks) (v - k) 0) (tabulate-length n f)
-
--- ---- clearing them
-
--- the invariant of `clear_marks`
-pub record Clearing (n : ℕ) (marks₀ marks : List ℕ) (i : ℕ) : Type 0 where
-  pub within : i ≤ n
-  pub same : marks ≡ cleared i marks₀
-
-pub clear-start : (n : ℕ) (marks : List ℕ) → Clearing n marks marks 0
-unfolding cleared
-clear-start n marks = record { within = omega arith; same = fill-none marks 0 }
-
-module _ {n : ℕ} {marks₀ marks : List ℕ} {i : ℕ} (c : Clearing n marks₀ marks i) (fits : n ≤ length marks₀) where
-  pub clear-length : length marks ≡ length marks₀
-  clear-length = ap length (c .same) ∙ cleared-length i marks₀ (omega (arith, c .within))
-
-  pub clear-next : i < n → Clearing n marks₀ (set marks i 0) (i + 1)
-  unfolding cleared
-  clear-next h =
-      record { within = omega arith; same = ap (λ (s : List ℕ). set s i 0) (c .same) ∙ fill-more i 0 marks₀ (omega arith) }
-
-  pub clear-end : n ≤ i → marks ≡ cleared n marks₀
-  clear-end h = c .same ∙ ap (λ (k : ℕ). cleared k marks₀) (le-antisymm (c .within) h)
+abbrev pub cleared : ℕ → List ℕ → List ℕ
+cleared n marks = overlay (tabulate n (λ _. 0)) marks
 
 -- ---- the marks at the end
 
@@ -129,12 +64,12 @@ module _ (n : ℕ) (f : ℕ → ℕ) (ls : List (List ℕ)) (L : Loops n f ls) w
 
   module _ (marks : List ℕ) (fits : n ≤ length marks) where
     clear-fits : n ≤ length (cleared n marks)
-    clear-fits = omega (arith, cleared-length n marks fits)
+    clear-fits = omega (arith, filled-length (λ _. 0) marks n fits)
 
     marks-end : marksAfter (λ u. walkBy f n u u) n (cleared n marks) ≡ overlay (tabulate n (frontMark f)) marks
     marks-end =
         ext-getD 0 (marksAfter (λ u. walkBy f n u u) n (cleared n marks)) (overlay (tabulate n (frontMark f)) marks)
-        (after-length n f ls L n few (cleared n marks) clear-fits n ∙ (cleared-length n marks fits ∙ sym (shown-length n marks fits (frontMark f))))
+        (after-length n f ls L n few (cleared n marks) clear-fits n ∙ (filled-length _ marks n fits ∙ sym (filled-length (frontMark f) marks n fits)))
         (λ v h. by v (ltb v n) refl)
       where
         mark : (v : ℕ) → getD (marksAfter (λ u. walkBy f n u u) n (cleared n marks)) v 0
@@ -149,12 +84,12 @@ module _ (n : ℕ) (f : ℕ → ℕ) (ls : List (List ℕ)) (L : Loops n f ls) w
             let h = ltb-true v n e in
             mark v
             ∙ (
-            ap (λ (d : ℕ). cond (ltb 0 (total (count v) ls)) 1 d) (cleared-at n marks fits v h)
-            ∙ (front-mark v ∙ sym (shown-at n marks fits (frontMark f) v h))
+            ap (λ (d : ℕ). cond (ltb 0 (total (count v) ls)) 1 d) (filled-at _ marks n 0 v h)
+            ∙ (front-mark v ∙ sym (filled-at (frontMark f) marks n 0 v h))
             )
         by v false e =
             let h = ltb-false v n e in
-            mark v ∙ (rw (none-past v h) (cleared-past n marks fits v h ∙ sym (shown-past n marks fits (frontMark f) v h)))
+            mark v ∙ (rw (none-past v h) (filled-past _ marks n 0 v h ∙ sym (filled-past (frontMark f) marks n 0 v h)))
 
     -- all nodes visited
     visits-end : (loops lengths : List ℕ) → n ≤ length loops → length ls ≤ length lengths
@@ -188,10 +123,10 @@ module _ {k : Counts} {next marks loops lengths : List ℕ} (p : Listable k next
         front = p .front;
         links = subst (λ (m : ℕ). Loops m (linksIn (take n next)) (p .front)) (sym long)
             (subst (λ (f : ℕ → ℕ). Loops n f (p .front)) (sym same-links) (p .links));
-        marks-fit = omega (arith, long, cleared-length n marks (p .marks-fit), p .marks-fit);
+        marks-fit = omega (arith, long, filled-length (λ _. 0) marks n (p .marks-fit), p .marks-fit);
         loops-fit = omega (arith, long, p .loops-fit);
         lengths-fit = p .lengths-fit;
-        clear = λ v h. cleared-at n marks (p .marks-fit) v (omega (arith, long, h));
+        clear = λ v h. filled-at _ marks n 0 v (omega (arith, long, h));
       }
 
   -- all nodes visited: that is what is to be listed
@@ -230,12 +165,6 @@ pub listed-front : (s : State) (marks loops lengths : List ℕ)
     ≡ written (overlay (tabulate (s .counts .nodes) (frontMark (nextOf s))) marks) loops lengths (frontLoops s)
 unfolding listedIn loopsIn frontLoops
 listed-front s marks loops lengths = refl
-
--- whole, by the count
-pub listed-whole : (s : State) (marks loops lengths : List ℕ)
-    → whole s ≡ isWhole (listedIn (s .counts) (s .next) marks loops lengths .listed .count)
-unfolding listedIn loopsIn written frontLoops whole
-listed-whole s marks loops lengths = refl
 
 -- a sound state may be listed into lists with a place for each node, and one for each loop
 pub sound-listable : (n : ℕ) (s : State) (ls : List (List ℕ)) → Sound n s ls → (loops lengths : List ℕ)

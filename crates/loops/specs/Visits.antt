@@ -10,6 +10,7 @@ use lib.ListN.{length, getD, set, drop, length-append, length-set, length-map, l
 use lib.Seq.{sets, sets-eq, length-sets, take-append-seam, drop-append-add, drop-drop, getD-set-same, getD-set-other}
 use borrow.Author.Tests.{eqb-true, eqb-false, ltb-true, ltb-false, lt-ltb, le-ltb, le-leb}
 use Rattle.laws.specs.Loop.{forUp, forUp-keeps, Loop, loop-start, loop-next, loop-end}
+use Rattle.laws.specs.Overlay.{overlay, overlay-length, overlay-more}
 use Rattle.topology.specs.Sums.{total}
 use Rattle.topology.specs.Links.{off, delta, delta-same, delta-other}
 use Rattle.topology.specs.Front.{Loops, no-self}
@@ -17,7 +18,7 @@ use Rattle.topology.specs.Walk.{walkBy, count, once, walk-off}
 use Rattle.topology.specs.Listing.{listing, walks, addLoop, total-one}
 use Rattle.topology.specs.Pigeonhole.{ids-most}
 use Rattle.loops.specs.declared.Listed.{Listed}
-use Rattle.loops.specs.Listed.{Lists, lists, counted, overlay, written}
+use Rattle.loops.specs.Listed.{Lists, lists, counted, written}
 use Rattle.loops.specs.Walked.{linksIn, walkIn, markAll, mark-length, walk-on, walk-last, walk-more, walk-length, entry-read, link-node}
 use Rattle.loops.specs.Walked.{Walkable, Walked}
 use Rattle.loops.specs.Found.{found-ids, found-number, found-more, found-reached, walk-nodes, on-loop, found-long, starts, counts-some}
@@ -150,21 +151,6 @@ flatten-length (m ∷ ms) = omega (arith, length-append m (flatten ms), flatten-
 map-more : (ms : List (List ℕ)) (l : List ℕ) → map length (ms ++ l ∷ []) ≡ map length ms ++ length l ∷ []
 map-more [] l = refl
 map-more (m ∷ ms) l = ap (λ (t : List ℕ). length m ∷ t) (map-more ms l)
-
--- l written after a
-overlay-more : (a l s : List ℕ) (i : ℕ) → length a ≡ i → i + length l ≤ length s → sets (overlay a s) i l ≡ overlay (a ++ l) s
-unfolding overlay
-overlay-more a l s i e h =
-    let t = a ++ drop (length a) s in
-    let fits : i + length l ≤ length t = omega (arith, e, length-append a (drop (length a) s), length-drop (length a) s) in
-    let rest : drop (length a + length l) t ≡ drop (length (a ++ l)) s =
-    drop-append-add a (drop (length a) s) (length l)
-    ∙ (drop-drop (length l) (length a) s ∙ ap (λ (k : ℕ). drop k s) (sym (length-append a l))) in
-    sets-eq l t i fits ∙ rw (← e) (ap₂ (λ (p q : List ℕ). (p ++ l) ++ q) (take-append-seam a (drop (length a) s)) rest)
-
-overlay-length : (l s : List ℕ) → length l ≤ length s → length (overlay l s) ≡ length s
-unfolding overlay
-overlay-length l s h = omega (arith, length-append l (drop (length l) s), length-drop (length l) s)
 
 visited-written : (l : List ℕ) (ms : List (List ℕ)) (marks loops lengths : List ℕ) → total length (addLoop 3 l ms) ≤ length loops
     → length (addLoop 3 l ms) ≤ length lengths

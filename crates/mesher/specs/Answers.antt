@@ -1,10 +1,8 @@
 -- The answers as they cross to the host: document 01's number and the values, for each case of an answer. Definitions only.
 -- The number 0 says that nothing is refused; the values of a refusal are false or 0.0.
-use mathlib.Core.Bool.{Bool, false, _&&_}
 use mathlib.Core.List.{List}
 use mathlib.Core.Path.{_≡_}
 use Prim.Native.Nat.{ℕ}
-use lib.Dec.{eqb}
 use lib.Ieee.{Float}
 use Rattle.numbers.specs.Float.{zeroF}
 use Rattle.direction.specs.declared.Grid.{Grid}
@@ -17,7 +15,6 @@ use Rattle.crossfield.specs.Field.{FieldResult}
 use Rattle.domain.specs.declared.Settings.{Settings}
 use Rattle.domain.specs.Outline.{Outline}
 use Rattle.front.specs.State.{State, stateOf, counted}
-use Rattle.topology.specs.LongLoops.{isWhole}
 use Rattle.books.specs.Holds.{BooksAnswered}
 use Rattle.run.specs.declared.Paved.{Paved}
 use Rattle.run.specs.Run.{Lent, Ran, runAnswer}
@@ -58,7 +55,7 @@ paveNumbers p =
     record {
       refusal = p .refusal;
       end = p .end;
-      whole = eqb (p .refusal) 0 && isWhole (p .listed .count);
+      whole = p .whole;
       xmin = p .grid .xmin;
       ymin = p .grid .ymin;
       h = p .grid .h;

@@ -1,9 +1,6 @@
 // The public entries of the field, the direction query and the run: what a host calls, on numbers and slices. None has a `requires`, and of what is lent
 // only the lists lent as `&mut` are written.
 ghost use mathlib.Core.Path.{_≡_};
-ghost use mathlib.Core.Bool.{_&&_};
-ghost use lib.Dec.{eqb};
-ghost use Rattle.topology.specs.LongLoops.{isWhole};
 ghost use Rattle.domain.specs.Outline.{outline, point};
 ghost use Rattle.direction.specs.Record.{fieldLists, fieldRecord};
 ghost use Rattle.direction.specs.Direction.{directionAnswer};
@@ -143,24 +140,13 @@ pub extern "C" fn sitjorbe_direction(
     }
 }
 
-// Whether nothing is refused and no loop is listed.
-fn is_whole(refusal: u32, loops: usize) -> bool
-    ensures { λ r. ⌜ r ≡ (eqb refusal 0 && isWhole loops) ⌝ }
-{
-    if refusal != 0 {
-        return false;
-    }
-    loops == 0
-}
-
 fn pave_numbers(paved: Paved) -> PaveAnswer
     ensures { λ r. ⌜ r ≡ paveNumbers paved ⌝ }
 {
-    let whole = is_whole(paved.refusal, paved.listed.count);
     PaveAnswer {
         refusal: paved.refusal,
         end: paved.end,
-        whole,
+        whole: paved.whole,
         xmin: paved.grid.xmin,
         ymin: paved.grid.ymin,
         h: paved.grid.h,

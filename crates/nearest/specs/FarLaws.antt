@@ -2,9 +2,9 @@
 -- sides, since rounding keeps the order (crate exact); so each gap is no larger than that coordinate's difference. `far-same`: a segment in a box that is
 -- farther than the best so far isn't taken. Assumes nothing.
 use mathlib.Core.Bool.{Bool, true, false, cond}
-use mathlib.Core.List.{[], _∷_}
+use mathlib.Core.List.{List, [], _∷_}
 use mathlib.Core.Path.{_≡_, refl, sym, subst}
-use Prim.Native.Nat.{ℕ, _*_, _≤_, zero-le}
+use Prim.Native.Nat.{ℕ, _*_, _≤_, _<_, zero-le}
 use native.Mathlib.Nat.{le-trans}
 use borrow.Author.Tests.{not-true}
 use lib.Dec.{T, leb→le}
@@ -22,13 +22,14 @@ use Rattle.exact.specs.Keeps.{le-within, le-through, sub-turns, add-within, sub
 use Rattle.exact.specs.Part.{ZeroToOne, part-within, part-most, part-least, foot-part}
 use Rattle.domain.specs.declared.Point.{Point}
 use Rattle.domain.specs.declared.Search.{Search}
-use Rattle.domain.specs.Accepted.{PointFits, PointWithin}
+use Rattle.domain.specs.Outline.{points, pointAt, pointAfter}
+use Rattle.domain.specs.Accepted.{AllFit, PointFits, PointWithin, LoopWithin, after-within}
 use Rattle.domain.specs.Queries.{squaredDistance, footOf}
 use Rattle.domain.specs.Search.{searched}
 use Rattle.blocks.specs.declared.Extent.{Extent}
 use Rattle.blocks.specs.Blocks.{reachOf, isFarther, ExtentWithin, Covers}
 use Rattle.blocks.specs.OrderLaws.{lt-cut}
-use Rattle.blocks.specs.ReachLaws.{within-number, le-of-lt-true, le-of-lt-false, lt-false-of-le, min-fits, max-fits}
+use Rattle.blocks.specs.ReachLaws.{point-fits, after-fits, within-number, le-of-lt-true, le-of-lt-false, lt-false-of-le, min-fits, max-fits}
 use Rattle.blocks.specs.ReachLaws.{Highest, Lowest, reach-0, reach-1, reach-2, reach-3}
 use Rattle.nearest.specs.Far.{moderateBound, ModeratePoint, spanGap, extentSquared, isFar}
 
@@ -40,8 +41,8 @@ either-way P false h k = k refl
 -- ---- a part of the way lies where the segment reaches
 
 -- q lies from lo to hi
-record Lies (lo hi q : Float) : Type 0 where
-  within : Within 18002 q
+pub record Lies (lo hi q : Float) : Type 0 where
+  pub within : Within 18002 q
   least : T (le lo q)
   most : T (le q hi)
 
@@ -67,10 +68,13 @@ pub record EndsWithin (a b : Point) : Type 0 where
   pub a-within : PointWithin 1000 1000 a
   pub b-within : PointWithin 1000 1000 b
 
+pub segment-ends : (s : List Float) → AllFit s → LoopWithin s → (i : ℕ) → i < points s → EndsWithin (pointAt s i) (pointAfter s i)
+segment-ends s f w i l = record { a-fits = point-fits s f i l; b-fits = after-fits s f i l; a-within = w i l; b-within = after-within s w i l }
+
 -- the point of the segment next to p lies where the segment reaches
-record FootLies (a b q : Point) : Type 0 where
-  x : Lies (reachOf 0 a b) (reachOf 1 a b) (q .x)
-  y : Lies (reachOf 2 a b) (reachOf 3 a b) (q .y)
+pub record FootLies (a b q : Point) : Type 0 where
+  pub x : Lies (reachOf 0 a b) (reachOf 1 a b) (q .x)
+  pub y : Lies (reachOf 2 a b) (reachOf 3 a b) (q .y)
 
 module _ (p a b : Point) (m : ModeratePoint p) (e : EndsWithin a b) where
   abbrev A : PointWithin 1000 1000 a
@@ -85,7 +89,7 @@ module _ (p a b : Point) (m : ModeratePoint p) (e : EndsWithin a b) where
   most-fits : (u v : Float) → T (fits binary64 u) → T (fits binary64 v) → T (fits binary64 (maxF (maxF u v) (u ⊕ (v ⊖ u))))
   most-fits u v f g = max-fits _ _ (max-fits u v f g) (add-fits binary64 u (v ⊖ u))
 
-  foot-lies : FootLies a b (footOf p a b)
+  pub foot-lies : FootLies a b (footOf p a b)
   unfolding footOf reachOf
   foot-lies =
       let fx = least-fits (a .x) (b .x) (e .a-fits .x) (e .b-fits .x) in
@@ -216,14 +220,14 @@ module _ (p a b : Point) (e : Extent) (m : ModeratePoint p) (s : EndsWithin a b)
       let far = add-within tt tt (square-within tt (x .large)) (square-within tt (y .large)) in
       (within-number _ near, lt-false-of-le far near far-squared)
 
-  pub far-same : (best : Search) → isFar p e (best .squared) ≡ true → searched p a b best ≡ best
+  pub far-same : (k i : ℕ) (best : Search) → isFar p e (best .squared) ≡ true → searched p a b k i best ≡ best
   unfolding isFar searched
-  far-same best h = rw (decide (lt y (best .squared)) refl) refl
+  far-same k i best h = rw (decide (lt y (best .squared)) refl) refl
     where
       y : Float
       y = squaredDistance p (footOf p a b)
 
       decide : (t : Bool) → lt y (best .squared) ≡ t → t ≡ false
-      decide true k =
-          absurd (subst T (not-nearer .1) (lt-cut y (best .squared) (extentSquared p e) (not-nearer .0) (rw k tt) (not-true _ h)))
-      decide false k = refl
+      decide true g =
+          absurd (subst T (not-nearer .1) (lt-cut y (best .squared) (extentSquared p e) (not-nearer .0) (rw g tt) (not-true _ h)))
+      decide false g = refl

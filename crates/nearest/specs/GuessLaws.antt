@@ -4,6 +4,7 @@ use mathlib.Core.Bool.{Bool, true, false, _&&_, cond}
 use mathlib.Core.List.{List}
 use mathlib.Core.Logic.{_⊎_, inl, inr}
 use mathlib.Core.Path.{_≡_, refl, ap, _∙_, subst}
+use Prim.Native.Nat.{ℕ, suc}
 use lib.Dec.{T}
 use lib.ListN.{length}
 use lib.Ieee.{Float, nan, inf, fin, binary64, fits, isNan, lt}
@@ -61,10 +62,10 @@ record Misses (r : Float) (s : Search) : Type 0 where
 abbrev Guess : Float → Search → Near → Type 0
 Guess r s n = Finds s n ⊎ (Misses r s × Above r (n .distance))
 
-guess-segment : (r : Float) (p a b : Point) (s : Search) (n : Near) → Guess r s n → Guess r (searched p a b s) (nearer p a b n)
+guess-segment : (r : Float) (p a b : Point) (k i : ℕ) (s : Search) (n : Near) → Guess r s n → Guess r (searched p a b k i s) (nearer p a b k i n)
 unfolding searched nearer pointSegmentDistance squaredDistance
-guess-segment r p a b s n (inl f) = inl (finds-segment p a b s n f)
-guess-segment r p a b s n (inr (m, k)) = decide (lt d r) refl
+guess-segment r p a b k i s n (inl f) = inl (finds-segment p a b k i s n f)
+guess-segment r p a b k i s n (inr (m, up)) = decide (lt d r) refl
   where
     y : Float
     y = squaredDistance p (footOf p a b)
@@ -76,37 +77,37 @@ guess-segment r p a b s n (inr (m, k)) = decide (lt d r) refl
     fy = add-fits binary64 _ _
 
     Next : Bool → Bool → Bool → Type 0
-    Next u v w = Guess r (cond (u && v) (search (near a b d) y) s) (cond w (near a b d) n)
+    Next u v w = Guess r (cond (u && v) (search (near a b d k i) y) s) (cond w (near a b d k i) n)
 
     decide : (t : Bool) → lt d r ≡ t → Next (lt y (s .squared)) (lt d (s .near .distance)) (lt d (n .distance))
     decide true e =
         let h : T (lt d r) = rw e tt in
         let u = is-true (lt y (s .squared)) (root-lt (s .squared) y (m .held) fy (m .squared d h)) in
         let v = is-true (lt d (s .near .distance)) (m .distance d h) in
-        let w = is-true (lt d (n .distance)) (k d h) in
+        let w = is-true (lt d (n .distance)) (up d h) in
         rw (u, v, w) (inl (record { same = refl; held = fy; root = refl }))
     decide false e =
         inr (
           either-way (Misses r) (lt y (s .squared) && lt d (s .near .distance))
-              (λ t. let up = above r d (s .near .distance) (both (lt y (s .squared)) _ t .1) e in record { held = fy; squared = up; distance = up })
+              (λ t. let over = above r d (s .near .distance) (both (lt y (s .squared)) _ t .1) e in record { held = fy; squared = over; distance = over })
               (λ t. m),
-          either-way (λ (z : Near). Above r (z .distance)) (lt d (n .distance)) (λ t. above r d (n .distance) t e) (λ t. k),
+          either-way (λ (z : Near). Above r (z .distance)) (lt d (n .distance)) (λ t. above r d (n .distance) t e) (λ t. up),
         )
 
 -- ---- the search
 
-guess-loop : (r : Float) (p : Point) (l : List Float) (s : Search) (n : Near) → Guess r s n → Guess r (searchLoop p l s) (nearestInLoop p l n)
+guess-loop : (r : Float) (p : Point) (l : List Float) (k : ℕ) (s : Search) (n : Near) → Guess r s n → Guess r (searchLoop p l k s) (nearestInLoop p l k n)
 unfolding searchLoop nearestInLoop
-guess-loop r p l s n g =
-    forUp-related (Guess r) (points l) (searchTurn p l) (segmentTurn p l) s n g
-    (λ i t m. guess-segment r p (pointAt l i) (pointAfter l i) t m)
+guess-loop r p l k s n g =
+    forUp-related (Guess r) (points l) (searchTurn p l k) (segmentTurn p l k) s n g
+    (λ i t m. guess-segment r p (pointAt l i) (pointAfter l i) k i t m)
 
 guess-all : (r : Float) (o : Outline) (p : Point) (s : Search) → Guess r s nowhere → Guess r (searchFrom o p s) (nearestSegment o p)
 unfolding searchFrom nearestSegment
 guess-all r o p s g =
-    forUp-related (Guess r) (length (o .lens)) (searchHole o p) (holeTurn o p) (searchLoop p (o .outer) s) (nearestInLoop p (o .outer) nowhere)
-    (guess-loop r p (o .outer) s nowhere g)
-    (λ k t n. guess-loop r p (holeAt o k) t n)
+    forUp-related (Guess r) (length (o .lens)) (searchHole o p) (holeTurn o p) (searchLoop p (o .outer) 0 s) (nearestInLoop p (o .outer) 0 nowhere)
+    (guess-loop r p (o .outer) 0 s nowhere g)
+    (λ k t n. guess-loop r p (holeAt o k) (suc k) t n)
 
 -- the search from any square finds what the plain one finds, where it ends below the square's root
 pub guess-same : (o : Outline) (p : Point) (limit : Float) → T (fits binary64 limit)

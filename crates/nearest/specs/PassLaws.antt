@@ -4,6 +4,7 @@ use mathlib.Core.Bool.{true, false}
 use mathlib.Core.List.{List}
 use mathlib.Core.Path.{_≡_, refl, ap, _∙_}
 use Prim.Native.Nat.{ℕ, _+_, _*_, _≤_, _<_}
+use native.Mathlib.Numerals.{add-one}
 use native.Mathlib.Omega.{arith}
 use borrow.Author.Tests.{ltb-true}
 use lib.Dec.{T, leb→le}
@@ -16,16 +17,15 @@ use Rattle.exact.specs.Units.{W, Val, signOf, sizeOf, val-of, abs-val, Within, 
 use Rattle.exact.specs.Order.{le-val}
 use Rattle.domain.specs.declared.Point.{Point}
 use Rattle.domain.specs.declared.Search.{Search}
-use Rattle.domain.specs.Outline.{Outline, loopAt, points, pointAt, pointAfter}
-use Rattle.domain.specs.OutlineLaws.{outer-points}
-use Rattle.domain.specs.Accepted.{after-within}
+use Rattle.domain.specs.Outline.{Outline, holeAt, loopAt, points, pointAt, pointAfter}
+use Rattle.domain.specs.OutlineLaws.{outer-points, hole-points}
 use Rattle.domain.specs.Search.{searchTurn, searchLoop, searchHole, searchFrom}
 use Rattle.blocks.specs.Blocks.{blockEnd, isListed, BlockThere, LoopDrawn, blockExtent}
 use Rattle.blocks.specs.BetweenLaws.{BlockPlace}
 use Rattle.blocks.specs.BlockLaws.{block-there, block-covers, block-filed}
-use Rattle.blocks.specs.ReachLaws.{point-fits, after-fits, block-within}
+use Rattle.blocks.specs.ReachLaws.{block-within}
 use Rattle.nearest.specs.Far.{moderateBound, ModeratePoint, isFar, isPassed}
-use Rattle.nearest.specs.FarLaws.{EndsWithin, far-same}
+use Rattle.nearest.specs.FarLaws.{segment-ends, far-same}
 
 -- ---- a coordinate of the point
 
@@ -57,30 +57,28 @@ module _ {s : List Float} {blocks : List ℕ} {first from b : ℕ} (d : LoopDraw
   pub place-there : 4 * b + 3 < length blocks → BlockThere s blocks b
   place-there l = block-there (block-filed (d .filed) place h l) l
 
-  ends : (i : ℕ) → i < points s → EndsWithin (pointAt s i) (pointAfter s i)
-  ends i l = record {
-    a-fits = point-fits s (d .fits) i l;
-    b-fits = after-fits s (d .fits) i l;
-    a-within = d .within i l;
-    b-within = after-within s (d .within) i l;
-  }
-
   -- a block that is passed over has no segment to take
-  pub passed-same : (p : Point) (best : Search) → (0 < length blocks → ModeratePoint p) → isPassed p s blocks b (best .squared) ≡ true
-      → (i : ℕ) → from ≤ i → i < blockEnd (points s) from → searchTurn p s i best ≡ best
+  pub passed-same : (p : Point) (k : ℕ) (best : Search) → (0 < length blocks → ModeratePoint p) → isPassed p s blocks b (best .squared) ≡ true
+      → (i : ℕ) → from ≤ i → i < blockEnd (points s) from → searchTurn p s k i best ≡ best
   unfolding isPassed
-  passed-same p best m e i g l =
+  passed-same p k best m e i g l =
       let t = both (isListed blocks b) (isFar p (blockExtent s blocks b) (best .squared)) e in
       let listed = ltb-true (4 * b + 3) (length blocks) (t .0) in
       let filed = block-filed (d .filed) place h listed in
       let there = block-there filed listed in
-      far-same p (pointAt s i) (pointAfter s i) (blockExtent s blocks b) (m (omega arith)) (ends i (omega arith)) (block-within s (d .within) there)
-      (block-covers filed i g l) best (t .1)
+      far-same p (pointAt s i) (pointAfter s i) (blockExtent s blocks b) (m (omega arith)) (segment-ends s (d .fits) (d .within) i (omega arith)) (block-within s (d .within) there)
+      (block-covers filed i g l) k i best (t .1)
 
 -- ---- the loops of an outline
 
+-- the search over hole k, loop k + 1
+pub searched-hole : (o : Outline) (p : Point) (k : ℕ) (best : Search) {s : List Float} {found : Search} → s ≡ loopAt o (k + 1)
+    → found ≡ searchLoop p s (k + 1) best → found ≡ searchHole o p k best
+searched-hole o p k best e f =
+    f ∙ ap (λ (s : List Float). searchLoop p s (k + 1) best) (hole-points o k e) ∙ ap (λ (j : ℕ). searchLoop p (holeAt o k) j best) (add-one k)
+
 -- the search over the outer loop, and then over the holes
-pub searched-all : (o : Outline) (p : Point) (best : Search) {s : List Float} {first found : Search} → s ≡ loopAt o 0 → first ≡ searchLoop p s best
+pub searched-all : (o : Outline) (p : Point) (best : Search) {s : List Float} {first found : Search} → s ≡ loopAt o 0 → first ≡ searchLoop p s 0 best
     → found ≡ forUp (length (o .lens)) (searchHole o p) first → found ≡ searchFrom o p best
 unfolding searchFrom
-searched-all o p best e f g = g ∙ ap (forUp (length (o .lens)) (searchHole o p)) (f ∙ ap (λ (s : List Float). searchLoop p s best) (outer-points o e))
+searched-all o p best e f g = g ∙ ap (forUp (length (o .lens)) (searchHole o p)) (f ∙ ap (λ (s : List Float). searchLoop p s 0 best) (outer-points o e))

@@ -70,25 +70,39 @@ fn is_passed(p: Point, s: &[f64], blocks: &[u32], b: usize, squared: f64) -> boo
     }
 }
 
-// The search over the segments `from` up to `to`. To ask each one's box first would take longer than the division that it spares.
-fn search_part(p: Point, s: &[f64], from: usize, to: usize, best: Search) -> Search
+// The search over the segments `from` up to `to` of a loop. To ask each one's box first would take longer than the division that it spares.
+fn search_part(
+    p: Point,
+    s: &[f64],
+    loop_index: usize,
+    from: usize,
+    to: usize,
+    best: Search,
+) -> Search
     requires { ⌜ (from ≤ to) × (to ≤ points (now s)) ⌝ }
-    ensures { λ r. ⌜ r ≡ forBetween from to (searchTurn p (now (s .entry))) best ⌝ }
+    ensures { λ r. ⌜ r ≡ forBetween from to (searchTurn p (now (s .entry)) «loop_index») best ⌝ }
 {
     let mut found = best;
     let mut i = from;
     while i < to {
         let a = domain::point_at(s, i);
         let b = domain::point_after(s, i);
-        found = domain::search_segment(p, a, b, found);
+        found = domain::search_segment(p, a, b, loop_index, i, found);
         i += 1;
     }
     found
 }
 
-fn search_loop(p: Point, s: &[f64], blocks: &[u32], first: usize, best: Search) -> Search
+fn search_loop(
+    p: Point,
+    s: &[f64],
+    loop_index: usize,
+    blocks: &[u32],
+    first: usize,
+    best: Search,
+) -> Search
     requires { ⌜ LoopDrawn (now s) (now blocks) first × (first ≤ 2 * mostPoints) × (0 < length (now blocks) → ModeratePoint p) ⌝ }
-    ensures { λ r. ⌜ r ≡ searchLoop p (now (s .entry)) best ⌝ }
+    ensures { λ r. ⌜ r ≡ searchLoop p (now (s .entry)) «loop_index» best ⌝ }
 {
     let n = s.len() / 2;
     let mut found = best;
@@ -96,7 +110,7 @@ fn search_loop(p: Point, s: &[f64], blocks: &[u32], first: usize, best: Search) 
     let mut b = first;
     while from < n {
         if !is_passed(p, s, blocks, b, found.squared) {
-            found = search_part(p, s, from, blocks::block_end(n, from), found);
+            found = search_part(p, s, loop_index, from, blocks::block_end(n, from), found);
         }
         from += BLOCK;
         b += 1;
@@ -118,6 +132,7 @@ fn search_all<'a>(
     let mut found = search_loop(
         p,
         domain::loop_points(outer, holes, lens, 0, 0),
+        0,
         blocks,
         0,
         best,
@@ -125,9 +140,10 @@ fn search_all<'a>(
     let mut k = 0;
     let mut start = 0;
     while k < lens.len() {
-        let first = blocks::first_block(outer, k + 1, start);
-        let s = domain::loop_points(outer, holes, lens, k + 1, start);
-        found = search_loop(p, s, blocks, first, found);
+        let loop_index = k + 1;
+        let first = blocks::first_block(outer, loop_index, start);
+        let s = domain::loop_points(outer, holes, lens, loop_index, start);
+        found = search_loop(p, s, loop_index, blocks, first, found);
         start += lens[k];
         k += 1;
     }

@@ -290,14 +290,14 @@ pub fn max_u32(a: u32, b: u32) -> u32
 pub fn min_usize(a: usize, b: usize) -> usize
     ensures { λ r. ⌜ r ≡ min a b ⌝ }
 {
-    if a < b { a } else { b }
+    if b < a { b } else { a }
 }
 
 // `a.max(b)`
 pub fn max_usize(a: usize, b: usize) -> usize
     ensures { λ r. ⌜ r ≡ max a b ⌝ }
 {
-    if a < b { b } else { a }
+    if b < a { a } else { b }
 }
 
 // `x.min(y)`; of equal zeros, which Rust leaves open, x.

@@ -19,8 +19,8 @@ use Rattle.topology.specs.Links.{at, at-is}
 use Rattle.front.specs.State.{State}
 use Rattle.books.specs.Book.{edge, Book, book, Quad, quadAt, startBook, has, without, andThen, comesOff, goesOn, newNode, side, bookQuad, bookAfter}
 use Rattle.books.specs.Matches.{edgesSum}
-use Rattle.books.specs.Holds.{countEdge}
-use Rattle.books.specs.BookLaws.{count-sum, without-sum}
+use Rattle.books.specs.Net.{countEdge}
+use Rattle.books.specs.BookLaws.{Gives, gives-then, count-sum, without-sum}
 use Rattle.lent_mesh.specs.Mesh.{quadIn}
 use Rattle.lent_mesh.specs.Answered.{quad-same}
 use Rattle.order.specs.Order.{needs, orderAccepted, orderAnswer}
@@ -53,15 +53,6 @@ pub record UsedInBook (o : Outline) (size : Float) (s : State) (k u v : ℕ) : T
 
 abbrev sumOf : (ℕ → ℕ → ℕ) → Book → ℕ
 sumOf w b = edgesSum w (b .front)
-
--- a step that may fail gives only books with P
-abbrev Gives : (Book → Type 0) → Option Book → Type 0
-Gives P none = Unit {0}
-Gives P (some b) = P b
-
-gives-then : (P Q : Book → Type 0) (f : Book → Option Book) (m : Option Book) → Gives P m → ((b : Book) → P b → Gives Q (f b)) → Gives Q (andThen m f)
-gives-then P Q f none p next = tt
-gives-then P Q f (some b) p next = next b p
 
 -- the edge x to y comes off
 abbrev Off : ℕ → ℕ → Book → Book → Type 0

@@ -7,6 +7,7 @@ use lib.Dec.{leb, ltb, eqb}
 use lib.ListN.{length, getD, take, drop, replicate}
 use lib.Ieee.{Float, binary64, toBits}
 use Rattle.laws.specs.Loop.{forUp, anyUp, sumUp}
+use Rattle.laws.specs.Overlay.{overlay}
 use Rattle.laws.specs.Tabulate.{tabulate}
 use Rattle.numbers.specs.Float.{bits, zeroF}
 use Rattle.numbers.specs.Whole.{ceilDiv}
@@ -145,10 +146,6 @@ requestOf file =
 -- the numbers of a request
 unfoldable pub headOf : Request → Head
 headOf r = record { settings = r .settings; loops = length (r .lengths); outer = getD (r .lengths) 0 0; points = length (r .coordinates) / 2 }
-
--- l on the first places of s; the others keep their contents
-unfoldable pub overlay : {A : Type 0} → List A → List A → List A
-overlay l s = l ++ drop (length l) s
 
 -- document 01's number, 0 where nothing is refused, and the numbers of what was read, 0 where it is refused
 pub record FileNumbers : Type 0 where

@@ -6,11 +6,12 @@ use native.Mathlib.Omega.{arith}
 use lib.ListN.{length, getD, take, drop, length-drop}
 use lib.Seq.{take-append-le, drop-append-le, take-at}
 use lib.Ieee.{Float}
+use Rattle.laws.specs.Overlay.{overlay}
 use Rattle.laws.specs.Sums.{sum-term}
 use Rattle.laws.specs.Tabulate.{tabulate-length, tabulate-at}
 use Rattle.domain.specs.Outline.{Outline, outline}
 use Rattle.outline_file.specs.File.{blockAt, headLoops, headLength, headPoints, coordinateAt, filePoints, fileRefusal, Request, outlineOf, requestOf}
-use Rattle.outline_file.specs.File.{headOf, overlay}
+use Rattle.outline_file.specs.File.{headOf}
 use Rattle.outline_file.specs.ReadLaws.{accepted}
 
 -- a part of what was put on the first places

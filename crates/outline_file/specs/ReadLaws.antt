@@ -8,12 +8,13 @@ use lib.ListN.{length, getD, set, drop, length-append, length-take, length-drop}
 use lib.Seq.{drop-cons, set-at, append-snoc}
 use lib.Ieee.{Float}
 use Rattle.laws.specs.Loop.{forUp}
+use Rattle.laws.specs.Overlay.{overlay}
 use Rattle.laws.specs.Tabulate.{tabulate, tabulate-suc, tabulate-length, tabulate-at}
 use Rattle.domain.specs.Accepted.{first-zero}
 use Rattle.outline_file.specs.declared.Head.{Head}
 use Rattle.outline_file.specs.File.{numberAt, floatAt, blockAt, blockRefusal, headLoops, headLength, headPoints, headRefusal, pointBlocks}
 use Rattle.outline_file.specs.File.{pointsRefusal, pointsTurn, blocksRefusal, coordinateAt, filePoints, fileLength, endRefusal, fileRefusal}
-use Rattle.outline_file.specs.File.{requestOf, headOf, overlay, reading, readAs, readFile}
+use Rattle.outline_file.specs.File.{requestOf, headOf, reading, readAs, readFile}
 use Rattle.outline_file.specs.declared.FileAnswer.the-variants.{Refused, Read}
 use Rattle.outline_file.specs.ByteLaws.{NumberOf}
 use Rattle.outline_file.specs.RefusalLaws.{block-long, Headed, headed}
@@ -49,46 +50,6 @@ accepted file e =
     let b = first-zero (blocksRefusal file (filePoints file)) (endRefusal file (filePoints file)) (z .1) in
     let h = headed (blockAt file 0) (z .0) in
     record { head = h; long = blocks-reach file (filePoints file) (pointBlocks (filePoints file)) (omega (arith, block-reach file 0 (h .long))) (b .0) }
-
--- ---- a loop that fills a list: f 0, .., f (i - 1) on the first places of l
-
-pub record Filling {A : Type 0} (f : ℕ → A) (l : List A) (n i : ℕ) (s : List A) : Type 0 where
-  pub within : i ≤ n
-  pub same : s ≡ overlay (tabulate i f) l
-
-module _ {A : Type 0} (f : ℕ → A) (l : List A) where
-  pub fill-start : (n : ℕ) → Filling f l n 0 l
-  unfolding overlay tabulate
-  fill-start n = record { within = omega arith; same = refl }
-
-  overlay-length : (i : ℕ) → i ≤ length l → length (overlay (tabulate i f) l) ≡ length l
-  unfolding overlay
-  overlay-length i h =
-      omega (arith, length-append (tabulate i f) (drop (length (tabulate i f)) l), length-drop (length (tabulate i f)) l, tabulate-length i f)
-
-  overlay-next : (i : ℕ) → i < length l → set (overlay (tabulate i f) l) i (f i) ≡ overlay (tabulate (suc i) f) l
-  unfolding overlay
-  overlay-next i h =
-      let t = tabulate i f in
-      ap (λ (n : ℕ). set (t ++ drop n l) i (f i)) (tabulate-length i f)
-      ∙ ap (λ (r : List A). set (t ++ r) i (f i)) (drop-cons l i (f i) h)
-      ∙ set-at t (getD l i (f i)) (drop (suc i) l) (f i) i (tabulate-length i f)
-      ∙ sym (append-snoc t (f i) (drop (suc i) l))
-      ∙ ap (λ (u : List A). u ++ drop (suc i) l) (sym (tabulate-suc i f))
-      ∙ ap (λ (n : ℕ). tabulate (suc i) f ++ drop n l) (sym (tabulate-length (suc i) f))
-
-  module _ {n i : ℕ} {s : List A} (h : Filling f l n i s) (fits : n ≤ length l) where
-    pub fill-length : length s ≡ length l
-    fill-length = ap length (h .same) ∙ overlay-length i (omega (arith, h .within))
-
-    pub fill-next : {v : A} → i < n → v ≡ f i → Filling f l n (i + 1) (set s i v)
-    fill-next {v} lt e = record {
-      within = omega arith;
-      same = ap₂ (λ (t : List A) (w : A). set t i w) (h .same) e ∙ rw add-one (overlay-next i (omega arith));
-    }
-
-    pub fill-end : n ≤ i → s ≡ overlay (tabulate n f) l
-    fill-end le = let all : i ≡ n = omega (arith, h .within) in h .same ∙ ap (λ (k : ℕ). overlay (tabulate k f) l) all
 
 -- ---- the head
 

@@ -13,10 +13,11 @@ use lib.Seq.{sets, length-sets, sets-eq, drop-cons, drop-append-add, drop-drop, 
 use lib.Ieee.{Float, nan, inf, fin, binary64, isNan, ne, toBits}
 use lib.Ieee.Compare.{nan-differs, differs-from-itself}
 use Rattle.laws.specs.Loop.{Loop, loop-start, loop-next, loop-end, sumUp, sumTurn}
+use Rattle.laws.specs.Overlay.{overlay}
 use Rattle.laws.specs.Sums.{sum-term}
 use Rattle.laws.specs.Tabulate.{tabulate, tabulate-suc}
 use Rattle.domain.specs.declared.Settings.{Settings}
-use Rattle.outline_file.specs.File.{checkOf, numberBytes, floatBytes, blockOf, lengthBytes, headBytes, pointBytes, overlay}
+use Rattle.outline_file.specs.File.{checkOf, numberBytes, floatBytes, blockOf, lengthBytes, headBytes, pointBytes}
 use Rattle.outline_file.specs.File.{Request, request, fileLength, pointBlocks, pointBlock, blocksOf, fileOf, totalPoints, fileable, writing, writeFile}
 use Rattle.outline_file.specs.RoundTrip.{bytes-length, pieces-length, block-wide, check-same, point-block-wide, Fileable, fileable-is}
 use Rattle.outline_file.specs.RoundTrip.{head-wide, file-length}

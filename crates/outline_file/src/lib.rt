@@ -4,10 +4,11 @@ ghost use Prim.Native.Nat.{_+_, _-_, _*_, _/_, _≤_, _<_, min};
 ghost use lib.ListN.{length, take, replicate};
 ghost use lib.Seq.{sets};
 ghost use lib.Ieee.{binary64, toBits};
+ghost use Rattle.laws.specs.Overlay.{overlay};
 ghost use Rattle.laws.specs.Tabulate.{tabulate};
 ghost use Rattle.numbers.specs.Float.{bits};
 ghost use Rattle.outline_file.specs.File.{floatAt, blockAt, checkOf, blockRefusal, zeroFrom, headLength, headPoints, headSound, headRefusal};
-ghost use Rattle.outline_file.specs.File.{pointsRefusal, blocksRefusal, coordinateAt, fileLength, fileRefusal, overlay, reading};
+ghost use Rattle.outline_file.specs.File.{pointsRefusal, blocksRefusal, coordinateAt, fileLength, fileRefusal, reading};
 ghost use Rattle.outline_file.specs.File.{readFile, request, numberBytes, blockOf, lengthBytes, headBytes, pointBytes, blocksOf};
 ghost use Rattle.outline_file.specs.File.{totalPoints, fileable, writing, writeFile};
 ghost use Rattle.outline_file.specs.ByteLaws.{NumberOf};
@@ -167,12 +168,6 @@ fn head_refusal(h: &[u8]) -> u32
 
 // ---- the points
 
-fn least(a: usize, b: usize) -> usize
-    ensures { λ r. ⌜ r ≡ min a b ⌝ }
-{
-    if a < b { a } else { b }
-}
-
 // The refusal of the k-th block of `n` points.
 fn points_refusal(file: &[u8], n: usize, k: usize) -> u32
     requires { ⌜ (n ≤ 248) × (31 * k < n) ⌝ }
@@ -183,7 +178,7 @@ fn points_refusal(file: &[u8], n: usize, k: usize) -> u32
     if refusal != 0 {
         return refusal;
     }
-    if zero_from(b, 16 * least(n - 31 * k, 31)) {
+    if zero_from(b, 16 * numbers::min_usize(n - 31 * k, 31)) {
         0
     } else {
         13
@@ -404,7 +399,7 @@ fn write_blocks(points: &[f64], file: &mut [u8])
     let mut k = 0;
     while 31 * k < count {
         let from = 62 * k;
-        let to = least(from + 62, all);
+        let to = numbers::min_usize(from + 62, all);
         let at = 512 * (k + 1);
         write_points(&points[from..to], &mut file[at..]);
         k += 1;

@@ -2,7 +2,7 @@
 // a `requires`, and none writes what is lent. A query files no blocks: it asks every segment once.
 ghost use mathlib.Core.Path.{_≡_};
 ghost use Rattle.domain.specs.Outline.{outline, point, queryRefusal};
-ghost use Rattle.queries.specs.Answers.{containsAnswer, nearestAnswer, distanceAnswer, containsNumbers, nearestNumbers, distanceNumbers};
+ghost use Rattle.queries.specs.Answers.{containsAnswer, nearestAnswer, distanceAnswer, containsNumbers, NearestGiven, distanceNumbers};
 use domain::Near;
 use domain::Point;
 
@@ -21,7 +21,7 @@ pub enum Distance {
     Of(f64),
 }
 
-// `refusal` is document 01's number, 0 where nothing is refused. The values of a refused query are false or 0.0.
+// `refusal` is document 01's number, 0 where nothing is refused. The values of a refused query are false, 0.0 or 0.
 #[repr(C)]
 pub struct ContainsAnswer {
     pub refusal: u32,
@@ -36,6 +36,8 @@ pub struct NearestAnswer {
     pub bx: f64,
     pub by: f64,
     pub distance: f64,
+    pub loop_index: usize,
+    pub segment_index: usize,
 }
 
 #[repr(C)]
@@ -113,7 +115,7 @@ pub extern "C" fn sitjorbe_contains<'a>(
     }
 }
 
-// The segment of the outline nearest to the point, from a to b, and its distance.
+// The segment of the outline nearest to the point, from a to b, and its distance; its loop, 0 for the outer one, and its place there.
 #[no_mangle]
 pub extern "C" fn sitjorbe_nearest_segment<'a>(
     outer: &'a [f64],
@@ -122,7 +124,7 @@ pub extern "C" fn sitjorbe_nearest_segment<'a>(
     x: f64,
     y: f64,
 ) -> NearestAnswer
-    ensures { λ r. ⌜ r ≡ nearestNumbers (nearestAnswer (outline (now (outer .entry)) (now (holes .entry)) (now (lens .entry))) (point x y)) ⌝ }
+    ensures { λ r. ⌜ NearestGiven (outline (now (outer .entry)) (now (holes .entry)) (now (lens .entry))) (point x y) r ⌝ }
 {
     let answer = query_nearest(outer, holes, lens, Point { x, y });
     match answer {
@@ -133,6 +135,8 @@ pub extern "C" fn sitjorbe_nearest_segment<'a>(
             bx: 0.0,
             by: 0.0,
             distance: 0.0,
+            loop_index: 0,
+            segment_index: 0,
         },
         Nearest::Segment(near) => NearestAnswer {
             refusal: 0,
@@ -141,6 +145,8 @@ pub extern "C" fn sitjorbe_nearest_segment<'a>(
             bx: near.b.x,
             by: near.b.y,
             distance: near.distance,
+            loop_index: near.loop_index,
+            segment_index: near.segment_index,
         },
     }
 }

@@ -10,6 +10,7 @@ use lib.ListN.{length, take, drop, length-map}
 use lib.Seq.{length-take-le, take-append-seam}
 use lib.Ieee.{Float, binary64, fits}
 use Rattle.laws.specs.Loop.{run}
+use Rattle.laws.specs.Overlay.{overlay}
 use Rattle.domain.specs.declared.Settings.{Settings}
 use Rattle.domain.specs.Outline.{Outline, firstOf}
 use Rattle.domain.specs.Accepted.{OutlineFits, first-zero}
@@ -22,7 +23,9 @@ use Rattle.direction.specs.Direction.{nearestDirection}
 use Rattle.crossfield.specs.Grid.{bounds, gridOf}
 use Rattle.crossfield.specs.Field.{fieldPlaces, refusalFor, fieldRefusal, fieldOf}
 use Rattle.crossfield.specs.FieldLaws.{unrefused, few-made, sides}
-use Rattle.topology.specs.LongLoops.{isWhole, whole-two}
+use Rattle.topology.specs.LongLoops.{none-listed}
+use Rattle.soundness.specs.Answer.{isWhole}
+use Rattle.soundness.specs.WalkLaws.{whole-means}
 use Rattle.front.specs.State.{State, stateOf, fewest, mostNodes, nodePlaces, edgePlaces}
 use Rattle.front.specs.Sampling.{loopCount, sampledCount, sampledRefusal, frontRefusal, fromBoundary, boundaryLoops}
 use Rattle.paving.specs.Attempt.{tryToward, tryEdge}
@@ -31,12 +34,13 @@ use Rattle.paving.specs.Advance as paving
 use Rattle.paving.specs.ReachLaws.{advance-reaches}
 use Rattle.paving.specs.Loops.{frontLoops}
 use Rattle.whole_run.specs.Run.{runRefusal, runOf}
-use Rattle.loops.specs.Listed.{Lists, overlay, written, Listable, listedIn}
+use Rattle.loops.specs.Listed.{Lists, written, Listable, listedIn}
 use Rattle.loops.specs.ListedLaws.{listed-front, sound-listable}
 use Rattle.advance.specs.Paveable.{Paveable}
 use Rattle.sampled.specs.Outlines.{outline-three}
 use Rattle.sampled.specs.Begun.{Begun, begun}
 use Rattle.books.specs.Book.{Book, quadAt, newNode, side, bookQuad, bookAfter, quadsArea}
+use Rattle.books.specs.Net.{quadsEdges}
 use Rattle.books.specs.Holds.{BooksHold, Closes, LoopsAnswered}
 use Rattle.books_hold.specs.Stages.{Standing, standing}
 use Rattle.books_hold.specs.Theorem.{books-hold}
@@ -148,13 +152,13 @@ module _ (o : Outline) (blocks : List ℕ) (size : Float) (g : Grid) (values : L
 module _ (o : Outline) (size : Float) (s : State) (snapshot : List ℕ) where
   books-unread : BooksHold o size s
       → BooksHold o size (stateOf (s .xs) (s .ys) (s .next) (s .prev) snapshot (s .quads) (s .edges) (s .counts))
-  unfolding bookAfter bookQuad side newNode quadAt quadsArea frontLoops
+  unfolding bookAfter bookQuad side newNode quadAt quadsEdges quadsArea frontLoops
   books-unread B =
       record {
         each =
             λ k h.
             let H = B .each k h in
-            record { book = H .book; steps = H .steps; areas = H .areas; quads = H .quads; loops = H .loops; counts = H .counts };
+            record { book = H .book; steps = H .steps; edges = H .edges; areas = H .areas; quads = H .quads; loops = H .loops; counts = H .counts };
         closes =
             λ b e.
             let C = B .closes b e in
@@ -167,7 +171,7 @@ module _ (o : Outline) (size : Float) (s : State) (snapshot : List ℕ) where
 module _ (o : Outline) (s : State) (marks loops lengths : List ℕ) (p : Lists)
     (e : p ≡ listedIn (s .counts) (s .next) marks loops lengths) where
   loops-answered : (b : Book) → Closes o s b
-      → LoopsAnswered o b (p .listed .count) (p .listed .ids) (p .loops) (p .lengths) (isWhole (p .listed .count))
+      → LoopsAnswered o b (p .listed .count) (p .listed .ids) (p .loops) (p .lengths) (isWhole o (p .listed .count))
   unfolding written overlay
   loops-answered b C =
       let ms = frontLoops s in
@@ -180,7 +184,7 @@ module _ (o : Outline) (s : State) (marks loops lengths : List ℕ) (p : Lists)
         ids = refl;
         nodes = take-append-seam (flatten ms) _;
         each = rw (← n) (take-append-seam (map length ms) _);
-        whole = λ L. whole-two (L .loops) ms (L .even) (C .loops L);
+        whole = λ L. whole-means o (length ms) (none-listed (L .loops) ms (L .even) (C .loops L));
       })
 
 -- ---- the stages make up the run
@@ -189,12 +193,12 @@ pub run-whole : (o : Outline) (set : Settings) (l : Lent) (g : Grid) (values : L
     → fieldRecord g values marks ≡ fieldOf o (set .size) (set .sweeps) (fieldPart l)
     → (a : paving.Paved) → a ≡ advance o (set .size) (fieldRecord g values []) (set .passes) (fromBoundary o (set .size) (statePart l))
     → (p : Lists) → p ≡ listedIn (a .state .counts) (a .state .next) (a .state .snapshot) (l .loops) (l .lengths)
-    → (r : Paved) → r ≡ pavedAnswer g (a .end) (a .state .counts) (p .listed)
+    → (w : Bool) → w ≡ isWhole o (p .listed .count) → (r : Paved) → r ≡ pavedAnswer g (a .end) (a .state .counts) (p .listed) w
     → ran r (lent values marks (a .state .xs) (a .state .ys) (a .state .next) (a .state .prev) (p .marks) (a .state .quads) (a .state .edges)
     (p .loops) (p .lengths)) ≡ acceptedIn o set l
 unfolding acceptedIn runOf
-run-whole o set l g values marks ef a ea p ep r er =
-    rw (er, ← ef, advance-unread o (set .size) g values marks [] (set .passes) (fromBoundary o (set .size) (statePart l)), ← ea, ← ep) refl
+run-whole o set l g values marks ef a ea p ep w ew r er =
+    rw (er, ew, ← ef, advance-unread o (set .size) g values marks [] (set .passes) (fromBoundary o (set .size) (statePart l)), ← ea, ← ep) refl
 
 -- ---- the refusals, by the numbers of places
 

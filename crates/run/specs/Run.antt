@@ -1,5 +1,5 @@
 -- THE RUN: what is lent, what is answered, and what a caller gets. Definitions only.
-use mathlib.Core.Bool.{cond}
+use mathlib.Core.Bool.{Bool, false, cond}
 use mathlib.Core.List.{List, _++_}
 use mathlib.Core.Path.{_≡_}
 use Prim.Native.Nat.{ℕ, min}
@@ -20,7 +20,7 @@ use Rattle.paving.specs.declared.End.the-variants.{Still, Passes, Cap, Full}
 use Rattle.whole_run.specs.Run.{runRefusal, runOf}
 use Rattle.loops.specs.declared.Listed.{Listed}
 use Rattle.loops.specs.Listed as loops
-use Rattle.topology.specs.LongLoops.{isWhole}
+use Rattle.soundness.specs.Answer.{isWhole}
 use Rattle.books.specs.Holds.{BooksAnswered}
 use Rattle.run.specs.declared.Paved.{Paved}
 
@@ -113,10 +113,12 @@ refusedAnswer number =
       grid = record { xmin = zeroF; ymin = zeroF; h = zeroF; nx = 0; ny = 0 };
       counts = unused;
       listed = loops.counted 0 0;
+      whole = false;
     }
 
-abbrev pub pavedAnswer : Grid → End → Counts → Listed → Paved
-pavedAnswer grid end counts listed = record { refusal = 0; end = endNumber end; grid = grid; counts = counts; listed = listed }
+abbrev pub pavedAnswer : Grid → End → Counts → Listed → Bool → Paved
+pavedAnswer grid end counts listed whole =
+    record { refusal = 0; end = endNumber end; grid = grid; counts = counts; listed = listed; whole = whole }
 
 -- the answer, and every list as the run leaves it
 pub record Ran : Type 0 where
@@ -136,13 +138,13 @@ lengthsRefusal o places = cond (ltb places (loopCount o)) 10 0
 unfoldable pub refusalOf : Outline → Settings → Lent → ℕ
 refusalOf o set l = firstOf (runRefusal o set (fieldPart l) (statePart (narrowed l))) (lengthsRefusal o (length (l .lengths)))
 
--- field, sampling and paving, then the loops of the front, in all of the lists given
+-- field, sampling and paving, then the loops of the front and the word whole, in all of the lists given
 unfoldable pub acceptedIn : Outline → Settings → Lent → Ran
 acceptedIn o set l =
     let r = runOf o set (fieldPart l) (statePart l) in
     let s = r .paving .state in
     let p = loops.listedIn (s .counts) (s .next) (s .snapshot) (l .loops) (l .lengths) in
-    ran (pavedAnswer (r .field .grid) (r .paving .end) (s .counts) (p .listed))
+    ran (pavedAnswer (r .field .grid) (r .paving .end) (s .counts) (p .listed) (isWhole o (p .listed .count)))
     (lent (r .field .lists .values) (r .field .lists .marks) (s .xs) (s .ys) (s .next) (s .prev) (p .marks) (s .quads) (s .edges)
     (p .loops) (p .lengths))
 
@@ -163,8 +165,7 @@ answered r after =
 -- the books of the outline, the size and what is answered
 abbrev pub PavesBooks : Outline → Settings → Paved → Lent → Type 0
 PavesBooks o set r after =
-    let n = r .listed .count in
-    BooksAnswered o (set .size) (answered r after) n (r .listed .ids) (after .loops) (after .lengths) (isWhole n)
+    BooksAnswered o (set .size) (answered r after) (r .listed .count) (r .listed .ids) (after .loops) (after .lengths) (r .whole)
 
 pub record Paves (o : Outline) (set : Settings) (before : Lent) (r : Paved) (after : Lent) : Type 0 where
   -- the answer and every list are the definition's: demand 2

@@ -17,7 +17,7 @@ use front::Counts;
 use loops::Listed;
 use paving::End;
 
-// `refusal` is document 01's number, 0 where nothing is refused; `end` is 0 for still, 1 for passes, 2 for cap and 3 for full. All is 0 on a
+// `refusal` is document 01's number, 0 where nothing is refused; `end` is 0 for still, 1 for passes, 2 for cap and 3 for full. All is 0 or false on a
 // refusal.
 pub struct Paved {
     pub refusal: u32,
@@ -25,6 +25,7 @@ pub struct Paved {
     pub grid: Grid,
     pub counts: Counts,
     pub listed: Listed,
+    pub whole: bool,
 }
 
 // ---- the answer
@@ -60,11 +61,12 @@ fn refused(number: u32) -> Paved
             front: 0,
         },
         listed: Listed { count: 0, ids: 0 },
+        whole: false,
     }
 }
 
-fn answer(grid: Grid, a: Advanced, listed: Listed) -> Paved
-    ensures { λ r. ⌜ r ≡ pavedAnswer grid (a .end) (a .counts) listed ⌝ }
+fn answer(grid: Grid, a: Advanced, listed: Listed, whole: bool) -> Paved
+    ensures { λ r. ⌜ r ≡ pavedAnswer grid (a .end) (a .counts) listed whole ⌝ }
 {
     let end = a.end;
     let counts = a.counts;
@@ -74,6 +76,7 @@ fn answer(grid: Grid, a: Advanced, listed: Listed) -> Paved
         grid,
         counts,
         listed,
+        whole,
     }
 }
 
@@ -227,7 +230,8 @@ fn pave_in<'a>(
         passes,
     );
     let listed = loops::front_loops(a.counts, next, snapshot, loops, lengths);
-    answer(grid, a, listed)
+    let whole = soundness::is_whole(outer, holes, lens, listed.count);
+    answer(grid, a, listed, whole)
 }
 
 // ---- the run

@@ -13,6 +13,13 @@ use Rattle.domain.specs.Outline.{Outline, outline, holeStart, holeAt, loopAt, p
 use Rattle.orientation.specs.Orient.{orient}
 use Rattle.soundness.specs.Sound.{dot, overlap, parted, meets, foldsBack, foldsAt, clash, crossesItself, touch, rayMeets, isInside}
 use Rattle.soundness.specs.Sound.{straysOut, liesIn, outlineSound}
+use Rattle.soundness.specs.Answer.{isWhole}
+
+-- all that computes
+unfoldable pub openedSound : Unit {0}
+unfolding ofBits ofInt round odd size climb trailingZeros forUp anyUp sumUp W sizeOf cross holeStart holeAt loopAt pointAt dot orient overlap parted meets
+    foldsBack foldsAt clash crossesItself touch rayMeets isInside straysOut liesIn outlineSound isWhole
+openedSound = tt
 
 -- whole numbers as doubles
 abbrev floats : List ℕ → List Float
@@ -52,7 +59,7 @@ pub record Loops : Type 0 where
   pub twice : outlineSound (drawn (0 ∷ 0 ∷ 1 ∷ 0 ∷ 1 ∷ 0 ∷ 1 ∷ 1 ∷ 0 ∷ 1 ∷ [])) ≡ false
 
 pub loops : Loops
-unfolding ofInt round odd size climb trailingZeros forUp anyUp sumUp W sizeOf cross holeStart holeAt loopAt pointAt dot orient overlap parted meets foldsBack foldsAt clash crossesItself touch rayMeets isInside straysOut liesIn outlineSound
+unfolding openedSound
 loops =
     record {
       triangle = refl;
@@ -86,13 +93,13 @@ pub record Holes : Type 0 where
   pub barred : outlineSound (board (1 ∷ 3 ∷ 7 ∷ 3 ∷ 7 ∷ 5 ∷ 1 ∷ 5 ∷ 3 ∷ 1 ∷ 5 ∷ 1 ∷ 5 ∷ 7 ∷ 3 ∷ 7 ∷ []) (4 ∷ 4 ∷ [])) ≡ false
 
 pub holes : Holes
-unfolding ofInt round odd size climb trailingZeros forUp anyUp sumUp W sizeOf cross holeStart holeAt loopAt pointAt dot orient overlap parted meets foldsBack foldsAt clash crossesItself touch rayMeets isInside straysOut liesIn outlineSound
+unfolding openedSound
 holes = record { inside = refl; outside = refl; touching = refl; across = refl; two = refl; nested = refl; joined = refl; barred = refl }
 
 -- ---- a ray through a corner: the hole's lowest corners are as high as two corners of the outer loop
 
 level : outlineSound (outline (floats (4 ∷ 0 ∷ 8 ∷ 4 ∷ 4 ∷ 8 ∷ 0 ∷ 4 ∷ [])) (floats (3 ∷ 4 ∷ 4 ∷ 5 ∷ 5 ∷ 4 ∷ [])) (3 ∷ [])) ≡ true
-unfolding ofInt round odd size climb trailingZeros forUp anyUp sumUp W sizeOf cross holeStart holeAt loopAt pointAt dot orient overlap parted meets foldsBack foldsAt clash crossesItself touch rayMeets isInside straysOut liesIn outlineSound
+unfolding openedSound
 level = refl
 
 -- ---- a square with a slit from (0, -1) up to its upper side, whose two lips are at u and v on the height h
@@ -117,7 +124,11 @@ pub record Slits : Type 0 where
   pub shut : outlineSound (slit zeroF zeroF zeroF) ≡ false
   -- they lie across each other
   pub crossed : outlineSound (slit minusTiny tiny tiny) ≡ false
+  -- the word: of an outline that is sound nothing may be listed either
+  pub whole : isWhole (slit tiny minusTiny tiny) 0 ≡ true
+  pub listed : isWhole (slit tiny minusTiny tiny) 1 ≡ false
+  pub unsound : isWhole (slit zeroF zeroF zeroF) 0 ≡ false
 
 pub slits : Slits
-unfolding ofBits forUp anyUp sumUp W sizeOf cross holeStart holeAt loopAt pointAt dot orient overlap parted meets foldsBack foldsAt clash crossesItself touch rayMeets isInside straysOut liesIn outlineSound
-slits = record { gaping = refl; shut = refl; crossed = refl }
+unfolding openedSound
+slits = record { gaping = refl; shut = refl; crossed = refl; whole = refl; listed = refl; unsound = refl }

@@ -11,9 +11,10 @@ ghost use Rattle.domain.specs.Accepted.{PointWithin, LoopWithin};
 ghost use Rattle.orientation.specs.Orient.{place};
 ghost use Rattle.soundness.specs.Sound.{start, end, overlap, parted, meets, foldsBack, foldsAt, clash, crossesItself, touch};
 ghost use Rattle.soundness.specs.Sound.{rayMeets, isInside, outlineSound};
-ghost use Rattle.soundness.specs.Answer.{soundAnswer};
+ghost use Rattle.soundness.specs.Answer.{soundAnswer, isWhole};
 ghost use Rattle.soundness.specs.FoldsLaws.{isExtreme};
-ghost use Rattle.soundness.specs.CodeLaws.{lesserF, greaterF, anyPoint, holesClash, holeUnsound, Judged};
+ghost use Rattle.soundness.specs.SegmentLaws.{lesserF, greaterF};
+ghost use Rattle.soundness.specs.WalkLaws.{anyPoint, holesClash, holeUnsound, Judged};
 use domain::Point;
 
 // ---- two segments, a to b and c to d
@@ -324,6 +325,18 @@ pub fn is_sound<'a>(outer: &'a [f64], holes: &'a [f64], lens: &[usize]) -> bool
         k += 1;
     }
     true
+}
+
+// Whether a run is whole: so many loops of its front are listed, that is none, and the outline, which refusals 1 to 4 let pass, is sound. It is judged
+// only where nothing is listed.
+pub fn is_whole<'a>(outer: &'a [f64], holes: &'a [f64], lens: &[usize], listed: usize) -> bool
+    requires { ⌜ outlineRefusal (outline (now outer) (now holes) (now lens)) ≡ 0 ⌝ }
+    ensures { λ r. ⌜ r ≡ isWhole (outline (now (outer .entry)) (now (holes .entry)) (now (lens .entry))) listed ⌝ }
+{
+    if listed != 0 {
+        return false;
+    }
+    is_sound(outer, holes, lens)
 }
 
 // ---- the entry

@@ -16,6 +16,7 @@ use Rattle.domain.specs.Outline.{holeStart, holeAt, loopAt, pointAt, pointAfter
 use Rattle.domain.specs.Outline.{outlineRefusal, pointRefusal, queryRefusal}
 use Rattle.domain.specs.Queries.{rayCrosses, pointInPolygon, contains, squaredDistance, footOf, pointSegmentDistance, nearer, nearestInLoop}
 use Rattle.domain.specs.Queries.{nearestSegment}
+use Rattle.soundness.specs.Examples.{openedSound}
 use Rattle.geometry.specs.Plane.{distance, tangent, areaTerm, cross2, doubledArea, leftOf, pointInConvex, onSegment, opposite, touches, segmentsCross}
 use Rattle.geometry.specs.Plane.{centroid, convexCcw}
 use Rattle.geometry.specs.Keys.{keyOf, spansKept, rangesMeet, rectanglesMeet, candidateAt, isCandidate, nearKeys, tooCloseAt, isTooClose, leastOf}
@@ -35,11 +36,11 @@ use Rattle.front.specs.Place.{addEdges, moveFront, place, edgesAdded, isFull}
 use Rattle.paving.specs.Checks.{tooClose, nodeOk, cornerFree, cornersApart, nodeInside, edgeCrosses, edgesFree, quadOk, quadFits}
 use Rattle.paving.specs.Attempt.{isReused, cornerAt, ideal, cornerC, cornerD, attemptQuad, normalOf, tryToward, tryEdge}
 use Rattle.paving.specs.Advance.{afterQuad, passTurn, copied, withSnapshot, pass, advance}
-use Rattle.paving.specs.Loops.{frontLoops, whole}
+use Rattle.paving.specs.Loops.{frontLoops}
 use Rattle.whole_run.specs.Run.{runRefusal, runOf}
 use Rattle.books.specs.Book.{filled, roomFor, edgesTo, loopEdges, startBook, has, without, comesOff, newNode, side, quadAt, bookQuad, bookAfter}
-use Rattle.books.specs.Book.{edgesArea, quadArea, quadsArea, follow}
-use Rattle.books.specs.Holds.{countEdge}
+use Rattle.books.specs.Book.{edgesSumℤ, quadEdges, quadsArea, follow}
+use Rattle.books.specs.Net.{countEdge, net, quadsEdges}
 
 unfoldable pub openedIeee : Unit {0}
 unfolding trailingZeros span climb size odd units round neg sum add sub mul div lt eq le ofInt ofFields ofBits toBits isNan
@@ -86,13 +87,14 @@ openedFront = tt
 
 unfoldable pub openedPaving : Unit {0}
 unfolding tooClose nodeOk cornerFree cornersApart nodeInside edgeCrosses edgesFree quadOk quadFits isReused cornerAt ideal cornerC cornerD attemptQuad
-    normalOf tryToward tryEdge afterQuad passTurn copied withSnapshot pass advance frontLoops whole runRefusal runOf
+    normalOf tryToward tryEdge afterQuad passTurn copied withSnapshot pass advance frontLoops runRefusal runOf
 openedPaving = tt
 
 unfoldable pub openedBooks : Unit {0}
-unfolding filled roomFor edgesTo loopEdges startBook has without comesOff newNode side quadAt bookQuad bookAfter edgesArea quadArea quadsArea follow countEdge
+unfolding filled roomFor edgesTo loopEdges startBook has without comesOff newNode side quadAt bookQuad bookAfter edgesSumℤ quadEdges quadsArea follow
+    countEdge net quadsEdges
 openedBooks = tt
 
 unfoldable pub opened : Unit {0}
-unfolding openedIeee openedLaws openedNumbers openedExact openedTopology openedDomain openedGeometry openedCrossfield openedFront openedPaving openedBooks
+unfolding openedIeee openedLaws openedNumbers openedExact openedTopology openedDomain openedSound openedGeometry openedCrossfield openedFront openedPaving openedBooks
 opened = tt

@@ -3,15 +3,17 @@ use mathlib.Core.Path.{_≡_, refl}
 use mathlib.Core.Bool.{Bool, true, false}
 use mathlib.Core.List.{List, [], _∷_}
 use Prim.Native.Nat.{ℕ}
+use lib.ListN.{length}
 use Rattle.numbers.specs.Float.{bits, zeroF, oneF, twoF, fourF, halfF}
 use Rattle.domain.specs.Outline.{Outline, outline, point}
 use Rattle.domain.specs.declared.Settings.{Settings}
+use Rattle.soundness.specs.Answer.{isWhole}
 use Rattle.direction.specs.Record.{FieldLists, fieldLists}
 use Rattle.front.specs.State.{State, counted, node}
 use Rattle.front.specs.Sampling.{fromBoundary, boundaryLoops, sampledCount}
 use Rattle.paving.specs.declared.End.the-variants.{Still}
 use Rattle.paving.specs.Advance.{paved}
-use Rattle.paving.specs.Loops.{frontLoops, whole}
+use Rattle.paving.specs.Loops.{frontLoops}
 use Rattle.whole_run.specs.Run.{runOf}
 use Rattle.books.specs.Book.{filled, roomFor}
 use Rattle.table.specs.Opened.{opened}
@@ -60,7 +62,7 @@ pub square-run : runOf square settings lentField lent .paving ≡ paved end Stil
 unfolding opened
 square-run = refl
 
-pub square-whole : whole end ≡ true
+pub square-whole : isWhole square (length (frontLoops end)) ≡ true
 unfolding opened
 square-whole = refl
 

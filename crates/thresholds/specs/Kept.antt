@@ -8,12 +8,13 @@ use lib.ListN.{length, getD, set, replicate}
 use lib.Dec.{ltb}
 use lib.Ieee.{Float}
 use Rattle.laws.specs.Loop.{sumUp}
+use Rattle.laws.specs.Sums.{sum-most}
 use Rattle.laws.specs.Tests.{and-false}
 use Rattle.lent_mesh.specs.Mesh.{Mesh, meshOf, quadOf, quads-few}
 use Rattle.thresholds.specs.Figures.{noThreshold, thresholdAt, stands, isComplete, countAt, sumAt, countAfresh, sumAfresh, names, shareOf, moved}
 use Rattle.thresholds.specs.Figures.{Results, unlessRefused, refusalAt, withThreshold, beginAnswer, enterAnswer, withdrawAnswer}
 use Rattle.thresholds.specs.Figures.{Event, enter, withdraw, eventAnswer, afterEvents}
-use Rattle.thresholds.specs.Laws.{share-law, share-le, count-same, sum-same, sum-most, count-small, sum-small, moved-is}
+use Rattle.thresholds.specs.Laws.{share-law, share-le, count-same, sum-same, count-small, sum-small, moved-is}
 
 -- the figures are those worked out afresh from the list
 pub record Afresh (m : Mesh) (x : Results) : Type 0 where

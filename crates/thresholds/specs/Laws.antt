@@ -9,7 +9,7 @@ use lib.Seq.{getD-set-other}
 use lib.Dec.{eqb, ltb, leb}
 use borrow.Author.Tests.{eqb-false, leb-true, ltb-true}
 use Rattle.laws.specs.Loop.{sumUp}
-use Rattle.laws.specs.Sums.{sum-zero, sum-suc}
+use Rattle.laws.specs.Sums.{sum-zero, sum-suc, sum-most, sum-below}
 use Rattle.laws.specs.Tests.{neither, both}
 use Rattle.lent_mesh.specs.declared.QuadIds.{QuadIds}
 use Rattle.lent_mesh.specs.Mesh.{Mesh, quadOf}
@@ -17,16 +17,6 @@ use Rattle.thresholds.specs.Figures.{noThreshold, mostThreshold, thresho
 use Rattle.thresholds.specs.Figures.{countAt, sumAt, countAfresh, sumAfresh, names, shareAt, shareOf, moved}
 
 -- ---- sums and shares
-
--- terms of at most b
-pub sum-most : (n b : ℕ) (f : ℕ → ℕ) → ((k : ℕ) → f k ≤ b) → sumUp n f ≤ b * n
-sum-most zero b f h = omega (arith, sum-zero f)
-sum-most (suc n) b f h = omega (arith, sum-suc f n, sum-most n b f h, h n)
-
--- terms that are at most those of another sum
-sum-below : (n : ℕ) (f g : ℕ → ℕ) → ((k : ℕ) → f k ≤ g k) → sumUp n f ≤ sumUp n g
-sum-below zero f g h = omega (arith, sum-zero f)
-sum-below (suc n) f g h = omega (arith, sum-suc f n, sum-suc g n, sum-below n f g h, h n)
 
 module _ (m : Mesh) (id : ℕ) where
   pub share-at-most : (f : ℕ → ℕ) (k : ℕ) → shareAt m id f k ≤ f k

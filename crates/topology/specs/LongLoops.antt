@@ -33,15 +33,11 @@ pub record LongLoops (ls ms : List (List ℕ)) : Type 0 where
   -- in rising order of the smallest ids, and so each once
   pub rising : Rising ms
 
--- whole: so many loops are listed, that is none
-abbrev pub isWhole : ℕ → Bool
-isWhole n = eqb n 0
-
 -- ---- where all have two nodes
 
 -- nothing is listed exactly if each loop has two nodes
-pub whole-two : (ls ms : List (List ℕ)) → All Even ls → LongLoops ls ms → (isWhole (length ms) ≡ true) ↔ All (λ l. length l ≡ 2) ls
-whole-two ls ms evens L =
+pub none-listed : (ls ms : List (List ℕ)) → All Even ls → LongLoops ls ms → (eqb (length ms) 0 ≡ true) ↔ All (λ l. length l ≡ 2) ls
+none-listed ls ms evens L =
     (λ e. two ms (eqb-true (length ms) 0 e) ls evens (L .all), λ h. eq-eqb (length ms) 0 (nothing ms (L .only) h))
   where
     two : (ms : List (List ℕ)) → length ms ≡ 0 → (ls : List (List ℕ)) → All Even ls

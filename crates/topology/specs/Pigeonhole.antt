@@ -8,7 +8,7 @@ use lib.Dec.{eqb}
 use lib.ListN.{length}
 use borrow.Author.Tests.{eqb-true, eqb-false}
 use Rattle.laws.specs.Loop.{sumUp}
-use Rattle.laws.specs.Sums.{sum-zero, sum-suc}
+use Rattle.laws.specs.Sums.{sum-zero, sum-suc, sum-most}
 use Rattle.topology.specs.Sums.{total}
 use Rattle.topology.specs.Links.{delta, delta-same}
 use Rattle.topology.specs.Front.{Loops}
@@ -19,11 +19,6 @@ use Rattle.topology.specs.Walk.{count, once, nodes}
 sum-add : (f g : ℕ → ℕ) (n : ℕ) → sumUp n (λ i. f i + g i) ≡ sumUp n f + sumUp n g
 sum-add f g zero = omega (arith, sum-zero (λ i. f i + g i), sum-zero f, sum-zero g)
 sum-add f g (suc n) = omega (arith, sum-suc (λ i. f i + g i) n, sum-suc f n, sum-suc g n, sum-add f g n)
-
--- n terms of at most 1
-sum-most : (f : ℕ → ℕ) → ((i : ℕ) → f i ≤ 1) → (n : ℕ) → sumUp n f ≤ n
-sum-most f h zero = omega (arith, sum-zero f)
-sum-most f h (suc n) = omega (arith, sum-suc f n, sum-most f h n, h n)
 
 -- an id below n is one of the first n
 sum-delta : (x n : ℕ) → x < n → 1 ≤ sumUp n (delta x)
@@ -61,4 +56,4 @@ total-length n (l ∷ ls) h =
 
 pub ids-most : (n : ℕ) (f : ℕ → ℕ) (ls : List (List ℕ)) → Loops n f ls → total length ls ≤ n
 ids-most n f ls L =
-    omega (arith, total-length n ls (nodes n f ls L), sum-most (λ u. total (count u) ls) (once n f ls L) n)
+    omega (arith, total-length n ls (nodes n f ls L), sum-most n 1 (λ u. total (count u) ls) (once n f ls L))

@@ -5,6 +5,7 @@
 //! float above 0; both sides of each comparison are of one degree in the unit, so that any will do.
 
 use super::whole::{unit, Whole};
+use std::collections::BTreeMap;
 
 /// What stands for the next node of a node off the front.
 const OFF: usize = usize::MAX;
@@ -40,7 +41,44 @@ pub fn check(sampled: &Sampled, run: &Answered) -> Result<(), String> {
             .map_err(|what| format!("quad {k}, {quad:?}: {what}"))?;
     }
     book.closes(run).map_err(|what| format!("at the end: {what}"))?;
+    require(nets(sampled, run), || "at the end: the edges don't net".to_string())?;
     require(balances(sampled, run), || "at the end: the areas don't balance".to_string())
+}
+
+/// Paper 14's figures: for two nodes u below v the steps from u to v less those from v to u, where that isn't 0.
+#[derive(Clone, Debug, Default, PartialEq)]
+struct Net(BTreeMap<(usize, usize), i64>);
+
+impl Net {
+    fn of(edges: impl Iterator<Item = (usize, usize)>) -> Net {
+        let mut net = Net::default();
+        edges.for_each(|(u, v)| net.add(u, v));
+        net
+    }
+
+    fn add(&mut self, u: usize, v: usize) {
+        let figure = self.0.entry((u.min(v), u.max(v))).or_default();
+        *figure += (v > u) as i64 - (u > v) as i64;
+        if *figure == 0 {
+            self.0.remove(&(u.min(v), u.max(v)));
+        }
+    }
+}
+
+/// A quad's steps, run a, b, d, c.
+fn sides([a, b, d, c]: [usize; 4]) -> [(usize, usize); 4] {
+    [(a, b), (b, d), (d, c), (c, a)]
+}
+
+/// The front that is answered, as edges.
+fn answered_front(run: &Answered) -> impl Iterator<Item = (usize, usize)> + '_ {
+    run.next.iter().enumerate().filter_map(|(u, next)| next.map(|v| (u, v)))
+}
+
+/// Whether the figures agree in what is answered alone: the start's are the sum of the quads' and of the answered front's.
+pub fn nets(sampled: &Sampled, run: &Answered) -> bool {
+    let answered = run.quads.iter().flat_map(|&quad| sides(quad)).chain(answered_front(run));
+    Net::of(sampled.edges.iter().copied()) == Net::of(answered)
 }
 
 /// Whether the areas balance in what is answered alone: the start's is the sum of the quads' and of the answered front's. The ids
@@ -51,9 +89,8 @@ pub fn balances(sampled: &Sampled, run: &Answered) -> bool {
         let places: Vec<Vector> = nodes.iter().map(|node| node.map(|x| Whole::of_float(x, unit))).collect();
         edges.fold(Whole::default(), |sum, (u, v)| &sum + &cross(&places[u], &places[v]))
     };
-    let sides = run.quads.iter().flat_map(|&[a, b, d, c]| [(a, b), (b, d), (d, c), (c, a)]);
-    let front = run.next.iter().enumerate().filter_map(|(u, next)| next.map(|v| (u, v)));
-    sum(&sampled.nodes, &mut sampled.edges.iter().copied()) == sum(&run.nodes, &mut sides.chain(front))
+    let quads = run.quads.iter().flat_map(|&quad| sides(quad));
+    sum(&sampled.nodes, &mut sampled.edges.iter().copied()) == sum(&run.nodes, &mut quads.chain(answered_front(run)))
 }
 
 /// The greatest power of two of which every coordinate, and 1, is a whole multiple.
@@ -91,10 +128,11 @@ struct Book {
     /// For each node the one after it, and x(u)·y(v) − x(v)·y(u) of the edge to it.
     next: Vec<usize>,
     terms: Vec<Whole>,
-    /// The number of front edges and of quads, and the quads' doubled areas together.
+    /// The number of front edges and of quads; the quads' doubled areas together; the start's figures less the quads'.
     front: usize,
     quads: usize,
     paved: Whole,
+    unpaved: Net,
     unit: i32,
     /// A squared length in units is below 1e-300 if `ten_to_300` times it is below `one`, which is 1 in squares of the unit.
     one: Whole,
@@ -114,6 +152,7 @@ impl Book {
             front: 0,
             quads: 0,
             paved: Whole::default(),
+            unpaved: Net::of(sampled.edges.iter().copied()),
             unit,
             one: Whole::of_float(1.0, 2 * unit),
             ten_to_300: Whole::power(10, 300),
@@ -177,8 +216,9 @@ impl Book {
             self.goes_on(d, b)?;
         }
         self.goes_on(c, d)?;
-        for (u, v) in [(a, b), (b, d), (d, c), (c, a)] {
+        for (u, v) in sides([a, b, d, c]) {
             self.paved += &cross(&self.places[u], &self.places[v]);
+            self.unpaved.add(v, u);
         }
         self.quads += 1;
         Ok(())
@@ -208,8 +248,10 @@ impl Book {
         sum
     }
 
-    /// What holds before the first quad and after each: areas, loops and counts.
+    /// What holds before the first quad and after each: figures, areas, loops and counts.
     fn holds(&self, sampled: &Sampled, start: &Whole) -> Result<(), String> {
+        let front = self.next.iter().copied().enumerate().filter(|&(_, to)| to != OFF);
+        require(self.unpaved == Net::of(front), || "the edges don't net".to_string())?;
         require(&(&self.paved + &self.front_area()) == start, || "the areas don't balance".to_string())?;
         let lengths = self.loops()?;
         let number = lengths.len();

@@ -34,6 +34,11 @@ impl Drawing {
         Drawing::of_loops(&[vec![[0.0, 0.0], [side, 0.0], [side, side], [0.0, side]]])
     }
 
+    /// Paper 4's square with a slit, whose mouth is `e` wide on either side of 0 at the height `f`.
+    pub fn slit(e: f64, f: f64) -> Drawing {
+        Drawing::of_loops(&[vec![[-1.0, -2.0], [1.0, -2.0], [1.0, 0.0], [-e, f], [0.0, -1.0], [e, f], [-1.0, 0.0]]])
+    }
+
     /// Each segment cut into so many.
     pub fn cut(&self, parts: usize) -> Drawing {
         let point = |points: &[f64], k: usize| [0, 1].map(|axis| points[(2 * k + axis) % points.len()]);
@@ -356,10 +361,11 @@ impl Raw {
     }
 
     /// Every value beside the refusals, as bits.
-    pub fn values(&self) -> [u64; 7] {
-        let ffi::NearestAnswer { ax, ay, bx, by, distance, .. } = self.nearest;
+    pub fn values(&self) -> [u64; 9] {
+        let ffi::NearestAnswer { ax, ay, bx, by, distance, loop_index, segment_index, .. } = self.nearest;
+        let [loop_index, segment_index] = [loop_index, segment_index].map(|index| index as u64);
         let [ax, ay, bx, by, near, far] = [ax, ay, bx, by, distance, self.distance.distance].map(f64::to_bits);
-        [u64::from(self.contains.inside), ax, ay, bx, by, near, far]
+        [u64::from(self.contains.inside), ax, ay, bx, by, near, loop_index, segment_index, far]
     }
 }
 

@@ -2,7 +2,6 @@
 //! by the places on the first where it begins and ends, and inside is a winding number.
 
 use super::whole::{unit, Whole};
-use super::Drawing;
 
 type Point = [Whole; 2];
 
@@ -24,6 +23,26 @@ fn is_zero(n: &Whole) -> bool {
 
 fn less(a: &Whole, b: &Whole) -> bool {
     (a - b).is_negative()
+}
+
+/// On which side of a line a point is.
+#[derive(Clone, Copy, Debug, PartialEq, Eq)]
+pub enum Side {
+    Left,
+    On,
+    Right,
+}
+
+/// The side of the way from a to b on which c is.
+pub fn side(a: [f64; 2], b: [f64; 2], c: [f64; 2]) -> Side {
+    let least = [a, b, c].as_flattened().iter().filter_map(|&x| unit(x)).min().unwrap_or(0);
+    let [a, b, c] = [a, b, c].map(|p| p.map(|x| Whole::of_float(x, least)));
+    let turn = cross(&way(&a, &b), &way(&a, &c));
+    match (turn.is_positive(), turn.is_negative()) {
+        (true, _) => Side::Left,
+        (_, true) => Side::Right,
+        _ => Side::On,
+    }
 }
 
 /// What two segments have in common.
@@ -115,13 +134,11 @@ fn touch(s: &[Point], t: &[Point]) -> bool {
     })
 }
 
-/// Whether the outline, which isn't refused, is sound.
-pub fn is_sound(drawing: &Drawing) -> bool {
-    let all = [&drawing.outer[..], &drawing.holes[..]].concat();
-    let least = all.iter().filter_map(|&x| unit(x)).min().unwrap_or(0);
+/// Whether the outline, which isn't refused, is sound: the coordinates of its loops, the outer one first.
+pub fn is_sound(loops: &[&[f64]]) -> bool {
+    let least = loops.iter().copied().flatten().filter_map(|&x| unit(x)).min().unwrap_or(0);
     let point = |p: &[f64]| [Whole::of_float(p[0], least), Whole::of_float(p[1], least)];
-    let rings: Vec<Vec<Point>> =
-        drawing.loops().into_iter().map(|points| points.chunks(2).map(point).collect()).collect();
+    let rings: Vec<Vec<Point>> = loops.iter().map(|points| points.chunks(2).map(point).collect()).collect();
     if rings.iter().any(|ring| crosses_itself(ring)) {
         return false;
     }

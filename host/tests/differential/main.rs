@@ -18,7 +18,7 @@ use common::{Drawing, Lent};
 use oracle::generate::Case;
 use oracle::patched::Region;
 use oracle::terms;
-use sitjorbe::{contains, distance_to_boundary, nearest_segment, NearestSegment, Outline, Refusal};
+use sitjorbe::{contains, distance_to_boundary, nearest_segment, Outline, Refusal, Segment};
 
 /// What a query is answered by all three entries: refusals as numbers, floats as bits.
 #[derive(Debug, PartialEq)]
@@ -30,7 +30,7 @@ struct Answers {
 
 impl Answers {
     fn of_library(outline: &Outline<'_>, point: [f64; 2]) -> Answers {
-        let bits = |NearestSegment { a, b, distance }| [a[0], a[1], b[0], b[1], distance].map(f64::to_bits);
+        let bits = |Segment { a, b, distance, .. }| [a[0], a[1], b[0], b[1], distance].map(f64::to_bits);
         Answers {
             contains: contains(outline, point).map_err(Refusal::number),
             nearest: nearest_segment(outline, point).map(bits).map_err(Refusal::number),

@@ -64,7 +64,7 @@ impl Outcome {
         let record = field.record();
         Outcome {
             end: run.end.name().to_string(),
-            whole: run.whole(),
+            whole: run.whole,
             grid: grid([record.xmin, record.ymin, record.h], [record.nx, record.ny]),
             values: bits(field.values().as_flattened()),
             marks: field.marks().iter().map(|&mark| u8::from(mark)).collect(),

@@ -11,11 +11,11 @@ returns : tie.Need-returns
 unfolding storeEdge
 returns c = rw (c .if1 .taken)
 
-smaller-requires : tie.Need-smaller-requires
-smaller-requires c κs = search needs
+min-u32-requires : tie.Need-min-u32-requires
+min-u32-requires c κs = search needs
 
-larger-requires : tie.Need-larger-requires
-larger-requires c κs = search needs
+max-u32-requires : tie.Need-max-u32-requires
+max-u32-requires c κs = search needs
 
 mul-edges : tie.Need-mul-edges
 mul-edges c = search needs
@@ -43,15 +43,15 @@ same-length c = search needs
 
 returns-2 : tie.Need-returns-2
 unfolding storeEdge
-returns-2 c = rw (c .before .before .if1 .left, c .before .smaller .ensures, c .larger .ensures)
+returns-2 c = rw (c .before .before .if1 .left, c .before .min-u32 .ensures, c .max-u32 .ensures)
 
 pub put-edge-spec : {M : Type 1} → statement M
 put-edge-spec =
     tie.close
     (tie.spec
     returns
-    smaller-requires
-    larger-requires
+    min-u32-requires
+    max-u32-requires
     mul-edges
     mul-edges-2
     slice-write-edges

@@ -22,11 +22,11 @@ enum-told-2 c = search needs
 returns-2 : tie.Need-returns-2
 returns-2 c = rw (c .before .before .before .c .given .1, c .enum-told2 .given .1) refl
 
-smaller-requires : tie.Need-smaller-requires
-smaller-requires c κs = search needs
+min-u32-requires : tie.Need-min-u32-requires
+min-u32-requires c κs = search needs
 
-larger-requires : tie.Need-larger-requires
-larger-requires c κs = search needs
+max-u32-requires : tie.Need-max-u32-requires
+max-u32-requires c κs = search needs
 
 is-known-requires : tie.Need-is-known-requires
 is-known-requires c κs = search needs
@@ -35,7 +35,7 @@ returns-3 : tie.Need-returns-3
 returns-3 c =
     let d = c .before .before .before .before in
     let e = d .before .before .before in
-    rw (e .c .given .1, d .d .given .1, ← c .before .before .smaller .ensures, ← c .before .larger .ensures) (c .is-known .ensures)
+    rw (e .c .given .1, d .d .given .1, ← c .before .before .min-u32 .ensures, ← c .before .max-u32 .ensures) (c .is-known .ensures)
 
 pub is-known-across-spec : {M : Type 1} → statement M
 is-known-across-spec =
@@ -47,7 +47,7 @@ is-known-across-spec =
     enum-known-d
     enum-told-2
     returns-2
-    smaller-requires
-    larger-requires
+    min-u32-requires
+    max-u32-requires
     is-known-requires
     returns-3)

@@ -2,7 +2,6 @@
 use mathlib.Core.Path.{ap}
 use Rattle.listing.specs.Listing.{wholeWord}
 use Rattle.listing.specs.BufferLaws.{wrote-as}
-use Rattle.listing.specs.Cases.{word-open}
 use borrow.Author.Needs.{needs}
 use Rattle.listing.proofs.put_whole.Statement.{statement}
 use Rattle.listing.proofs.put_whole.Tie as tie
@@ -31,7 +30,7 @@ same-length-2 c = search needs
 
 returns-2 : tie.Need-returns-2
 unfolding wholeWord
-returns-2 c = wrote-as (word-open _ (c .before .before .before .before .before .if1 .left)) (c .before .before .put-all2 .ensures)
+returns-2 c = wrote-as (ap wholeWord (c .before .before .before .before .before .if1 .left)) (c .before .before .put-all2 .ensures)
 
 pub put-whole-spec : {M : Type 1} → statement M
 put-whole-spec =

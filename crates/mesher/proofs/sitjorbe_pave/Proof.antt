@@ -1,6 +1,5 @@
 -- `sitjorbe_pave` meets its contract: what the run promises of its answer holds of the answer's numbers. Assumes nothing.
 use mathlib.Core.Path.{_≡_, ap, subst⁻¹}
-use borrow.Author.Tests.{eq-eqb}
 use Rattle.domain.specs.Outline.{Outline}
 use Rattle.domain.specs.declared.Settings.{Settings}
 use Rattle.run.specs.declared.Paved.{Paved}
@@ -14,9 +13,9 @@ use Rattle.mesher.proofs.sitjorbe_pave.Tie as tie
 host-paves : {o : Outline} {set : Settings} {before after : Lent} {p : Paved} {r : PaveAnswer} → Paves o set before p after → r ≡ paveNumbers p
     → HostPaves o set before r after
 unfolding paveNumbers
-host-paves {o} {set} {before} {after} {p} P e =
+host-paves {o} {set} {before} {after} P e =
     subst⁻¹ (λ (v : PaveAnswer). HostPaves o set before v after) e
-    (record { equal = ap ranNumbers (P .equal); refused = P .refused; books = λ z. rw (eq-eqb (p .refusal) 0 z) (P .books z) })
+    (record { equal = ap ranNumbers (P .equal); refused = P .refused; books = P .books })
 
 host-spares : {before after : Scratch} (p : Paved) {r : PaveAnswer} → Spares (p .refusal) before after → r ≡ paveNumbers p
     → Spares (r .refusal) before after

@@ -4,10 +4,10 @@ use native.Mathlib.Omega.{arith}
 use lib.ListN.{length}
 use Rattle.laws.specs.Loop.{Loop, loop-start, loop-next, loop-end}
 use Rattle.domain.specs.Outline.{outline}
-use Rattle.domain.specs.OutlineLaws.{hole-points, outer-place, HolesPassed, passed-none, passed-next, passed-place, passed-few}
+use Rattle.domain.specs.OutlineLaws.{outer-place, HolesPassed, passed-none, passed-next, passed-place, passed-few}
 use Rattle.domain.specs.Search.{searchHole}
 use Rattle.blocks.specs.BlockLaws.{drawn-shape, hole-asks, hole-drawn, outer-drawn}
-use Rattle.nearest.specs.PassLaws.{searched-all}
+use Rattle.nearest.specs.PassLaws.{searched-hole, searched-all}
 use Rattle.nearest.proofs.search_all.Statement.{statement}
 use Rattle.nearest.proofs.search_all.Tie as tie
 
@@ -29,15 +29,12 @@ search-loop-requires c κs =
 loop-holds : tie.Need-loop-holds Inv-loop μ-loop
 loop-holds c = (passed-none (drawn-shape (c .before .before .before .before .before .before .pre .0)), loop-start _ _ _)
 
-add-first-block : tie.Need-add-first-block Inv-loop μ-loop
-add-first-block c = omega arith
+add-loop-index : tie.Need-add-loop-index Inv-loop μ-loop
+add-loop-index c = omega arith
 
 first-block-requires : tie.Need-first-block-requires Inv-loop μ-loop
 first-block-requires c κs =
     hole-asks (c .before .loop .inv .0) (c .loop-test .taken) (c .before .before .before .before .before .before .before .before .pre .0 .taken)
-
-add-loop-points : tie.Need-add-loop-points Inv-loop μ-loop
-add-loop-points c = omega arith
 
 loop-points-requires-2 : tie.Need-loop-points-requires-2 Inv-loop μ-loop
 loop-points-requires-2 c κs = passed-place (c .before .before .loop .inv .0) (c .before .loop-test .taken)
@@ -74,8 +71,8 @@ loop-again : tie.Need-loop-again Inv-loop μ-loop
 loop-again c =
     let inv = c .before .before .before .before .before .loop .inv in
     let in-loop = c .before .before .before .before .loop-test .taken in
-    let points = hole-points _ _ (c .before .before .loop-points2 .ensures) in
-    (passed-next (inv .0) in-loop, rw (c .before .search-loop2 .ensures, points) (loop-next _ _ (inv .1) in-loop))
+    let turn = searched-hole _ _ _ _ (c .before .before .loop-points2 .ensures) (c .before .search-loop2 .ensures) in
+    (passed-next (inv .0) in-loop, rw turn (loop-next _ _ (inv .1) in-loop))
 
 returns : tie.Need-returns Inv-loop μ-loop
 returns c =
@@ -91,9 +88,8 @@ search-all-spec =
     loop-points-requires
     search-loop-requires
     loop-holds
-    add-first-block
+    add-loop-index
     first-block-requires
-    add-loop-points
     loop-points-requires-2
     search-loop-requires-2
     mul-start

@@ -12,10 +12,10 @@ use Rattle.nearest.proofs.search_loop.Statement.{statement}
 use Rattle.nearest.proofs.search_loop.Tie as tie
 
 abbrev Inv-loop : tie.InvT-loop
-Inv-loop p s blocks first n found₀ from₀ b₀ found from b = ByBlocks (searchTurn p s) found₀ (points s) first from b found
+Inv-loop p s loop-index blocks first n found₀ from₀ b₀ found from b = ByBlocks (searchTurn p s loop-index) found₀ (points s) first from b found
 
 abbrev μ-loop : tie.MeasureT-loop
-μ-loop p s blocks first n found₀ from₀ b₀ found from b = n - from
+μ-loop p s loop-index blocks first n found₀ from₀ b₀ found from b = n - from
 
 loop-holds : tie.Need-loop-holds Inv-loop μ-loop
 loop-holds c = blocks-start _ _ _ _
@@ -53,7 +53,7 @@ loop-again c =
     ⊎-elim (λ w. rw (w .3) (blocks-look _ _ inv taken (rw (← w .1 .ensures) (w .2 .ensures))))
     (λ w. rw (w .1)
     (blocks-pass _ _ inv taken
-    (passed-same (pre .0) (inv .place) taken _ _ (pre .2)
+    (passed-same (pre .0) (inv .place) taken _ _ _ (pre .2)
     (sym (c .before .is-passed .ensures) ∙ not-false _ (w .0 .left)))))
     (c .if1 .came)
 

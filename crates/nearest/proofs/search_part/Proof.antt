@@ -8,10 +8,10 @@ use Rattle.nearest.proofs.search_part.Statement.{statement}
 use Rattle.nearest.proofs.search_part.Tie as tie
 
 abbrev Inv-loop : tie.InvT-loop
-Inv-loop p s from to found₀ i₀ found i = LoopBetween (searchTurn p s) found₀ from to i found
+Inv-loop p s loop-index from to found₀ i₀ found i = LoopBetween (searchTurn p s loop-index) found₀ from to i found
 
 abbrev μ-loop : tie.MeasureT-loop
-μ-loop p s from to found₀ i₀ found i = to - i
+μ-loop p s loop-index from to found₀ i₀ found i = to - i
 
 loop-holds : tie.Need-loop-holds Inv-loop μ-loop
 loop-holds c = between-start _ _ _ _ (c .before .pre .0)

@@ -1,5 +1,5 @@
 -- `outline_file::read_points` meets its contract: the loop's invariant is `Filling`, and each answer is a law of it.
-use Rattle.outline_file.specs.ReadLaws.{Filling, fill-start, fill-length, fill-next, fill-end}
+use Rattle.laws.specs.Overlay.{Filling, fill-start, fill-length, fill-next, fill-end}
 use Rattle.outline_file.specs.File.{coordinateAt}
 use native.Mathlib.Omega.{arith}
 use Prim.Native.Nat.{_-_}

@@ -24,11 +24,11 @@ mul-loop c = omega (arith, c .before .before .before .pre, c .loop .inv .within)
 mul-from : tie.Need-mul-from Inv-loop μ-loop
 mul-from c = omega (arith, c .before .before .before .before .pre)
 
-add-least : tie.Need-add-least Inv-loop μ-loop
-add-least c = omega (arith, c .before .before .before .before .pre)
+add-min-usize : tie.Need-add-min-usize Inv-loop μ-loop
+add-min-usize c = omega (arith, c .before .before .before .before .pre)
 
-least-requires : tie.Need-least-requires Inv-loop μ-loop
-least-requires c κs = tt
+min-usize-requires : tie.Need-min-usize-requires Inv-loop μ-loop
+min-usize-requires c κs = tt
 
 add-at : tie.Need-add-at Inv-loop μ-loop
 add-at c = omega (arith, c .before .before .before .before .before .pre)
@@ -40,13 +40,13 @@ mul-write-points : tie.Need-mul-write-points Inv-loop μ-loop
 mul-write-points c = omega (arith, c .before .before .before .before .before .pre)
 
 sub-write-points : tie.Need-sub-write-points Inv-loop μ-loop
-sub-write-points c = omega (arith, c .before .before .before .before .before .pre, c .least .ensures)
+sub-write-points c = omega (arith, c .before .before .before .before .before .pre, c .min-usize .ensures)
 
 part-write-points-start : tie.Need-part-write-points-start Inv-loop μ-loop
-part-write-points-start c = omega (arith, c .before .before .before .before .before .pre, c .least .ensures)
+part-write-points-start c = omega (arith, c .before .before .before .before .before .pre, c .min-usize .ensures)
 
 part-write-points-end : tie.Need-part-write-points-end Inv-loop μ-loop
-part-write-points-end c = omega (arith, c .before .before .before .before .before .pre, c .least .ensures)
+part-write-points-end c = omega (arith, c .before .before .before .before .before .pre, c .min-usize .ensures)
 
 sub-write-points-2 : tie.Need-sub-write-points-2 Inv-loop μ-loop
 sub-write-points-2 c = omega (arith, c .before .before .before .before .before .before .pre, blocks-long _ (c .before .before .before .loop .inv))
@@ -60,7 +60,7 @@ part-write-points-end-2 c = omega (arith, c .before .before .before .before .bef
 write-points-requires : tie.Need-write-points-requires Inv-loop μ-loop
 write-points-requires c κs =
     part-requires _ (c .before .before .before .before .loop .inv) (omega (arith, c .before .before .before .before .before .before .before .pre))
-    (omega (arith, c .before .before .before .before .before .before .before .pre)) (omega arith) (c .before .before .least .ensures)
+    (omega (arith, c .before .before .before .before .before .before .before .pre)) (omega arith) (c .before .before .min-usize .ensures)
 
 add-k : tie.Need-add-k Inv-loop μ-loop
 add-k c = omega (arith, c .before .before .before .before .before .before .before .before .before .before .pre)
@@ -71,7 +71,7 @@ loop-less c = omega arith
 loop-again : tie.Need-loop-again Inv-loop μ-loop
 loop-again c = let turn = c .before .before .before .before .before .before .before in
     blocks-put _ (turn .loop .inv) (omega (arith, turn .before .before .before .pre)) (omega (arith, turn .before .before .before .pre))
-    (omega (arith, c .before .before .before .before .before .before .loop-test .taken)) (c .before .before .before .before .before .least .ensures)
+    (omega (arith, c .before .before .before .before .before .before .loop-test .taken)) (c .before .before .before .before .before .min-usize .ensures)
     (c .before .before .write-points .ensures)
 
 same-length : tie.Need-same-length Inv-loop μ-loop
@@ -89,8 +89,8 @@ write-blocks-spec =
     loop-holds
     mul-loop
     mul-from
-    add-least
-    least-requires
+    add-min-usize
+    min-usize-requires
     add-at
     mul-at
     mul-write-points

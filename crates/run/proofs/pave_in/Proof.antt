@@ -36,7 +36,7 @@ advanced c =
     at-snapshot .before .before .before .before .before .before .before .before .before
 
 abbrev listed : tie.After-answer → tie.After-front-loops
-listed c = c .before .before .before .before .before .before .before
+listed c = c .before .before .before .before .before .before .before .before
 
 make-field-requires : tie.Need-make-field-requires
 make-field-requires c κs =
@@ -57,6 +57,11 @@ front-loops-requires c κs =
     can-list (around start) _ (start .args .size) _ _ (statePart (given start))
     (sample-and-advance-requires (at-sample-and-advance .before) (at-sample-and-advance .sample-and-advance .lifetimes))
     _ (start .args .passes) _ (at-sample-and-advance .sample-and-advance .ensures) _ _ (start .pre .loops) (start .pre .lengths)
+
+is-whole-requires : tie.Need-is-whole-requires
+is-whole-requires c κs =
+    let at-front-loops = c .before .before .before .before .before .before in
+    made (advanced (at-front-loops .before) .before) .make-field .ensures .1 .taken
 
 answer-requires : tie.Need-answer-requires
 answer-requires c κs = search needs
@@ -110,7 +115,7 @@ returns c =
     let at-make-field = made (at-sample-and-advance .before) in
     let start = start-of (at-make-field .before) in
     run-whole (around start) (set start) (given start) _ _ _ (at-make-field .make-field .ensures .0) _
-    (at-sample-and-advance .sample-and-advance .ensures) _ (at-front-loops .front-loops .ensures) _ (c .answer .ensures)
+    (at-sample-and-advance .sample-and-advance .ensures) _ (at-front-loops .front-loops .ensures) _ (c .before .is-whole .ensures) _ (c .answer .ensures)
 
 pub pave-in-spec : {M : Type 1} → statement M
 pave-in-spec =
@@ -119,6 +124,7 @@ pave-in-spec =
     make-field-requires
     sample-and-advance-requires
     front-loops-requires
+    is-whole-requires
     answer-requires
     same-length
     same-length-2

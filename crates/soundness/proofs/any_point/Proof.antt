@@ -4,7 +4,8 @@ use mathlib.Core.Bool.{Bool·beq}
 use Prim.Native.Nat.{_-_, _/_}
 use native.Mathlib.Omega.{arith}
 use lib.ListN.{length}
-use Rattle.soundness.specs.CodeLaws.{anyPoint, point-in}
+use Rattle.soundness.specs.SegmentLaws.{point-in}
+use Rattle.soundness.specs.WalkLaws.{anyPoint}
 use Rattle.soundness.specs.Sound.{start, isInside}
 use Rattle.laws.specs.Loop.{Scan, scan-start, scan-next, scan-hit, scan-none}
 use Rattle.soundness.proofs.any_point.Statement.{statement}
@@ -27,7 +28,12 @@ is-inside-requires c κs = let p = c .before .before .before .before .before .pr
 
 returns : tie.Need-returns Inv-loop μ-loop
 unfolding anyPoint
-returns c = scan-hit _ (c .before .before .before .before .loop .inv .1) (c .before .before .before .loop-test .taken) (point-in _ _ _ _ (c .before .before .point-at .ensures) (c .before .is-inside .ensures) (c .if1 .taken))
+returns c =
+    let at-point-at = c .before .before in
+    let at-loop-test = at-point-at .before in
+    let at-loop = at-loop-test .before in
+    scan-hit _ (at-loop .loop .inv .1) (at-loop-test .loop-test .taken)
+    (point-in _ _ _ _ (at-point-at .point-at .ensures) (c .before .is-inside .ensures) (c .if1 .taken))
 
 add-i : tie.Need-add-i Inv-loop μ-loop
 add-i c = omega arith
@@ -36,8 +42,13 @@ loop-less : tie.Need-loop-less Inv-loop μ-loop
 loop-less c = omega arith
 
 loop-again : tie.Need-loop-again Inv-loop μ-loop
-loop-again c = let inv = c .before .before .before .before .loop .inv in
-    (inv .0, scan-next _ (inv .1) (c .before .before .before .loop-test .taken) (point-in _ _ _ _ (c .before .before .point-at .ensures) (c .before .is-inside .ensures) (c .if1 .left)))
+loop-again c =
+    let at-point-at = c .before .before in
+    let at-loop-test = at-point-at .before in
+    let at-loop = at-loop-test .before in
+    let inv = at-loop .loop .inv in
+    let missed = point-in _ _ _ _ (at-point-at .point-at .ensures) (c .before .is-inside .ensures) (c .if1 .left) in
+    (inv .0, scan-next _ (inv .1) (at-loop-test .loop-test .taken) missed)
 
 returns-2 : tie.Need-returns-2 Inv-loop μ-loop
 unfolding anyPoint

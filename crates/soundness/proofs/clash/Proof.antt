@@ -1,7 +1,7 @@
 -- `soundness::clash` meets its contract: `clash-next`, `clash-last` and `clash-other`.
 use mathlib.Core.Path.{refl}
 use borrow.Author.Needs.{needs}
-use Rattle.soundness.specs.CodeLaws.{clash-next, clash-last, clash-other}
+use Rattle.soundness.specs.SegmentLaws.{clash-next, clash-last, clash-other}
 use Rattle.soundness.specs.Sound.{clash}
 use Rattle.domain.specs.Accepted.{after-within}
 use Rattle.soundness.proofs.clash.Statement.{statement}
@@ -25,13 +25,27 @@ after-requires : tie.Need-after-requires
 after-requires c κs = search needs
 
 returns-3 : tie.Need-returns-3
-returns-3 c = clash-next _ _ _ (c .before .before .before .before .before .folds-at .ensures) (c .before .before .before .before .if1 .left) (c .before .before .before .folds-at2 .ensures) (c .before .before .if2 .left) (c .before .after .ensures .0) (c .if3 .taken)
+returns-3 c =
+    let at-if2 = c .before .before in
+    let at-folds-at2 = at-if2 .before in
+    let at-if1 = at-folds-at2 .before in
+    let at-folds-at = at-if1 .before in
+    clash-next _ _ _ (at-folds-at .folds-at .ensures) (at-if1 .if1 .left) (at-folds-at2 .folds-at2 .ensures) (at-if2 .if2 .left)
+    (c .before .after .ensures .0) (c .if3 .taken)
 
 after-requires-2 : tie.Need-after-requires-2
 after-requires-2 c κs = search needs
 
 returns-4 : tie.Need-returns-4
-returns-4 c = clash-last _ _ _ (c .before .before .before .before .before .before .before .folds-at .ensures) (c .before .before .before .before .before .before .if1 .left) (c .before .before .before .before .before .folds-at2 .ensures) (c .before .before .before .before .if2 .left) (c .before .before .before .after .ensures .0) (c .before .before .if3 .left) (c .before .after2 .ensures .0) (c .if4 .taken)
+returns-4 c =
+    let at-if3 = c .before .before in
+    let at-after = at-if3 .before in
+    let at-if2 = at-after .before in
+    let at-folds-at2 = at-if2 .before in
+    let at-if1 = at-folds-at2 .before in
+    let at-folds-at = at-if1 .before in
+    clash-last _ _ _ (at-folds-at .folds-at .ensures) (at-if1 .if1 .left) (at-folds-at2 .folds-at2 .ensures) (at-if2 .if2 .left)
+    (at-after .after .ensures .0) (at-if3 .if3 .left) (c .before .after2 .ensures .0) (c .if4 .taken)
 
 point-at-requires : tie.Need-point-at-requires
 point-at-requires c κs = search needs
@@ -51,8 +65,21 @@ meets-requires c κs = let p = c .before .before .before .before .before .before
     (p .0 _ (p .1), after-within _ (p .0) _ (p .1), p .0 _ (p .2), after-within _ (p .0) _ (p .2))
 
 returns-5 : tie.Need-returns-5
-returns-5 c = clash-other _ _ _ (c .before .before .before .before .before .before .before .before .before .before .before .before .folds-at .ensures) (c .before .before .before .before .before .before .before .before .before .before .before .if1 .left) (c .before .before .before .before .before .before .before .before .before .before .folds-at2 .ensures) (c .before .before .before .before .before .before .before .before .before .if2 .left) (c .before .before .before .before .before .before .before .before .after .ensures .0) (c .before .before .before .before .before .before .before .if3 .left) (c .before .before .before .before .before .before .after2 .ensures .0) (c .before .before .before .before .before .if4 .left)
-    (c .before .before .before .before .point-at .ensures) (c .before .before .before .point-after .ensures) (c .before .before .point-at2 .ensures) (c .before .point-after2 .ensures) (c .meets .ensures)
+returns-5 c =
+    let at-point-at2 = c .before .before in
+    let at-point-after = at-point-at2 .before in
+    let at-point-at = at-point-after .before in
+    let at-if4 = at-point-at .before in
+    let at-after2 = at-if4 .before in
+    let at-if3 = at-after2 .before in
+    let at-after = at-if3 .before in
+    let at-if2 = at-after .before in
+    let at-folds-at2 = at-if2 .before in
+    let at-if1 = at-folds-at2 .before in
+    let at-folds-at = at-if1 .before in
+    clash-other _ _ _ (at-folds-at .folds-at .ensures) (at-if1 .if1 .left) (at-folds-at2 .folds-at2 .ensures) (at-if2 .if2 .left)
+    (at-after .after .ensures .0) (at-if3 .if3 .left) (at-after2 .after2 .ensures .0) (at-if4 .if4 .left) (at-point-at .point-at .ensures)
+    (at-point-after .point-after .ensures) (at-point-at2 .point-at2 .ensures) (c .before .point-after2 .ensures) (c .meets .ensures)
 
 pub clash-spec : {M : Type 1} → statement M
 clash-spec =

@@ -1,7 +1,7 @@
 -- `soundness::clashes_before` meets its contract: the loop is a search that has found nothing yet, and where the next hole's points begin.
 use Prim.Native.Nat.{_-_}
 use native.Mathlib.Omega.{arith}
-use Rattle.soundness.specs.CodeLaws.{holesClash}
+use Rattle.soundness.specs.WalkLaws.{holesClash}
 use Rattle.domain.specs.OutlineLaws.{hole-points, HolesPassed, passed-none, passed-next, passed-place, passed-few}
 use Rattle.domain.specs.Outline.{outline, holeAt}
 use Rattle.laws.specs.Loop.{Scan, scan-start, scan-next, scan-hit, scan-none}
@@ -9,7 +9,8 @@ use Rattle.soundness.proofs.clashes_before.Statement.{statement}
 use Rattle.soundness.proofs.clashes_before.Tie as tie
 
 abbrev Inv-loop : tie.InvT-loop
-Inv-loop outer holes lens s k l₀ start₀ l start = HolesPassed (outline outer holes lens) l start × Scan (λ l. holesClash s (holeAt (outline outer holes lens) l)) k l
+Inv-loop outer holes lens s k l₀ start₀ l start =
+    HolesPassed (outline outer holes lens) l start × Scan (λ l. holesClash s (holeAt (outline outer holes lens) l)) k l
 
 abbrev μ-loop : tie.MeasureT-loop
 μ-loop outer holes lens s k l₀ start₀ l start = k - l
@@ -21,13 +22,23 @@ add-loop-points : tie.Need-add-loop-points Inv-loop μ-loop
 add-loop-points c = omega (arith, c .before .before .before .before .before .before .pre .2)
 
 loop-points-requires : tie.Need-loop-points-requires Inv-loop μ-loop
-loop-points-requires c κs = passed-place (c .before .loop .inv .0) (omega (arith, c .before .before .before .before .before .before .pre .2, c .loop-test .taken))
+loop-points-requires c κs =
+    let start = c .before .before .before .before .before .before in
+    passed-place (c .before .loop .inv .0) (omega (arith, start .pre .2, c .loop-test .taken))
 
 holes-clash-requires : tie.Need-holes-clash-requires Inv-loop μ-loop
-holes-clash-requires c κs = let p = c .before .before .before .before .before .before .before .pre in rw (c .loop-points .ensures) (p .1, p .0 .within _ (omega (arith, p .2, c .before .loop-test .taken)))
+holes-clash-requires c κs =
+    let start = c .before .before .before .before .before .before .before in
+    let p = start .pre in
+    rw (c .loop-points .ensures) (p .1, p .0 .within _ (omega (arith, p .2, c .before .loop-test .taken)))
 
 returns : tie.Need-returns Inv-loop μ-loop
-returns c = scan-hit _ (c .before .before .before .before .loop .inv .1) (c .before .before .before .loop-test .taken) (rw (← hole-points _ _ (c .before .before .loop-points .ensures), ← c .before .holes-clash .ensures) (c .if1 .taken))
+returns c =
+    let at-loop-points = c .before .before in
+    let at-loop-test = at-loop-points .before in
+    let at-loop = at-loop-test .before in
+    scan-hit _ (at-loop .loop .inv .1) (at-loop-test .loop-test .taken)
+    (rw (← hole-points _ _ (at-loop-points .loop-points .ensures), ← c .before .holes-clash .ensures) (c .if1 .taken))
 
 mul-start : tie.Need-mul-start Inv-loop μ-loop
 mul-start c = omega (arith, c .before .before .before .before .before .before .before .before .before .pre .2)
@@ -36,7 +47,12 @@ shared-slice-read-start : tie.Need-shared-slice-read-start Inv-loop μ-loop
 shared-slice-read-start c = omega (arith, c .before .before .before .before .before .before .before .before .before .before .pre .2)
 
 add-start : tie.Need-add-start Inv-loop μ-loop
-add-start c = let few = passed-few (c .before .before .before .before .before .loop .inv .0) (omega (arith, c .before .before .before .before .before .before .before .before .before .before .pre .2, c .before .before .before .before .loop-test .taken)) in omega arith
+add-start c =
+    let at-loop-test = c .before .before .before .before in
+    let at-loop = at-loop-test .before in
+    let start = at-loop .before .before .before .before .before in
+    let few = passed-few (at-loop .loop .inv .0) (omega (arith, start .pre .2, at-loop-test .loop-test .taken)) in
+    omega arith
 
 add-l : tie.Need-add-l Inv-loop μ-loop
 add-l c = omega (arith, c .before .before .before .before .before .before .before .before .before .before .pre .2)
@@ -45,10 +61,17 @@ loop-less : tie.Need-loop-less Inv-loop μ-loop
 loop-less c = omega arith
 
 loop-again : tie.Need-loop-again Inv-loop μ-loop
-loop-again c = let inv = c .before .before .before .before .before .loop .inv in (
-  passed-next (inv .0) (omega (arith, c .before .before .before .before .before .before .before .before .before .before .pre .2, c .before .before .before .before .loop-test .taken)),
-  scan-next _ (inv .1) (c .before .before .before .before .loop-test .taken) (rw (← hole-points _ _ (c .before .before .before .loop-points .ensures), ← c .before .before .holes-clash .ensures) (c .before .if1 .left)),
-)
+loop-again c =
+    let at-holes-clash = c .before .before in
+    let at-loop-points = at-holes-clash .before in
+    let at-loop-test = at-loop-points .before in
+    let at-loop = at-loop-test .before in
+    let start = at-loop .before .before .before .before .before in
+    let inv = at-loop .loop .inv in (
+      passed-next (inv .0) (omega (arith, start .pre .2, at-loop-test .loop-test .taken)),
+      scan-next _ (inv .1) (at-loop-test .loop-test .taken)
+          (rw (← hole-points _ _ (at-loop-points .loop-points .ensures), ← at-holes-clash .holes-clash .ensures) (c .before .if1 .left)),
+    )
 
 returns-2 : tie.Need-returns-2 Inv-loop μ-loop
 returns-2 c = scan-none _ (c .before .loop .inv .1) (c .loop-test .left)

@@ -28,7 +28,14 @@ loop-holds : tie.Need-loop-holds Inv-loop μ-loop Inv-pairs μ-pairs
 loop-holds c = (c .before .pairs .inv .0, scan-start _ _)
 
 clash-requires : tie.Need-clash-requires Inv-loop μ-loop Inv-pairs μ-pairs
-clash-requires c κs = let h = c .loop-test .taken in let g = c .before .before .pairs-test .taken in let e = c .before .before .before .pairs .inv .1 in (c .before .before .before .before .before .pre, omega arith, omega arith)
+clash-requires c κs =
+    let at-pairs-test = c .before .before in
+    let at-pairs = at-pairs-test .before in
+    let start = at-pairs .before .before in
+    let h = c .loop-test .taken in
+    let g = at-pairs-test .pairs-test .taken in
+    let e = at-pairs .pairs .inv .1 in
+    (start .pre, omega arith, omega arith)
 
 add-j : tie.Need-add-j Inv-loop μ-loop Inv-pairs μ-pairs
 add-j c = omega arith
@@ -37,7 +44,11 @@ loop-less : tie.Need-loop-less Inv-loop μ-loop Inv-pairs μ-pairs
 loop-less c = omega arith
 
 loop-again : tie.Need-loop-again Inv-loop μ-loop Inv-pairs μ-pairs
-loop-again c = let inv = c .before .before .before .loop .inv in (inv .0, scan-next _ (inv .1) (c .before .before .loop-test .taken) (sym (c .before .clash .ensures) ∙ c .if1 .left))
+loop-again c =
+    let at-loop-test = c .before .before in
+    let at-loop = at-loop-test .before in
+    let inv = at-loop .loop .inv in
+    (inv .0, scan-next _ (inv .1) (at-loop-test .loop-test .taken) (sym (c .before .clash .ensures) ∙ c .if1 .left))
 
 add-i : tie.Need-add-i Inv-loop μ-loop Inv-pairs μ-pairs
 add-i c = omega arith
@@ -46,7 +57,12 @@ pairs-less : tie.Need-pairs-less Inv-loop μ-loop Inv-pairs μ-pairs
 pairs-less c = omega arith
 
 pairs-again : tie.Need-pairs-again Inv-loop μ-loop Inv-pairs μ-pairs
-pairs-again c = let inv = c .before .before .before .pairs .inv in (c .before .loop .inv .0, inv .1, scan-next _ (inv .2) (c .before .before .pairs-test .taken) (sym (scan-none _ (c .before .loop .inv .1) (c .loop-test .left))))
+pairs-again c =
+    let at-loop = c .before in
+    let at-pairs-test = at-loop .before in
+    let at-pairs = at-pairs-test .before in
+    let inv = at-pairs .pairs .inv in
+    (at-loop .loop .inv .0, inv .1, scan-next _ (inv .2) (at-pairs-test .pairs-test .taken) (sym (scan-none _ (at-loop .loop .inv .1) (c .loop-test .left))))
 
 returns : tie.Need-returns Inv-loop μ-loop Inv-pairs μ-pairs
 unfolding crossesItself
@@ -54,7 +70,13 @@ returns c = let inv = c .before .pairs .inv in inv .0 ∙ scan-none _ (inv .2) (
 
 returns-2 : tie.Need-returns-2 Inv-loop μ-loop Inv-pairs μ-pairs
 unfolding crossesItself
-returns-2 c = scan-hit _ (c .before .before .before .before .before .pairs .inv .2) (c .before .before .before .before .pairs-test .taken) (sym (scan-hit _ (c .before .before .before .loop .inv .1) (c .before .before .loop-test .taken) (sym (c .before .clash .ensures) ∙ c .if1 .taken)))
+returns-2 c =
+    let at-loop-test = c .before .before in
+    let at-loop = at-loop-test .before in
+    let at-pairs-test = at-loop .before in
+    let at-pairs = at-pairs-test .before in
+    scan-hit _ (at-pairs .pairs .inv .2) (at-pairs-test .pairs-test .taken)
+    (sym (scan-hit _ (at-loop .loop .inv .1) (at-loop-test .loop-test .taken) (sym (c .before .clash .ensures) ∙ c .if1 .taken)))
 
 pub crosses-itself-spec : {M : Type 1} → statement M
 crosses-itself-spec =

@@ -1,7 +1,7 @@
 -- `soundness::holes_clash` meets its contract: the definition's three tests, each as it is called.
 use mathlib.Core.Path.{refl}
 use borrow.Author.Needs.{needs}
-use Rattle.soundness.specs.CodeLaws.{holesClash}
+use Rattle.soundness.specs.WalkLaws.{holesClash}
 use Rattle.soundness.proofs.holes_clash.Statement.{statement}
 use Rattle.soundness.proofs.holes_clash.Tie as tie
 
@@ -24,7 +24,11 @@ any-point-requires-2 c κs = search needs
 
 returns-3 : tie.Need-returns-3
 unfolding holesClash
-returns-3 c = rw (← c .before .before .before .before .touches .ensures, c .before .before .before .if1 .left, ← c .before .before .any-point .ensures, c .before .if2 .left) (c .any-point2 .ensures)
+returns-3 c =
+    let at-any-point = c .before .before in
+    let at-if1 = at-any-point .before in
+    let at-touches = at-if1 .before in
+    rw (← at-touches .touches .ensures, at-if1 .if1 .left, ← at-any-point .any-point .ensures, c .before .if2 .left) (c .any-point2 .ensures)
 
 pub holes-clash-spec : {M : Type 1} → statement M
 holes-clash-spec =

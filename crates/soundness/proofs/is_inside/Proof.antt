@@ -4,7 +4,7 @@ use mathlib.Core.Bool.{false}
 use Prim.Native.Nat.{_-_, _/_}
 use native.Mathlib.Omega.{arith}
 use lib.ListN.{length}
-use Rattle.soundness.specs.CodeLaws.{ray-at}
+use Rattle.soundness.specs.SegmentLaws.{ray-at}
 use Rattle.soundness.specs.Sound.{start, end, rayMeets, isInside}
 use Rattle.orientation.specs.Orient.{place}
 use Rattle.domain.specs.Parity.{oddTurn}
@@ -39,10 +39,15 @@ loop-less : tie.Need-loop-less Inv-loop μ-loop
 loop-less c = omega arith
 
 loop-again : tie.Need-loop-again Inv-loop μ-loop
-loop-again c = let inv = c .before .before .before .before .loop .inv in (
-  inv .0,
-  rw (ray-at _ _ _ (c .before .before .point-at .ensures) (c .before .point-after .ensures) (c .ray-meets .ensures)) (loop-next _ _ (inv .1) (c .before .before .before .loop-test .taken)),
-)
+loop-again c =
+    let at-point-at = c .before .before in
+    let at-loop-test = at-point-at .before in
+    let at-loop = at-loop-test .before in
+    let inv = at-loop .loop .inv in (
+      inv .0,
+      rw (ray-at _ _ _ (at-point-at .point-at .ensures) (c .before .point-after .ensures) (c .ray-meets .ensures))
+          (loop-next _ _ (inv .1) (at-loop-test .loop-test .taken)),
+    )
 
 returns : tie.Need-returns Inv-loop μ-loop
 unfolding isInside

@@ -1,6 +1,6 @@
 -- `soundness::is_parted` meets its contract: `parted-line` and `parted-rest`.
 use borrow.Author.Needs.{needs}
-use Rattle.soundness.specs.CodeLaws.{parted-line, parted-rest}
+use Rattle.soundness.specs.SegmentLaws.{parted-line, parted-rest}
 use Rattle.soundness.proofs.is_parted.Statement.{statement}
 use Rattle.soundness.proofs.is_parted.Tie as tie
 

@@ -18,21 +18,59 @@ overlaps-requires-2 c κs = search needs
 
 returns-2 : tie.Need-returns-2
 unfolding meets
-returns-2 c = rw (← c .before .before .before .overlaps .ensures, not-false (c .before .before .before .overlaps .result) (c .before .before .if1 .left), ← c .before .overlaps2 .ensures, not-true (c .before .overlaps2 .result) (c .if2 .taken)) refl
+returns-2 c =
+    let at-overlaps2 = c .before in
+    let at-if1 = at-overlaps2 .before in
+    let at-overlaps = at-if1 .before in
+    rw (
+      ← at-overlaps .overlaps .ensures,
+      not-false (at-overlaps .overlaps .result) (at-if1 .if1 .left),
+      ← at-overlaps2 .overlaps2 .ensures,
+      not-true (at-overlaps2 .overlaps2 .result) (c .if2 .taken),
+    )
+    refl
 
 is-parted-requires : tie.Need-is-parted-requires
 is-parted-requires c κs = search needs
 
 returns-3 : tie.Need-returns-3
 unfolding meets
-returns-3 c = rw (← c .before .before .before .before .before .overlaps .ensures, not-false (c .before .before .before .before .before .overlaps .result) (c .before .before .before .before .if1 .left), ← c .before .before .before .overlaps2 .ensures, not-false (c .before .before .before .overlaps2 .result) (c .before .before .if2 .left), ← c .before .is-parted .ensures, c .if3 .taken) refl
+returns-3 c =
+    let at-if2 = c .before .before in
+    let at-overlaps2 = at-if2 .before in
+    let at-if1 = at-overlaps2 .before in
+    let at-overlaps = at-if1 .before in
+    rw (
+      ← at-overlaps .overlaps .ensures,
+      not-false (at-overlaps .overlaps .result) (at-if1 .if1 .left),
+      ← at-overlaps2 .overlaps2 .ensures,
+      not-false (at-overlaps2 .overlaps2 .result) (at-if2 .if2 .left),
+      ← c .before .is-parted .ensures,
+      c .if3 .taken,
+    )
+    refl
 
 is-parted-requires-2 : tie.Need-is-parted-requires-2
 is-parted-requires-2 c κs = search needs
 
 returns-4 : tie.Need-returns-4
 unfolding meets
-returns-4 c = rw (← c .before .before .before .before .before .before .overlaps .ensures, not-false (c .before .before .before .before .before .before .overlaps .result) (c .before .before .before .before .before .if1 .left), ← c .before .before .before .before .overlaps2 .ensures, not-false (c .before .before .before .before .overlaps2 .result) (c .before .before .before .if2 .left), ← c .before .before .is-parted .ensures, c .before .if3 .left, ← c .is-parted2 .ensures) refl
+returns-4 c =
+    let at-is-parted = c .before .before in
+    let at-if2 = at-is-parted .before in
+    let at-overlaps2 = at-if2 .before in
+    let at-if1 = at-overlaps2 .before in
+    let at-overlaps = at-if1 .before in
+    rw (
+      ← at-overlaps .overlaps .ensures,
+      not-false (at-overlaps .overlaps .result) (at-if1 .if1 .left),
+      ← at-overlaps2 .overlaps2 .ensures,
+      not-false (at-overlaps2 .overlaps2 .result) (at-if2 .if2 .left),
+      ← at-is-parted .is-parted .ensures,
+      c .before .if3 .left,
+      ← c .is-parted2 .ensures,
+    )
+    refl
 
 pub meets-spec : {M : Type 1} → statement M
 meets-spec =

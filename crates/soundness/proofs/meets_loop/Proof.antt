@@ -3,7 +3,7 @@ use mathlib.Core.Path.{_≡_, refl, sym, _∙_}
 use Prim.Native.Nat.{_-_, _/_}
 use native.Mathlib.Omega.{arith}
 use lib.ListN.{length}
-use Rattle.soundness.specs.CodeLaws.{meets-at}
+use Rattle.soundness.specs.SegmentLaws.{meets-at}
 use Rattle.soundness.specs.Sound.{start, end, meets}
 use Rattle.orientation.specs.Orient.{place}
 use Rattle.domain.specs.Accepted.{after-within}
@@ -31,7 +31,13 @@ meets-requires c κs = let p = c .before .before .before .before .before .pre in
     rw (c .before .point-at .ensures, c .point-after .ensures) (p .0, p .1, p .2 _ h, after-within _ (p .2) _ h)
 
 returns : tie.Need-returns Inv-loop μ-loop
-returns c = scan-hit _ (c .before .before .before .before .before .loop .inv .1) (c .before .before .before .before .loop-test .taken) (sym (meets-at _ _ _ _ (c .before .before .before .point-at .ensures) (c .before .before .point-after .ensures) (c .before .meets .ensures)) ∙ c .if1 .taken)
+returns c =
+    let at-point-after = c .before .before in
+    let at-point-at = at-point-after .before in
+    let at-loop-test = at-point-at .before in
+    let at-loop = at-loop-test .before in
+    scan-hit _ (at-loop .loop .inv .1) (at-loop-test .loop-test .taken)
+    (sym (meets-at _ _ _ _ (at-point-at .point-at .ensures) (at-point-after .point-after .ensures) (c .before .meets .ensures)) ∙ c .if1 .taken)
 
 add-j : tie.Need-add-j Inv-loop μ-loop
 add-j c = omega arith
@@ -40,10 +46,16 @@ loop-less : tie.Need-loop-less Inv-loop μ-loop
 loop-less c = omega arith
 
 loop-again : tie.Need-loop-again Inv-loop μ-loop
-loop-again c = let inv = c .before .before .before .before .before .loop .inv in (
-  inv .0,
-  scan-next _ (inv .1) (c .before .before .before .before .loop-test .taken) (sym (meets-at _ _ _ _ (c .before .before .before .point-at .ensures) (c .before .before .point-after .ensures) (c .before .meets .ensures)) ∙ c .if1 .left),
-)
+loop-again c =
+    let at-point-after = c .before .before in
+    let at-point-at = at-point-after .before in
+    let at-loop-test = at-point-at .before in
+    let at-loop = at-loop-test .before in
+    let inv = at-loop .loop .inv in (
+      inv .0,
+      scan-next _ (inv .1) (at-loop-test .loop-test .taken)
+          (sym (meets-at _ _ _ _ (at-point-at .point-at .ensures) (at-point-after .point-after .ensures) (c .before .meets .ensures)) ∙ c .if1 .left),
+    )
 
 returns-2 : tie.Need-returns-2 Inv-loop μ-loop
 returns-2 c = scan-none _ (c .before .loop .inv .1) (c .loop-test .left)

@@ -1,6 +1,6 @@
 -- `soundness::sitjorbe_sound` meets its contract: `sound-refused` and `sound-judged`.
 use borrow.Author.Needs.{needs}
-use Rattle.soundness.specs.CodeLaws.{sound-refused, sound-judged}
+use Rattle.soundness.specs.WalkLaws.{sound-refused, sound-judged}
 use Rattle.soundness.proofs.sitjorbe_sound.Statement.{statement}
 use Rattle.soundness.proofs.sitjorbe_sound.Tie as tie
 

@@ -4,7 +4,7 @@ use Prim.Native.Nat.{_-_, _/_}
 use native.Mathlib.Omega.{arith}
 use denote.Ref.{now}
 use lib.ListN.{length}
-use Rattle.soundness.specs.CodeLaws.{segment-at}
+use Rattle.soundness.specs.SegmentLaws.{segment-at}
 use Rattle.soundness.specs.Sound.{start, end, meets, touch}
 use Rattle.domain.specs.Accepted.{after-within}
 use Rattle.domain.specs.Outline.{points}
@@ -33,7 +33,15 @@ meets-loop-requires c κs = let p = c .before .before .before .before .before .b
 
 returns : tie.Need-returns Inv-loop μ-loop
 unfolding touch
-returns c = scan-hit _ (c .before .before .before .before .before .loop .inv .1) (c .before .before .before .before .loop-test .taken) (sym (segment-at _ (now (c .before .before .before .before .before .before .before .before .args .t)) _ (c .before .before .before .point-at .ensures) (c .before .before .point-after .ensures) (c .before .meets-loop .ensures)) ∙ c .if1 .taken)
+returns c =
+    let at-point-after = c .before .before in
+    let at-point-at = at-point-after .before in
+    let at-loop-test = at-point-at .before in
+    let at-loop = at-loop-test .before in
+    let at-args = at-loop .before .before .before in
+    scan-hit _ (at-loop .loop .inv .1) (at-loop-test .loop-test .taken)
+    (sym (segment-at _ (now (at-args .args .t)) _ (at-point-at .point-at .ensures) (at-point-after .point-after .ensures)
+    (c .before .meets-loop .ensures)) ∙ c .if1 .taken)
 
 add-i : tie.Need-add-i Inv-loop μ-loop
 add-i c = omega arith
@@ -42,10 +50,18 @@ loop-less : tie.Need-loop-less Inv-loop μ-loop
 loop-less c = omega arith
 
 loop-again : tie.Need-loop-again Inv-loop μ-loop
-loop-again c = let inv = c .before .before .before .before .before .loop .inv in (
-  inv .0,
-  scan-next _ (inv .1) (c .before .before .before .before .loop-test .taken) (sym (segment-at _ (now (c .before .before .before .before .before .before .before .before .args .t)) _ (c .before .before .before .point-at .ensures) (c .before .before .point-after .ensures) (c .before .meets-loop .ensures)) ∙ c .if1 .left),
-)
+loop-again c =
+    let at-point-after = c .before .before in
+    let at-point-at = at-point-after .before in
+    let at-loop-test = at-point-at .before in
+    let at-loop = at-loop-test .before in
+    let at-args = at-loop .before .before .before in
+    let inv = at-loop .loop .inv in (
+      inv .0,
+      scan-next _ (inv .1) (at-loop-test .loop-test .taken)
+          (sym (segment-at _ (now (at-args .args .t)) _ (at-point-at .point-at .ensures) (at-point-after .point-after .ensures)
+          (c .before .meets-loop .ensures)) ∙ c .if1 .left),
+    )
 
 returns-2 : tie.Need-returns-2 Inv-loop μ-loop
 unfolding touch

@@ -1,0 +1,4 @@
+pub mod Needed
+pub mod Few
+pub mod Laws
+pub mod Examples

@@ -33,6 +33,8 @@ pub struct Lists<'a> {
     pub prev: &'a mut [u32],
     /// A place a node, for the run's own use: it is left with 1 for a node on the front, 0 for one off it.
     pub snapshot: &'a mut [u32],
+    /// The number of the outline's loop that a node came from.
+    pub origins: &'a mut [u16],
     /// Four ids a quad, in the order a, b, d, c, which runs round it.
     pub quads: &'a mut [u32],
     /// Two ids a distinct edge, the smaller first.
@@ -51,8 +53,13 @@ pub struct Lists<'a> {
 }
 
 impl<'a> Lists<'a> {
-    /// The lists by kind, each kind in the order of the fields: `values`, `xs`, `ys`; `marks`; `next` to `blocks`.
-    pub fn new(floats: [&'a mut [f64]; 3], marks: &'a mut [u8], numbers: [&'a mut [u32]; 10]) -> Lists<'a> {
+    /// The lists by kind, each kind in the order of the fields: `values`, `xs`, `ys`; `marks`; `origins`; `next` to `blocks`.
+    pub fn new(
+        floats: [&'a mut [f64]; 3],
+        marks: &'a mut [u8],
+        origins: &'a mut [u16],
+        numbers: [&'a mut [u32]; 10],
+    ) -> Lists<'a> {
         let [values, xs, ys] = floats;
         let [next, prev, snapshot, quads, edges, loops, lengths, node_pool, edge_pool, blocks] = numbers;
         Lists {
@@ -63,6 +70,7 @@ impl<'a> Lists<'a> {
             next,
             prev,
             snapshot,
+            origins,
             quads,
             edges,
             loops,
@@ -125,6 +133,7 @@ pub struct Mesh<'a> {
     ys: &'a [f64],
     next: &'a [u32],
     prev: &'a [u32],
+    origins: &'a [u16],
     quads: &'a [u32],
     edges: &'a [u32],
     front: usize,
@@ -184,6 +193,13 @@ impl<'a> Mesh<'a> {
         self.xs.iter().zip(self.ys).map(|(&x, &y)| [x, y])
     }
 
+    /// For each node, by id, the number of the outline's loop that it came from: 0 is the outer loop, and k + 1 hole k. A node that was sampled
+    /// has its loop's number, and any other that of the node a of the quad it came with. No quad has nodes of two numbers, and no loop of the
+    /// front has.
+    pub fn origins(&self) -> &'a [u16] {
+        self.origins
+    }
+
     /// The nodes' first coordinates and their second ones, as they were lent.
     pub(crate) fn coordinates(&self) -> (&'a [f64], &'a [f64]) {
         (self.xs, self.ys)
@@ -192,6 +208,11 @@ impl<'a> Mesh<'a> {
     /// The ids of all quads, four a quad, as they were lent.
     pub(crate) fn quad_ids(&self) -> &'a [u32] {
         self.quads
+    }
+
+    /// The ids of all edges, two an edge, as they were lent.
+    pub(crate) fn edge_ids(&self) -> &'a [u32] {
+        self.edges
     }
 
     /// Each quad's ids a, b, d, c, in the order in which the quads were placed.
@@ -250,6 +271,7 @@ pub fn pave<'a>(outline: &Outline<'_>, settings: &Settings, mut lists: Lists<'a>
         ys: &lists.ys[..nodes],
         next: &lists.next[..nodes],
         prev: &lists.prev[..nodes],
+        origins: &lists.origins[..nodes],
         quads: &lists.quads[..4 * answer.quads],
         edges: &lists.edges[..2 * answer.edges],
         front,
@@ -288,6 +310,8 @@ pub fn pave_numbers(outline: &Outline<'_>, settings: &Settings, lists: &mut List
             lists.prev.len(),
             lists.snapshot.as_mut_ptr(),
             lists.snapshot.len(),
+            lists.origins.as_mut_ptr(),
+            lists.origins.len(),
             lists.quads.as_mut_ptr(),
             lists.quads.len(),
             lists.edges.as_mut_ptr(),
@@ -364,6 +388,7 @@ pub struct Memory {
     /// By kind, as [`Lists::new`] takes them.
     floats: [Vec<f64>; 3],
     marks: Vec<u8>,
+    origins: Vec<u16>,
     numbers: [Vec<u32>; 10],
 }
 
@@ -378,18 +403,19 @@ impl Memory {
         let [node_pool, edge_pool] = places.pools();
         let (values, quads, edges) = (field_nodes.saturating_mul(2), quads.saturating_mul(4), edges.saturating_mul(2));
         // A loop is sampled with four nodes at least: where `n` has places for these, a quarter of it has one for each loop.
-        let [marks] = zeros([field_nodes])?;
+        let ([marks], [origins]) = (zeros([field_nodes])?, zeros([n])?);
         Ok(Memory {
             floats: zeros([values, n, n])?,
             marks,
+            origins,
             numbers: zeros([n, n, n, quads, edges, n, n / 4, node_pool, edge_pool, places.blocks()])?,
         })
     }
 
     /// The lists, to lend them.
     pub fn lists(&mut self) -> Lists<'_> {
-        let Memory { floats, marks, numbers } = self;
-        Lists::new(floats.each_mut().map(Vec::as_mut_slice), marks, numbers.each_mut().map(Vec::as_mut_slice))
+        let Memory { floats, marks, origins, numbers } = self;
+        Lists::new(floats.each_mut().map(Vec::as_mut_slice), marks, origins, numbers.each_mut().map(Vec::as_mut_slice))
     }
 
     /// Paves an outline with quads. The mesh is read out of this memory, and lasts until the next run in it.

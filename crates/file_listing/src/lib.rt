@@ -44,6 +44,7 @@ fn list_outline<'a>(
     let mut next = [0u32; 800];
     let mut prev = [0u32; 800];
     let mut snapshot = [0u32; 800];
+    let mut origins = [0u16; 800];
     let mut quads = [0u32; 3200];
     let mut edges = [0u32; 4800];
     let mut loops = [0u32; 800];
@@ -65,6 +66,7 @@ fn list_outline<'a>(
         &mut next,
         &mut prev,
         &mut snapshot,
+        &mut origins,
         &mut quads,
         &mut edges,
         &mut loops,

@@ -161,7 +161,8 @@ fn pave_numbers(paved: Paved) -> PaveAnswer
     }
 }
 
-// The run whole, from the field to the loops of the front, in the lists lent. Nothing is written on a refusal. The pools and the list of blocks are
+// The run whole, from the field to the loops of the front, in the lists lent. `origins` gets for each node the number of the outline's loop that it came from.
+// Nothing is written on a refusal. The pools and the list of blocks are
 // scratch of any length, which searches go by as far as they have room; the answer doesn't depend on them.
 #[no_mangle]
 pub extern "C" fn sitjorbe_pave<'a>(
@@ -178,6 +179,7 @@ pub extern "C" fn sitjorbe_pave<'a>(
     next: &mut [u32],
     prev: &mut [u32],
     snapshot: &mut [u32],
+    origins: &mut [u16],
     quads: &mut [u32],
     edges: &mut [u32],
     loops: &mut [u32],
@@ -188,10 +190,10 @@ pub extern "C" fn sitjorbe_pave<'a>(
 ) -> PaveAnswer
     ensures { λ r. ⌜ HostPaves (outline (now (outer .entry)) (now (holes .entry)) (now (lens .entry))) (settings size sweeps passes)
         (lent (now (values .entry)) (now (marks .entry)) (now (xs .entry)) (now (ys .entry)) (now (next .entry)) (now (prev .entry))
-        (now (snapshot .entry)) (now (quads .entry)) (now (edges .entry)) (now (loops .entry)) (now (lengths .entry)))
+        (now (snapshot .entry)) (now (origins .entry)) (now (quads .entry)) (now (edges .entry)) (now (loops .entry)) (now (lengths .entry)))
         r
         (lent (now (values .exit)) (now (marks .exit)) (now (xs .exit)) (now (ys .exit)) (now (next .exit)) (now (prev .exit)) (now (snapshot .exit))
-        (now (quads .exit)) (now (edges .exit)) (now (loops .exit)) (now (lengths .exit)))
+        (now (origins .exit)) (now (quads .exit)) (now (edges .exit)) (now (loops .exit)) (now (lengths .exit)))
         × Spares (r .refusal) (scratch (now («node_pool» .entry)) (now («edge_pool» .entry)) (now (blocks .entry)))
         (scratch (now («node_pool» .exit)) (now («edge_pool» .exit)) (now (blocks .exit))) ⌝ }
 {
@@ -209,6 +211,7 @@ pub extern "C" fn sitjorbe_pave<'a>(
         next,
         prev,
         snapshot,
+        origins,
         quads,
         edges,
         loops,

@@ -1,4 +1,4 @@
-// The run whole in one call: field, sampling, paving and the loops of the front, in the lists lent.
+// The run whole in one call: field, sampling, paving, the loops that nodes came from and the loops of the front, in the lists lent.
 ghost use mathlib.Core.Path.{_≡_};
 ghost use mathlib.Core.List.{[]};
 ghost use Prim.Native.Nat.{_≤_, min};
@@ -81,6 +81,13 @@ fn answer(grid: Grid, a: Advanced, listed: Listed, whole: bool) -> Paved
 }
 
 // ---- refusals 1 to 10
+
+// So many places of the snapshot count.
+fn snapshot_places(snapshot: usize, loops: usize, origins: usize) -> usize
+    ensures { λ r. ⌜ r ≡ min (min snapshot loops) origins ⌝ }
+{
+    numbers::min_usize(numbers::min_usize(snapshot, loops), origins)
+}
 
 // The places of the shortest of the lists of nodes.
 fn node_places(xs: usize, ys: usize, next: usize, prev: usize, snapshot: usize) -> usize
@@ -176,7 +183,7 @@ fn sample_and_advance<'a>(
     )
 }
 
-// A run that isn't refused, where `snapshot` is no longer than `loops`.
+// A run that isn't refused, where `snapshot` is no longer than `loops` and `origins`.
 fn pave_in<'a>(
     outer: &'a [f64],
     holes: &'a [f64],
@@ -191,6 +198,7 @@ fn pave_in<'a>(
     next: &mut [u32],
     prev: &mut [u32],
     snapshot: &mut [u32],
+    origins: &mut [u16],
     quads: &mut [u32],
     edges: &mut [u32],
     loops: &mut [u32],
@@ -200,14 +208,15 @@ fn pave_in<'a>(
     blocks: &mut [u32],
 ) -> Paved
     requires { ⌜ CanRun (outline (now outer) (now holes) (now lens)) (settings size sweeps passes)
-        (lent (now values) (now marks) (now xs) (now ys) (now next) (now prev) (now snapshot) (now quads) (now edges) (now loops) (now lengths)) ⌝ }
+        (lent (now values) (now marks) (now xs) (now ys) (now next) (now prev) (now snapshot) (now origins) (now quads) (now edges) (now loops)
+        (now lengths)) ⌝ }
     ensures { λ r. ⌜
         ran r
         (lent (now (values .exit)) (now (marks .exit)) (now (xs .exit)) (now (ys .exit)) (now (next .exit)) (now (prev .exit)) (now (snapshot .exit))
-        (now (quads .exit)) (now (edges .exit)) (now (loops .exit)) (now (lengths .exit)))
+        (now (origins .exit)) (now (quads .exit)) (now (edges .exit)) (now (loops .exit)) (now (lengths .exit)))
         ≡ acceptedIn (outline (now (outer .entry)) (now (holes .entry)) (now (lens .entry))) (settings size sweeps passes)
         (lent (now (values .entry)) (now (marks .entry)) (now (xs .entry)) (now (ys .entry)) (now (next .entry)) (now (prev .entry))
-        (now (snapshot .entry)) (now (quads .entry)) (now (edges .entry)) (now (loops .entry)) (now (lengths .entry))) ⌝ }
+        (now (snapshot .entry)) (now (origins .entry)) (now (quads .entry)) (now (edges .entry)) (now (loops .entry)) (now (lengths .entry))) ⌝ }
 {
     let grid = crossfield::make_field(outer, holes, lens, size, sweeps, values, marks, blocks);
     let a = sample_and_advance(
@@ -229,6 +238,7 @@ fn pave_in<'a>(
         edge_pool,
         passes,
     );
+    origins::number_nodes(outer, holes, lens, size, quads, a.counts.quads, origins);
     let listed = loops::front_loops(a.counts, next, snapshot, loops, lengths);
     let whole = soundness::is_whole(outer, holes, lens, listed.count);
     answer(grid, a, listed, whole)
@@ -236,8 +246,8 @@ fn pave_in<'a>(
 
 // ---- the run
 
-// Paves an outline, in the lists that the caller lends; on a refusal nothing is written. Of the lists of nodes the shortest counts, `loops`
-// among them: so the run gets no more of `snapshot` than that has places. `lengths` holds a number for each loop. The pools and the list of blocks
+// Paves an outline, in the lists that the caller lends; on a refusal nothing is written. Of the lists of nodes the shortest counts, `loops` and
+// `origins` among them: so the run gets no more of `snapshot` than they have places. `lengths` holds a number for each loop. The pools and the list of blocks
 // are scratch of any length: searches go by them as far as they have room. The answer doesn't depend on what they hold, and what a run leaves in
 // them is free.
 pub fn pave<'a>(
@@ -254,6 +264,7 @@ pub fn pave<'a>(
     next: &mut [u32],
     prev: &mut [u32],
     snapshot: &mut [u32],
+    origins: &mut [u16],
     quads: &mut [u32],
     edges: &mut [u32],
     loops: &mut [u32],
@@ -264,14 +275,14 @@ pub fn pave<'a>(
 ) -> Paved
     ensures { λ r. ⌜ Paves (outline (now (outer .entry)) (now (holes .entry)) (now (lens .entry))) (settings size sweeps passes)
         (lent (now (values .entry)) (now (marks .entry)) (now (xs .entry)) (now (ys .entry)) (now (next .entry)) (now (prev .entry))
-        (now (snapshot .entry)) (now (quads .entry)) (now (edges .entry)) (now (loops .entry)) (now (lengths .entry)))
+        (now (snapshot .entry)) (now (origins .entry)) (now (quads .entry)) (now (edges .entry)) (now (loops .entry)) (now (lengths .entry)))
         r
         (lent (now (values .exit)) (now (marks .exit)) (now (xs .exit)) (now (ys .exit)) (now (next .exit)) (now (prev .exit)) (now (snapshot .exit))
-        (now (quads .exit)) (now (edges .exit)) (now (loops .exit)) (now (lengths .exit)))
+        (now (origins .exit)) (now (quads .exit)) (now (edges .exit)) (now (loops .exit)) (now (lengths .exit)))
         × Spares (r .refusal) (scratch (now («node_pool» .entry)) (now («edge_pool» .entry)) (now (blocks .entry)))
         (scratch (now («node_pool» .exit)) (now («edge_pool» .exit)) (now (blocks .exit))) ⌝ }
 {
-    let m = numbers::min_usize(snapshot.len(), loops.len());
+    let m = snapshot_places(snapshot.len(), loops.len(), origins.len());
     let field = numbers::min_usize(values.len() / 2, marks.len());
     let nodes = node_places(xs.len(), ys.len(), next.len(), prev.len(), m);
     let number = refusal(
@@ -302,6 +313,7 @@ pub fn pave<'a>(
         next,
         prev,
         &mut snapshot[..m],
+        origins,
         quads,
         edges,
         loops,

@@ -444,10 +444,10 @@ pub fn passes(rng: &mut Rng) -> usize {
 /// one is the shortest, and others may be longer.
 pub fn lengths(rng: &mut Rng, places: &Places, loops: usize, pools: [usize; 2], blocks: usize) -> Lengths {
     let mut lengths = list_lengths(*places);
-    let [values, marks, xs, ys, next, prev, snapshot, quads, edges, ids, by_loop, scratch @ ..] = &mut lengths;
+    let [values, marks, xs, ys, next, prev, snapshot, origins, quads, edges, ids, by_loop, scratch @ ..] = &mut lengths;
     *scratch = [pools[0], pools[1], blocks];
     *by_loop = loops + rng.below(4);
-    let by_node = [xs, ys, next, prev, snapshot, ids];
+    let by_node = [xs, ys, next, prev, snapshot, origins, ids];
     let shortest = rng.below(by_node.len());
     for (_, length) in by_node.into_iter().enumerate().filter(|(k, _)| *k != shortest) {
         *length += rng.below(4);

@@ -309,6 +309,8 @@ extern "C" {
         edge_pool_len: usize,
         blocks: *mut u32,
         blocks_len: usize,
+        tried: *mut u32,
+        tried_len: usize,
     ) -> PaveAnswer;
 
     pub fn sitjorbe_exam(

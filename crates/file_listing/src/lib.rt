@@ -52,6 +52,7 @@ fn list_outline<'a>(
     let mut node_pool = [0u32; 3200];
     let mut edge_pool = [0u32; 38400];
     let mut blocks = [0u32; 92];
+    let mut tried = [0u32; 2400];
     let paved = run::pave(
         outer,
         holes,
@@ -74,6 +75,7 @@ fn list_outline<'a>(
         &mut node_pool,
         &mut edge_pool,
         &mut blocks,
+        &mut tried,
     );
     listing::write_listing(
         out,

@@ -5,9 +5,12 @@ import struct
 from typing import NamedTuple
 
 from outlines import Point, Unusable
-from refusals import WORDS, Refused
+from refusals import Refused
 
 FURTHEST = 1_001  # proved of every run
+
+# What the program refuses by: document 01's numbers of a file and of a run.
+PRINTED = (*range(1, 11), 12, 13)
 
 ENDS = {
     "still": "the last pass placed nothing",
@@ -47,7 +50,7 @@ def whole_number(word, below=None):
 
 def read_first(words):
     """Counts of nodes, quads and front edges, the end, and whether it is whole."""
-    if words[:1] == ["refused"] and len(words) == 2 and words[1].isdecimal() and int(words[1]) in WORDS:
+    if words[:1] == ["refused"] and len(words) == 2 and words[1].isdecimal() and int(words[1]) in PRINTED:
         raise Refused(int(words[1]))
     if words[:1] != ["mesh"] or len(words) != 6 or words[4] not in ENDS or words[5] not in ("whole", "open"):
         raise Unusable("a listing begins with 'mesh', three counts, the end, and 'whole' or 'open'; or with 'refused' and a number")
@@ -88,3 +91,27 @@ def read(text):
     except Unusable as error:
         raise Unusable(f"line {line}: {error}") from None
     return Listing(read_rows["n"], read_rows["q"], front, end, whole, read_rows["l"])
+
+
+def origins(listing):
+    """The number of the outline's loop that each node came from, 0 for the outer loop and k + 1 for blind spot k.
+
+    A listing doesn't have the numbers, and they follow from it. The nodes of a quad have one number, and so have those of a loop of the front: that is
+    proved of every run. And all nodes of a number hang together so, since an edge of a sampled loop is on the front left, or a quad used it up.
+    The samples come loop after loop: numbers rise with the least node of each.
+    """
+    least = list(range(len(listing.nodes)))
+
+    def find(node):
+        while least[node] != node:
+            least[node] = least[least[node]]
+            node = least[node]
+        return node
+
+    for first, *rest in listing.quads + listing.loops:
+        for node in rest:
+            low, high = sorted((find(first), find(node)))
+            least[high] = low
+    found = [find(node) for node in range(len(listing.nodes))]
+    number = {node: k for k, node in enumerate(sorted(set(found)))}
+    return [number[node] for node in found]

@@ -26,10 +26,17 @@ WORDS = {
     17: ("no threshold stands at the node", "enter one first, or look whether it was withdrawn already"),
     18: ("the quad isn't in the mesh, or lacks a threshold", "count quads from 0, and enter the thresholds of all its nodes"),
     19: ("a weight is above 256", "give weights from 0 to 256, which is all the way across the quad"),
+    20: ("the role is unknown or lacks the operation",
+         "ask as the desk (1), a reader (2) or a masked reader (3), and as a role that may ask this"),
     21: ("the order leaves a quad out, names one twice or names one that isn't there",
          "name every quad of the mesh exactly once, counted from 0"),
     22: ("a quad stands before one that laid a front edge which it used up",
          "move it after every such quad, or keep the order in which the quads were placed"),
+    23: ("the lent mesh isn't sound, or the list lent beside it is too short",
+         "hand over lists and counts as a run or the last step left them, with every coordinate within 1,001 either way; lend two numbers for each front edge and four more for a preview, and two places a node for steps"),
+    24: ("the edge isn't on the front", "name a node of the front and the node after it, in that order"),
+    25: ("a quad doesn't turn left at all four corners in steps of 1/64 degree, so the bowl can't show it",
+         "set a larger size, or draw the outline so that no part of it is narrower than a step"),
     26: ("the list is too short for every small quad", "lend four places for each, 14,944 in all"),
 }
 

@@ -8,7 +8,7 @@ use std::fmt::Write;
 use std::process::ExitCode;
 use std::{env, fs};
 
-use sitjorbe::{LentMesh, Refusal, Thresholds, MOST_WEIGHT};
+use sitjorbe::{Desk, Exam, LentMesh, Reader, Refusal, MOST_WEIGHT};
 
 /// Patches along a side of a quad.
 const PATCHES: usize = 4;
@@ -53,12 +53,16 @@ fn picture(listing: &str, thresholds: &str) -> Result<String, String> {
     let read = |name: &str| fs::read_to_string(name).map_err(|error| format!("{name}: {error}"));
     let Listed { xs, ys, quads } =
         read_listing(&read(listing)?).map_err(|line| format!("{listing}: line {line} isn't a listing's"))?;
-    let mesh = LentMesh { nodes: xs.len() as u32, xs: &xs, ys: &ys, quad_count: quads.len() / 4, quads: &quads };
-    let mut exam = Thresholds::begin(mesh);
+    let (nodes, quad_count) = (xs.len() as u32, quads.len() / 4);
+    // A listing has no origins and no links, and the picture needs none.
+    let origins = vec![0; xs.len()];
+    let mesh =
+        LentMesh { nodes, xs: &xs, ys: &ys, quad_count, quads: &quads, origins: &origins, ..LentMesh::default() };
+    let mut exam = Exam::begin(mesh);
     for (line, words) in (1..).zip(read(thresholds)?.lines()) {
-        enter(&mut exam, words).map_err(|what| format!("{thresholds}: line {line}: {what}"))?;
+        enter(&mut exam.desk(), words).map_err(|what| format!("{thresholds}: line {line}: {what}"))?;
     }
-    draw(&exam).map_err(|refusal| refusal.to_string())
+    draw(&mesh, exam.reader()).map_err(|refusal| refusal.to_string())
 }
 
 /// Reads a listing; the error is the line that can't be read.
@@ -85,20 +89,19 @@ fn read_listing(text: &str) -> Result<Listed, usize> {
 }
 
 /// Enters the threshold that a line has: a node and tenths of a decibel. A `#` begins a comment.
-fn enter(exam: &mut Thresholds<'_>, line: &str) -> Result<(), String> {
+fn enter(desk: &mut Desk<'_>, line: &str) -> Result<(), String> {
     let words = line.split('#').next().unwrap_or("").trim();
     if words.is_empty() {
         return Ok(());
     }
     let numbers: Option<Vec<u32>> = words.split(',').map(|word| word.trim().parse().ok()).collect();
     match numbers.as_deref() {
-        Some(&[node, threshold]) => exam.enter(node, threshold).map_err(|refusal| refusal.to_string()),
+        Some(&[node, threshold]) => desk.enter(node, threshold).map_err(|refusal| refusal.to_string()),
         _ => Err(format!("a node and its threshold are wanted: {words}")),
     }
 }
 
-fn draw(exam: &Thresholds<'_>) -> Result<String, Refusal> {
-    let mesh = exam.mesh();
+fn draw(mesh: &LentMesh<'_>, exam: Reader<'_>) -> Result<String, Refusal> {
     let range = |list: &[f64]| {
         list.iter().fold([f64::INFINITY, f64::NEG_INFINITY], |[low, high], x| [low.min(*x), high.max(*x)])
     };
@@ -120,10 +123,10 @@ fn draw(exam: &Thresholds<'_>) -> Result<String, Refusal> {
     };
     let mut shades = vec![String::new(); SHADES as usize];
     let (mut edges, mut lacking) = (String::new(), String::new());
-    for (quad, ids) in mesh.quads.chunks_exact(4).enumerate() {
+    for (quad, ids) in (0..).zip(mesh.quads.chunks_exact(4)) {
         let whole = ring(ids, [0, MOST_WEIGHT], [0, MOST_WEIGHT]);
         match shades_of(exam, quad) {
-            Err(Refusal::NoEstimate) => lacking += &whole,
+            Err(Refusal::NoQuad) => lacking += &whole,
             Err(refusal) => return Err(refusal),
             Ok(rows) if rows.as_flattened().iter().all(|shade| *shade == rows[0][0]) => shades[rows[0][0]] += &whole,
             Ok(rows) => {
@@ -139,11 +142,11 @@ fn draw(exam: &Thresholds<'_>) -> Result<String, Refusal> {
         }
         edges += &whole;
     }
-    Ok(sheet(exam, height, &shades, &edges, &lacking))
+    Ok(sheet(mesh.quad_count, exam.figures(), height, &shades, &edges, &lacking))
 }
 
 /// The shade of each patch of a quad, row by row.
-fn shades_of(exam: &Thresholds<'_>, quad: usize) -> Result<[[usize; PATCHES]; PATCHES], Refusal> {
+fn shades_of(exam: Reader<'_>, quad: u32) -> Result<[[usize; PATCHES]; PATCHES], Refusal> {
     let mut rows = [[0; PATCHES]; PATCHES];
     for (row, v) in rows.iter_mut().zip((SIDE / 2..).step_by(SIDE as usize)) {
         for (shade, u) in row.iter_mut().zip((SIDE / 2..).step_by(SIDE as usize)) {
@@ -157,7 +160,14 @@ fn grey(shade: usize) -> String {
     format!("#{:02x}{0:02x}{0:02x}", 24 + 231 * shade as u32 / (SHADES - 1))
 }
 
-fn sheet(exam: &Thresholds<'_>, height: f64, shades: &[String], edges: &str, lacking: &str) -> String {
+fn sheet(
+    quads: usize,
+    (complete, sum): (u32, u32),
+    height: f64,
+    shades: &[String],
+    edges: &str,
+    lacking: &str,
+) -> String {
     let mut svg = String::new();
     let (width, bottom) = (WIDTH + 2.0 * MARGIN, MARGIN + height);
     let mut line = |text: String| writeln!(svg, "{text}").expect("a string takes every line");
@@ -184,10 +194,9 @@ fn sheet(exam: &Thresholds<'_>, height: f64, shades: &[String], edges: &str, lac
             line(format!(r#"<text x="{x:.1}" y="{:.1}">{decibels} dB</text>"#, bottom + 46.0));
         }
     }
-    let (quads, complete) = (exam.mesh().quads.len() / 4, exam.complete_quads());
     let words = [
         format!("{complete} of {quads} quads have all four thresholds; the others are red."),
-        format!("The sum of all thresholds of these {complete} is {} tenths of a decibel.", exam.sum()),
+        format!("The sum of all thresholds of these {complete} is {sum} tenths of a decibel."),
     ];
     for (words, y) in words.iter().zip([70.0, 90.0]) {
         line(format!(r#"<text x="{MARGIN}" y="{:.1}">{words}</text>"#, bottom + y));

@@ -98,19 +98,23 @@ pub struct OrderAnswer {
     pub place: usize,
 }
 
-/// An event's answer: only whether it was refused. All else is in what was lent.
+/// What a request to an exam asked for; all else is 0, and all but `refusal` on a refusal.
 #[repr(C)]
-#[derive(Clone, Copy, Debug)]
-pub struct RefusalAnswer {
+#[derive(Clone, Copy, Debug, PartialEq)]
+pub struct ExamAnswer {
     pub refusal: u32,
-}
-
-/// The estimate, in tenths of a decibel; 0 on a refusal.
-#[repr(C)]
-#[derive(Clone, Copy, Debug)]
-pub struct EstimateAnswer {
-    pub refusal: u32,
+    pub x: f64,
+    pub y: f64,
+    pub a: u32,
+    pub b: u32,
+    pub d: u32,
+    pub c: u32,
+    pub length: usize,
+    pub threshold: u32,
+    pub count: u32,
+    pub sum: u32,
     pub estimate: u32,
+    pub origin: u32,
 }
 
 /// `count` is how many fours are listed, 0 on a refusal.
@@ -121,7 +125,46 @@ pub struct SmallQuadsAnswer {
     pub count: usize,
 }
 
+/// What became of the edge (0 placed, 1 none, 2 full, 3 cap), and how many nodes, quads, distinct edges and front edges there are after it. All 0 on
+/// a refusal.
+#[repr(C)]
+#[derive(Clone, Copy, Debug, PartialEq)]
+pub struct StepAnswer {
+    pub refusal: u32,
+    pub outcome: u32,
+    pub nodes: u32,
+    pub quads: usize,
+    pub edges: usize,
+    pub front: usize,
+}
+
+/// What would become of the edge, the quad that would be placed with its new nodes, and how many front edges there would be. All 0 on a refusal.
+#[repr(C)]
+#[derive(Clone, Copy, Debug, PartialEq)]
+pub struct PreviewAnswer {
+    pub refusal: u32,
+    pub outcome: u32,
+    pub a: u32,
+    pub b: u32,
+    pub d: u32,
+    pub c: u32,
+    pub new_nodes: u32,
+    pub cx: f64,
+    pub cy: f64,
+    pub dx: f64,
+    pub dy: f64,
+    pub front: usize,
+}
+
 #[link(name = "sitjorbe", kind = "static")]
+/// `quad` is the lowest quad that the bowl can't show, on refusal 25; else 0.
+#[repr(C)]
+#[derive(Clone, Copy, Debug)]
+pub struct StepsAnswer {
+    pub refusal: u32,
+    pub quad: usize,
+}
+
 extern "C" {
     pub fn sitjorbe_contains(
         outer: *const f64,
@@ -250,6 +293,8 @@ extern "C" {
         prev_len: usize,
         snapshot: *mut u32,
         snapshot_len: usize,
+        origins: *mut u16,
+        origins_len: usize,
         quads: *mut u32,
         quads_len: usize,
         edges: *mut u32,
@@ -264,59 +309,38 @@ extern "C" {
         edge_pool_len: usize,
         blocks: *mut u32,
         blocks_len: usize,
+        tried: *mut u32,
+        tried_len: usize,
     ) -> PaveAnswer;
 
-    pub fn sitjorbe_begin(thresholds: *mut u16, thresholds_len: usize, count: *mut u32, sum: *mut u32)
-        -> RefusalAnswer;
-
-    pub fn sitjorbe_enter(
-        nodes: u32,
-        xs: *const f64,
-        xs_len: usize,
-        ys: *const f64,
-        ys_len: usize,
-        quad_count: usize,
-        quads: *const u32,
-        quads_len: usize,
-        thresholds: *mut u16,
-        thresholds_len: usize,
-        count: *mut u32,
-        sum: *mut u32,
-        node: u32,
-        threshold: u32,
-    ) -> RefusalAnswer;
-
-    pub fn sitjorbe_withdraw(
-        nodes: u32,
-        xs: *const f64,
-        xs_len: usize,
-        ys: *const f64,
-        ys_len: usize,
-        quad_count: usize,
-        quads: *const u32,
-        quads_len: usize,
-        thresholds: *mut u16,
-        thresholds_len: usize,
-        count: *mut u32,
-        sum: *mut u32,
-        node: u32,
-    ) -> RefusalAnswer;
-
-    pub fn sitjorbe_estimate(
-        nodes: u32,
-        xs: *const f64,
-        xs_len: usize,
-        ys: *const f64,
-        ys_len: usize,
-        quad_count: usize,
-        quads: *const u32,
-        quads_len: usize,
-        thresholds: *const u16,
-        thresholds_len: usize,
-        quad: usize,
+    pub fn sitjorbe_exam(
+        role: u32,
+        operation: u32,
+        item: u32,
+        value: u32,
         u: u32,
         v: u32,
-    ) -> EstimateAnswer;
+        nodes: u32,
+        xs: *const f64,
+        xs_len: usize,
+        ys: *const f64,
+        ys_len: usize,
+        quad_count: usize,
+        quads: *const u32,
+        quads_len: usize,
+        next: *const u32,
+        next_len: usize,
+        prev: *const u32,
+        prev_len: usize,
+        origins: *const u16,
+        origins_len: usize,
+        thresholds: *mut u16,
+        thresholds_len: usize,
+        count: *mut u32,
+        sum: *mut u32,
+        reply: *mut u32,
+        reply_len: usize,
+    ) -> ExamAnswer;
 
     pub fn sitjorbe_small_quads(fours: *mut u32, fours_len: usize) -> SmallQuadsAnswer;
 
@@ -331,4 +355,107 @@ extern "C" {
         pool: *mut u32,
         pool_len: usize,
     ) -> OrderAnswer;
+
+    pub fn sitjorbe_step(
+        outer: *const f64,
+        outer_len: usize,
+        holes: *const f64,
+        holes_len: usize,
+        lens: *const usize,
+        lens_len: usize,
+        size: f64,
+        xmin: f64,
+        ymin: f64,
+        h: f64,
+        nx: usize,
+        ny: usize,
+        values: *const f64,
+        values_len: usize,
+        marks: *const u8,
+        marks_len: usize,
+        xs: *mut f64,
+        xs_len: usize,
+        ys: *mut f64,
+        ys_len: usize,
+        next: *mut u32,
+        next_len: usize,
+        prev: *mut u32,
+        prev_len: usize,
+        origins: *mut u16,
+        origins_len: usize,
+        quads: *mut u32,
+        quads_len: usize,
+        edges: *mut u32,
+        edges_len: usize,
+        node_count: u32,
+        quad_count: usize,
+        edge_count: usize,
+        front_count: usize,
+        a: u32,
+        b: u32,
+    ) -> StepAnswer;
+
+    pub fn sitjorbe_preview(
+        outer: *const f64,
+        outer_len: usize,
+        holes: *const f64,
+        holes_len: usize,
+        lens: *const usize,
+        lens_len: usize,
+        size: f64,
+        xmin: f64,
+        ymin: f64,
+        h: f64,
+        nx: usize,
+        ny: usize,
+        values: *const f64,
+        values_len: usize,
+        marks: *const u8,
+        marks_len: usize,
+        xs: *const f64,
+        xs_len: usize,
+        ys: *const f64,
+        ys_len: usize,
+        next: *const u32,
+        next_len: usize,
+        prev: *const u32,
+        prev_len: usize,
+        origins: *const u16,
+        origins_len: usize,
+        quads: *const u32,
+        quads_len: usize,
+        edges: *const u32,
+        edges_len: usize,
+        node_count: u32,
+        quad_count: usize,
+        edge_count: usize,
+        front_count: usize,
+        a: u32,
+        b: u32,
+        list: *mut u32,
+        list_len: usize,
+    ) -> PreviewAnswer;
+
+    pub fn sitjorbe_steps(
+        xs: *const f64,
+        xs_len: usize,
+        ys: *const f64,
+        ys_len: usize,
+        next: *const u32,
+        next_len: usize,
+        prev: *const u32,
+        prev_len: usize,
+        origins: *const u16,
+        origins_len: usize,
+        quads: *const u32,
+        quads_len: usize,
+        edges: *const u32,
+        edges_len: usize,
+        node_count: u32,
+        quad_count: usize,
+        edge_count: usize,
+        front_count: usize,
+        steps: *mut i32,
+        steps_len: usize,
+    ) -> StepsAnswer;
 }

@@ -52,6 +52,11 @@
 //! assert_eq!(check_order(44, &quads, &order), Ok(()));
 //! assert!(check_order(44, &quads, &order[1..]).is_err());
 //!
+//! // For the motor bowl: the nodes in whole steps of 1/64 degree, and as the degrees that these are.
+//! let steps = mesh.steps()?;
+//! assert_eq!(steps.counts().nth(1), Some([64, 0]));
+//! assert_eq!(steps.degrees().nth(1), Some([1.0, 0.0]));
+//!
 //! // A refusal says what is wrong and what to do about it.
 //! let refusal = contains(&outline, [f64::NAN, 0.0]).unwrap_err();
 //! assert_eq!(refusal, Refusal::NotFinite);
@@ -60,7 +65,7 @@
 //! ```
 
 mod directions;
-mod estimates;
+mod exam;
 pub mod ffi;
 mod field;
 mod order;
@@ -70,10 +75,12 @@ mod queries;
 mod refusal;
 mod small_quads;
 mod sound;
-mod thresholds;
+mod step;
+mod steps;
 
 pub use directions::{directions, directions_in};
-pub use estimates::{estimate, MOST_WEIGHT};
+pub use exam::{exam_numbers, Asked, Desk, Exam, LentMesh, MaskedReader, Node, Reader, Results, SharedResults};
+pub use exam::{MOST_THRESHOLD, MOST_WEIGHT, NO_THRESHOLD};
 pub use field::{direction, field, FieldRecord};
 pub use order::{check_order, check_order_in, nearest_order, order_numbers, NotAccepted, OrderScratch};
 pub use pave::{pave, pave_numbers, End, Lists, Memory, Mesh, Places, Settings, TooManyPlaces, OFF};
@@ -82,4 +89,5 @@ pub use queries::{contains, distance_to_boundary, nearest_segment, Outline, Segm
 pub use refusal::Refusal;
 pub use small_quads::small_quads;
 pub use sound::is_sound;
-pub use thresholds::{LentMesh, Results, Thresholds, MOST_THRESHOLD, NO_THRESHOLD};
+pub use step::{preview_numbers, step_numbers, Ground, MeshCounts, MeshLists, MeshRead, Outcome, Preview, Stepper};
+pub use steps::{steps, steps_numbers, NotShown, Steps, STEPS_PER_DEGREE};

@@ -33,6 +33,8 @@ pub struct Lists<'a> {
     pub prev: &'a mut [u32],
     /// A place a node, for the run's own use: it is left with 1 for a node on the front, 0 for one off it.
     pub snapshot: &'a mut [u32],
+    /// The number of the outline's loop that a node came from.
+    pub origins: &'a mut [u16],
     /// Four ids a quad, in the order a, b, d, c, which runs round it.
     pub quads: &'a mut [u32],
     /// Two ids a distinct edge, the smaller first.
@@ -48,13 +50,21 @@ pub struct Lists<'a> {
     pub edge_pool: &'a mut [u32],
     /// As `node_pool`, for the outline's segments, 16 to a block; [`crate::field`] says more.
     pub blocks: &'a mut [u32],
+    /// For the run's own use: three numbers a node, of the edge from it that was last tried in vain, so as not to try it again. Edges from nodes that
+    /// have none are tried each time: with few places or none it takes longer, and answers the same.
+    pub tried: &'a mut [u32],
 }
 
 impl<'a> Lists<'a> {
-    /// The lists by kind, each kind in the order of the fields: `values`, `xs`, `ys`; `marks`; `next` to `blocks`.
-    pub fn new(floats: [&'a mut [f64]; 3], marks: &'a mut [u8], numbers: [&'a mut [u32]; 10]) -> Lists<'a> {
+    /// The lists by kind, each kind in the order of the fields: `values`, `xs`, `ys`; `marks`; `origins`; `next` to `tried`.
+    pub fn new(
+        floats: [&'a mut [f64]; 3],
+        marks: &'a mut [u8],
+        origins: &'a mut [u16],
+        numbers: [&'a mut [u32]; 11],
+    ) -> Lists<'a> {
         let [values, xs, ys] = floats;
-        let [next, prev, snapshot, quads, edges, loops, lengths, node_pool, edge_pool, blocks] = numbers;
+        let [next, prev, snapshot, quads, edges, loops, lengths, node_pool, edge_pool, blocks, tried] = numbers;
         Lists {
             values,
             marks,
@@ -63,6 +73,7 @@ impl<'a> Lists<'a> {
             next,
             prev,
             snapshot,
+            origins,
             quads,
             edges,
             loops,
@@ -70,6 +81,7 @@ impl<'a> Lists<'a> {
             node_pool,
             edge_pool,
             blocks,
+            tried,
         }
     }
 }
@@ -125,11 +137,13 @@ pub struct Mesh<'a> {
     ys: &'a [f64],
     next: &'a [u32],
     prev: &'a [u32],
+    origins: &'a [u16],
     quads: &'a [u32],
     edges: &'a [u32],
     front: usize,
     loops: &'a [u32],
     lengths: &'a [u32],
+    filed: [usize; 2],
 }
 
 impl<'a> Mesh<'a> {
@@ -142,6 +156,12 @@ impl<'a> Mesh<'a> {
     /// Otherwise it is open.
     pub fn is_whole(&self) -> bool {
         self.whole
+    }
+
+    /// How many nodes and how many edges found no place in `node_pool` and in `edge_pool`: the run searched those one by one. Both are 0 where the pools
+    /// sufficed; otherwise a run takes longer, and longer pools would help ([`Places::pools`]).
+    pub fn unfiled(&self) -> [usize; 2] {
+        [self.node_count() - self.filed[0], self.edge_count() - self.filed[1]]
     }
 
     /// The field's record.
@@ -184,6 +204,13 @@ impl<'a> Mesh<'a> {
         self.xs.iter().zip(self.ys).map(|(&x, &y)| [x, y])
     }
 
+    /// For each node, by id, the number of the outline's loop that it came from: 0 is the outer loop, and k + 1 hole k. A node that was sampled
+    /// has its loop's number, and any other that of the node a of the quad it came with. No quad has nodes of two numbers, and no loop of the
+    /// front has.
+    pub fn origins(&self) -> &'a [u16] {
+        self.origins
+    }
+
     /// The nodes' first coordinates and their second ones, as they were lent.
     pub(crate) fn coordinates(&self) -> (&'a [f64], &'a [f64]) {
         (self.xs, self.ys)
@@ -192,6 +219,11 @@ impl<'a> Mesh<'a> {
     /// The ids of all quads, four a quad, as they were lent.
     pub(crate) fn quad_ids(&self) -> &'a [u32] {
         self.quads
+    }
+
+    /// The ids of all edges, two an edge, as they were lent.
+    pub(crate) fn edge_ids(&self) -> &'a [u32] {
+        self.edges
     }
 
     /// Each quad's ids a, b, d, c, in the order in which the quads were placed.
@@ -229,7 +261,7 @@ impl<'a> Mesh<'a> {
 
 /// Paves an outline with quads, in the lists lent.
 ///
-/// Places past those that the mesh counts keep their contents, but in the pools and the blocks.
+/// Places past those that the mesh counts keep their contents, but in the pools, the blocks and `tried`.
 ///
 /// # Errors
 ///
@@ -250,12 +282,22 @@ pub fn pave<'a>(outline: &Outline<'_>, settings: &Settings, mut lists: Lists<'a>
         ys: &lists.ys[..nodes],
         next: &lists.next[..nodes],
         prev: &lists.prev[..nodes],
+        origins: &lists.origins[..nodes],
         quads: &lists.quads[..4 * answer.quads],
         edges: &lists.edges[..2 * answer.edges],
         front,
         loops: &lists.loops[..answer.ids],
         lengths: &lists.lengths[..answer.loops],
+        filed: [filed(lists.node_pool), filed(lists.edge_pool)],
     })
+}
+
+/// How many items a run has filed in a pool: the second number says it. A pool of fewer than four has room for none.
+fn filed(pool: &[u32]) -> usize {
+    if pool.len() < 4 {
+        return 0;
+    }
+    pool[1] as usize
 }
 
 /// As [`pave`], with the numbers as they cross.
@@ -288,6 +330,8 @@ pub fn pave_numbers(outline: &Outline<'_>, settings: &Settings, lists: &mut List
             lists.prev.len(),
             lists.snapshot.as_mut_ptr(),
             lists.snapshot.len(),
+            lists.origins.as_mut_ptr(),
+            lists.origins.len(),
             lists.quads.as_mut_ptr(),
             lists.quads.len(),
             lists.edges.as_mut_ptr(),
@@ -302,6 +346,8 @@ pub fn pave_numbers(outline: &Outline<'_>, settings: &Settings, lists: &mut List
             lists.edge_pool.len(),
             lists.blocks.as_mut_ptr(),
             lists.blocks.len(),
+            lists.tried.as_mut_ptr(),
+            lists.tried.len(),
         )
     }
 }
@@ -327,6 +373,11 @@ impl Places {
     /// more than five. Where a length is beyond a `usize` it is [`usize::MAX`], and no list is so long.
     pub fn pools(&self) -> [usize; 2] {
         [self.nodes.saturating_mul(4), self.edges.saturating_mul(16)]
+    }
+
+    /// A length of `tried` that is always enough: three numbers a node. Where it is beyond a `usize` it is [`usize::MAX`], and no list is so long.
+    pub fn tried(&self) -> usize {
+        self.nodes.saturating_mul(3)
     }
 
     /// A length of `blocks` that is always enough: 16 points take four numbers, and each loop, which has at least three points, four more. No outline
@@ -364,7 +415,8 @@ pub struct Memory {
     /// By kind, as [`Lists::new`] takes them.
     floats: [Vec<f64>; 3],
     marks: Vec<u8>,
-    numbers: [Vec<u32>; 10],
+    origins: Vec<u16>,
+    numbers: [Vec<u32>; 11],
 }
 
 impl Memory {
@@ -378,18 +430,19 @@ impl Memory {
         let [node_pool, edge_pool] = places.pools();
         let (values, quads, edges) = (field_nodes.saturating_mul(2), quads.saturating_mul(4), edges.saturating_mul(2));
         // A loop is sampled with four nodes at least: where `n` has places for these, a quarter of it has one for each loop.
-        let [marks] = zeros([field_nodes])?;
+        let ([marks], [origins]) = (zeros([field_nodes])?, zeros([n])?);
         Ok(Memory {
             floats: zeros([values, n, n])?,
             marks,
-            numbers: zeros([n, n, n, quads, edges, n, n / 4, node_pool, edge_pool, places.blocks()])?,
+            origins,
+            numbers: zeros([n, n, n, quads, edges, n, n / 4, node_pool, edge_pool, places.blocks(), places.tried()])?,
         })
     }
 
     /// The lists, to lend them.
     pub fn lists(&mut self) -> Lists<'_> {
-        let Memory { floats, marks, numbers } = self;
-        Lists::new(floats.each_mut().map(Vec::as_mut_slice), marks, numbers.each_mut().map(Vec::as_mut_slice))
+        let Memory { floats, marks, origins, numbers } = self;
+        Lists::new(floats.each_mut().map(Vec::as_mut_slice), marks, origins, numbers.each_mut().map(Vec::as_mut_slice))
     }
 
     /// Paves an outline with quads. The mesh is read out of this memory, and lasts until the next run in it.

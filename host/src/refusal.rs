@@ -42,21 +42,29 @@ pub enum Refusal {
     ThresholdTooHigh = 16,
     /// A withdrawal where no threshold stands.
     NoThreshold = 17,
-    /// A quad that isn't in the mesh, or lacks a threshold.
-    NoEstimate = 18,
+    /// A quad that isn't in the mesh, or lacks a threshold where its estimate is asked for.
+    NoQuad = 18,
     /// A weight above 256.
     WeightTooHigh = 19,
+    /// An unknown role, or an operation that its role lacks.
+    NotAllowed = 20,
     /// A presentation order in which some quad is absent, repeated or unknown.
     NotEachOnce = 21,
     /// A presentation order in which a quad stands before one that laid a front edge which it used up.
     TooEarly = 22,
+    /// A lent mesh that isn't sound, or a list lent beside it that is too short.
+    UnsoundMesh = 23,
+    /// An edge that isn't on the front.
+    NotOnFront = 24,
+    /// A quad that doesn't turn left at all four corners in steps of the bowl.
+    NotShown = 25,
     /// The lent list is too short for every small quad.
     FoursNeedSpace = 26,
 }
 
 impl Refusal {
     /// Every refusal, in the order of the numbers.
-    pub const ALL: [Refusal; 22] = [
+    pub const ALL: [Refusal; 26] = [
         Refusal::Lists,
         Refusal::ShortLoop,
         Refusal::NotFinite,
@@ -74,10 +82,14 @@ impl Refusal {
         Refusal::NoNode,
         Refusal::ThresholdTooHigh,
         Refusal::NoThreshold,
-        Refusal::NoEstimate,
+        Refusal::NoQuad,
         Refusal::WeightTooHigh,
+        Refusal::NotAllowed,
         Refusal::NotEachOnce,
         Refusal::TooEarly,
+        Refusal::UnsoundMesh,
+        Refusal::NotOnFront,
+        Refusal::NotShown,
         Refusal::FoursNeedSpace,
     ];
 
@@ -149,10 +161,14 @@ impl Refusal {
                 "the threshold is above 500: give it in tenths of a decibel, 0 to 500; to take one back, withdraw it"
             }
             Refusal::NoThreshold => "no threshold stands at the node: enter one first, or look whether it was withdrawn already",
-            Refusal::NoEstimate => {
+            Refusal::NoQuad => {
                 "the quad isn't in the mesh, or lacks a threshold: count quads from 0, and enter the thresholds of all its nodes"
             }
             Refusal::WeightTooHigh => "a weight is above 256: give weights from 0 to 256, which is all the way across the quad",
+            Refusal::NotAllowed => {
+                "the role is unknown or lacks the operation: ask as the desk (1), a reader (2) or a masked reader (3), and as a role that \
+                 may ask this"
+            }
             Refusal::NotEachOnce => {
                 "the order leaves a quad out, names one twice or names one that isn't there: name every quad of the mesh exactly \
                  once, counted from 0"
@@ -160,6 +176,18 @@ impl Refusal {
             Refusal::TooEarly => {
                 "a quad stands before one that laid a front edge which it used up: move it after every such quad, or keep the \
                  order in which the quads were placed"
+            }
+            Refusal::UnsoundMesh => {
+                "the lent mesh isn't sound, or the list lent beside it is too short: hand over lists and counts as a run or the last step \
+                 left them, with every coordinate within 1,001 either way; lend two numbers for each front edge and four more for a preview, \
+                 and two places a node for steps"
+            }
+            Refusal::NotOnFront => {
+                "the edge isn't on the front: name a node of the front and the node after it, in that order"
+            }
+            Refusal::NotShown => {
+                "a quad doesn't turn left at all four corners in steps of 1/64 degree, so the bowl can't show it: set a larger \
+                 size, or draw the outline so that no part of it is narrower than a step"
             }
             Refusal::FoursNeedSpace => {
                 "the list is too short for every small quad: lend four places for each, 14,944 in all"

@@ -2,41 +2,17 @@
 
 mod common;
 
-use common::exam::{hostile, ExamLists, Model};
+use common::exam::{blended, hostile, ExamLists};
 use common::rng::Rng;
-use sitjorbe::{estimate, LentMesh, Refusal, Thresholds, MOST_WEIGHT, NO_THRESHOLD};
-
-// ---- paper 7
-
-/// "((256 − u)(256 − v)·Ta + u(256 − v)·Tb + u·v·Td + (256 − u)·v·Tc) / 65,536, rounded down", worked out along a to b and along c to d, and then from the
-/// one to the other: the greatest whole number that isn't above it.
-fn blended(u: i64, v: i64, [a, b, d, c]: [i64; 4]) -> u32 {
-    let across = |from: i64, to: i64| 256 * from + u * (to - from);
-    let sum = 256 * across(a, b) + v * (across(c, d) - across(a, b));
-    (0..).take_while(|whole| i64::from(*whole) * 65_536 <= sum).last().expect("no threshold is below 0")
-}
-
-impl Model {
-    /// "18 for a quad not in the mesh or lacking a threshold, then 19 for a weight above 256"
-    fn estimate(&self, quad: usize, u: u32, v: u32) -> Result<u32, u32> {
-        let ids = self.quads.get(quad).ok_or(18u32)?;
-        let corners: Option<Vec<u32>> = ids.iter().map(|&id| self.standing(id)).collect();
-        let corners: Vec<i64> = corners.ok_or(18u32)?.into_iter().map(i64::from).collect();
-        if u > 256 || v > 256 {
-            return Err(19);
-        }
-        Ok(blended(i64::from(u), i64::from(v), corners.try_into().expect("a quad has four corners")))
-    }
-}
+use sitjorbe::{Exam, LentMesh, Refusal, MOST_WEIGHT, NO_THRESHOLD};
 
 /// A quad of four nodes with these thresholds.
 fn square(corners: [u16; 4]) -> ExamLists {
     ExamLists::new(4, [4, 4], 1, &[0, 1, 2, 3], &corners, [0, 0])
 }
 
-fn ask(lent: &mut ExamLists, quad: usize, u: u32, v: u32) -> Result<u32, u32> {
-    let (results, mesh) = lent.parts();
-    estimate(&mesh, results.thresholds, quad, u, v).map_err(Refusal::number)
+fn ask(lent: &ExamLists, quad: u32, u: u32, v: u32) -> Result<u32, u32> {
+    lent.reader().estimate(quad, u, v).map_err(Refusal::number)
 }
 
 /// Weights at the ends and beside them, in the middle and beside it, and others.
@@ -47,7 +23,7 @@ const WEIGHTS: [u32; 17] = [0, 1, 2, 3, 31, 64, 85, 127, 128, 129, 171, 192, 200
 /// What is read into the paper where it is silent, each on its smallest input: nodes, quads, list, the request, the answer.
 #[test]
 fn readings() {
-    type Reading<'a> = (&'a str, u32, &'a [u32], &'a [u16], (usize, u32, u32), Result<u32, u32>);
+    type Reading<'a> = (&'a str, u32, &'a [u32], &'a [u16], (u32, u32, u32), Result<u32, u32>);
     let all: [Reading<'_>; 14] = [
         ("the fourth number is c", 4, &[0, 1, 2, 3], &[0, 0, 0, 65], (0, 0, 256), Ok(65)),
         ("and not the third", 4, &[0, 1, 2, 3], &[0, 0, 65, 0], (0, 0, 256), Ok(0)),
@@ -65,8 +41,8 @@ fn readings() {
         ("no such quad", 1, &[0, 0, 0, 0, 0, 0, 0], &[7], (1, 0, 0), Err(18)),
     ];
     for (what, nodes, quads, list, (quad, u, v), answer) in all {
-        let mut lent = ExamLists::new(nodes, [nodes as usize; 2], quads.len(), quads, list, [0, 0]);
-        assert_eq!(ask(&mut lent, quad, u, v), answer, "{what}");
+        let lent = ExamLists::new(nodes, [nodes as usize; 2], quads.len(), quads, list, [0, 0]);
+        assert_eq!(ask(&lent, quad, u, v), answer, "{what}");
         assert_eq!(lent.model().estimate(quad, u, v), answer, "{what}: the model");
         assert!(lent.thresholds.kept() && lent.kept(), "{what}");
     }
@@ -82,14 +58,14 @@ fn small_thresholds_on_a_grid_of_weights() {
     let mut asked = 0;
     for k in 0..625usize {
         let corners = [k % 5, k / 5 % 5, k / 25 % 5, k / 125].map(|place| values[place]);
-        let (mut lent, moved) = (square(corners), moved(corners));
-        let mut others: Vec<(u32, ExamLists)> = moved.into_iter().map(|(by, corners)| (by, square(corners))).collect();
+        let (lent, moved) = (square(corners), moved(corners));
+        let others: Vec<(u32, ExamLists)> = moved.into_iter().map(|(by, corners)| (by, square(corners))).collect();
         let (least, greatest) = (*corners.iter().min().unwrap(), *corners.iter().max().unwrap());
         for (u, v) in WEIGHTS.into_iter().flat_map(|u| WEIGHTS.map(|v| (u, v))) {
-            let found = ask(&mut lent, 0, u, v).unwrap();
+            let found = ask(&lent, 0, u, v).unwrap();
             assert_eq!(found, blended(u.into(), v.into(), corners.map(i64::from)), "{corners:?} {u} {v}");
             assert!((u32::from(least)..=u32::from(greatest)).contains(&found), "{corners:?} {u} {v}");
-            for (by, other) in &mut others {
+            for (by, other) in &others {
                 let there = ask(other, 0, u, v).unwrap();
                 assert!(found.abs_diff(there) <= *by, "{corners:?} {:?} {u} {v}", other.thresholds.list());
                 asked += 1;
@@ -116,10 +92,10 @@ fn all_weights() {
     for (quad, list) in
         [([0, 1, 2, 3], [0, 500, 17, 333]), ([0, 1, 0, 1], [499, 3, 0, 0]), ([0, 0, 0, 1], [500, 0, 0, 0])]
     {
-        let mut lent = ExamLists::new(4, [4, 4], 1, &quad, &list, [0, 0]);
+        let lent = ExamLists::new(4, [4, 4], 1, &quad, &list, [0, 0]);
         let corners = quad.map(|id| i64::from(list[id as usize]));
         for (u, v) in (0..=MOST_WEIGHT).flat_map(|u| (0..=MOST_WEIGHT).map(move |v| (u, v))) {
-            assert_eq!(ask(&mut lent, 0, u, v), Ok(blended(u.into(), v.into(), corners)), "{quad:?} {u} {v}");
+            assert_eq!(ask(&lent, 0, u, v), Ok(blended(u.into(), v.into(), corners)), "{quad:?} {u} {v}");
         }
         assert!(lent.thresholds.kept() && lent.kept());
     }
@@ -141,16 +117,16 @@ fn requests_on_hostile_meshes_are_the_models() {
     let mut rng = Rng(7);
     let mut counts = [0; 3];
     for _ in 0..20_000 {
-        let mut lent = hostile(&mut rng);
+        let lent = hostile(&mut rng);
         let model = lent.model();
         for _ in 0..10 {
             let quad = if rng.once_in(20) {
-                rng.pick(&[usize::MAX, 1 << 62, 250_000])
+                rng.pick(&[u32::MAX, 1 << 31, 250_000])
             } else {
-                rng.below(model.quads.len() + 1)
+                rng.below(model.quads.len() + 1) as u32
             };
             let (u, v) = (weight(&mut rng), weight(&mut rng));
-            let answer = ask(&mut lent, quad, u, v);
+            let answer = ask(&lent, quad, u, v);
             assert_eq!(answer, model.estimate(quad, u, v), "{quad} {u} {v} {model:?}");
             counts[match answer {
                 Ok(_) => 0,
@@ -172,24 +148,26 @@ fn one_threshold_moves_no_estimate_by_more() {
         .map(|k| k / wide * (wide + 1) + k % wide)
         .flat_map(|a| [a, a + 1, a + wide + 2, a + wide + 1])
         .collect();
-    let coordinates = vec![0.0; 36];
-    let mesh = LentMesh { nodes: 36, xs: &coordinates, ys: &coordinates, quad_count: 25, quads: &quads };
-    let mut exam = Thresholds::begin(mesh);
+    let (coordinates, origins) = (vec![0.0; 36], vec![0; 36]);
+    let (xs, ys, origins) = (&coordinates[..], &coordinates[..], &origins[..]);
+    let mut exam =
+        Exam::begin(LentMesh { nodes: 36, xs, ys, quad_count: 25, quads: &quads, origins, ..LentMesh::default() });
     for node in 0..36 {
-        exam.enter(node, rng.below(501) as u32).unwrap();
+        exam.desk().enter(node, rng.below(501) as u32).unwrap();
     }
     for _ in 0..300 {
         let (node, threshold) = (rng.below(36) as u32, rng.below(501) as u32);
-        let by = threshold.abs_diff(u32::from(exam.list()[node as usize]));
+        let by = threshold.abs_diff(exam.reader().threshold(node).unwrap());
         let (mut entered, mut withdrawn) = (exam.clone(), exam.clone());
-        entered.enter(node, threshold).unwrap();
-        withdrawn.withdraw(node).unwrap();
-        for quad in 0..25 {
+        entered.desk().enter(node, threshold).unwrap();
+        withdrawn.desk().withdraw(node).unwrap();
+        for quad in 0..25u32 {
             let (u, v) = (rng.below(257) as u32, rng.below(257) as u32);
-            let [before, after] = [&exam, &entered].map(|exam| exam.estimate(quad, u, v).unwrap());
-            let named = quads[4 * quad..4 * quad + 4].contains(&node);
+            let [before, after] = [&exam, &entered].map(|exam| exam.reader().estimate(quad, u, v).unwrap());
+            let named = quads[4 * quad as usize..][..4].contains(&node);
             assert!(before.abs_diff(after) <= if named { by } else { 0 }, "{quad} {u} {v}");
-            assert_eq!(withdrawn.estimate(quad, u, v), if named { Err(Refusal::NoEstimate) } else { Ok(before) });
+            let left = withdrawn.reader().estimate(quad, u, v);
+            assert_eq!(left, if named { Err(Refusal::NoQuad) } else { Ok(before) });
         }
         exam = entered;
     }

@@ -3,10 +3,11 @@
 mod common;
 
 use common::blocks::Block;
-use common::{by_kind, list_lengths, refused, said, used, Drawing, FieldPlaces, Lengths, Lent, Raw, RunPlaces};
+use common::exam::ExamLists;
+use common::{by_kind, list_lengths, refused, said, used, Drawing, FieldPlaces, Lengths, Lent, Raw, RunPlaces, LISTS};
 use sitjorbe::{
-    check_order_in, direction, directions_in, estimate, ffi, least_places, pave, small_quads, FieldRecord, LentMesh,
-    Lists, Memory, NotAccepted, Outline, Places, Refusal, Results, Settings,
+    check_order_in, direction, directions_in, ffi, least_places, pave, small_quads, steps, Asked, FieldRecord, Lists, Memory, MeshCounts, MeshRead,
+    NotAccepted, Outline, Places, Refusal, Settings, OFF,
 };
 
 /// Drawings and points that are accepted and refused.
@@ -174,16 +175,16 @@ fn small_quads_are_written_within_their_list() {
 fn the_guards_of_a_run_show_a_write() {
     let lengths = list_lengths(Places { field_nodes: 4, nodes: 20, quads: 6, edges: 7, points: 8 });
     let nothing = RunPlaces::new(lengths);
-    assert_eq!(nothing.written_past([0; 14]), [""; 0]);
+    assert_eq!(nothing.written_past([0; LISTS.len()]), [""; 0]);
     let mut places = RunPlaces::new(lengths);
-    let Lists { values, marks, lengths: last, blocks, .. } = places.lists();
-    (values[7], marks[0], last[4], blocks[15]) = (1.0, 1, 1, 1);
-    assert_eq!(places.written_past([0; 14]), ["values", "marks", "lengths", "blocks"]);
-    assert_eq!(places.written_past([8, 0, 0, 0, 0, 0, 0, 0, 0, 0, 4, 0, 0, 16]), ["marks", "lengths"]);
-    assert_eq!(places.written_past([7, 1, 0, 0, 0, 0, 0, 0, 0, 0, 5, 0, 0, 15]), ["values", "blocks"]);
+    let Lists { values, marks, origins, lengths: last, blocks, tried, .. } = places.lists();
+    (values[7], marks[0], origins[19], last[4], blocks[15], tried[59]) = (1.0, 1, 1, 1, 1, 1);
+    assert_eq!(places.written_past([0; LISTS.len()]), ["values", "marks", "origins", "lengths", "blocks", "tried"]);
+    assert_eq!(places.written_past([8, 0, 0, 0, 0, 0, 0, 20, 0, 0, 0, 4, 0, 0, 16, 60]), ["marks", "lengths"]);
+    assert_eq!(places.written_past([7, 1, 0, 0, 0, 0, 0, 19, 0, 0, 0, 5, 0, 0, 15, 59]), ["values", "origins", "blocks", "tried"]);
 }
 
-/// The outline in read-only memory, and each of the fourteen lists of a run, just as long as the run needs, in memory of its own
+/// The outline in read-only memory, and each of the sixteen lists of a run, just as long as the run needs, in memory of its own
 /// between pages that can't be touched: a run that ends still, runs that are full where a list is shorter, and refused ones.
 #[cfg(target_os = "linux")]
 #[test]
@@ -223,40 +224,83 @@ fn a_run_is_written_and_read_within_its_lists() {
     }
 }
 
-/// The mesh in read-only memory, and the thresholds and each figure in memory of their own: an exam begins, events are taken and refused, and
-/// estimates asked for, with ids that are no nodes in the quads and a quad that isn't whole.
+/// The mesh in read-only memory, and the thresholds, each figure and the reply list in memory of their own: every role by every operation, with ids that are
+/// no nodes in the quads and a quad that isn't whole. For the roles that only read the results are read-only too. The answers must be those of ordinary
+/// memory.
 #[cfg(target_os = "linux")]
 #[test]
-fn events_are_taken_within_their_lists() {
+fn an_exam_is_read_and_written_within_its_lists() {
     let quads = [0, 1, 2, 3, 3, 3, 2, 0, 4, u32::MAX, 1, 0, 1 << 31, 2];
-    for (side, places) in
-        [pages::Side::Start, pages::Side::End].into_iter().flat_map(|side| [0, 3, 4, 9].map(|n| (side, n)))
+    let calls = || (0..=10).flat_map(|operation| [0, 1, 2, 3, 4, 1 << 16, u32::MAX].map(|item| (operation, item)));
+    for (side, places, role) in [pages::Side::Start, pages::Side::End]
+        .into_iter()
+        .flat_map(|side| [0, 3, 4, 9].map(|places| (side, places)))
+        .flat_map(|(side, places)| (0..=4).map(move |role| (side, places, role)))
     {
-        let [xs, ys] = [pages::Pages::read_only(&[0.5; 4], side), pages::Pages::read_only(&[0.5; 4], side)];
-        let quads = pages::Pages::read_only(&quads, side);
-        let mut thresholds = pages::Pages::writable(&vec![7u16; places], side);
-        let [mut count, mut sum] = [pages::Pages::writable(&[7u32], side), pages::Pages::writable(&[7u32], side)];
-        let mesh =
-            LentMesh { nodes: u32::MAX, xs: xs.list(), ys: ys.list(), quad_count: usize::MAX, quads: quads.list() };
-        let [count, sum] = [&mut count, &mut sum].map(|figure| &mut figure.list_mut()[0]);
-        let mut results = Results { thresholds: thresholds.list_mut(), count, sum };
-        results.begin();
-        for node in [0, 1, 2, 3, 4, 1 << 16, u32::MAX] {
-            let missing = node as usize >= places.min(4);
-            let refused = |refusal: Refusal| if missing { Err(Refusal::NoNode) } else { Err(refusal) };
-            assert_eq!(results.enter(&mesh, node, 501), refused(Refusal::ThresholdTooHigh));
-            assert_eq!(results.withdraw(&mesh, node), refused(Refusal::NoThreshold));
-            let entered = results.enter(&mesh, node, 100);
-            assert_eq!(entered, if missing { Err(Refusal::NoNode) } else { Ok(()) });
+        let mut usual = ExamLists::new(u32::MAX, [4; 2], usize::MAX, &quads, &vec![7; places], [2, 700])
+            .with_links(&[1, 2, 0, OFF], &[2, 0, 1])
+            .with_reply(&vec![7; places]);
+        let [xs, ys] = [&usual.xs, &usual.ys].map(|list| pages::Pages::read_only(list.list(), side));
+        let [quads, next, prev] =
+            [&usual.quads, &usual.next, &usual.prev].map(|list| pages::Pages::read_only(list.list(), side));
+        let origins = pages::Pages::read_only(usual.origins.list(), side);
+        let (thresholds, figures) = (vec![7; places], [2, 700]);
+        let desk = role == 1;
+        let results =
+            if desk { pages::Pages::writable(&thresholds, side) } else { pages::Pages::read_only(&thresholds, side) };
+        let [count, sum] = figures.map(|figure| {
+            if desk {
+                pages::Pages::writable(&[figure], side)
+            } else {
+                pages::Pages::read_only(&[figure], side)
+            }
+        });
+        let mut reply = pages::Pages::writable(&vec![7; places], side);
+        for (operation, item) in calls() {
+            let asked = Asked { role, operation, item, value: 100, u: 128, v: 256 };
+            let [quads, next, prev] = [&quads, &next, &prev].map(pages::Pages::parts);
+            let [xs, ys] = [&xs, &ys].map(pages::Pages::parts);
+            let (origins, (list, length)) = (origins.parts(), results.parts());
+            let [count, sum] = [&count, &sum].map(|figure| figure.parts().0.cast_mut());
+            let reply = reply.list_mut();
+            // SAFETY: each pointer comes with its list's length. What the desk changes can be written; the other roles write nothing but the
+            // reply list.
+            let answer = unsafe {
+                ffi::sitjorbe_exam(
+                    asked.role,
+                    asked.operation,
+                    asked.item,
+                    asked.value,
+                    asked.u,
+                    asked.v,
+                    u32::MAX,
+                    xs.0,
+                    xs.1,
+                    ys.0,
+                    ys.1,
+                    usize::MAX,
+                    quads.0,
+                    quads.1,
+                    next.0,
+                    next.1,
+                    prev.0,
+                    prev.1,
+                    origins.0,
+                    origins.1,
+                    list.cast_mut(),
+                    length,
+                    count,
+                    sum,
+                    reply.as_mut_ptr(),
+                    reply.len(),
+                )
+            };
+            assert_eq!(answer, usual.ask(asked), "{asked:?} {places}");
+            assert_eq!(reply, usual.reply.list(), "{asked:?} {places}");
         }
-        let figures = if places < 4 { (0, 0) } else { (2, 700) };
-        assert_eq!((*results.count, *results.sum), figures);
-        let read = pages::Pages::read_only(results.thresholds, side);
-        for quad in [0, 1, 2, 3, 250_000, usize::MAX] {
-            let whole = quad < 2 && places >= 4;
-            let expected = if whole { Ok(100) } else { Err(Refusal::NoEstimate) };
-            assert_eq!(estimate(&mesh, read.list(), quad, 128, 256), expected);
-        }
+        assert_eq!(results.list(), usual.thresholds.list());
+        assert_eq!([count.list()[0], sum.list()[0]], usual.figures());
+        assert!(usual.kept());
     }
 }
 
@@ -288,29 +332,83 @@ fn an_order_is_read_and_written_within_its_lists() {
     }
 }
 
+/// A mesh in read-only memory, and step buffers of several lengths in memory of their own, each between pages that can't be touched: meshes
+/// that can be shown and can't, with counts that fit and counts beyond the lists. The answers must be those of ordinary memory.
+#[cfg(target_os = "linux")]
+#[test]
+fn steps_are_read_and_written_within_their_lists() {
+    let (xs, ys) = ([0.0, 1.0, 1.0, 0.0, 2.0], [0.0, 0.0, 1.0, 1.0, 0.5]);
+    let (next, prev, origins) = ([u32::MAX, u32::MAX, 3, 4, 2], [u32::MAX, u32::MAX, 4, 2, 3], [0u16; 5]);
+    let (quads, edges) = ([0, 1, 2, 3, 0, 3, 2, 1, 9], [0, 1, 2, 3, 4]);
+    let counts = |nodes, quads, edges, front| MeshCounts { nodes, quads, edges, front };
+    for counts in [
+        counts(5, 1, 2, 3),
+        counts(5, 0, 0, 3),
+        counts(5, 2, 2, 3),
+        counts(5, 3, 2, 3),
+        counts(5, 1, 3, 3),
+        counts(6, 1, 2, 3),
+        counts(0, 0, 0, 0),
+        counts(u32::MAX, usize::MAX, usize::MAX, usize::MAX),
+    ] {
+        for (places, side) in (0..12).flat_map(|places| [(places, pages::Side::Start), (places, pages::Side::End)]) {
+            let mesh = MeshRead {
+                xs: &xs,
+                ys: &ys,
+                next: &next,
+                prev: &prev,
+                origins: &origins,
+                quads: &quads,
+                edges: &edges,
+            };
+            let mut usual = vec![7; places];
+            let expected = steps(&mesh, counts, &mut usual);
+            let [xs, ys] = [xs, ys].map(|list| pages::Pages::read_only(&list, side));
+            let [next, prev] = [next, prev].map(|list| pages::Pages::read_only(&list, side));
+            let origins = pages::Pages::read_only(&origins, side);
+            let (quads, edges) = (pages::Pages::read_only(&quads, side), pages::Pages::read_only(&edges, side));
+            let mesh = MeshRead {
+                xs: xs.list(),
+                ys: ys.list(),
+                next: next.list(),
+                prev: prev.list(),
+                origins: origins.list(),
+                quads: quads.list(),
+                edges: edges.list(),
+            };
+            let mut lent = pages::Pages::writable(&vec![7; places], side);
+            assert_eq!(steps(&mesh, counts, lent.list_mut()), expected, "{counts:?} {places}");
+            assert_eq!(lent.list(), usual, "{counts:?} {places}");
+        }
+    }
+}
+
 /// A run's lists, each in pages of its own.
 #[cfg(target_os = "linux")]
 struct RunPages {
     floats: [pages::Pages<f64>; 3],
     marks: pages::Pages<u8>,
-    numbers: [pages::Pages<u32>; 10],
+    origins: pages::Pages<u16>,
+    numbers: [pages::Pages<u32>; 11],
 }
 
 #[cfg(target_os = "linux")]
 impl RunPages {
     fn new(lengths: Lengths, side: pages::Side) -> RunPages {
-        let (floats, marks, numbers) = by_kind(lengths);
+        let (floats, marks, origins, numbers) = by_kind(lengths);
         RunPages {
             floats: floats.map(|length| pages::Pages::writable(&vec![-7.5; length], side)),
             marks: pages::Pages::writable(&vec![7; marks], side),
+            origins: pages::Pages::writable(&vec![7; origins], side),
             numbers: numbers.map(|length| pages::Pages::writable(&vec![7; length], side)),
         }
     }
 
     fn lists(&mut self) -> Lists<'_> {
-        let RunPages { floats, marks, numbers } = self;
-        let numbers = numbers.each_mut().map(pages::Pages::list_mut);
-        Lists::new(floats.each_mut().map(pages::Pages::list_mut), marks.list_mut(), numbers)
+        let RunPages { floats, marks, origins, numbers } = self;
+        let (floats, numbers) =
+            (floats.each_mut().map(pages::Pages::list_mut), numbers.each_mut().map(pages::Pages::list_mut));
+        Lists::new(floats, marks.list_mut(), origins.list_mut(), numbers)
     }
 }
 

@@ -171,7 +171,7 @@ fn a_run_ends_where_the_lists_are_full() {
     };
     ends(list_lengths(SQUARE), 4, End::Still, "just enough");
     // The first quad needs node 8, each has a place, and the new edges are 1 8 and 7 8, then 3 8, then 5 8, then none.
-    for list in ["xs", "ys", "next", "prev", "snapshot", "loops"] {
+    for list in ["xs", "ys", "next", "prev", "snapshot", "origins", "loops"] {
         ends(shorter(list, 1), 0, End::Full, list);
     }
     for (by, quads) in [(1, 3), (4, 3), (5, 2), (8, 2), (9, 1), (13, 0), (16, 0)] {
@@ -226,13 +226,45 @@ fn a_mesh_does_not_depend_on_the_pools() {
     let expected = said(&Memory::new(PROGRAM).unwrap().pave(&ring().outline(), &settings).unwrap());
     for (node_pool, edge_pool) in [(0, 0), (3, 3), (4, 4), (100, 40), (40, 100), (500, 9_000), (4_000, 1_000)] {
         let mut lengths = list_lengths(PROGRAM);
-        [lengths[11], lengths[12]] = [node_pool, edge_pool];
+        [lengths[12], lengths[13]] = [node_pool, edge_pool];
         let mut places = RunPlaces::new(lengths);
         let mesh = places.pave(&ring().outline(), &settings).unwrap();
         assert_eq!(said(&mesh), expected, "pools of {node_pool} and {edge_pool}");
+        let unfiled = mesh.unfiled();
+        assert_eq!(unfiled.map(|count| count == 0), [node_pool > 2_000, edge_pool > 5_000], "{unfiled:?} unfiled");
         let used = used(&mesh);
         assert_eq!(places.written_past(used), [""; 0], "pools of {node_pool} and {edge_pool}");
     }
+}
+
+/// Lists for tries that are empty, too short for a node, for some nodes, for all, and longer; of zeros, of ids, of marks, and as another run left them.
+#[test]
+fn a_mesh_does_not_depend_on_the_tries() {
+    let settings = Settings { size: 0.4, ..USUAL };
+    let drawing = ring();
+    let mut memory = Memory::new(PROGRAM).unwrap();
+    let mesh = memory.pave(&drawing.outline(), &settings).unwrap();
+    let (expected, nodes) = (said(&mesh), mesh.node_count());
+    let mut left = RunPlaces::new(list_lengths(PROGRAM));
+    left.pave(&drawing.outline(), &Settings { size: 0.3, ..USUAL }).unwrap();
+    let left = left.lists().tried.to_vec();
+    let junk: [fn(usize, &[u32]) -> u32; 6] =
+        [|_, _| 0, |i, _| (i % 40) as u32, |i, _| (i / 3 + 1) as u32, |i, _| (i / 3) as u32, |_, _| u32::MAX, |i, left| left[i]];
+    for length in [0, 2, 3, 7, 90, nodes, 3 * nodes - 1, 3 * nodes, 2_400] {
+        for fill in junk {
+            let mut lengths = list_lengths(PROGRAM);
+            lengths[15] = length;
+            let mut places = RunPlaces::new(lengths);
+            for (i, place) in places.lists().tried.iter_mut().enumerate() {
+                *place = fill(i, &left);
+            }
+            let mesh = places.pave(&drawing.outline(), &settings).unwrap();
+            assert_eq!(said(&mesh), expected, "{length} numbers");
+            let used = used(&mesh);
+            assert_eq!(places.written_past(used), [""; 0], "{length} numbers");
+        }
+    }
+    assert_eq!([0, 7, usize::MAX].map(|nodes| Places { nodes, ..PROGRAM }.tried()), [0, 21, usize::MAX]);
 }
 
 /// Lists without a block, with some of them, with all, and longer ones.
@@ -246,7 +278,7 @@ fn a_mesh_does_not_depend_on_the_blocks() {
     let expected = said(&mesh);
     for length in [0, 3, 4, 7, 8, needed / 2, needed - 4, needed - 1, needed, 2 * drawing.points(), 1_000] {
         let mut lengths = list_lengths(PROGRAM);
-        lengths[13] = length;
+        lengths[14] = length;
         let mut places = RunPlaces::new(lengths);
         let mesh = places.pave(&drawing.outline(), &USUAL).unwrap();
         assert_eq!(said(&mesh), expected, "{length} numbers");
@@ -287,7 +319,7 @@ impl Asked {
         assert_eq!((end, whole, [xmin, ymin, h].map(f64::to_bits), nodes), (0, false, [0; 3], 0), "{what}");
         assert_eq!([nx, ny, quads, edges, front, loops, ids], [0; 7], "{what}");
         assert!(lent.kept(), "{what}: the outline is written");
-        assert_eq!(places.written_past([0; 14]), [""; 0], "{what}");
+        assert_eq!(places.written_past([0; LISTS.len()]), [""; 0], "{what}");
         let mut places = RunPlaces::new(self.lengths);
         let refusal = places.pave(&self.drawing.outline(), &self.settings).err();
         assert_eq!(refusal, Refusal::of_number(number), "{what}: through the wrapper");
@@ -305,7 +337,7 @@ const CAUSES: [fn(&mut Asked); 10] = [
     |asked| asked.drawing.outer.chunks_mut(2).chain(asked.drawing.holes.chunks_mut(2)).for_each(|point| point[0] = 3.0),
     |asked| asked.settings.sweeps = 1_001,
     |asked| asked.lengths[1] = 1,
-    |asked| asked.lengths[8] = 0,
+    |asked| asked.lengths[9] = 0,
 ];
 
 #[test]
@@ -383,10 +415,10 @@ fn every_cause_is_refused_alone() {
 fn the_shortest_list_counts() {
     let square = || Drawing::square(2.0);
     let mut needed = list_lengths(Places { nodes: 8, quads: 0, edges: 8, ..SQUARE });
-    needed[10] = 1;
+    needed[11] = 1;
     let just = Asked { drawing: square(), settings: USUAL, lengths: needed };
     assert_eq!((just.raw().0.refusal, just.raw().0.end), (0, End::Full as u32));
-    let numbers = [9, 9, 10, 10, 10, 10, 10, 0, 10, 10, 10, 0, 0, 0];
+    let numbers = [9, 9, 10, 10, 10, 10, 10, 10, 0, 10, 10, 10, 0, 0, 0, 0];
     for (k, number) in numbers.into_iter().enumerate().filter(|(_, number)| *number != 0) {
         for length in [needed[k] - 1, 0] {
             let mut lengths = list_lengths(PROGRAM);
@@ -402,7 +434,7 @@ fn lengths_has_a_place_for_each_loop() {
     for (drawing, loops) in [(Drawing::square(2.0), 1), (ring(), 2)] {
         let asked = |places| {
             let mut lengths = list_lengths(PROGRAM);
-            lengths[10] = places;
+            lengths[11] = places;
             Asked { drawing: drawing.clone(), settings: USUAL, lengths }
         };
         let ample = said(&RunPlaces::new(list_lengths(PROGRAM)).pave(&drawing.outline(), &USUAL).unwrap());
@@ -414,7 +446,7 @@ fn lengths_has_a_place_for_each_loop() {
     }
     // Nothing paved: every loop is listed, and each has its length.
     let mut lengths = list_lengths(PROGRAM);
-    lengths[10] = 2;
+    lengths[11] = 2;
     let mut lists = RunPlaces::new(lengths);
     let mesh = lists.pave(&ring().outline(), &Settings { passes: 0, ..USUAL }).unwrap();
     assert_eq!((mesh.loop_count(), mesh.is_whole()), (2, false));

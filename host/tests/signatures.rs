@@ -86,7 +86,7 @@ impl Declared {
         }
         for (name, kind) in self.functions.values().chain(self.structs.values()).flatten() {
             let scalar = kind.strip_prefix("*const ").or(kind.strip_prefix("*mut ")).unwrap_or(kind);
-            let known = ["bool", "u8", "u16", "u32", "u64", "usize", "f64"].contains(&scalar)
+            let known = ["bool", "u8", "u16", "u32", "u64", "i32", "usize", "f64"].contains(&scalar)
                 || self.structs.contains_key(kind);
             if !known {
                 found.push(format!("{name}: {kind} isn't a type that crosses"));
@@ -225,9 +225,13 @@ fn declarations_are_those_of_the_rattle_source() {
     let rattle = archive();
     let rust = Declared::of_rust(include_str!("../src/ffi.rs"));
     let document_01 = ["contains", "nearest_segment", "distance_to_boundary", "field", "direction", "pave"];
-    let papers = ["begin", "enter", "withdraw", "estimate", "order", "small_quads", "sound"];
+    let papers = ["exam", "order", "small_quads", "sound"];
     for entry in document_01.iter().chain(&papers).map(|name| format!("sitjorbe_{name}")) {
         assert!(rattle.functions.contains_key(&entry), "{entry} isn't found in the Rattle source");
+    }
+    // Beside an entry that asks for no role, the roles of `sitjorbe_exam` would be no more than a wish.
+    for entry in ["begin", "enter", "withdraw", "estimate"].map(|name| format!("sitjorbe_{name}")) {
+        assert!(!rattle.functions.contains_key(&entry), "{entry} has no role");
     }
     let differences = rattle.differences(&rust);
     assert!(differences.is_empty(), "src/ffi.rs differs from the Rattle source:\n{}", differences.join("\n"));

@@ -1,69 +1,20 @@
-//! Thresholds that come and go: readings by hand, refusals, and paper 6 in Rust, written from its words, beside the entries. The model keeps
+//! Thresholds that come and go: readings by hand, refusals, and paper 6 in Rust, written from its words, beside the entry. The model keeps
 //! no figure: it works both out afresh from the thresholds that stand, after each event.
 
 mod common;
 
-use std::collections::BTreeSet;
-
-use common::exam::{hostile, ExamLists, Model};
+use common::exam::{hostile, moved, Event, ExamLists, Model};
 use common::rng::Rng;
 use common::Drawing;
-use sitjorbe::{LentMesh, Memory, Places, Refusal, Results, Settings, Thresholds, NO_THRESHOLD};
+use sitjorbe::{Desk, Exam, LentMesh, Memory, Places, Refusal, Settings, NO_THRESHOLD};
 
-// ---- paper 6
-
-impl Model {
-    /// "how many quads have all four thresholds and the sum of all thresholds of those quads, a node counted once for each such quad"
-    fn figures(&self) -> [u32; 2] {
-        let thresholds = |quad: &[u32; 4]| {
-            let nodes: BTreeSet<u32> = quad.iter().copied().collect();
-            nodes.into_iter().map(|id| self.standing(id)).collect::<Option<Vec<u32>>>()
-        };
-        let complete: Vec<Vec<u32>> = self.quads.iter().filter_map(thresholds).collect();
-        [complete.len() as u32, complete.iter().flatten().sum()]
-    }
-
-    /// "15 for a node id not in the mesh or past the lent threshold list, 16 for a threshold above 500, 17 for a withdrawal where none
-    /// stands; in that order, and nothing changes"
-    fn take(&mut self, event: Event) -> u32 {
-        let node = event.node();
-        let missing = node >= self.nodes || node as usize >= self.list.len();
-        match event {
-            _ if missing => 15,
-            Event::Enter(_, 501..) => 16,
-            Event::Withdraw(_) if self.standing(node).is_none() => 17,
-            Event::Enter(_, threshold) => self.write(node, threshold as u16),
-            Event::Withdraw(_) => self.write(node, 65_535),
-        }
-    }
-
-    fn write(&mut self, node: u32, place: u16) -> u32 {
-        self.list[node as usize] = place;
-        0
-    }
-}
-
-#[derive(Clone, Copy, Debug)]
-enum Event {
-    Enter(u32, u32),
-    Withdraw(u32),
-}
-
-impl Event {
-    fn node(self) -> u32 {
-        match self {
-            Event::Enter(node, _) | Event::Withdraw(node) => node,
-        }
-    }
-
-    /// Hands the event over; the refusal's number, or 0.
-    fn hand_over(self, results: &mut Results<'_>, mesh: &LentMesh<'_>) -> u32 {
-        let answer = match self {
-            Event::Enter(node, threshold) => results.enter(mesh, node, threshold),
-            Event::Withdraw(node) => results.withdraw(mesh, node),
-        };
-        answer.map_or_else(Refusal::number, |()| 0)
-    }
+/// Hands the event over; the refusal's number, or 0.
+fn hand_over(event: Event, desk: &mut Desk<'_>) -> u32 {
+    let answer = match event {
+        Event::Enter(node, threshold) => desk.enter(node, threshold),
+        Event::Withdraw(node) => desk.withdraw(node),
+    };
+    answer.map_or_else(Refusal::number, |()| 0)
 }
 
 /// Hands an event to the library and to the model: refusal, list and figures agree, and nothing else is written. The figures move by what the
@@ -72,11 +23,9 @@ fn agree(lent: &mut ExamLists, model: &mut Model, event: Event) -> u32 {
     let ([count, sum], [old_count, old_sum]) = (lent.figures(), model.figures());
     let expected = model.take(event);
     let [new_count, new_sum] = model.figures();
-    let (mut results, mesh) = lent.parts();
-    let number = event.hand_over(&mut results, &mesh);
+    let number = hand_over(event, &mut lent.desk());
     assert_eq!(number, expected, "{event:?} {model:?}");
     assert_eq!(lent.thresholds.list(), model.list, "{event:?} {model:?}");
-    let moved = |x: u32, old: u32, new: u32| x.wrapping_sub(old).wrapping_add(new);
     assert_eq!(
         lent.figures(),
         [moved(count, old_count, new_count), moved(sum, old_sum, new_sum)],
@@ -169,7 +118,7 @@ fn an_exam_begins() {
     for length in [0, 1, 2, 7, 100] {
         let list: Vec<u16> = (0..length).map(|k| [501, 0, 65_534, 500, NO_THRESHOLD][k % 5]).collect();
         let mut lent = ExamLists::new(1, [1, 1], 1, &[0, 0, 0, 0], &list, [3, u32::MAX]);
-        lent.parts().0.begin();
+        lent.desk().begin();
         assert_eq!((lent.thresholds.list(), lent.figures()), (&vec![65_535; length][..], [0, 0]));
         assert!(lent.kept());
     }
@@ -225,7 +174,7 @@ fn events_on_hostile_meshes_are_the_models() {
         for _ in 0..20 {
             answers[agree(&mut lent, &mut model, random_event(&mut rng, places)) as usize] += 1;
         }
-        lent.parts().0.begin();
+        lent.desk().begin();
         model.list.fill(65_535);
         for _ in 0..40 {
             answers[agree(&mut lent, &mut model, random_event(&mut rng, places)) as usize] += 1;
@@ -252,36 +201,34 @@ fn events_on_a_run_are_the_models() {
         Memory::new(Places { field_nodes: 2_000, nodes: 800, quads: 800, edges: 2_400, points: 4 }).unwrap();
     let mesh = memory.pave(&drawing.outline(), &Settings { size: 1.0, sweeps: 400, passes: 600 }).unwrap();
     let (nodes, quads) = (mesh.node_count() as u32, mesh.quad_count() as u32);
-    let mut thresholds = Thresholds::begin(&mesh);
-    let mut model = Model::of(thresholds.mesh(), thresholds.list());
-    assert_eq!(model.quads, mesh.quads().collect::<Vec<_>>());
+    let origins = vec![0; nodes as usize];
+    let mut exam = Exam::begin(LentMesh::of(&mesh, &origins));
+    let mut model = Model::of(exam.mesh(), &vec![NO_THRESHOLD; nodes as usize]);
+    assert_eq!((model.nodes, &model.quads), (nodes, &mesh.quads().collect::<Vec<_>>()));
     let mut rng = Rng(66);
     let mut all: Vec<u32> = (0..nodes).collect();
     for k in (1..all.len()).rev() {
         all.swap(k, rng.below(k + 1));
     }
-    let mut take = |thresholds: &mut Thresholds<'_>, event: Event| {
-        let answer = match event {
-            Event::Enter(node, threshold) => thresholds.enter(node, threshold),
-            Event::Withdraw(node) => thresholds.withdraw(node),
-        };
-        assert_eq!(answer.map_or_else(Refusal::number, |()| 0), model.take(event));
-        assert_eq!([thresholds.complete_quads(), thresholds.sum()], model.figures());
-        assert_eq!(thresholds.list(), model.list);
+    let mut take = |exam: &mut Exam<'_>, event: Event| {
+        assert_eq!(hand_over(event, &mut exam.desk()), model.take(event));
+        let reader = exam.reader();
+        assert_eq!(<[u32; 2]>::from(reader.figures()), model.figures());
+        for node in all.iter().copied().take(20).chain([0, nodes - 1]) {
+            assert_eq!(reader.threshold(node).ok(), model.standing(node));
+        }
     };
-    for &node in &all {
-        take(&mut thresholds, Event::Enter(node, rng.below(501) as u32));
+    let order = all.clone();
+    for &node in &order {
+        take(&mut exam, Event::Enter(node, rng.below(501) as u32));
     }
-    assert_eq!(thresholds.complete_quads(), quads);
+    assert_eq!(exam.reader().figures().0, quads);
     for _ in 0..1_000 {
         let node = rng.below(nodes as usize + 1) as u32;
-        take(
-            &mut thresholds,
-            if rng.once_in(2) { Event::Withdraw(node) } else { Event::Enter(node, rng.below(600) as u32) },
-        );
+        take(&mut exam, if rng.once_in(2) { Event::Withdraw(node) } else { Event::Enter(node, rng.below(600) as u32) });
     }
-    for &node in &all {
-        take(&mut thresholds, Event::Withdraw(node));
+    for &node in &order {
+        take(&mut exam, Event::Withdraw(node));
     }
-    assert_eq!([thresholds.complete_quads(), thresholds.sum()], [0, 0]);
+    assert_eq!(exam.reader().figures(), (0, 0));
 }

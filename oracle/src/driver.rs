@@ -3,10 +3,10 @@
 //! The refusals, the ends and the counts needed before anything is built are written from document 01; what is computed
 //! after them is the reference's. The counts are compared with what the reference then builds.
 
-use super::{bounds, distance, Cell, CrossField, Domain, Options, Paving, Sizing, TwoDError};
+use super::{bounds, distance, Cell, CrossField, Domain, EdgeIndex, NodeIndex, Options, Paving, Sizing, TwoDError};
 use crate::file;
 use crate::sound::is_sound;
-use crate::terms::{check_point, Drawing, End, FieldRecord, Lent, Outline, Refusal, Run, Settings};
+use crate::terms::{check_point, Drawing, End, FieldRecord, Lent, LentMesh, Outcome, Outline, Refusal, Run, Settings};
 
 const MOST_SWEEPS: u64 = 1_000;
 const MOST_PASSES: u64 = 600;
@@ -209,20 +209,26 @@ impl Paving {
     }
 
     /// What is answered of a paving of the outline. Of all this the outline's soundness alone isn't the reference's.
-    fn answer(self, outline: Outline<'_>, end: End) -> Run {
-        let (drawn, loops) = (outline.loops(), self.front_loops());
+    fn answer(&self, outline: Outline<'_>, end: End) -> Run {
+        let drawn = outline.loops();
         let flat: Vec<&[f64]> = drawn.iter().map(|points| points.as_flattened()).collect();
+        self.left(|| is_sound(&flat), end)
+    }
+
+    /// What is left of a paving, of an outline that is sound or not: asked only where no loop is left.
+    fn left(&self, sound: impl FnOnce() -> bool, end: End) -> Run {
+        let loops = self.front_loops();
         let sorted = |mut pairs: Vec<(usize, usize)>| {
             pairs.sort_unstable();
             pairs
         };
         Run {
-            whole: loops.is_empty() && is_sound(&flat),
+            whole: loops.is_empty() && sound(),
             loops,
             front: sorted(self.next.iter().map(|(&u, &v)| (u, v)).collect()),
             edges: sorted(self.edge_set.iter().copied().collect()),
             nodes: self.points.iter().map(|&[x, y, _]| [x, y]).collect(),
-            quads: self.quads.into_iter().map(|quad| Cell::quad4(quad).nodes.try_into().unwrap()).collect(),
+            quads: self.quads.iter().map(|&quad| Cell::quad4(quad).nodes.try_into().unwrap()).collect(),
             end,
         }
     }
@@ -287,4 +293,84 @@ pub fn pave_in_one_call(outline: Outline<'_>, settings: Settings) -> Result<Run,
     let mut paving = Paving::from_boundary(&region.domain, size).expect("the reference samples an outline not refused");
     paving.advance(&field.field, &region.domain, size, usize::try_from(passes).unwrap_or(usize::MAX));
     Ok(paving.answer(outline, End::Passes))
+}
+
+/// A front stepped by hand: the reference's own `try_edge` on the edges named.
+pub struct Stepping {
+    region: Region,
+    field: Field,
+    size: f64,
+    paving: Paving,
+}
+
+impl Stepping {
+    /// The sampled outline and its field: refusals 1 to 10.
+    pub fn new(outline: Outline<'_>, size: f64, sweeps: u64, lent: &Lent) -> Result<Stepping, Refusal> {
+        let region = Region::new(outline)?;
+        check_field(&region, size, sweeps, lent.field_nodes)?;
+        let paving = sample(&region, size, lent)?;
+        let field = Field::build(&region, size, sweeps);
+        Ok(Stepping { region, field, size, paving })
+    }
+
+    /// Any mesh, whether or not a run leaves such, in so many places: refusals 1 to 6 and 11. The mesh must have ids of its own nodes only.
+    pub fn of_mesh(
+        outline: Outline<'_>,
+        size: f64,
+        (record, values, marks): (FieldRecord, &[f64], &[bool]),
+        mesh: &LentMesh,
+        lent: &Lent,
+    ) -> Result<Stepping, Refusal> {
+        let region = Region::new(outline)?;
+        Settings::check_size(size)?;
+        let field = Field::lent(record, values, marks)?;
+        let mut paving = Paving {
+            points: Vec::new(),
+            quads: mesh.quads.clone(),
+            next: mesh.links.iter().copied().collect(),
+            prev: mesh.links.iter().map(|&(u, v)| (v, u)).collect(),
+            edges: EdgeIndex::new(2.0 * size),
+            edge_set: mesh.edges.iter().copied().collect(),
+            nodes: NodeIndex::new(size),
+            size,
+            places: Places::of(lent),
+        };
+        for &p in &mesh.nodes {
+            paving.push_node(p);
+        }
+        for &edge in &mesh.edges {
+            paving.edges.insert(&paving.points, edge);
+        }
+        Ok(Stepping { region, field, size, paving })
+    }
+
+    /// The two attempts on a front edge; none at all where 250,000 quads stand.
+    pub fn step(&mut self, a: usize, b: usize) -> Outcome {
+        if self.paving.quads.len() >= MOST_QUADS {
+            return Outcome::Cap;
+        }
+        self.paving.places.full = false;
+        if self.paving.try_edge(a, b, &self.field.field, &self.region.domain, self.size) {
+            return Outcome::Placed;
+        }
+        if self.paving.places.full {
+            Outcome::Full
+        } else {
+            Outcome::None
+        }
+    }
+
+    /// What is lent from now on.
+    pub fn lend(&mut self, lent: &Lent) {
+        self.paving.places = Places::of(lent);
+    }
+
+    /// The mesh as it stands.
+    pub fn mesh(&self) -> Run {
+        self.paving.left(|| true, End::Passes)
+    }
+
+    pub fn field(&self) -> &Field {
+        &self.field
+    }
 }

@@ -3,8 +3,8 @@
 use crate::file;
 use crate::terms::{hex, Drawing, FieldRecord, Lent, Settings};
 
-/// The kinds of cases, with what each draws. `mixed` takes one of the others for each case.
-pub const KINDS: [(&str, fn(&mut Rng) -> Case); 14] = [
+/// The kinds of cases, with what each draws. `mixed` takes one of the first for each case.
+pub const KINDS: [(&str, fn(&mut Rng) -> Case); 15] = [
     ("visual", |rng| ordinary(rng, visual_field)),
     ("lattice", |rng| ordinary(rng, lattice)),
     ("concave", |rng| ordinary(rng, concave)),
@@ -19,7 +19,11 @@ pub const KINDS: [(&str, fn(&mut Rng) -> Case); 14] = [
     ("damaged", damaged),
     ("queries", queries),
     ("directions", directions),
+    ("slits", slits),
 ];
+
+/// As many kinds as `mixed` takes from; those after them came later, and its cases stay the same.
+const MIXED: usize = 14;
 
 /// A question to put to oracle and port alike.
 #[derive(Clone, Debug)]
@@ -50,7 +54,7 @@ impl Case {
     pub fn new(kind: &str, seed: u64, place: u64) -> Option<Case> {
         let mut rng = Rng::new(seed, place);
         if kind == "mixed" {
-            let (_, make) = KINDS[rng.below(KINDS.len())];
+            let (_, make) = KINDS[rng.below(MIXED)];
             return Some(make(&mut rng));
         }
         KINDS.iter().find(|(name, _)| *name == kind).map(|(_, make)| make(&mut rng))
@@ -275,6 +279,29 @@ fn with_holes(rng: &mut Rng) -> Loops {
         loops.push(hole);
     }
     loops
+}
+
+/// Paper 4's square with a slit, at any scale: its mouth open, shut, crossed or overlapping, by the least float or by more; from any point on, either
+/// way round.
+fn slits(rng: &mut Rng) -> Case {
+    let width = match rng.below(4) {
+        0 => 0.0,
+        1 => f64::from_bits(rng.whole(1, 3) as u64),
+        2 => f64::from_bits((rng.whole(1, 1_012) as u64) << 52),
+        _ => rng.float(0.0, 0.01),
+    };
+    let (e, f) = (rng.pick(&[width, -width]), rng.pick(&[width, -width, 0.0]));
+    let mut points = vec![[-1.0, -2.0], [1.0, -2.0], [1.0, 0.0], [-e, f], [0.0, -1.0], [e, f], [-1.0, 0.0]];
+    let start = rng.below(points.len());
+    points.rotate_left(start);
+    if rng.once_in(3) {
+        points.reverse();
+    }
+    let size = f64::from_bits((1_023 - 6 + rng.below(13) as u64) << 52);
+    let shift = if rng.once_in(3) { [rng.whole(0, 8) as f64, rng.whole(0, 8) as f64] } else { [0.0, 0.0] };
+    let loops = vec![points.into_iter().map(|[x, y]| [size * (x + shift[0]), size * (y + shift[1])]).collect()];
+    let settings = usual_settings(rng, size);
+    paved(rng, &loops, settings)
 }
 
 /// For size 1: a rectangle, and scribbled holes that leave few of the program's node places for the paving.

@@ -9,7 +9,7 @@ use crate::fixed::{file_of, listing, verdict};
 use crate::generate::{Case, Rng};
 
 /// The kinds that give files, taken in turn. `damaged` stands twice: of the others few are refused 12 or 13.
-const KINDS: [&str; 12] = [
+const KINDS: [&str; 13] = [
     "files",
     "damaged",
     "visual",
@@ -18,6 +18,7 @@ const KINDS: [&str; 12] = [
     "crossing",
     "holes",
     "degenerate",
+    "slits",
     "sizes",
     "settings",
     "damaged",

@@ -194,6 +194,24 @@ impl End {
     }
 }
 
+/// What a step of the front by hand did with the edge named (document 02, paper 11).
+#[derive(Clone, Copy, Debug, PartialEq, Eq, PartialOrd, Ord)]
+pub enum Outcome {
+    Placed,
+    None,
+    Full,
+    Cap,
+}
+
+/// A mesh that is lent to be stepped by hand, its lists cut to the counts. `links` holds the front edges; `edges` the meshed edges, each pair as it is stored.
+#[derive(Clone, Debug, Default)]
+pub struct LentMesh {
+    pub nodes: Vec<[f64; 2]>,
+    pub quads: Vec<[usize; 4]>,
+    pub links: Vec<(usize, usize)>,
+    pub edges: Vec<(usize, usize)>,
+}
+
 /// A run's answer. Quads are a, b, d, c; front edges and distinct edges are sorted, the latter with the smaller id first.
 #[derive(Clone, Debug, PartialEq)]
 pub struct Run {

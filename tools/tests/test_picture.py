@@ -1,16 +1,18 @@
 """A listing to a picture: what is read, what is drawn, and what is said where nothing can be."""
 
+import math
 import pathlib
 import re
+import struct
 import tempfile
 import unittest
 import xml.etree.ElementTree
 
-from common import SQUARE, SQUARE_LISTING, TOOLS, run
+from common import ROOT, SQUARE, SQUARE_LISTING, TOOLS, run
 import listings
 import outlines
 from outlines import Settings, Unusable
-from refusals import Refused, WORDS, in_words
+from refusals import Refused, in_words
 
 OPEN = SQUARE_LISTING.replace("mesh 9 4 2 still whole", "mesh 9 3 4 full open").replace("q 5 6 7 8\n", "l 5 6 7 8\n")
 # a blind spot in the square, and the listing with its points
@@ -37,8 +39,8 @@ class Reading(unittest.TestCase):
         read = listings.read(UNSOUND)
         self.assertEqual((len(read.quads), read.front, read.whole, read.loops), (4, 2, False, []))
 
-    def test_every_refusal(self):
-        for number in WORDS:
+    def test_every_refusal_that_is_printed(self):
+        for number in listings.PRINTED:
             with self.assertRaises(Refused) as caught:
                 listings.read(f"refused {number}\n")
             self.assertEqual(str(caught.exception), in_words(number))
@@ -49,7 +51,7 @@ class Reading(unittest.TestCase):
         self.assertIn(message, str(caught.exception))
 
     def test_what_is_no_listing(self):
-        for text in ("", "\n", "refused 14\n", "refused\n", "refused x\n", "mesh 9 4 2 still\n", "mesh 9 4 2 done whole\n", "mesh 9 4 2 still closed\n"):
+        for text in ("", "\n", "refused 11\n", "refused 14\n", "refused\n", "refused x\n", "mesh 9 4 2 still\n", "mesh 9 4 2 done whole\n", "mesh 9 4 2 still closed\n"):
             self.wrong(text, "line 1: a listing begins with 'mesh'")
         self.wrong("mesh -9 4 2 still whole\n", "line 1: a whole number is wanted: -9")
         self.wrong("mesh 0 0 0 still whole\n", "line 1: 0 nodes and 0 quads are promised, and 0 lines follow")
@@ -72,6 +74,57 @@ class Reading(unittest.TestCase):
         self.wrong("\n".join(lines[:-2]), "line 1: 9 nodes and 4 quads are promised, and 12 lines follow")
         self.wrong(SQUARE_LISTING + "l 1 2 3\n", "line 1: 'whole' is for no loops; lines after the quads: 1")
         self.wrong(OPEN.replace("l 5 6 7 8", "l 5 6"), "line 14: a loop that is listed has three nodes or more")
+
+
+# An outer loop and two blind spots of four nodes each; a quad on an edge of each blind spot with two new nodes, then one of the outer loop.
+SPOTS = listings.Listing(
+    nodes=[outlines.Point(k, k * k) for k in range(18)],
+    quads=[[4, 5, 13, 12], [8, 9, 15, 14], [0, 1, 17, 16]],
+    front=18, end="passes", whole=False,
+    loops=[[0, 16, 17, 1, 2, 3], [4, 12, 13, 5, 6, 7], [8, 14, 15, 9, 10, 11]],
+)
+
+
+def by_paper(loops, size, quads):
+    """Paper 9's numbers: the samples loop after loop, then each new node by its quad's node a."""
+    numbers = []
+    for number, points in enumerate(loops):
+        sides = (math.sqrt((p.x - q.x) * (p.x - q.x) + (p.y - q.y) * (p.y - q.y)) for p, q in zip(points, points[1:] + points[:1]))
+        count = sum(max(math.ceil(side / (1.05 * size)), 1) for side in sides)
+        numbers += [number] * (count + count % 2)
+    for a, b, d, c in quads:
+        for node in (c, d):
+            if node == len(numbers):
+                numbers.append(numbers[a])
+    return numbers
+
+
+class Origins(unittest.TestCase):
+    def test_the_square(self):
+        self.assertEqual(listings.origins(listings.read(SQUARE_LISTING)), [0] * 9)
+
+    def test_two_blind_spots(self):
+        self.assertEqual(listings.origins(SPOTS), [0] * 4 + [1] * 4 + [2] * 4 + [1, 1, 2, 2, 0, 0])
+
+    def test_nothing_paved(self):
+        unpaved = SPOTS._replace(nodes=SPOTS.nodes[:12], quads=[], loops=[[0, 1, 2, 3], [4, 7, 6, 5], [8, 9, 10, 11]])
+        self.assertEqual(listings.origins(unpaved), [0] * 4 + [1] * 4 + [2] * 4)
+
+    def test_the_papers_numbers_on_the_fixed_list(self):
+        """The stored files, with their stored listings."""
+        data = ROOT / "crates/replay/data"
+        names = (data / "list").read_text().splitlines()
+        runs, spots = 0, 0
+        for file, listed in zip(names[::2], names[1::2]):
+            try:
+                listing = listings.read((data / listed).read_text())
+            except Refused:
+                continue
+            loops, settings = outlines.from_blocks((data / file).read_bytes())
+            self.assertEqual(listings.origins(listing), by_paper(loops, settings.size, listing.quads), file)
+            runs, spots = runs + 1, spots + (len(loops) > 1)
+        self.assertGreater(runs, 200)
+        self.assertGreater(spots, 50)
 
 
 class Drawing(unittest.TestCase):
@@ -116,6 +169,24 @@ class Drawing(unittest.TestCase):
         for words in ("Open: 1 loop of the front remains, drawn red.", "9 nodes, 3 quads, 4 front edges.",
                       "Ended full: stopped before a quad that no space was lent for.", "left open"):
             self.assertIn(words, texts)
+
+    def test_the_patch_round_a_blind_spot(self):
+        example = ROOT / "examples/right-eye"
+        paths, texts = self.drawn(example.with_suffix(".listing").read_text(), "--outline", example.with_suffix(".csv"))
+        self.assertEqual((paths["quads"][0].count("Z"), paths["patch1"][0].count("Z")), (194, 48))
+        self.assertNotIn("patch2", paths)
+        self.assertIn("quad round a blind spot", texts)
+        self.assertNotIn("quad round a blind spot", self.drawn(SQUARE_LISTING)[1])
+
+    def test_patches_have_different_colours(self):
+        rows = [f"n {struct.pack('>dd', node.x, node.y).hex(' ', 8)}" for node in SPOTS.nodes]
+        rows += [f"{kind} {' '.join(map(str, ids))}" for kind, lists in (("q", SPOTS.quads), ("l", SPOTS.loops)) for ids in lists]
+        listing = "\n".join(["mesh 18 3 18 passes open", *rows, ""])
+        self.assertEqual(listings.read(listing), SPOTS)
+        paths, texts = self.drawn(listing)
+        self.assertEqual([paths[kind][0].count("Z") for kind in ("quads", "patch1", "patch2")], [1, 1, 1])
+        self.assertEqual(texts.count("quad round a blind spot"), 1)
+        self.assertEqual([len(paths[kind]) for kind in ("quads", "patch1", "patch2")], [2, 2, 2], "each is in the legend too")
 
     def test_an_unsound_one(self):
         paths, texts = self.drawn(UNSOUND)
@@ -177,7 +248,7 @@ class Drawing(unittest.TestCase):
         self.assertEqual(self.draw(SQUARE_LISTING, "--outline", damaged), (1, b"", f"picture: {in_words(12)} (block 2)\n"))
 
     def test_a_refusal_is_said_in_words(self):
-        for number in WORDS:
+        for number in listings.PRINTED:
             self.assertEqual(self.draw(f"refused {number}\n"), (1, b"", f"picture: {in_words(number)}\n"))
 
     def test_what_cant_be_read(self):

@@ -1,5 +1,5 @@
--- Laws of books: quads that stay where they are; edges that are counted, are there and come off; what a match gives: as many nodes
--- and edges, and the sum of any antisymmetric weight; and that an area is such a weight.
+-- Laws of books: quads that stay where they are; edges that are counted, are there and come off; steps that may fail; what a match gives: as many
+-- nodes and edges, and the sum of any antisymmetric weight; and that an area is such a weight.
 use Prim.Native.Nat.{ℕ, _+_, _*_, _<_}
 use mathlib.Core.List.{List, [], _∷_}
 use mathlib.Core.Path.{_≡_, refl, sym, _∙_, ap, ap₂}
@@ -100,7 +100,7 @@ has-none u v (e ∷ es) h = by (isEdge (edge u v) e) (rw (at-edge u v e) at h) (
     by true h later = absurd (omega arith)
     by false h later = later (omega arith)
 
-is-edge : (u v : ℕ) (e : Edge) → isEdge (edge u v) e ≡ true → (u ≡ e .from) × (v ≡ e .to)
+pub is-edge : (u v : ℕ) (e : Edge) → isEdge (edge u v) e ≡ true → (u ≡ e .from) × (v ≡ e .to)
 is-edge u v e h = let ends = both (eqb u (e .from)) _ h in (eqb-true u (e .from) (ends .0), eqb-true v (e .to) (ends .1))
 
 -- an edge that is there comes off once

@@ -45,7 +45,7 @@ module _ (o : Outline) (size : Float) where
 
   -- loop k is s
   module _ {k start nodes : ℕ} {s : List Float} (P : Progress o size k start nodes) (h : k ≤ length (o .lens)) (e : s ≡ loopAt o k) where
-    nodes-of : evenUp (loopParts size s) ≡ loopNodes o size k
+    pub nodes-of : evenUp (loopParts size s) ≡ loopNodes o size k
     unfolding loopNodes
     nodes-of = ap (λ (l : List Float). evenUp (loopParts size l)) e
 

@@ -56,7 +56,7 @@ pub fn loop_parts(s: &[f64], size: f64) -> u64
 }
 
 // How many hole points stand before loop k + 1, where `start` stand before loop k.
-fn next_start(lens: &[usize], k: usize, start: usize) -> usize
+pub fn next_start(lens: &[usize], k: usize, start: usize) -> usize
     requires { ⌜ (k ≤ length (now lens)) × (start ≡ loopStart (now lens) k) × (loopStart (now lens) (k + 1) < 4294967296) ⌝ }
     ensures { λ r. ⌜ r ≡ loopStart (now (lens .entry)) (k + 1) ⌝ }
 {

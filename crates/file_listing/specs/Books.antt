@@ -1,4 +1,5 @@
--- Demand 3 of the program: the exact books hold of every mesh that is printed (`books-printed`). Assumes nothing.
+-- Demand 3 and paper 9 of the program: the exact books hold of every mesh that is printed (`books-printed`), and the numbers of its nodes, which aren't
+-- printed, never mix (`origins-printed`). Assumes nothing.
 use mathlib.Core.Path.{_≡_, refl, sym, subst}
 use mathlib.Core.List.{List}
 use Prim.Native.Nat.{ℕ, zero, suc, _+_, _*_}
@@ -12,7 +13,7 @@ use Rattle.laws.specs.Tabulate.{tabulate, tabulate-length, tabulate-at}
 use Rattle.domain.specs.declared.Settings.{Settings}
 use Rattle.domain.specs.Outline.{Outline}
 use Rattle.domain.specs.Accepted.{AllFit, OutlineFits}
-use Rattle.run.specs.Run.{Lent, Ran, snapshotPlaces, narrowed, acceptedIn, refusalOf, refusedAnswer, runAnswer, PavesBooks, Paves}
+use Rattle.run.specs.Run.{Lent, Ran, snapshotPlaces, narrowed, acceptedIn, refusalOf, refusedAnswer, runAnswer, PavesBooks, PavesOrigins, Paves}
 use Rattle.run.specs.Laws.{paves-accepted, paves-refused}
 use Rattle.outline_file.specs.File.{coordinateAt, filePoints, requestOf, outlineOf}
 use Rattle.file_listing.specs.Program.{programLent}
@@ -69,3 +70,9 @@ pub books-printed : (file : List ℕ)
     let r = runAnswer (outlineOf q) (q .settings) programLent in
     r .answer .refusal ≡ 0 → PavesBooks (outlineOf q) (q .settings) (r .answer) (r .lists)
 books-printed file = ran-paves _ _ programLent (outline-fits file) .books
+
+pub origins-printed : (file : List ℕ)
+    → let q = requestOf file in
+    let r = runAnswer (outlineOf q) (q .settings) programLent in
+    r .answer .refusal ≡ 0 → PavesOrigins (outlineOf q) (q .settings) (programLent .origins) (r .answer) (r .lists)
+origins-printed file = ran-paves _ _ programLent (outline-fits file) .origins

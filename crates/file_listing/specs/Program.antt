@@ -23,12 +23,12 @@ floats n = replicate n zeroF
 abbrev pub numbers : ℕ → List ℕ
 numbers n = replicate n 0
 
--- a field node has two values and a mark; a node two coordinates, two links and a place in the snapshot, and it may be listed; a quad has four ids, an
--- edge two; a file has 8 loops at most
+-- a field node has two values and a mark; a node two coordinates, two links, a place in the snapshot and the number of the loop that it came from, and it
+-- may be listed; a quad has four ids, an edge two; a file has 8 loops at most
 unfoldable pub programLent : Lent
 programLent =
-    lent (floats 3200) (numbers 1600) (floats 800) (floats 800) (numbers 800) (numbers 800) (numbers 800) (numbers 3200) (numbers 4800) (numbers 800)
-    (numbers 8)
+    lent (floats 3200) (numbers 1600) (floats 800) (floats 800) (numbers 800) (numbers 800) (numbers 800) (numbers 800) (numbers 3200) (numbers 4800)
+    (numbers 800) (numbers 8)
 
 -- ---- what it prints
 

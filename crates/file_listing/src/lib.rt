@@ -44,6 +44,7 @@ fn list_outline<'a>(
     let mut next = [0u32; 800];
     let mut prev = [0u32; 800];
     let mut snapshot = [0u32; 800];
+    let mut origins = [0u16; 800];
     let mut quads = [0u32; 3200];
     let mut edges = [0u32; 4800];
     let mut loops = [0u32; 800];
@@ -51,6 +52,7 @@ fn list_outline<'a>(
     let mut node_pool = [0u32; 3200];
     let mut edge_pool = [0u32; 38400];
     let mut blocks = [0u32; 92];
+    let mut tried = [0u32; 2400];
     let paved = run::pave(
         outer,
         holes,
@@ -65,6 +67,7 @@ fn list_outline<'a>(
         &mut next,
         &mut prev,
         &mut snapshot,
+        &mut origins,
         &mut quads,
         &mut edges,
         &mut loops,
@@ -72,6 +75,7 @@ fn list_outline<'a>(
         &mut node_pool,
         &mut edge_pool,
         &mut blocks,
+        &mut tried,
     );
     listing::write_listing(
         out,

@@ -112,7 +112,7 @@ unfolding markAll
 mark-more [] u s = refl
 mark-more (x ∷ l) u s = mark-more l u (set s x 1)
 
-sets-more : (l : List ℕ) (u : ℕ) (s : List ℕ) (at i : ℕ) → i ≡ at + length l → set (sets s at l) i u ≡ sets s at (l ++ u ∷ [])
+pub sets-more : (l : List ℕ) (u : ℕ) (s : List ℕ) (at i : ℕ) → i ≡ at + length l → set (sets s at l) i u ≡ sets s at (l ++ u ∷ [])
 sets-more [] u s at i e = let q : i ≡ at = omega arith in rw q
 sets-more (x ∷ l) u s at i e = sets-more l u (set s at x) (suc at) i (omega arith)
 

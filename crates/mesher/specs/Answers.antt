@@ -16,6 +16,7 @@ use Rattle.domain.specs.declared.Settings.{Settings}
 use Rattle.domain.specs.Outline.{Outline}
 use Rattle.front.specs.State.{State, stateOf, counted}
 use Rattle.books.specs.Holds.{BooksAnswered}
+use Rattle.origins.specs.Origins.{OriginsAnswered}
 use Rattle.run.specs.declared.Paved.{Paved}
 use Rattle.run.specs.Run.{Lent, Ran, runAnswer}
 use Rattle.mesher.specs.declared.FieldRecordAnswer.{FieldRecordAnswer}
@@ -95,3 +96,5 @@ pub record HostPaves (o : Outline) (set : Settings) (before : Lent) (r : PaveAns
   -- the exact books of the outline, the size and what is answered hold: the quads and coordinates, the loops listed, and whether it is whole: demand 3
   pub books : r .refusal ≡ 0
       → BooksAnswered o (set .size) (stateAnswered r after) (r .loops) (r .ids) (after .loops) (after .lengths) (r .whole)
+  -- every node answered has the number of the outline's loop that it came from, and no front loop and no quad ever has nodes of two: paper 9
+  pub origins : r .refusal ≡ 0 → OriginsAnswered o (set .size) (stateAnswered r after) (before .origins) (after .origins)

@@ -20,7 +20,7 @@ use Rattle.front.specs.State.{State}
 use Rattle.books.specs.Book.{edge, Book, book, Quad, quadAt, startBook, has, without, andThen, comesOff, goesOn, newNode, side, bookQuad, bookAfter}
 use Rattle.books.specs.Matches.{edgesSum}
 use Rattle.books.specs.Net.{countEdge}
-use Rattle.books.specs.BookLaws.{Gives, gives-then, count-sum, without-sum}
+use Rattle.books.specs.BookLaws.{count-sum, without-sum, Gives, gives-then}
 use Rattle.lent_mesh.specs.Mesh.{quadIn}
 use Rattle.lent_mesh.specs.Answered.{quad-same}
 use Rattle.order.specs.Order.{needs, orderAccepted, orderAnswer}

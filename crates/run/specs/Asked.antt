@@ -20,8 +20,10 @@ pub record CanPave (o : Outline) (blocks : List ℕ) (size : Float) (g : Grid) (
   pub front : frontRefusal o size lent ≡ 0
   pub field : FieldLent g values
 
--- of a run in all of the lists: none of 1 to 10 refuses it, the loops' ids have a place for each of the snapshot's, and their lengths one for each loop
+-- of a run in all of the lists: none of 1 to 10 refuses it, the loops' ids and the origins have a place for each of the snapshot's, and the loops' lengths
+-- one for each loop
 pub record CanRun (o : Outline) (set : Settings) (l : run.Lent) : Type 0 where
   pub none : runRefusal o set (run.fieldPart l) (run.statePart l) ≡ 0
   pub loops : length (l .snapshot) ≤ length (l .loops)
+  pub origins : length (l .snapshot) ≤ length (l .origins)
   pub lengths : loopCount o ≤ length (l .lengths)

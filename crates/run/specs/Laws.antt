@@ -43,11 +43,14 @@ use Rattle.books.specs.Book.{Book, quadAt, newNode, side, bookQuad, bookAfter, 
 use Rattle.books.specs.Net.{quadsEdges}
 use Rattle.books.specs.Holds.{BooksHold, Closes, LoopsAnswered}
 use Rattle.books_hold.specs.Stages.{Standing, standing}
+use Rattle.books_hold.specs.Runs.{accepted}
 use Rattle.books_hold.specs.Theorem.{books-hold}
+use Rattle.origins.specs.Origins.{originsAfter}
+use Rattle.origins.specs.Writing.{Numberable, advance-numberable, booked-answered}
 use Rattle.run.specs.declared.Paved.{Paved}
 use Rattle.run.specs.Run as run-is
 use Rattle.run.specs.Run.{Lent, Ran, ran, lent, fieldPart, statePart, snapshotPlaces, narrowed, widened}
-use Rattle.run.specs.Run.{refusedAnswer, pavedAnswer, lengthsRefusal, refusalOf, acceptedIn, acceptedRun, runAnswer, PavesBooks, Paves}
+use Rattle.run.specs.Run.{refusedAnswer, pavedAnswer, lengthsRefusal, refusalOf, acceptedIn, acceptedRun, runAnswer, PavesBooks, PavesOrigins, Paves}
 use Rattle.run.specs.Asked.{CanPave, CanRun}
 
 -- ---- a paving doesn't read the field's marks
@@ -125,27 +128,34 @@ module _ (o : Outline) (blocks : List ℕ) (size : Float) (g : Grid) (values : L
   pub paveable-at : (t : State) → t ≡ fromBoundary o size s → Paveable o blocks g values t
   paveable-at t e = subst (Paveable o blocks g values) (sym e) paveable
 
-  -- ---- what the loops ask
+  -- ---- what the numbers and the loops ask
+
+  -- every node has a place in a list as long as the snapshot
+  stands : (field : FieldRecord) (passes : ℕ)
+      → Standing (sampledCount o size) (fromBoundary o size s) (boundaryLoops o size s) (advance o size field passes (fromBoundary o size s) .state)
+  stands field passes = standing (begins .sound) (advance-reaches o size (fromBoundary o size s) field passes .by)
+
+  nodes-few : (field : FieldRecord) (passes : ℕ) → advance o size field passes (fromBoundary o size s) .state .counts .nodes ≤ length (s .snapshot)
+  unfolding nodePlaces
+  nodes-few field passes =
+      let Y = stands field passes in
+      omega (arith, Y .sound .nodes-fit, Y .frame .snapshot .long ∙ ap length (begins .snapshot))
+
+  pub can-number : (field : FieldRecord) (passes : ℕ) (end : paving.Paved) → end ≡ advance o size field passes (fromBoundary o size s)
+      → (places : ℕ) → length (s .snapshot) ≤ places → Numberable o size (end .state .quads) (end .state .counts .quads) places
+  can-number field passes end e places a =
+      advance-numberable o size s (record { doubles = C .drawn .fits; outline = C .drawn .taken; front = C .front }) field passes end e places
+      (rw e (omega (arith, nodes-few field passes)))
 
   pub can-list : (field : FieldRecord) (passes : ℕ) (end : paving.Paved) → end ≡ advance o size field passes (fromBoundary o size s)
       → (loops lengths : List ℕ) → length (s .snapshot) ≤ length loops → loopCount o ≤ length lengths
       → Listable (end .state .counts) (end .state .next) (end .state .snapshot) loops lengths
-  unfolding nodePlaces
-  can-list field passes end e loops lengths a b = rw e listable
+  can-list field passes end e loops lengths a b = rw e (
+      sound-listable (sampledCount o size) _ (Y .loops) (Y .sound) loops lengths (omega (arith, nodes-few field passes, a))
+      (omega (arith, Y .number, begins .loops, b)))
     where
-      t : State
-      t = advance o size field passes (fromBoundary o size s) .state
-
-      Y : Standing (sampledCount o size) (fromBoundary o size s) (boundaryLoops o size s) t
-      Y = standing (begins .sound) (advance-reaches o size (fromBoundary o size s) field passes .by)
-
-      long : length (t .snapshot) ≡ length (s .snapshot)
-      long = Y .frame .snapshot .long ∙ ap length (begins .snapshot)
-
-      listable : Listable (t .counts) (t .next) (t .snapshot) loops lengths
-      listable =
-          sound-listable (sampledCount o size) t (Y .loops) (Y .sound) loops lengths (omega (arith, Y .sound .nodes-fit, long, a))
-          (omega (arith, Y .number, begins .loops, b))
+      Y : Standing (sampledCount o size) (fromBoundary o size s) (boundaryLoops o size s) (advance o size field passes (fromBoundary o size s) .state)
+      Y = stands field passes
 
 -- ---- the books don't read the snapshot
 
@@ -192,13 +202,14 @@ module _ (o : Outline) (s : State) (marks loops lengths : List ℕ) (p : Lists)
 pub run-whole : (o : Outline) (set : Settings) (l : Lent) (g : Grid) (values : List Float) (marks : List ℕ)
     → fieldRecord g values marks ≡ fieldOf o (set .size) (set .sweeps) (fieldPart l)
     → (a : paving.Paved) → a ≡ advance o (set .size) (fieldRecord g values []) (set .passes) (fromBoundary o (set .size) (statePart l))
+    → (n : List ℕ) → n ≡ overlay (originsAfter o (set .size) (a .state .quads) (a .state .counts .quads)) (l .origins)
     → (p : Lists) → p ≡ listedIn (a .state .counts) (a .state .next) (a .state .snapshot) (l .loops) (l .lengths)
     → (w : Bool) → w ≡ isWhole o (p .listed .count) → (r : Paved) → r ≡ pavedAnswer g (a .end) (a .state .counts) (p .listed) w
-    → ran r (lent values marks (a .state .xs) (a .state .ys) (a .state .next) (a .state .prev) (p .marks) (a .state .quads) (a .state .edges)
+    → ran r (lent values marks (a .state .xs) (a .state .ys) (a .state .next) (a .state .prev) (p .marks) n (a .state .quads) (a .state .edges)
     (p .loops) (p .lengths)) ≡ acceptedIn o set l
 unfolding acceptedIn runOf
-run-whole o set l g values marks ef a ea p ep w ew r er =
-    rw (er, ew, ← ef, advance-unread o (set .size) g values marks [] (set .passes) (fromBoundary o (set .size) (statePart l)), ← ea, ← ep) refl
+run-whole o set l g values marks ef a ea n en p ep w ew r er =
+    rw (er, ew, en, ← ef, advance-unread o (set .size) g values marks [] (set .passes) (fromBoundary o (set .size) (statePart l)), ← ea, ← ep) refl
 
 -- ---- the refusals, by the numbers of places
 
@@ -225,6 +236,7 @@ module _ (o : Outline) (set : Settings) (l : Lent) (m : ℕ) (e : m ≡ snapshot
       record {
         none = rw e (none-of z .0);
         loops = rw part-long (omega (arith, e));
+        origins = rw part-long (omega (arith, e));
         lengths = room (none-of z .1);
       }
     where
@@ -243,17 +255,23 @@ module _ (o : Outline) (set : Settings) (l : Lent) (m : ℕ) (e : m ≡ snapshot
   unfolding runAnswer acceptedRun acceptedIn
   paves-accepted z doubles r after q =
       let same : ran r after ≡ acceptedIn o set (narrowed l) = rw e at q in
+      let snapshot = after .snapshot ++ drop m (l .snapshot) in
+      let part = statePart (narrowed l) in
+      let s = runOf o set (fieldPart l) part .paving .state in
+      let A = accepted o set (fieldPart l) part doubles (none-of z .0) in
+      let B = books-unread o (set .size) s snapshot (books-hold o set (fieldPart l) part doubles (none-of z .0)) in
       record {
         equal = rw (z, e) (ap (λ (w : Ran). ran (w .answer) (widened l (w .lists))) same);
         refused = λ n. absurd (n (ap (λ (w : Ran). w .answer .refusal) same));
         books =
             λ _.
-            let snapshot = after .snapshot ++ drop m (l .snapshot) in
-            let s = runOf o set (fieldPart l) (statePart (narrowed l)) .paving .state in
-            let B = books-unread o (set .size) s snapshot (books-hold o set (fieldPart l) (statePart (narrowed l)) doubles (none-of z .0)) in
             let p = listedIn (s .counts) (s .next) (s .snapshot) (l .loops) (l .lengths) in
             subst⁻¹ (λ (w : Ran). PavesBooks o set (w .answer) (run-is.withSnapshot (w .lists) snapshot)) same
             (record { books = B; front = λ b q. loops-answered o _ (s .snapshot) (l .loops) (l .lengths) p refl b (B .closes b q) });
+        origins =
+            λ _.
+            subst⁻¹ (λ (w : Ran). PavesOrigins o set (l .origins) (w .answer) (run-is.withSnapshot (w .lists) snapshot)) same
+            (booked-answered o (set .size) part _ (A .outline) (A .front) B (l .origins));
       }
 
 -- a run that is made refuses nothing
@@ -269,4 +287,5 @@ paves-refused o set l number e n r q =
       equal = rw (← e, q) (sym (answer-refused _ _ _ n));
       refused = λ _. refl;
       books = λ z. absurd (n (sym (ap (λ (v : Paved). v .refusal) q) ∙ z));
+      origins = λ z. absurd (n (sym (ap (λ (v : Paved). v .refusal) q) ∙ z));
     }

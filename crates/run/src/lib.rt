@@ -1,4 +1,4 @@
-// The run whole in one call: field, sampling, paving and the loops of the front, in the lists lent.
+// The run whole in one call: field, sampling, paving, the loops that nodes came from and the loops of the front, in the lists lent.
 ghost use mathlib.Core.Path.{_≡_};
 ghost use mathlib.Core.List.{[]};
 ghost use Prim.Native.Nat.{_≤_, min};
@@ -82,6 +82,13 @@ fn answer(grid: Grid, a: Advanced, listed: Listed, whole: bool) -> Paved
 
 // ---- refusals 1 to 10
 
+// So many places of the snapshot count.
+fn snapshot_places(snapshot: usize, loops: usize, origins: usize) -> usize
+    ensures { λ r. ⌜ r ≡ min (min snapshot loops) origins ⌝ }
+{
+    numbers::min_usize(numbers::min_usize(snapshot, loops), origins)
+}
+
 // The places of the shortest of the lists of nodes.
 fn node_places(xs: usize, ys: usize, next: usize, prev: usize, snapshot: usize) -> usize
     ensures { λ r. ⌜ r ≡ fewest xs ys next prev snapshot ⌝ }
@@ -140,6 +147,7 @@ fn sample_and_advance<'a>(
     edges: &mut [u32],
     node_pool: &mut [u32],
     edge_pool: &mut [u32],
+    tried: &mut [u32],
     passes: usize,
 ) -> Advanced
     requires { ⌜ CanPave (outline (now outer) (now holes) (now lens)) (now blocks) size grid (now values)
@@ -171,12 +179,13 @@ fn sample_and_advance<'a>(
         edges,
         node_pool,
         edge_pool,
+        tried,
         k,
         passes,
     )
 }
 
-// A run that isn't refused, where `snapshot` is no longer than `loops`.
+// A run that isn't refused, where `snapshot` is no longer than `loops` and `origins`.
 fn pave_in<'a>(
     outer: &'a [f64],
     holes: &'a [f64],
@@ -191,6 +200,7 @@ fn pave_in<'a>(
     next: &mut [u32],
     prev: &mut [u32],
     snapshot: &mut [u32],
+    origins: &mut [u16],
     quads: &mut [u32],
     edges: &mut [u32],
     loops: &mut [u32],
@@ -198,16 +208,18 @@ fn pave_in<'a>(
     node_pool: &mut [u32],
     edge_pool: &mut [u32],
     blocks: &mut [u32],
+    tried: &mut [u32],
 ) -> Paved
     requires { ⌜ CanRun (outline (now outer) (now holes) (now lens)) (settings size sweeps passes)
-        (lent (now values) (now marks) (now xs) (now ys) (now next) (now prev) (now snapshot) (now quads) (now edges) (now loops) (now lengths)) ⌝ }
+        (lent (now values) (now marks) (now xs) (now ys) (now next) (now prev) (now snapshot) (now origins) (now quads) (now edges) (now loops)
+        (now lengths)) ⌝ }
     ensures { λ r. ⌜
         ran r
         (lent (now (values .exit)) (now (marks .exit)) (now (xs .exit)) (now (ys .exit)) (now (next .exit)) (now (prev .exit)) (now (snapshot .exit))
-        (now (quads .exit)) (now (edges .exit)) (now (loops .exit)) (now (lengths .exit)))
+        (now (origins .exit)) (now (quads .exit)) (now (edges .exit)) (now (loops .exit)) (now (lengths .exit)))
         ≡ acceptedIn (outline (now (outer .entry)) (now (holes .entry)) (now (lens .entry))) (settings size sweeps passes)
         (lent (now (values .entry)) (now (marks .entry)) (now (xs .entry)) (now (ys .entry)) (now (next .entry)) (now (prev .entry))
-        (now (snapshot .entry)) (now (quads .entry)) (now (edges .entry)) (now (loops .entry)) (now (lengths .entry))) ⌝ }
+        (now (snapshot .entry)) (now (origins .entry)) (now (quads .entry)) (now (edges .entry)) (now (loops .entry)) (now (lengths .entry))) ⌝ }
 {
     let grid = crossfield::make_field(outer, holes, lens, size, sweeps, values, marks, blocks);
     let a = sample_and_advance(
@@ -227,8 +239,10 @@ fn pave_in<'a>(
         edges,
         node_pool,
         edge_pool,
+        tried,
         passes,
     );
+    origins::number_nodes(outer, holes, lens, size, quads, a.counts.quads, origins);
     let listed = loops::front_loops(a.counts, next, snapshot, loops, lengths);
     let whole = soundness::is_whole(outer, holes, lens, listed.count);
     answer(grid, a, listed, whole)
@@ -236,10 +250,10 @@ fn pave_in<'a>(
 
 // ---- the run
 
-// Paves an outline, in the lists that the caller lends; on a refusal nothing is written. Of the lists of nodes the shortest counts, `loops`
-// among them: so the run gets no more of `snapshot` than that has places. `lengths` holds a number for each loop. The pools and the list of blocks
-// are scratch of any length: searches go by them as far as they have room. The answer doesn't depend on what they hold, and what a run leaves in
-// them is free.
+// Paves an outline, in the lists that the caller lends; on a refusal nothing is written. Of the lists of nodes the shortest counts, `loops` and
+// `origins` among them: so the run gets no more of `snapshot` than they have places. `lengths` holds a number for each loop. The pools, the list of blocks
+// and `tried` are scratch of any length: searches go by the first three as far as they have room, and the last has three numbers for a node from which an
+// edge was tried in vain. The answer doesn't depend on what they hold, and what a run leaves in them is free.
 pub fn pave<'a>(
     outer: &'a [f64],
     holes: &'a [f64],
@@ -254,6 +268,7 @@ pub fn pave<'a>(
     next: &mut [u32],
     prev: &mut [u32],
     snapshot: &mut [u32],
+    origins: &mut [u16],
     quads: &mut [u32],
     edges: &mut [u32],
     loops: &mut [u32],
@@ -261,17 +276,18 @@ pub fn pave<'a>(
     node_pool: &mut [u32],
     edge_pool: &mut [u32],
     blocks: &mut [u32],
+    tried: &mut [u32],
 ) -> Paved
     ensures { λ r. ⌜ Paves (outline (now (outer .entry)) (now (holes .entry)) (now (lens .entry))) (settings size sweeps passes)
         (lent (now (values .entry)) (now (marks .entry)) (now (xs .entry)) (now (ys .entry)) (now (next .entry)) (now (prev .entry))
-        (now (snapshot .entry)) (now (quads .entry)) (now (edges .entry)) (now (loops .entry)) (now (lengths .entry)))
+        (now (snapshot .entry)) (now (origins .entry)) (now (quads .entry)) (now (edges .entry)) (now (loops .entry)) (now (lengths .entry)))
         r
         (lent (now (values .exit)) (now (marks .exit)) (now (xs .exit)) (now (ys .exit)) (now (next .exit)) (now (prev .exit)) (now (snapshot .exit))
-        (now (quads .exit)) (now (edges .exit)) (now (loops .exit)) (now (lengths .exit)))
-        × Spares (r .refusal) (scratch (now («node_pool» .entry)) (now («edge_pool» .entry)) (now (blocks .entry)))
-        (scratch (now («node_pool» .exit)) (now («edge_pool» .exit)) (now (blocks .exit))) ⌝ }
+        (now (origins .exit)) (now (quads .exit)) (now (edges .exit)) (now (loops .exit)) (now (lengths .exit)))
+        × Spares (r .refusal) (scratch (now («node_pool» .entry)) (now («edge_pool» .entry)) (now (blocks .entry)) (now (tried .entry)))
+        (scratch (now («node_pool» .exit)) (now («edge_pool» .exit)) (now (blocks .exit)) (now (tried .exit))) ⌝ }
 {
-    let m = numbers::min_usize(snapshot.len(), loops.len());
+    let m = snapshot_places(snapshot.len(), loops.len(), origins.len());
     let field = numbers::min_usize(values.len() / 2, marks.len());
     let nodes = node_places(xs.len(), ys.len(), next.len(), prev.len(), m);
     let number = refusal(
@@ -302,6 +318,7 @@ pub fn pave<'a>(
         next,
         prev,
         &mut snapshot[..m],
+        origins,
         quads,
         edges,
         loops,
@@ -309,5 +326,6 @@ pub fn pave<'a>(
         node_pool,
         edge_pool,
         blocks,
+        tried,
     )
 }

@@ -56,7 +56,7 @@ unfolding roomFor cleared
 room-lists n = (filled-length n zeroF, filled-length n zeroF)
 
 -- places for n nodes in any lists: so there are n in the book's
-room-for : (n : ℕ) (lent : State) → Places n lent → Places n (roomFor n)
+pub room-for : (n : ℕ) (lent : State) → Places n lent → Places n (roomFor n)
 unfolding roomFor nodePlaces edgePlaces
 room-for n lent P =
     let few : n ≤ 4294967294 = omega (arith, P .nodes) in

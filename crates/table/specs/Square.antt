@@ -21,14 +21,14 @@ use Rattle.table.specs.Opened.{opened}
 abbrev square : Outline
 square = outline (zeroF ∷ zeroF ∷ twoF ∷ zeroF ∷ twoF ∷ twoF ∷ zeroF ∷ twoF ∷ []) [] []
 
-abbrev settings : Settings
+abbrev pub settings : Settings
 settings = record { size = oneF; sweeps = 400; passes = 600 }
 
 -- room for 49 field nodes, 10 nodes, 5 quads and 14 edges, with old contents
-abbrev lentField : FieldLists
+abbrev pub lentField : FieldLists
 lentField = fieldLists (filled 98 fourF) (filled 49 7)
 
-abbrev lent : State
+abbrev pub lent : State
 lent =
     record {
       xs = filled 10 fourF;
@@ -41,7 +41,7 @@ lent =
       counts = counted 3 1 4 1;
     }
 
-abbrev n : ℕ
+abbrev pub n : ℕ
 n = 4294967295
 
 -- places past the counts keep their contents

@@ -189,7 +189,7 @@ pub fn is_missing(nodes: u32, thresholds: &[u16], id: u32) -> bool
 }
 
 // 15 where the node is missing, then `number` where v is no threshold; 0 for neither.
-fn refusal_at(nodes: u32, thresholds: &[u16], id: u32, v: u32, number: u32) -> u32
+pub fn refusal_at(nodes: u32, thresholds: &[u16], id: u32, v: u32, number: u32) -> u32
     ensures { λ r. ⌜ r ≡ refusalAt nodes (now (thresholds .entry)) id v number ⌝ }
 {
     let missing = is_missing(nodes, thresholds, id);

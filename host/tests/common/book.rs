@@ -2,8 +2,10 @@
 //! answers; the run's front, counts and loops are only looked at to close them.
 //!
 //! A float counts units of a power of two of which every coordinate at hand is a whole multiple. Document 01 takes the smallest
-//! float above 0; both sides of each comparison are of one degree in the unit, so that any will do.
+//! float above 0; both sides of each comparison are of one degree in the unit, so that any will do. Where every coordinate is within
+//! 1,001 either way, areas are also kept in whole steps of 1/64.
 
+use super::steps;
 use super::whole::{unit, Whole};
 use std::collections::BTreeMap;
 
@@ -32,12 +34,12 @@ pub struct Answered {
 /// Goes through the books of a run; an error says what doesn't hold, and where.
 pub fn check(sampled: &Sampled, run: &Answered) -> Result<(), String> {
     let mut book = Book::start(sampled, run)?;
-    let start = book.front_area();
-    book.holds(sampled, &start).map_err(|what| format!("before the first quad: {what}"))?;
+    book.start = book.front_areas();
+    book.holds(sampled).map_err(|what| format!("before the first quad: {what}"))?;
     for (k, &quad) in run.quads.iter().enumerate() {
         book.quad(quad, run)
             .and_then(|()| book.corners(quad))
-            .and_then(|()| book.holds(sampled, &start))
+            .and_then(|()| book.holds(sampled))
             .map_err(|what| format!("quad {k}, {quad:?}: {what}"))?;
     }
     book.closes(run).map_err(|what| format!("at the end: {what}"))?;
@@ -121,18 +123,29 @@ fn require(holds: bool, what: impl FnOnce() -> String) -> Result<(), String> {
     }
 }
 
+/// Doubled areas, in units and in steps.
+#[derive(Clone, Debug, Default, PartialEq)]
+struct Areas {
+    units: Whole,
+    steps: i64,
+}
+
 struct Book {
-    /// The coordinates, bit for bit, and in units.
+    /// The coordinates, bit for bit, in units, and in steps.
     nodes: Vec<[f64; 2]>,
     places: Vec<Vector>,
-    /// For each node the one after it, and x(u)·y(v) − x(v)·y(u) of the edge to it.
+    steps: Vec<[i64; 2]>,
+    /// For each node the one after it, and x(u)·y(v) − x(v)·y(u) of the edge to it, in units.
     next: Vec<usize>,
     terms: Vec<Whole>,
-    /// The number of front edges and of quads; the quads' doubled areas together; the start's figures less the quads'.
+    /// The number of front edges and of quads; the starting front's areas, and the quads' together; the start's figures less the quads'.
     front: usize,
     quads: usize,
-    paved: Whole,
+    start: Areas,
+    paved: Areas,
     unpaved: Net,
+    /// Whether every coordinate is within 1,001 either way.
+    near: bool,
     unit: i32,
     /// A squared length in units is below 1e-300 if `ten_to_300` times it is below `one`, which is 1 in squares of the unit.
     one: Whole,
@@ -147,12 +160,15 @@ impl Book {
         let mut book = Book {
             nodes: vec![],
             places: vec![],
+            steps: vec![],
             next: vec![],
             terms: vec![],
             front: 0,
             quads: 0,
-            paved: Whole::default(),
+            start: Areas::default(),
+            paved: Areas::default(),
             unpaved: Net::of(sampled.edges.iter().copied()),
+            near: sampled.nodes.iter().chain(&run.nodes).flatten().all(|x| x.abs() <= 1_001.0),
             unit,
             one: Whole::of_float(1.0, 2 * unit),
             ten_to_300: Whole::power(10, 300),
@@ -169,6 +185,7 @@ impl Book {
     fn push(&mut self, node: [f64; 2]) {
         self.nodes.push(node);
         self.places.push(node.map(|x| Whole::of_float(x, self.unit)));
+        self.steps.push(node.map(|x| if self.near { steps::nearest_step(x) } else { 0 }));
         self.next.push(OFF);
         self.terms.push(Whole::default());
     }
@@ -217,7 +234,8 @@ impl Book {
         }
         self.goes_on(c, d)?;
         for (u, v) in sides([a, b, d, c]) {
-            self.paved += &cross(&self.places[u], &self.places[v]);
+            self.paved.units += &cross(&self.places[u], &self.places[v]);
+            self.paved.steps += steps::cross(self.steps[u], self.steps[v]);
             self.unpaved.add(v, u);
         }
         self.quads += 1;
@@ -239,20 +257,28 @@ impl Book {
         Ok(())
     }
 
-    /// The front's signed area, doubled.
-    fn front_area(&self) -> Whole {
-        let mut sum = Whole::default();
-        for (term, _) in self.terms.iter().zip(&self.next).filter(|(_, &to)| to != OFF) {
-            sum += term;
+    /// The front's edges.
+    fn edges(&self) -> impl Iterator<Item = (usize, usize)> + '_ {
+        self.next.iter().copied().enumerate().filter(|&(_, to)| to != OFF)
+    }
+
+    /// The front's signed areas, doubled.
+    fn front_areas(&self) -> Areas {
+        let mut sum = Areas::default();
+        for (u, v) in self.edges() {
+            sum.units += &self.terms[u];
+            sum.steps += steps::cross(self.steps[u], self.steps[v]);
         }
         sum
     }
 
     /// What holds before the first quad and after each: figures, areas, loops and counts.
-    fn holds(&self, sampled: &Sampled, start: &Whole) -> Result<(), String> {
-        let front = self.next.iter().copied().enumerate().filter(|&(_, to)| to != OFF);
-        require(self.unpaved == Net::of(front), || "the edges don't net".to_string())?;
-        require(&(&self.paved + &self.front_area()) == start, || "the areas don't balance".to_string())?;
+    fn holds(&self, sampled: &Sampled) -> Result<(), String> {
+        require(self.unpaved == Net::of(self.edges()), || "the edges don't net".to_string())?;
+        let front = self.front_areas();
+        require(&self.paved.units + &front.units == self.start.units, || "the areas don't balance".to_string())?;
+        let in_steps = self.paved.steps + front.steps;
+        require(in_steps == self.start.steps, || "the areas in steps don't balance".to_string())?;
         let lengths = self.loops()?;
         let number = lengths.len();
         require(number == sampled.loops, || format!("{number} loops, where the outline has {}", sampled.loops))?;

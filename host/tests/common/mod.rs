@@ -4,8 +4,10 @@
 pub mod blocks;
 pub mod book;
 pub mod exam;
+pub mod origins;
 pub mod rng;
 pub mod sound;
+pub mod steps;
 pub mod whole;
 
 use std::hint::black_box;
@@ -106,6 +108,14 @@ impl Place for u32 {
     const FILL: u32 = 0xa5a5_a5a5;
     fn bits(self) -> u64 {
         u64::from(self)
+    }
+}
+
+impl Place for i32 {
+    const GUARD: i32 = 0x5afe_5afe;
+    const FILL: i32 = -0x5a5a_5a5a;
+    fn bits(self) -> u64 {
+        u64::from(self as u32)
     }
 }
 
@@ -229,7 +239,7 @@ impl FieldPlaces {
 }
 
 /// The lists lent to a run, in the entry's order.
-pub const LISTS: [&str; 14] = [
+pub const LISTS: [&str; 16] = [
     "values",
     "marks",
     "xs",
@@ -237,6 +247,7 @@ pub const LISTS: [&str; 14] = [
     "next",
     "prev",
     "snapshot",
+    "origins",
     "quads",
     "edges",
     "loops",
@@ -244,6 +255,7 @@ pub const LISTS: [&str; 14] = [
     "node_pool",
     "edge_pool",
     "blocks",
+    "tried",
 ];
 
 /// A length for each of them, in that order.
@@ -253,15 +265,15 @@ pub type Lengths = [usize; LISTS.len()];
 pub fn list_lengths(places: Places) -> Lengths {
     let Places { field_nodes: f, nodes: n, quads: q, edges: e, .. } = places;
     let [node_pool, edge_pool] = places.pools();
-    [2 * f, f, n, n, n, n, n, 4 * q, 2 * e, n, n / 4, node_pool, edge_pool, places.blocks()]
+    [2 * f, f, n, n, n, n, n, n, 4 * q, 2 * e, n, n / 4, node_pool, edge_pool, places.blocks(), places.tried()]
 }
 
-/// How many places of each list a mesh has used: of the pools and the blocks it may use all.
+/// How many places of each list a mesh has used: of the pools, the blocks and `tried` it may use all.
 pub fn used(mesh: &Mesh<'_>) -> Lengths {
     let (f, n) = (mesh.record().nodes(), mesh.node_count());
     let ids = mesh.front_loops().map(<[u32]>::len).sum();
     let (quads, edges, all) = (4 * mesh.quad_count(), 2 * mesh.edge_count(), usize::MAX);
-    [2 * f, f, n, n, n, n, n, quads, edges, ids, mesh.loop_count(), all, all, all]
+    [2 * f, f, n, n, n, n, n, n, quads, edges, ids, mesh.loop_count(), all, all, all, all]
 }
 
 /// All that a mesh says, as bits.
@@ -270,6 +282,7 @@ pub fn said(mesh: &Mesh<'_>) -> Vec<Vec<u64>> {
     let ((values, marks), (next, prev)) = (mesh.field(), mesh.links());
     let numbers = [mesh.end() as usize, usize::from(mesh.is_whole()), nx, ny, mesh.front_count(), mesh.loop_count()];
     let mut all = vec![bits(&numbers), bits(&[xmin, ymin, h]), bits(values), bits(marks), bits(next), bits(prev)];
+    all.push(bits(mesh.origins()));
     all.push(mesh.nodes().flatten().map(Place::bits).collect());
     all.push(mesh.quads().flatten().map(Place::bits).collect());
     all.push(mesh.edges().flatten().map(Place::bits).collect());
@@ -278,8 +291,11 @@ pub fn said(mesh: &Mesh<'_>) -> Vec<Vec<u64>> {
 }
 
 /// Lengths by kind, as `Lists::new` takes the lists.
-pub fn by_kind([values, marks, xs, ys, numbers @ ..]: Lengths) -> ([usize; 3], usize, [usize; 10]) {
-    ([values, xs, ys], marks, numbers)
+pub fn by_kind(lengths: Lengths) -> ([usize; 3], usize, usize, [usize; 11]) {
+    let [values, marks, xs, ys, next, prev, snapshot, origins, quads, edges, loops, by_loop, nodes, filed, blocks, tried] =
+        lengths;
+    let numbers = [next, prev, snapshot, quads, edges, loops, by_loop, nodes, filed, blocks, tried];
+    ([values, xs, ys], marks, origins, numbers)
 }
 
 /// The bits of each place.
@@ -292,19 +308,21 @@ pub struct RunPlaces {
     /// By kind, as `Lists::new` takes them.
     pub floats: [Guarded<f64>; 3],
     pub marks: Guarded<u8>,
-    pub numbers: [Guarded<u32>; 10],
+    pub origins: Guarded<u16>,
+    pub numbers: [Guarded<u32>; 11],
 }
 
 impl RunPlaces {
     pub fn new(lengths: Lengths) -> RunPlaces {
-        let (floats, marks, numbers) = by_kind(lengths);
-        RunPlaces { floats: floats.map(filled), marks: filled(marks), numbers: numbers.map(filled) }
+        let (floats, marks, origins, numbers) = by_kind(lengths);
+        let (floats, numbers) = (floats.map(filled), numbers.map(filled));
+        RunPlaces { floats, marks: filled(marks), origins: filled(origins), numbers }
     }
 
     pub fn lists(&mut self) -> Lists<'_> {
-        let RunPlaces { floats, marks, numbers } = self;
+        let RunPlaces { floats, marks, origins, numbers } = self;
         let (floats, numbers) = (floats.each_mut().map(Guarded::list_mut), numbers.each_mut().map(Guarded::list_mut));
-        Lists::new(floats, marks.list_mut(), numbers)
+        Lists::new(floats, marks.list_mut(), origins.list_mut(), numbers)
     }
 
     /// The outline's blocks.
@@ -319,10 +337,11 @@ impl RunPlaces {
 
     /// The lists of which something was written past so many places, or beside the list.
     pub fn written_past(&self, used: Lengths) -> Vec<&'static str> {
-        let (floats, marks, numbers) = by_kind(used);
+        let (floats, marks, origins, numbers) = by_kind(used);
         let [values, xs, ys] = [0, 1, 2].map(|k| self.floats[k].kept_from(floats[k]));
         let first = [values, self.marks.kept_from(marks), xs, ys];
-        let rest = self.numbers.iter().zip(numbers).map(|(list, used)| list.kept_from(used));
+        let mut rest: Vec<bool> = self.numbers.iter().zip(numbers).map(|(list, used)| list.kept_from(used)).collect();
+        rest.insert(3, self.origins.kept_from(origins));
         let kept = first.into_iter().chain(rest);
         LISTS.into_iter().zip(kept).filter(|(_, kept)| !kept).map(|(name, _)| name).collect()
     }

@@ -10,6 +10,7 @@ mod cases;
 mod common;
 mod fields;
 mod paving;
+mod steps;
 
 use std::collections::BTreeMap;
 

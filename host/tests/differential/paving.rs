@@ -16,7 +16,8 @@ use sitjorbe::{End, FieldRecord, Mesh, Places, Refusal, Settings, OFF};
 use crate::blocks::{Blocks, Counts};
 use crate::cases::{self, Filed, Needs, Pools, Rng, Scratch, Setting};
 use crate::common::book::{self, Answered, Sampled};
-use crate::common::{bits, used, Drawing, Guarded, Lent, RunPlaces};
+use crate::common::origins::{fault, origins};
+use crate::common::{bits, used, Drawing, Guarded, Lent, RunPlaces, LISTS};
 
 /// Enough for most outlines that are generated.
 const AMPLE: Places = Places { field_nodes: 2_500, nodes: 1_500, quads: 1_500, edges: 4_500, points: 300 };
@@ -217,8 +218,14 @@ impl Asked {
         if !links_agree(mesh) {
             faults.push("prev".to_string());
         }
+        let quads = answered(mesh).quads;
+        let numbers = origins(&self.drawing, self.settings.size, &quads);
+        if mesh.origins() != numbers {
+            faults.push("origins".to_string());
+        }
         if books {
             faults.extend(book::check(self.sampled(), &answered(mesh)).err());
+            faults.extend(fault(&numbers, &self.sampled().edges, &quads));
         }
         faults
     }
@@ -251,6 +258,8 @@ struct Tally {
     outlines: usize,
     answers: BTreeMap<String, usize>,
     whole: usize,
+    /// Open, with no loop left: the outline is unsound.
+    unsound: usize,
     nodes: usize,
     quads: usize,
     /// How far the nodes' and the edges' pools served runs that weren't refused.
@@ -294,6 +303,7 @@ impl Tally {
         let (answer, used, mut faults) = match (library, expected) {
             (Ok(mesh), Ok((outcome, _))) => {
                 self.whole += usize::from(mesh.is_whole());
+                self.unsound += usize::from(!mesh.is_whole() && mesh.loop_count() == 0);
                 self.nodes += mesh.node_count();
                 self.quads += mesh.quad_count();
                 let full = mesh.end() == End::Full;
@@ -303,7 +313,7 @@ impl Tally {
             (library, expected) => {
                 let [library, reference] = [library.err(), expected.as_ref().err().copied()];
                 let fault = (library != reference).then(|| format!("refused {library:?}, not {reference:?}"));
-                (library.unwrap_or(0).to_string(), [0; 14], fault.into_iter().collect())
+                (library.unwrap_or(0).to_string(), [0; LISTS.len()], fault.into_iter().collect())
             }
         };
         faults.extend(lists.written_past(used).iter().map(|name| format!("{name} written")));
@@ -317,7 +327,7 @@ impl Tally {
     /// Notes how far the pools serve a run that files so much. Names those that have everything filed at its end and shouldn't, or the reverse:
     /// a pool without a cell has nothing filed, and in others the first number says how many places are in use.
     fn pools(&mut self, kind: Pools, lists: &RunPlaces, filed: &Filed) -> Vec<String> {
-        let [.., node_pool, edge_pool, _] = lists.numbers.each_ref().map(Guarded::list);
+        let [.., node_pool, edge_pool, _, _] = lists.numbers.each_ref().map(Guarded::list);
         let pools = [("node_pool", node_pool), ("edge_pool", edge_pool)];
         let served = [0, 1].map(|k| Served::new(pools[k].1.len(), filed.first[k], filed.all[k]));
         *self.pools.entry((kind, served)).or_default() += 1;
@@ -374,7 +384,14 @@ impl Tally {
 
     /// As `finish`; fails also if there are fewer runs whose blocks matter, for any one reason.
     fn finish_where_blocks_matter(self, what: &str, expected: &[&str], fewest: usize) {
-        let Tally { outlines, answers, whole, nodes, quads, faults, .. } = &self;
+        self.finish_answers(what, expected);
+        self.finish_pools(what);
+        self.blocks.finish(what, self.outlines / 200, fewest);
+    }
+
+    /// Prints what was answered; fails on a fault, or if one of these answers is rare.
+    fn finish_answers(&self, what: &str, expected: &[&str]) {
+        let Tally { outlines, answers, whole, nodes, quads, faults, .. } = self;
         let runs: usize = answers.values().sum();
         let counts: Vec<String> = answers.iter().map(|(answer, count)| format!("{answer}: {count}")).collect();
         println!(
@@ -386,8 +403,6 @@ impl Tally {
         for answer in expected {
             assert!(answers.get(*answer).is_some_and(|&count| count >= outlines / 200), "{what}: {answer} is rare");
         }
-        self.finish_pools(what);
-        self.blocks.finish(what, outlines / 200, fewest);
     }
 }
 
@@ -480,6 +495,21 @@ fn runs_of_lists_that_do_not_fit() {
 #[test]
 fn runs_in_tight_places() {
     runs("tight", &USUAL);
+}
+
+/// Paper 4's family, of which the reference leaves no loop: whole and open by soundness alone.
+#[test]
+fn runs_of_slits() {
+    let (outlines, seed) = (number("SITJORBE_OUTLINES", 2_000), number("SITJORBE_SEED", 1));
+    let (mut tally, mut rng) = (Tally::default(), Rng(seed));
+    for place in 0..outlines {
+        tally.outline(&mut rng, generated("slits", seed, place));
+    }
+    let (whole, unsound, few) = (tally.whole, tally.unsound, tally.outlines / 2);
+    println!("runs, slits: {whole} whole, {unsound} open with no loop left");
+    assert!(whole > few && unsound > few, "{whole} whole, {unsound} open with no loop left");
+    // No quad of theirs makes a node, so no pool of nodes runs out on the way.
+    tally.finish_answers("runs, slits", &["still", "passes", "full (quads)", "full (edges)", "9", "10"]);
 }
 
 #[test]

@@ -4,7 +4,7 @@ use lib.Dec.{T}
 use Rattle.domain.specs.Outline.{Outline, outline}
 use Rattle.domain.specs.declared.Settings.{Settings}
 use Rattle.run.specs.Run.{settings, Lent, lent, statePart}
-use Rattle.run.specs.Laws.{none-field, can-pave, can-list, run-whole}
+use Rattle.run.specs.Laws.{none-field, can-pave, can-number, can-list, run-whole}
 use borrow.Author.Needs.{needs}
 use Rattle.run.proofs.pave_in.Statement.{statement}
 use Rattle.run.proofs.pave_in.Tie as tie
@@ -19,24 +19,37 @@ set s = settings (s .args .size) (s .args .sweeps) (s .args .passes)
 abbrev given : tie.Start → Lent
 given s =
     lent (s .args .values .now) (s .args .marks .now) (s .args .xs .now) (s .args .ys .now) (s .args .next .now) (s .args .prev .now)
-    (s .args .snapshot .now) (s .args .quads .now) (s .args .edges .now) (s .args .loops .now) (s .args .lengths .now)
+    (s .args .snapshot .now) (s .args .origins .now) (s .args .quads .now) (s .args .edges .now) (s .args .loops .now) (s .args .lengths .now)
 
 -- the start and the stages, as they stand later
 abbrev start-of : tie.After-make-field-arg3 → tie.Start
 start-of c =
-    let at-slice-known4 = c .before .before .before .before .before .before .before .before .before .before .before .before .before in
-    at-slice-known4 .before .before .before .before .before .before .before
+    let midway = c .before .before .before .before .before .before .before .before .before .before .before in
+    midway .before .before .before .before .before .before .before .before .before .before
 
 abbrev made : tie.After-sample-and-advance-arg11 → tie.After-make-field
 made c = c .before .before .before .before .before .before .before .before .before .before .before .before .before .before .before .before .before
 
-abbrev advanced : tie.After-front-loops-arg4 → tie.After-sample-and-advance
+abbrev advanced : tie.After-number-nodes-arg2 → tie.After-sample-and-advance
 advanced c =
-    let at-snapshot = c .before .before .before .before .before .before .before .before .before .before .before .before .before in
-    at-snapshot .before .before .before .before .before .before .before .before .before
+    let midway = c .before .before .before .before .before .before .before .before .before .before in
+    midway .before .before .before .before .before .before .before .before .before .before
+
+abbrev numbered : tie.After-front-loops-arg4 → tie.After-number-nodes
+numbered c = c .before .before .before .before .before .before
 
 abbrev listed : tie.After-answer → tie.After-front-loops
 listed c = c .before .before .before .before .before .before .before .before
+
+-- and as they stand at the end
+abbrev numbered-by : tie.After-answer → tie.After-number-nodes
+numbered-by c = numbered (listed c .before)
+
+abbrev advanced-by : tie.After-answer → tie.After-sample-and-advance
+advanced-by c = advanced (numbered-by c .before)
+
+abbrev made-by : tie.After-answer → tie.After-make-field
+made-by c = made (advanced-by c .before)
 
 make-field-requires : tie.Need-make-field-requires
 make-field-requires c κs =
@@ -50,9 +63,18 @@ sample-and-advance-requires c κs =
     can-pave (around start) (set start) (given start) (start .pre) (subst T (sym (start .good .1 .1 .1 .0 .1)) tt) _ _ _
     (at-make-field .make-field .ensures .0) (at-make-field .make-field .kept .1 .1 .1 .1 .1 .0) _ (at-make-field .make-field .ensures .1)
 
+-- what the paving left, as the numbers and the loops ask for it
+number-nodes-requires : tie.Need-number-nodes-requires
+number-nodes-requires c κs =
+    let at-sample-and-advance = advanced c in
+    let start = start-of (made (at-sample-and-advance .before) .before) in
+    can-number (around start) _ (start .args .size) _ _ (statePart (given start))
+    (sample-and-advance-requires (at-sample-and-advance .before) (at-sample-and-advance .sample-and-advance .lifetimes))
+    _ (start .args .passes) _ (at-sample-and-advance .sample-and-advance .ensures) _ (start .pre .origins)
+
 front-loops-requires : tie.Need-front-loops-requires
 front-loops-requires c κs =
-    let at-sample-and-advance = advanced c in
+    let at-sample-and-advance = advanced (numbered c .before) in
     let start = start-of (made (at-sample-and-advance .before) .before) in
     can-list (around start) _ (start .args .size) _ _ (statePart (given start))
     (sample-and-advance-requires (at-sample-and-advance .before) (at-sample-and-advance .sample-and-advance .lifetimes))
@@ -61,61 +83,64 @@ front-loops-requires c κs =
 is-whole-requires : tie.Need-is-whole-requires
 is-whole-requires c κs =
     let at-front-loops = c .before .before .before .before .before .before in
-    made (advanced (at-front-loops .before) .before) .make-field .ensures .1 .taken
+    let at-sample-and-advance = advanced (numbered (at-front-loops .before) .before) in
+    made (at-sample-and-advance .before) .make-field .ensures .1 .taken
 
 answer-requires : tie.Need-answer-requires
 answer-requires c κs = search needs
 
 same-length : tie.Need-same-length
-same-length c = made (advanced (listed c .before) .before) .make-field .kept .1 .1 .1 .1 .1 .0
+same-length c = made-by c .make-field .kept .1 .1 .1 .1 .1 .0
 
 same-length-2 : tie.Need-same-length-2
-same-length-2 c = made (advanced (listed c .before) .before) .make-field .kept .1 .1 .1 .1 .1 .1 .0
+same-length-2 c = made-by c .make-field .kept .1 .1 .1 .1 .1 .1 .0
 
 same-length-3 : tie.Need-same-length-3
-same-length-3 c = advanced (listed c .before) .sample-and-advance .kept .1 .1 .1 .1 .1 .1 .1 .0
+same-length-3 c = advanced-by c .sample-and-advance .kept .1 .1 .1 .1 .1 .1 .1 .0
 
 same-length-4 : tie.Need-same-length-4
-same-length-4 c = advanced (listed c .before) .sample-and-advance .kept .1 .1 .1 .1 .1 .1 .1 .1 .0
+same-length-4 c = advanced-by c .sample-and-advance .kept .1 .1 .1 .1 .1 .1 .1 .1 .0
 
 same-length-5 : tie.Need-same-length-5
-same-length-5 c = advanced (listed c .before) .sample-and-advance .kept .1 .1 .1 .1 .1 .1 .1 .1 .1 .0
+same-length-5 c = advanced-by c .sample-and-advance .kept .1 .1 .1 .1 .1 .1 .1 .1 .1 .0
 
 same-length-6 : tie.Need-same-length-6
-same-length-6 c = advanced (listed c .before) .sample-and-advance .kept .1 .1 .1 .1 .1 .1 .1 .1 .1 .1 .0
+same-length-6 c = advanced-by c .sample-and-advance .kept .1 .1 .1 .1 .1 .1 .1 .1 .1 .1 .0
 
 same-length-7 : tie.Need-same-length-7
-same-length-7 c = listed c .front-loops .kept .1 .1 .0 ∙ advanced (listed c .before) .sample-and-advance .kept .1 .1 .1 .1 .1 .1 .1 .1 .1 .1 .1 .0
+same-length-7 c = listed c .front-loops .kept .1 .1 .0 ∙ advanced-by c .sample-and-advance .kept .1 .1 .1 .1 .1 .1 .1 .1 .1 .1 .1 .0
 
 same-length-8 : tie.Need-same-length-8
-same-length-8 c = advanced (listed c .before) .sample-and-advance .kept .1 .1 .1 .1 .1 .1 .1 .1 .1 .1 .1 .1 .0
+same-length-8 c = numbered-by c .number-nodes .kept .1 .1 .1 .1 .1 .1 .0
 
 same-length-9 : tie.Need-same-length-9
-same-length-9 c = advanced (listed c .before) .sample-and-advance .kept .1 .1 .1 .1 .1 .1 .1 .1 .1 .1 .1 .1 .1 .0
+same-length-9 c = advanced-by c .sample-and-advance .kept .1 .1 .1 .1 .1 .1 .1 .1 .1 .1 .1 .1 .0
 
 same-length-10 : tie.Need-same-length-10
-same-length-10 c = listed c .front-loops .kept .1 .1 .1 .0
+same-length-10 c = advanced-by c .sample-and-advance .kept .1 .1 .1 .1 .1 .1 .1 .1 .1 .1 .1 .1 .1 .0
 
 same-length-11 : tie.Need-same-length-11
-same-length-11 c = listed c .front-loops .kept .1 .1 .1 .1 .0
+same-length-11 c = listed c .front-loops .kept .1 .1 .1 .0
 
 same-length-12 : tie.Need-same-length-12
-same-length-12 c = advanced (listed c .before) .sample-and-advance .kept .1 .1 .1 .1 .1 .1 .1 .1 .1 .1 .1 .1 .1 .1 .0
+same-length-12 c = listed c .front-loops .kept .1 .1 .1 .1 .0
 
 same-length-13 : tie.Need-same-length-13
-same-length-13 c = advanced (listed c .before) .sample-and-advance .kept .1 .1 .1 .1 .1 .1 .1 .1 .1 .1 .1 .1 .1 .1 .1 .0
+same-length-13 c = advanced-by c .sample-and-advance .kept .1 .1 .1 .1 .1 .1 .1 .1 .1 .1 .1 .1 .1 .1 .0
 
 same-length-14 : tie.Need-same-length-14
-same-length-14 c = made (advanced (listed c .before) .before) .make-field .kept .1 .1 .1 .1 .1 .1 .1 .0
+same-length-14 c = advanced-by c .sample-and-advance .kept .1 .1 .1 .1 .1 .1 .1 .1 .1 .1 .1 .1 .1 .1 .1 .0
+
+same-length-15 : tie.Need-same-length-15
+same-length-15 c = made-by c .make-field .kept .1 .1 .1 .1 .1 .1 .1 .0
 
 returns : tie.Need-returns
 returns c =
-    let at-front-loops = listed c in
-    let at-sample-and-advance = advanced (at-front-loops .before) in
-    let at-make-field = made (at-sample-and-advance .before) in
+    let at-make-field = made-by c in
     let start = start-of (at-make-field .before) in
     run-whole (around start) (set start) (given start) _ _ _ (at-make-field .make-field .ensures .0) _
-    (at-sample-and-advance .sample-and-advance .ensures) _ (at-front-loops .front-loops .ensures) _ (c .before .is-whole .ensures) _ (c .answer .ensures)
+    (advanced-by c .sample-and-advance .ensures) _ (numbered-by c .number-nodes .ensures) _ (listed c .front-loops .ensures) _
+    (c .before .is-whole .ensures) _ (c .answer .ensures)
 
 pub pave-in-spec : {M : Type 1} → statement M
 pave-in-spec =
@@ -123,6 +148,7 @@ pave-in-spec =
     (tie.spec
     make-field-requires
     sample-and-advance-requires
+    number-nodes-requires
     front-loops-requires
     is-whole-requires
     answer-requires
@@ -140,4 +166,5 @@ pave-in-spec =
     same-length-12
     same-length-13
     same-length-14
+    same-length-15
     returns)

@@ -1,0 +1,1 @@
+// Specifications only: the stepped mesh of a run balances. No function.

@@ -1,2 +1,0 @@
--- What the entries promise.
-pub mod Entries

@@ -1,0 +1,2 @@
+-- What the entry's returns go by.
+pub mod Code

@@ -1,0 +1,1 @@
+// Hand-stepped sequences keep the exact books: theorems only (specs/Sequences.antt).

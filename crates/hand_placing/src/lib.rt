@@ -1,0 +1,369 @@
+// The placing of a quad on any mesh that 23 lets pass, change by change as the definition has it: nothing is asked of the front's loops, nor of
+// which edges are known.
+ghost use mathlib.Core.Path.{_≡_};
+ghost use mathlib.Core.List.{List};
+ghost use Prim.Native.Nat.{ℕ, _+_, _-_, _*_, _^_, _≤_, _<_};
+ghost use lib.ListN.{length};
+ghost use Rattle.domain.specs.Outline.{point};
+ghost use Rattle.front.specs.State.{stateOf, edgeIn, pushNode, addEdge, removeFront, addFront};
+ghost use Rattle.front.specs.Place.{added, pushCorner, addEdges, takeOff, putOn, moveFront, place, missing, edgesAdded, isFull};
+ghost use Rattle.front.specs.Stores.{unless, Ids, storeQuad};
+ghost use Rattle.mesh_check.specs.Check.{lentState};
+ghost use Rattle.mesh_check.specs.Passed.{MeshRoom};
+ghost use Rattle.hand_placing.specs.Parts.{frontIn, edgesIn, nodesIn, NodesFit, QuadRoom};
+use front::Corner;
+use front::Counts;
+use front::OFF;
+
+// ---- the mesh edges
+
+// Whether one of the first n edges joins u and v.
+fn has_edge(edges: &[u32], n: usize, u: u32, v: u32) -> bool
+    requires { ⌜ 2 * n ≤ length (now edges) ⌝ }
+    ensures { λ r. ⌜ r ≡ edgeIn (now (edges .entry)) n u v ⌝ }
+{
+    let lo = numbers::min_u32(u, v);
+    let hi = numbers::max_u32(u, v);
+    let mut k = 0;
+    while k < n {
+        if edges[2 * k] == lo {
+            if edges[2 * k + 1] == hi {
+                return true;
+            }
+        }
+        k += 1;
+    }
+    false
+}
+
+// Adds the mesh edge u to v, unless one of the first n is that edge: the count after it.
+fn add_edge(edges: &mut [u32], n: usize, u: u32, v: u32) -> usize
+    requires { ⌜ 2 * (n + unless (edgeIn (now edges) n u v)) ≤ length (now edges) ⌝ }
+    ensures { λ r. ⌜ edgesIn (now (edges .exit)) r ≡ addEdge u v (edgesIn (now (edges .entry)) n) ⌝ }
+{
+    if has_edge(edges, n, u, v) {
+        return n;
+    }
+    let lo = numbers::min_u32(u, v);
+    let hi = numbers::max_u32(u, v);
+    edges[2 * n] = lo;
+    edges[2 * n + 1] = hi;
+    n + 1
+}
+
+// Two edges of a quad, u to v and v to w: the count after them.
+fn add_two(edges: &mut [u32], n: usize, u: u32, v: u32, w: u32) -> usize
+    requires { ⌜ 2 * addEdge v w (addEdge u v (edgesIn (now edges) n)) .counts .edges ≤ length (now edges) ⌝ }
+    ensures { λ r. ⌜ edgesIn (now (edges .exit)) r ≡ addEdge v w (addEdge u v (edgesIn (now (edges .entry)) n)) ⌝ }
+{
+    let m = add_edge(edges, n, u, v);
+    add_edge(edges, m, v, w)
+}
+
+// The mesh edges of the quad a, b, d, c.
+fn add_edges(edges: &mut [u32], n: usize, a: u32, b: u32, d: u32, c: u32) -> usize
+    requires { ⌜ 2 * addEdges a b d c (edgesIn (now edges) n) .counts .edges ≤ length (now edges) ⌝ }
+    ensures { λ r. ⌜ edgesIn (now (edges .exit)) r ≡ addEdges a b d c (edgesIn (now (edges .entry)) n) ⌝ }
+{
+    let m = add_two(edges, n, a, b, d);
+    add_two(edges, m, d, c, a)
+}
+
+// How many edges u to v adds.
+fn missing(edges: &[u32], n: usize, u: u32, v: u32) -> usize
+    requires { ⌜ 2 * n ≤ length (now edges) ⌝ }
+    ensures { λ r. ⌜ (r ≡ missing (edgesIn (now (edges .entry)) n) u v) × (r ≤ 1) ⌝ }
+{
+    if has_edge(edges, n, u, v) { 0 } else { 1 }
+}
+
+// How many distinct edges the quad a, b, d, c adds.
+fn edges_added(edges: &[u32], n: usize, a: u32, b: u32, d: u32, c: u32) -> usize
+    requires { ⌜ 2 * n ≤ length (now edges) ⌝ }
+    ensures { λ r. ⌜ (r ≡ edgesAdded (edgesIn (now (edges .entry)) n) a b d c) × (r ≤ 4) ⌝ }
+{
+    let at_a = missing(edges, n, a, b);
+    let at_b = missing(edges, n, b, d);
+    let at_d = missing(edges, n, d, c);
+    at_a + at_b + at_d + missing(edges, n, c, a)
+}
+
+// ---- the front
+
+fn one_less(f: usize) -> usize
+    ensures { λ r. ⌜ (r ≡ f - 1) × (r ≤ f) ⌝ }
+{
+    if f == 0 { 0 } else { f - 1 }
+}
+
+// Takes the front edge u to v off, where it is there: the count of front edges after it.
+fn remove_front(next: &mut [u32], prev: &mut [u32], n: u32, f: usize, u: u32, v: u32) -> usize
+    requires { ⌜ (n ≤ length (now next)) × (u < n) × (v < length (now prev)) ⌝ }
+    ensures { λ r. ⌜ (frontIn (now (next .exit)) (now (prev .exit)) n r ≡ removeFront u v (frontIn (now (next .entry)) (now (prev .entry)) n f)) × (r ≤ f) ⌝ }
+{
+    if next[u as usize] != v {
+        return f;
+    }
+    next[u as usize] = OFF;
+    prev[v as usize] = OFF;
+    one_less(f)
+}
+
+// Makes u to v a front edge: the count of front edges after it.
+fn add_front(next: &mut [u32], prev: &mut [u32], n: u32, f: usize, u: u32, v: u32) -> usize
+    requires { ⌜ (n ≤ length (now next)) × (u < n) × (v < length (now prev)) × (f < 2 ^ 63) ⌝ }
+    ensures { λ r. ⌜ (frontIn (now (next .exit)) (now (prev .exit)) n r ≡ addFront u v (frontIn (now (next .entry)) (now (prev .entry)) n f)) × (r ≤ f + 1) ⌝ }
+{
+    let was = next[u as usize];
+    next[u as usize] = v;
+    prev[v as usize] = u;
+    if was == OFF { f + 1 } else { f }
+}
+
+// The front edge at a reused corner comes off.
+fn take_off(
+    c: Corner,
+    next: &mut [u32],
+    prev: &mut [u32],
+    n: u32,
+    f: usize,
+    u: u32,
+    v: u32,
+) -> usize
+    requires { ⌜ (n ≤ length (now next)) × (u < n) × (v < length (now prev)) ⌝ }
+    ensures { λ r. ⌜ (frontIn (now (next .exit)) (now (prev .exit)) n r ≡ takeOff c u v (frontIn (now (next .entry)) (now (prev .entry)) n f)) × (r ≤ f) ⌝ }
+{
+    match c {
+        Corner::Reused(_) => remove_front(next, prev, n, f, u, v),
+        Corner::Fresh(_, _) => f,
+    }
+}
+
+// The front edge at a new corner goes on.
+fn put_on(c: Corner, next: &mut [u32], prev: &mut [u32], n: u32, f: usize, u: u32, v: u32) -> usize
+    requires { ⌜ (n ≤ length (now next)) × (u < n) × (v < length (now prev)) × (f < 2 ^ 63) ⌝ }
+    ensures { λ r. ⌜ (frontIn (now (next .exit)) (now (prev .exit)) n r ≡ putOn c u v (frontIn (now (next .entry)) (now (prev .entry)) n f)) × (r ≤ f + 1) ⌝ }
+{
+    match c {
+        Corner::Reused(_) => f,
+        Corner::Fresh(_, _) => add_front(next, prev, n, f, u, v),
+    }
+}
+
+// The sides of the quad that are on the front come off.
+fn strip(
+    c: Corner,
+    d: Corner,
+    next: &mut [u32],
+    prev: &mut [u32],
+    n: u32,
+    f: usize,
+    a: u32,
+    b: u32,
+    id_c: u32,
+    id_d: u32,
+) -> usize
+    requires { ⌜ (n ≤ length (now next)) × (n ≤ length (now prev)) × Ids n a b «id_c» «id_d» ⌝ }
+    ensures { λ r. ⌜ (frontIn (now (next .exit)) (now (prev .exit)) n r
+        ≡ takeOff d b «id_d» (takeOff c «id_c» a (removeFront a b (frontIn (now (next .entry)) (now (prev .entry)) n f)))) × (r ≤ f) ⌝ }
+{
+    let f1 = remove_front(next, prev, n, f, a, b);
+    let f2 = take_off(c, next, prev, n, f1, id_c, a);
+    take_off(d, next, prev, n, f2, b, id_d)
+}
+
+// The others go on.
+fn extend(
+    c: Corner,
+    d: Corner,
+    next: &mut [u32],
+    prev: &mut [u32],
+    n: u32,
+    f: usize,
+    a: u32,
+    b: u32,
+    id_c: u32,
+    id_d: u32,
+) -> usize
+    requires { ⌜ (n ≤ length (now next)) × (n ≤ length (now prev)) × Ids n a b «id_c» «id_d» × (f < 2 ^ 62) ⌝ }
+    ensures { λ r. ⌜ frontIn (now (next .exit)) (now (prev .exit)) n r
+        ≡ putOn d «id_d» b (addFront «id_c» «id_d» (putOn c a «id_c» (frontIn (now (next .entry)) (now (prev .entry)) n f))) ⌝ }
+{
+    let f1 = put_on(c, next, prev, n, f, a, id_c);
+    let f2 = add_front(next, prev, n, f1, id_c, id_d);
+    put_on(d, next, prev, n, f2, id_d, b)
+}
+
+// The front moves: the count of its edges after it.
+fn move_front(
+    c: Corner,
+    d: Corner,
+    next: &mut [u32],
+    prev: &mut [u32],
+    n: u32,
+    f: usize,
+    a: u32,
+    b: u32,
+    id_c: u32,
+    id_d: u32,
+) -> usize
+    requires { ⌜ (n ≤ length (now next)) × (n ≤ length (now prev)) × Ids n a b «id_c» «id_d» × (f < 2 ^ 62) ⌝ }
+    ensures { λ r. ⌜ frontIn (now (next .exit)) (now (prev .exit)) n r
+        ≡ moveFront c d a b «id_d» «id_c» (frontIn (now (next .entry)) (now (prev .entry)) n f) ⌝ }
+{
+    let bare = strip(c, d, next, prev, n, f, a, b, id_c, id_d);
+    extend(c, d, next, prev, n, bare, a, b, id_c, id_d)
+}
+
+// ---- new nodes
+
+// Node n is new: it is off the front, whatever stood in its place.
+fn new_node(
+    xs: &mut [f64],
+    ys: &mut [f64],
+    next: &mut [u32],
+    prev: &mut [u32],
+    n: u32,
+    x: f64,
+    y: f64,
+)
+    requires { ⌜ NodesFit (now xs) (now ys) (now next) (now prev) (n + 1) ⌝ }
+    ensures { λ r. ⌜ nodesIn (now (xs .exit)) (now (ys .exit)) (now (next .exit)) (now (prev .exit)) (n + 1)
+        ≡ pushNode (point x y) (nodesIn (now (xs .entry)) (now (ys .entry)) (now (next .entry)) (now (prev .entry)) n) ⌝ }
+{
+    let i = n as usize;
+    xs[i] = x;
+    ys[i] = y;
+    next[i] = OFF;
+    prev[i] = OFF;
+}
+
+// A new corner becomes node n: the count of nodes after it.
+fn new_corner(
+    c: Corner,
+    xs: &mut [f64],
+    ys: &mut [f64],
+    next: &mut [u32],
+    prev: &mut [u32],
+    n: u32,
+) -> u32
+    requires { ⌜ NodesFit (now xs) (now ys) (now next) (now prev) (n + added c) ⌝ }
+    ensures { λ r. ⌜ (nodesIn (now (xs .exit)) (now (ys .exit)) (now (next .exit)) (now (prev .exit)) r
+        ≡ pushCorner c (nodesIn (now (xs .entry)) (now (ys .entry)) (now (next .entry)) (now (prev .entry)) n)) × (r ≡ n + added c) ⌝ }
+{
+    match c {
+        Corner::Reused(_) => n,
+        Corner::Fresh(x, y) => {
+            new_node(xs, ys, next, prev, n, x, y);
+            n + 1
+        }
+    }
+}
+
+fn new_corners(
+    c: Corner,
+    d: Corner,
+    xs: &mut [f64],
+    ys: &mut [f64],
+    next: &mut [u32],
+    prev: &mut [u32],
+    n: u32,
+) -> u32
+    requires { ⌜ NodesFit (now xs) (now ys) (now next) (now prev) (n + (added c + added d)) ⌝ }
+    ensures { λ r. ⌜ (nodesIn (now (xs .exit)) (now (ys .exit)) (now (next .exit)) (now (prev .exit)) r
+        ≡ pushCorner d (pushCorner c (nodesIn (now (xs .entry)) (now (ys .entry)) (now (next .entry)) (now (prev .entry)) n)))
+        × (r ≡ n + (added c + added d)) ⌝ }
+{
+    let m = new_corner(c, xs, ys, next, prev, n);
+    new_corner(d, xs, ys, next, prev, m)
+}
+
+// ---- the quad
+
+// The quad a, b, d, c is quad k.
+fn store_quad(quads: &mut [u32], k: usize, a: u32, b: u32, d: u32, c: u32)
+    requires { ⌜ 4 * (k + 1) ≤ length (now quads) ⌝ }
+    ensures { λ r. ⌜ now (quads .exit) ≡ storeQuad k a b d c (now (quads .entry)) ⌝ }
+{
+    quads[4 * k] = a;
+    quads[4 * k + 1] = b;
+    quads[4 * k + 2] = d;
+    quads[4 * k + 3] = c;
+}
+
+// Places the quad a, b, d, c on the edge a to b: the counts after it.
+pub fn place_quad(
+    xs: &mut [f64],
+    ys: &mut [f64],
+    next: &mut [u32],
+    prev: &mut [u32],
+    quads: &mut [u32],
+    edges: &mut [u32],
+    k: Counts,
+    a: u32,
+    b: u32,
+    c: Corner,
+    d: Corner,
+) -> Counts
+    requires { ⌜ QuadRoom (now xs) (now ys) (now next) (now prev) (now quads) (now edges) k a b c d ⌝ }
+    ensures { λ r. ⌜ ((snapshot : List ℕ) →
+        stateOf (now (xs .exit)) (now (ys .exit)) (now (next .exit)) (now (prev .exit)) snapshot (now (quads .exit)) (now (edges .exit)) r
+        ≡ place a b c d (stateOf (now (xs .entry)) (now (ys .entry)) (now (next .entry)) (now (prev .entry)) snapshot (now (quads .entry))
+        (now (edges .entry)) k)) ⌝ }
+{
+    let n = k.nodes;
+    let q = k.quads;
+    let f = k.front;
+    let more = q + 1;
+    let id_c = c.id(n);
+    let id_d = d.id(n + c.added());
+    let m = new_corners(c, d, xs, ys, next, prev, n);
+    let e = add_edges(edges, k.edges, a, b, id_d, id_c);
+    store_quad(quads, q, a, b, id_d, id_c);
+    let after = move_front(c, d, next, prev, m, f, a, b, id_c, id_d);
+    Counts {
+        nodes: m,
+        quads: more,
+        edges: e,
+        front: after,
+    }
+}
+
+// Whether the quad would need a node, quad or distinct edge beyond those lent.
+pub fn is_full(
+    xs: &[f64],
+    ys: &[f64],
+    next: &[u32],
+    prev: &[u32],
+    origins: &[u16],
+    quads: &[u32],
+    edges: &[u32],
+    k: Counts,
+    a: u32,
+    b: u32,
+    c: Corner,
+    d: Corner,
+) -> bool
+    requires { ⌜ MeshRoom (now xs) (now ys) (now next) (now prev) (now origins) (now quads) (now edges) (k .nodes) (k .quads) (k .edges) ⌝ }
+    ensures { λ r. ⌜ r ≡ isFull
+        (lentState (now (xs .entry)) (now (ys .entry)) (now (next .entry)) (now (prev .entry)) (now (origins .entry)) (now (quads .entry))
+        (now (edges .entry)) k) a b c d ⌝ }
+{
+    let n = k.nodes;
+    let more_c = c.added();
+    let more_d = d.added();
+    let e = edges_added(edges, k.edges, a, b, d.id(n + more_c), c.id(n));
+    let nodes = (n as usize) + (more_c as usize) + (more_d as usize);
+    mesh_check::beyond_places(
+        xs,
+        ys,
+        next,
+        prev,
+        origins,
+        quads,
+        edges,
+        nodes,
+        k.quads + 1,
+        k.edges + e,
+    )
+}

@@ -1,0 +1,1 @@
+// Specifications only: steps and previews of document 01's square, computed from the definitions. No function.

@@ -3,18 +3,33 @@
 import argparse
 import contextlib
 import pathlib
+import re
 import sys
 
+from crates import ROOT
 from outlines import Unusable
 from refusals import Refused
 
 REFUSED, CANT = 1, 2
 
 
+def version():
+    """The repository's version, which stands in the Rust crate's manifest."""
+    return re.search(r'^version = "([^"]+)"$', (ROOT / "host/Cargo.toml").read_text(), re.MULTILINE)[1]
+
+
+class Version(argparse.Action):
+    def __call__(self, made, *_):
+        print(f"sitjorbe {version()}")
+        made.exit()
+
+
 def parser(doc):
     """The parser of a command whose help is its module's first line, then the options, then the rest."""
     about, rest = doc.split("\n", 1)
-    return argparse.ArgumentParser(description=about, epilog=rest, formatter_class=argparse.RawDescriptionHelpFormatter)
+    made = argparse.ArgumentParser(description=about, epilog=rest, formatter_class=argparse.RawDescriptionHelpFormatter)
+    made.add_argument("--version", action=Version, nargs=0, help="say the repository's version")
+    return made
 
 
 @contextlib.contextmanager

@@ -21,6 +21,8 @@ import re
 import sys
 from fractions import Fraction
 
+import commands
+
 # ---- formulas: ('var', name), ('num', value, text), ('neg', f), ('+', f, g), ('-', f, g), ('*', f, g)
 
 TOKEN = re.compile(r"\s*(\d+|[^\W\d][\w']*|[-+*^()])")
@@ -288,6 +290,8 @@ def main(arguments):
                 given[current].append(argument)
         degree = int(given["-d"][0]) if given["-d"] else 2
         certificate(arguments[1].split(), arguments[2], given["-h"], given["-e"], given["-s"], degree)
+    elif arguments == ["--version"]:
+        print(f"sitjorbe {commands.version()}")
     else:
         print(__doc__.strip())
 

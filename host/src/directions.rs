@@ -1,6 +1,9 @@
 //! The directions of a field at a whole list of points.
 
-use crate::{ffi, FieldRecord, Refusal};
+use alloc::vec;
+use alloc::vec::Vec;
+
+use crate::{ffi, floats, FieldRecord, Refusal};
 
 /// What [`direction`](crate::direction) answers for each point and its target, in their order, with the field record looked through only once.
 ///
@@ -35,6 +38,7 @@ pub fn directions_in<'a>(
     targets: &[[f64; 2]],
     answers: &'a mut [[f64; 3]],
 ) -> Result<impl ExactSizeIterator<Item = Result<[f64; 2], Refusal>> + 'a, Refusal> {
+    floats::check();
     let FieldRecord { xmin, ymin, h, nx, ny } = *record;
     let count = points.len();
     let (points, targets, places) = (points.as_flattened(), targets.as_flattened(), answers.as_flattened_mut());

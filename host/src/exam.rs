@@ -1,7 +1,10 @@
 //! One exam for three roles: [`Desk`], [`Reader`] and [`MaskedReader`]. What a role lacks doesn't compile.
 
-use crate::ffi;
-use crate::{Mesh, Refusal};
+use alloc::vec;
+use alloc::vec::Vec;
+use core::{fmt, ptr};
+
+use crate::{ffi, floats, Mesh, Refusal};
 
 /// A mesh as it is lent to an exam: any lists and counts at all. A count beyond its list stops at the last whole node or quad, and quads
 /// stop at 250,000; a node is whole where both its coordinates and its origin are lent.
@@ -27,6 +30,7 @@ pub struct LentMesh<'a> {
 
 impl<'a> LentMesh<'a> {
     /// The mesh that a run made, with a number a node: the outline loop that it came from.
+    #[must_use]
     pub fn of(mesh: &Mesh<'a>, origins: &'a [u16]) -> LentMesh<'a> {
         let ((xs, ys), quads, (next, prev)) = (mesh.coordinates(), mesh.quad_ids(), mesh.links());
         LentMesh { nodes: xs.len() as u32, xs, ys, quad_count: quads.len() / 4, quads, next, prev, origins }
@@ -49,8 +53,11 @@ pub struct Results<'a> {
 /// The results of an exam, lent to readers, who change nothing.
 #[derive(Clone, Copy, Debug)]
 pub struct SharedResults<'a> {
+    /// As in [`Results`].
     pub thresholds: &'a [u16],
+    /// As in [`Results`].
     pub count: &'a u32,
+    /// As in [`Results`].
     pub sum: &'a u32,
 }
 
@@ -66,37 +73,58 @@ pub const MOST_WEIGHT: u32 = 256;
 /// A node of an exam's mesh, and the number of the outline loop that it came from.
 #[derive(Clone, Copy, Debug, PartialEq)]
 pub struct Node {
+    /// Its first coordinate.
     pub x: f64,
+    /// Its second coordinate.
     pub y: f64,
+    /// 0 for the outer loop, k + 1 for hole k.
     pub origin: u32,
 }
 
 // ---- one call
 
-const BEGIN: u32 = 1;
-const ENTER: u32 = 2;
-const WITHDRAW: u32 = 3;
-const READ_NODE: u32 = 4;
-const READ_QUAD: u32 = 5;
-const READ_LOOP: u32 = 6;
-const READ_THRESHOLD: u32 = 7;
-const READ_FIGURES: u32 = 8;
-const READ_ESTIMATE: u32 = 9;
-
 /// What is asked of an exam, as it crosses: a role, an operation, and the numbers that the operation uses.
 #[derive(Clone, Copy, Debug, Default, PartialEq)]
 pub struct Asked {
-    /// 1 the desk, 2 a reader, 3 a masked reader.
+    /// [`Asked::DESK`] or one of the two after it.
     pub role: u32,
-    /// 1 begin, 2 enter, 3 withdraw; 4 to 6 read a node, a quad, a loop; 7 to 9 read a threshold, the figures, an estimate.
+    /// [`Asked::BEGIN`] or one of the eight after it.
     pub operation: u32,
     /// A node's, quad's or loop's number.
     pub item: u32,
     /// A threshold that is entered.
     pub value: u32,
-    /// An estimate's weights.
+    /// The estimate's weight from a towards b.
     pub u: u32,
+    /// The estimate's weight from a towards c.
     pub v: u32,
+}
+
+impl Asked {
+    /// Role: the desk, which begins an exam, enters and withdraws, and reads everything.
+    pub const DESK: u32 = 1;
+    /// Role: a reader, who reads everything.
+    pub const READER: u32 = 2;
+    /// Role: a masked reader, who reads nodes, quads and loops.
+    pub const MASKED_READER: u32 = 3;
+    /// Operation: begin the exam.
+    pub const BEGIN: u32 = 1;
+    /// Operation: enter a node's threshold, or replace it.
+    pub const ENTER: u32 = 2;
+    /// Operation: withdraw a node's threshold.
+    pub const WITHDRAW: u32 = 3;
+    /// Operation: read a node.
+    pub const READ_NODE: u32 = 4;
+    /// Operation: read a quad.
+    pub const READ_QUAD: u32 = 5;
+    /// Operation: read a loop of the front.
+    pub const READ_LOOP: u32 = 6;
+    /// Operation: read a node's threshold.
+    pub const READ_THRESHOLD: u32 = 7;
+    /// Operation: read both figures.
+    pub const READ_FIGURES: u32 = 8;
+    /// Operation: read an estimate.
+    pub const READ_ESTIMATE: u32 = 9;
 }
 
 /// The results as they cross.
@@ -124,8 +152,8 @@ impl SharedResults<'_> {
         Parts {
             thresholds: self.thresholds.as_ptr().cast_mut(),
             length: self.thresholds.len(),
-            count: std::ptr::from_ref(self.count).cast_mut(),
-            sum: std::ptr::from_ref(self.sum).cast_mut(),
+            count: ptr::from_ref(self.count).cast_mut(),
+            sum: ptr::from_ref(self.sum).cast_mut(),
         }
     }
 }
@@ -134,6 +162,7 @@ impl SharedResults<'_> {
 ///
 /// The results are borrowed until the call returns: for writing, or else what is asked is a read.
 unsafe fn call(asked: Asked, mesh: &LentMesh<'_>, results: Parts, reply: &mut [u32]) -> ffi::ExamAnswer {
+    floats::check();
     let Asked { role, operation, item, value, u, v } = asked;
     let LentMesh { nodes, xs, ys, quad_count, quads, next, prev, origins } = *mesh;
     ffi::sitjorbe_exam(
@@ -187,7 +216,7 @@ fn read(
     results: SharedResults<'_>,
     reply: &mut [u32],
 ) -> Result<ffi::ExamAnswer, Refusal> {
-    assert!(operation >= READ_NODE, "a change needs the desk's results");
+    assert!(operation >= Asked::READ_NODE, "a change needs the desk's results");
     // SAFETY: as in `exam_numbers`, but that the results are borrowed for reading alone. The entry is proved to leave them as they were where
     // anything is read, and writes nothing to them then.
     let answer = unsafe { call(Asked { role, operation, item, value: 0, u, v }, mesh, results.parts(), reply) };
@@ -254,26 +283,27 @@ pub struct MaskedReader<'a> {
 }
 
 /// Without the results.
-impl std::fmt::Debug for MaskedReader<'_> {
-    fn fmt(&self, f: &mut std::fmt::Formatter<'_>) -> std::fmt::Result {
+impl fmt::Debug for MaskedReader<'_> {
+    fn fmt(&self, f: &mut fmt::Formatter<'_>) -> fmt::Result {
         f.debug_struct("MaskedReader").field("mesh", &self.mesh).finish_non_exhaustive()
     }
 }
 
 impl<'a> Desk<'a> {
     /// The desk of the exam on a mesh, with results lent.
+    #[must_use]
     pub fn new(mesh: LentMesh<'a>, results: Results<'a>) -> Desk<'a> {
         Desk { mesh, results }
     }
 
     fn change(&mut self, operation: u32, item: u32, value: u32) -> Result<(), Refusal> {
-        let asked = Asked { role: 1, operation, item, value, u: 0, v: 0 };
+        let asked = Asked { role: Asked::DESK, operation, item, value, u: 0, v: 0 };
         Refusal::check(exam_numbers(asked, &self.mesh, &mut self.results, &mut []).refusal)
     }
 
     /// Begins the exam: no threshold in any place lent, and both figures 0.
     pub fn begin(&mut self) {
-        self.change(BEGIN, 0, 0).expect("an exam's beginning is never refused");
+        self.change(Asked::BEGIN, 0, 0).expect("an exam's beginning is never refused");
     }
 
     /// Enters the threshold of a node, or replaces it.
@@ -282,7 +312,7 @@ impl<'a> Desk<'a> {
     ///
     /// [`Refusal::NoNode`], then [`Refusal::ThresholdTooHigh`]. Nothing changes then.
     pub fn enter(&mut self, node: u32, threshold: u32) -> Result<(), Refusal> {
-        self.change(ENTER, node, threshold)
+        self.change(Asked::ENTER, node, threshold)
     }
 
     /// Withdraws the threshold of a node.
@@ -291,7 +321,7 @@ impl<'a> Desk<'a> {
     ///
     /// [`Refusal::NoNode`], then [`Refusal::NoThreshold`]. Nothing changes then.
     pub fn withdraw(&mut self, node: u32) -> Result<(), Refusal> {
-        self.change(WITHDRAW, node, 0)
+        self.change(Asked::WITHDRAW, node, 0)
     }
 
     fn shared(&self) -> SharedResults<'_> {
@@ -301,6 +331,7 @@ impl<'a> Desk<'a> {
 
 impl<'a> Reader<'a> {
     /// A reader of the exam on a mesh, with results lent.
+    #[must_use]
     pub fn new(mesh: LentMesh<'a>, results: SharedResults<'a>) -> Reader<'a> {
         Reader { mesh, results }
     }
@@ -312,6 +343,7 @@ impl<'a> Reader<'a> {
 
 impl<'a> MaskedReader<'a> {
     /// A masked reader of the exam on a mesh, with results lent.
+    #[must_use]
     pub fn new(mesh: LentMesh<'a>, results: SharedResults<'a>) -> MaskedReader<'a> {
         MaskedReader { mesh, results }
     }
@@ -323,7 +355,7 @@ impl<'a> MaskedReader<'a> {
 
 /// What each role reads of the mesh.
 macro_rules! reads_mesh {
-    ($role:ident, $number:literal) => {
+    ($role:ident, $number:ident) => {
         impl $role<'_> {
             /// A node's coordinates and origin.
             ///
@@ -331,7 +363,7 @@ macro_rules! reads_mesh {
             ///
             /// [`Refusal::NoNode`] where it isn't in the mesh.
             pub fn node(&self, node: u32) -> Result<Node, Refusal> {
-                let r = read($number, READ_NODE, [node, 0, 0], &self.mesh, self.shared(), &mut [])?;
+                let r = read(Asked::$number, Asked::READ_NODE, [node, 0, 0], &self.mesh, self.shared(), &mut [])?;
                 Ok(Node { x: r.x, y: r.y, origin: r.origin })
             }
 
@@ -341,7 +373,7 @@ macro_rules! reads_mesh {
             ///
             /// [`Refusal::NoQuad`] where it isn't in the mesh.
             pub fn quad(&self, quad: u32) -> Result<[u32; 4], Refusal> {
-                let r = read($number, READ_QUAD, [quad, 0, 0], &self.mesh, self.shared(), &mut [])?;
+                let r = read(Asked::$number, Asked::READ_QUAD, [quad, 0, 0], &self.mesh, self.shared(), &mut [])?;
                 Ok([r.a, r.b, r.d, r.c])
             }
 
@@ -353,7 +385,7 @@ macro_rules! reads_mesh {
             ///
             /// [`Refusal::AnswerLists`] where the list is too short; it isn't written then.
             pub fn loop_in<'r>(&self, number: u32, reply: &'r mut [u32]) -> Result<&'r [u32], Refusal> {
-                let r = read($number, READ_LOOP, [number, 0, 0], &self.mesh, self.shared(), reply)?;
+                let r = read(Asked::$number, Asked::READ_LOOP, [number, 0, 0], &self.mesh, self.shared(), reply)?;
                 Ok(&reply[..r.length])
             }
         }
@@ -362,7 +394,7 @@ macro_rules! reads_mesh {
 
 /// What the desk and a reader read of the results.
 macro_rules! reads_results {
-    ($role:ident, $number:literal) => {
+    ($role:ident, $number:ident) => {
         impl $role<'_> {
             /// The threshold at a node, in tenths of a decibel.
             ///
@@ -370,13 +402,13 @@ macro_rules! reads_results {
             ///
             /// [`Refusal::NoNode`], then [`Refusal::NoThreshold`] where none stands.
             pub fn threshold(&self, node: u32) -> Result<u32, Refusal> {
-                let r = read($number, READ_THRESHOLD, [node, 0, 0], &self.mesh, self.shared(), &mut [])?;
+                let r = read(Asked::$number, Asked::READ_THRESHOLD, [node, 0, 0], &self.mesh, self.shared(), &mut [])?;
                 Ok(r.threshold)
             }
 
             /// How many quads have all four thresholds, and the sum of all thresholds of those quads, a node counted once for each.
             pub fn figures(&self) -> (u32, u32) {
-                let r = read($number, READ_FIGURES, [0; 3], &self.mesh, self.shared(), &mut []);
+                let r = read(Asked::$number, Asked::READ_FIGURES, [0; 3], &self.mesh, self.shared(), &mut []);
                 r.map(|r| (r.count, r.sum)).expect("the figures are never refused")
             }
 
@@ -390,18 +422,18 @@ macro_rules! reads_results {
             ///
             /// [`Refusal::NoQuad`] for a quad that isn't in the mesh or lacks a threshold, then [`Refusal::WeightTooHigh`].
             pub fn estimate(&self, quad: u32, u: u32, v: u32) -> Result<u32, Refusal> {
-                let r = read($number, READ_ESTIMATE, [quad, u, v], &self.mesh, self.shared(), &mut [])?;
+                let r = read(Asked::$number, Asked::READ_ESTIMATE, [quad, u, v], &self.mesh, self.shared(), &mut [])?;
                 Ok(r.estimate)
             }
         }
     };
 }
 
-reads_mesh!(Desk, 1);
-reads_mesh!(Reader, 2);
-reads_mesh!(MaskedReader, 3);
-reads_results!(Desk, 1);
-reads_results!(Reader, 2);
+reads_mesh!(Desk, DESK);
+reads_mesh!(Reader, READER);
+reads_mesh!(MaskedReader, MASKED_READER);
+reads_results!(Desk, DESK);
+reads_results!(Reader, READER);
 
 // ---- an exam with results of its own
 
@@ -458,6 +490,7 @@ pub struct Exam<'a> {
 
 impl<'a> Exam<'a> {
     /// Begins an exam on a mesh: no threshold stands yet.
+    #[must_use]
     pub fn begin(mesh: LentMesh<'a>) -> Exam<'a> {
         let nodes = (mesh.nodes as usize).min(mesh.xs.len()).min(mesh.ys.len()).min(mesh.origins.len());
         let mut exam = Exam { mesh, thresholds: vec![0; nodes], count: 0, sum: 0 };
@@ -472,16 +505,19 @@ impl<'a> Exam<'a> {
     }
 
     /// A reader of it.
+    #[must_use]
     pub fn reader(&self) -> Reader<'_> {
         Reader::new(self.mesh, self.shared())
     }
 
     /// A masked reader of it.
+    #[must_use]
     pub fn masked_reader(&self) -> MaskedReader<'_> {
         MaskedReader::new(self.mesh, self.shared())
     }
 
     /// The mesh.
+    #[must_use]
     pub fn mesh(&self) -> &LentMesh<'a> {
         &self.mesh
     }
@@ -492,8 +528,8 @@ impl<'a> Exam<'a> {
 }
 
 /// Without the results.
-impl std::fmt::Debug for Exam<'_> {
-    fn fmt(&self, f: &mut std::fmt::Formatter<'_>) -> std::fmt::Result {
+impl fmt::Debug for Exam<'_> {
+    fn fmt(&self, f: &mut fmt::Formatter<'_>) -> fmt::Result {
         f.debug_struct("Exam").field("mesh", &self.mesh).finish_non_exhaustive()
     }
 }

@@ -1,6 +1,6 @@
 //! The cross field of an outline, and its direction at a point.
 
-use crate::ffi;
+use crate::{ffi, floats};
 use crate::{Outline, Refusal};
 
 /// The floats and counts of a field record. Its values and marks are in the lists that were lent.
@@ -26,6 +26,7 @@ impl FieldRecord {
     /// # Panics
     ///
     /// If the counts are so great that their product isn't a `usize`; those of a field are at most 250,000 together.
+    #[must_use]
     pub fn nodes(&self) -> usize {
         self.nx.checked_mul(self.ny).expect("a field has at most 250,000 nodes")
     }
@@ -55,6 +56,7 @@ pub fn field(
     marks: &mut [u8],
     blocks: &mut [u32],
 ) -> Result<FieldRecord, Refusal> {
+    floats::check();
     let Outline { outer, holes, hole_lengths: lens } = outline;
     // SAFETY: each pointer comes with the length of its slice, and the slices live until the call returns; the three that may
     // be written are borrowed for that. The entry is proved to read and write nothing else.
@@ -95,6 +97,7 @@ pub fn direction(
     [x, y]: [f64; 2],
     [tx, ty]: [f64; 2],
 ) -> Result<[f64; 2], Refusal> {
+    floats::check();
     let FieldRecord { xmin, ymin, h, nx, ny } = *record;
     let (values, values_len) = (values.as_ptr(), values.len());
     let (marks, marks_len) = (marks.as_ptr(), marks.len());

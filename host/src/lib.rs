@@ -4,6 +4,9 @@
 //! definition on every input, ends, and writes nothing but what its contract names. This crate only takes slices apart, since
 //! each crosses as a pointer and a length ([`ffi`]), and gives the refusals' numbers their words ([`Refusal`]).
 //!
+//! The library is an archive for x86-64 Linux; `build.rs` says where it is looked for. An archive of another shape than [`ffi::ABI`] doesn't
+//! link. Nothing here needs `std`, but an allocator for what owns its lists, as [`Memory`] does.
+//!
 //! ```
 //! use sitjorbe::{contains, direction, directions, distance_to_boundary, field, nearest_segment, Outline, Refusal};
 //! use sitjorbe::{check_order, nearest_order, End, Memory, Places, Settings};
@@ -64,10 +67,15 @@
 //! # Ok::<(), Box<dyn std::error::Error>>(())
 //! ```
 
+#![cfg_attr(not(test), no_std)]
+
+extern crate alloc;
+
 mod directions;
 mod exam;
 pub mod ffi;
 mod field;
+mod floats;
 mod order;
 mod pave;
 mod places;
@@ -82,6 +90,7 @@ pub use directions::{directions, directions_in};
 pub use exam::{exam_numbers, Asked, Desk, Exam, LentMesh, MaskedReader, Node, Reader, Results, SharedResults};
 pub use exam::{MOST_THRESHOLD, MOST_WEIGHT, NO_THRESHOLD};
 pub use field::{direction, field, FieldRecord};
+pub use floats::are_floats_as_proved;
 pub use order::{check_order, check_order_in, nearest_order, order_numbers, NotAccepted, OrderScratch};
 pub use pave::{pave, pave_numbers, End, Lists, Memory, Mesh, Places, Settings, TooManyPlaces, OFF};
 pub use places::{least_places, LeastPlaces};

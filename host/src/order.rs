@@ -1,8 +1,10 @@
 //! Presentation order: whether a list of quads is an order in which a mesh may be tested, and such an order near to a wish.
 
-use std::cmp::Reverse;
-use std::collections::{BinaryHeap, HashMap};
-use std::{error, fmt};
+use alloc::collections::BinaryHeap;
+use alloc::vec;
+use alloc::vec::Vec;
+use core::cmp::Reverse;
+use core::{error, fmt};
 
 use crate::ffi;
 use crate::Refusal;
@@ -12,12 +14,16 @@ use crate::Refusal;
 pub enum NotAccepted {
     /// Some quad is absent, repeated or unknown.
     NotEachOnce,
-    /// The quad at this place of the list, counted from 0, stands too early; none before it does.
-    TooEarly { place: usize },
+    /// A quad stands too early.
+    TooEarly {
+        /// Its place in the list, counted from 0; none before it does.
+        place: usize,
+    },
 }
 
 impl NotAccepted {
     /// The refusal: 21 or 22.
+    #[must_use]
     pub fn refusal(self) -> Refusal {
         match self {
             NotAccepted::NotEachOnce => Refusal::NotEachOnce,
@@ -51,6 +57,7 @@ pub struct OrderScratch {
 
 impl OrderScratch {
     /// Enough for so many quads; more than 250,000 count as 250,000.
+    #[must_use]
     pub fn new(quads: usize) -> OrderScratch {
         let quads = quads.min(MOST_QUADS);
         OrderScratch { places: vec![0; quads], pool: vec![0; 8 * quads + 2] }
@@ -70,6 +77,16 @@ fn seen(quad_count: usize, quads: &[u32]) -> usize {
 ///
 /// `quads` has four ids a quad, a, b, d, c, in the order in which the quads were placed, and `order` their numbers in the order in which
 /// they are to be tested.
+///
+/// ```
+/// use sitjorbe::{check_order, nearest_order, NotAccepted};
+///
+/// // The second quad used up the front edge from 3 to 2, which the first one laid.
+/// let quads = [0, 1, 2, 3, 3, 2, 4, 5];
+/// assert_eq!(check_order(2, &quads, &[0, 1]), Ok(()));
+/// assert_eq!(check_order(2, &quads, &[1, 0]), Err(NotAccepted::TooEarly { place: 0 }));
+/// assert_eq!(nearest_order(2, &quads, &[1, 0]), [0, 1]);
+/// ```
 ///
 /// # Errors
 ///
@@ -135,6 +152,7 @@ pub fn order_numbers(
 /// # Panics
 ///
 /// Where it isn't accepted, which would be a bug.
+#[must_use]
 pub fn nearest_order(quad_count: usize, quads: &[u32], wish: &[u32]) -> Vec<u32> {
     let count = seen(quad_count, quads);
     let mut rank = vec![usize::MAX; count];
@@ -158,8 +176,8 @@ pub fn nearest_order(quad_count: usize, quads: &[u32], wish: &[u32]) -> Vec<u32>
 
 /// Which quads may come only after which.
 struct Followers {
-    /// For each edge that some quad used up, those that did, by their numbers.
-    users: HashMap<[u32; 2], Vec<usize>>,
+    /// Each edge that some quad used up, with that quad's number, in order.
+    users: Vec<([u32; 2], usize)>,
     /// For each quad the edges that it laid.
     laid: Vec<[[u32; 2]; 3]>,
     /// For each quad, how many times one before it that isn't out yet laid an edge that it used up.
@@ -168,15 +186,14 @@ struct Followers {
 
 impl Followers {
     fn new(quads: &[u32]) -> Followers {
-        let mut users: HashMap<[u32; 2], Vec<usize>> = HashMap::new();
+        let mut users = Vec::with_capacity(quads.len() / 4 * 3);
         let mut laid = Vec::with_capacity(quads.len() / 4);
         for (number, quad) in quads.chunks_exact(4).enumerate() {
             let [a, b, d, c] = [quad[0], quad[1], quad[2], quad[3]];
-            for used in [[a, b], [b, d], [c, a]] {
-                users.entry(used).or_default().push(number);
-            }
+            users.extend([[a, b], [b, d], [c, a]].map(|used| (used, number)));
             laid.push([[d, b], [c, d], [a, c]]);
         }
+        users.sort_unstable();
         let mut followers = Followers { users, waits: vec![0; laid.len()], laid };
         for quad in 0..followers.laid.len() {
             for later in followers.after(quad) {
@@ -188,8 +205,11 @@ impl Followers {
 
     /// The quads placed after this one that used up an edge which it laid, once for each such edge.
     fn after(&self, quad: usize) -> Vec<usize> {
-        let edges = self.laid[quad].iter().filter_map(|edge| self.users.get(edge));
-        edges.flat_map(|users| &users[users.partition_point(|&user| user <= quad)..]).copied().collect()
+        let later = |&edge| {
+            let start = self.users.partition_point(|&user| user <= (edge, quad));
+            self.users[start..].iter().take_while(move |(used, _)| *used == edge).map(|(_, user)| *user)
+        };
+        self.laid[quad].iter().flat_map(later).collect()
     }
 
     /// Those that wait for none.

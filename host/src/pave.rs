@@ -1,8 +1,9 @@
 //! The whole run: the field, the sampled outline, the paving, and the loops of the front that is left.
 
-use std::{array, error, fmt};
+use alloc::vec::Vec;
+use core::{array, error, fmt};
 
-use crate::ffi;
+use crate::{ffi, floats};
 use crate::{FieldRecord, Outline, Refusal};
 
 /// What an exam sets for a run.
@@ -148,12 +149,14 @@ pub struct Mesh<'a> {
 
 impl<'a> Mesh<'a> {
     /// How the paving ended.
+    #[must_use]
     pub fn end(&self) -> End {
         self.end
     }
 
     /// Whether the mesh is whole: the front has no loop of three or more left, and the outline is sound ([`crate::is_sound`]).
     /// Otherwise it is open.
+    #[must_use]
     pub fn is_whole(&self) -> bool {
         self.whole
     }
@@ -165,41 +168,49 @@ impl<'a> Mesh<'a> {
     }
 
     /// The field's record.
+    #[must_use]
     pub fn record(&self) -> FieldRecord {
         self.record
     }
 
     /// The field's values and marks, just as [`crate::direction`] asks for them.
+    #[must_use]
     pub fn field(&self) -> (&'a [f64], &'a [u8]) {
         (self.values, self.marks)
     }
 
     /// The number of nodes.
+    #[must_use]
     pub fn node_count(&self) -> usize {
         self.xs.len()
     }
 
     /// The number of quads.
+    #[must_use]
     pub fn quad_count(&self) -> usize {
         self.quads.len() / 4
     }
 
     /// The number of distinct edges.
+    #[must_use]
     pub fn edge_count(&self) -> usize {
         self.edges.len() / 2
     }
 
     /// The number of front edges.
+    #[must_use]
     pub fn front_count(&self) -> usize {
         self.front
     }
 
     /// The number of listed loops.
+    #[must_use]
     pub fn loop_count(&self) -> usize {
         self.lengths.len()
     }
 
     /// Each node's coordinates, by id.
+    #[must_use]
     pub fn nodes(&self) -> impl ExactSizeIterator<Item = [f64; 2]> + Clone + 'a {
         self.xs.iter().zip(self.ys).map(|(&x, &y)| [x, y])
     }
@@ -207,6 +218,7 @@ impl<'a> Mesh<'a> {
     /// For each node, by id, the number of the outline's loop that it came from: 0 is the outer loop, and k + 1 hole k. A node that was sampled
     /// has its loop's number, and any other that of the node a of the quad it came with. No quad has nodes of two numbers, and no loop of the
     /// front has.
+    #[must_use]
     pub fn origins(&self) -> &'a [u16] {
         self.origins
     }
@@ -227,11 +239,13 @@ impl<'a> Mesh<'a> {
     }
 
     /// Each quad's ids a, b, d, c, in the order in which the quads were placed.
+    #[must_use]
     pub fn quads(&self) -> impl ExactSizeIterator<Item = [u32; 4]> + Clone + 'a {
         self.quads.chunks_exact(4).map(|quad| [quad[0], quad[1], quad[2], quad[3]])
     }
 
     /// Each distinct edge, the smaller id first, in the order in which they came.
+    #[must_use]
     pub fn edges(&self) -> impl ExactSizeIterator<Item = [u32; 2]> + Clone + 'a {
         self.edges.chunks_exact(2).map(|edge| [edge[0], edge[1]])
     }
@@ -242,12 +256,14 @@ impl<'a> Mesh<'a> {
     }
 
     /// The links of the front: for each node the next one and the one before, or [`OFF`].
+    #[must_use]
     pub fn links(&self) -> (&'a [u32], &'a [u32]) {
         (self.next, self.prev)
     }
 
     /// The loops of the front that have three nodes or more, each from its smallest id; none if the mesh is whole, or open only
     /// because its outline is unsound.
+    #[must_use]
     pub fn front_loops(&self) -> impl ExactSizeIterator<Item = &'a [u32]> + Clone + 'a {
         let ids = self.loops;
         let mut start = 0;
@@ -302,6 +318,7 @@ fn filed(pool: &[u32]) -> usize {
 
 /// As [`pave`], with the numbers as they cross.
 pub fn pave_numbers(outline: &Outline<'_>, settings: &Settings, lists: &mut Lists<'_>) -> ffi::PaveAnswer {
+    floats::check();
     let Outline { outer, holes, hole_lengths: lens } = outline;
     // SAFETY: each pointer comes with the length of its slice, and the slices live until the call returns; those that may be
     // written are borrowed for that. The entry is proved to read and write nothing else.
@@ -371,6 +388,7 @@ pub struct Places {
 impl Places {
     /// Lengths of `node_pool` and `edge_pool` that are enough: eight numbers hold three places, a node takes one place, and an edge seldom
     /// more than five. Where a length is beyond a `usize` it is [`usize::MAX`], and no list is so long.
+    #[must_use]
     pub fn pools(&self) -> [usize; 2] {
         [self.nodes.saturating_mul(4), self.edges.saturating_mul(16)]
     }
@@ -382,6 +400,7 @@ impl Places {
 
     /// A length of `blocks` that is always enough: 16 points take four numbers, and each loop, which has at least three points, four more. No outline
     /// that is paved has more than [`Outline::MOST_POINTS`].
+    #[must_use]
     pub fn blocks(&self) -> usize {
         2 * self.points.min(Outline::MOST_POINTS)
     }
@@ -410,6 +429,17 @@ impl fmt::Display for TooManyPlaces {
 impl error::Error for TooManyPlaces {}
 
 /// The lists of a run, owned, for one run after the other.
+///
+/// ```
+/// use sitjorbe::{End, Memory, Outline, Places, Settings};
+///
+/// let mut memory = Memory::new(Places { field_nodes: 100, nodes: 20, quads: 20, edges: 60, points: 4 })?;
+/// let square = Outline { outer: &[0.0, 0.0, 2.0, 0.0, 2.0, 2.0, 0.0, 2.0], holes: &[], hole_lengths: &[] };
+/// let mesh = memory.pave(&square, &Settings { size: 1.0, sweeps: 400, passes: 600 })?;
+/// assert_eq!((mesh.node_count(), mesh.quad_count(), mesh.end(), mesh.is_whole()), (9, 4, End::Still, true));
+/// assert_eq!(mesh.nodes().last(), Some([1.0, 1.0]));
+/// # Ok::<(), Box<dyn std::error::Error>>(())
+/// ```
 #[derive(Clone, Debug)]
 pub struct Memory {
     /// By kind, as [`Lists::new`] takes them.

@@ -1,6 +1,6 @@
 //! How much to lend.
 
-use crate::ffi;
+use crate::{ffi, floats};
 use crate::{Outline, Places, Refusal};
 
 /// The places that a run of an outline at a size can't do without.
@@ -20,6 +20,7 @@ pub struct LeastPlaces {
 /// What refuses the outline or the size, as [`crate::field`] does before it counts: [`Refusal::Lists`], [`Refusal::ShortLoop`], [`Refusal::NotFinite`],
 /// [`Refusal::TooFar`], [`Refusal::NoSize`], [`Refusal::SizeOutOfRange`] and [`Refusal::Flat`].
 pub fn least_places(outline: &Outline<'_>, size: f64) -> Result<LeastPlaces, Refusal> {
+    floats::check();
     let Outline { outer, holes, hole_lengths: lens } = outline;
     // SAFETY: each pointer comes with the length of its slice, and the slices live until the call returns. The entry is proved to read nothing else,
     // and writes nothing.

@@ -1,7 +1,6 @@
 //! The three queries about a point and an outline.
 
-use crate::ffi;
-use crate::Refusal;
+use crate::{ffi, floats, Refusal};
 
 /// An outline as it is lent: the outer loop, and any number of holes in it.
 ///
@@ -40,6 +39,7 @@ pub struct Segment {
 type Entry<T> = unsafe extern "C" fn(*const f64, usize, *const f64, usize, *const usize, usize, f64, f64) -> T;
 
 fn ask<T>(entry: Entry<T>, outline: &Outline<'_>, [x, y]: [f64; 2]) -> T {
+    floats::check();
     let Outline { outer, holes, hole_lengths: lens } = outline;
     // SAFETY: each pointer comes with the length of its slice, and the slices live until the call returns. The entries are
     // proved to read nothing else and to write nothing.
@@ -50,6 +50,14 @@ fn ask<T>(entry: Entry<T>, outline: &Outline<'_>, [x, y]: [f64; 2]) -> T {
 ///
 /// By the even-odd rule: a loop's inside is what a ray to the right leaves by an odd number of crossings. Of the points on
 /// the outline itself some count as inside and some don't; of the unit square's corners (0, 0) does and (1, 1) doesn't.
+///
+/// ```
+/// use sitjorbe::{contains, Outline, Refusal};
+///
+/// let square = Outline { outer: &[0.0, 0.0, 1.0, 0.0, 1.0, 1.0, 0.0, 1.0], holes: &[], hole_lengths: &[] };
+/// assert_eq!([[0.5, 0.5], [0.0, 0.0], [1.0, 1.0]].map(|point| contains(&square, point)), [true, true, false].map(Ok));
+/// assert_eq!(contains(&square, [f64::NAN, 0.0]), Err(Refusal::NotFinite));
+/// ```
 ///
 /// # Errors
 ///

@@ -1,11 +1,22 @@
 //! The refusals of document 01 and of the papers, with words for people.
 
-use std::{error, fmt};
+use core::{error, fmt};
+
+use crate::ffi;
 
 /// Why the library refused. A refusal is its number alone ([`Refusal::number`]); the words are this crate's.
 ///
-/// A refused call has changed none of the memory lent to it, but scratch where the wrapper says so.
+/// A refused call has changed none of the memory lent to it, but scratch where the wrapper says so. Further refusals may come with later versions.
+///
+/// ```
+/// use sitjorbe::Refusal;
+///
+/// let refusal = Refusal::of_number(2).expect("there is one");
+/// assert_eq!(refusal, Refusal::ShortLoop);
+/// assert_eq!(refusal.to_string(), "refused (2): a loop has fewer than three points: draw at least three, or leave the loop out");
+/// ```
 #[derive(Clone, Copy, Debug, PartialEq, Eq, Hash)]
+#[non_exhaustive]
 #[repr(u32)]
 pub enum Refusal {
     /// A coordinate list of odd length, hole lengths that don't add up to the hole points, or more than 4,096 points.
@@ -94,11 +105,13 @@ impl Refusal {
     ];
 
     /// Its number: 1 to 13 are document 01's, those above are the papers'.
+    #[must_use]
     pub fn number(self) -> u32 {
         self as u32
     }
 
     /// The refusal with this number, if there is one.
+    #[must_use]
     pub fn of_number(number: u32) -> Option<Refusal> {
         Refusal::ALL.into_iter().find(|refusal| refusal.number() == number)
     }
@@ -113,7 +126,9 @@ impl Refusal {
         match (number, Refusal::of_number(number)) {
             (0, _) => Ok(()),
             (_, Some(refusal)) => Err(refusal),
-            (_, None) => panic!("a bug: the library answered refusal {number}, which there isn't"),
+            (_, None) => {
+                panic!("a bug: the library answered refusal {number}, which shape {} doesn't have", ffi::abi())
+            }
         }
     }
 

@@ -1,8 +1,10 @@
 //! The front stepped by hand: one edge named, one quad placed or none, and a look at it before.
 
-use std::fmt;
+use alloc::vec;
+use alloc::vec::Vec;
+use core::fmt;
 
-use crate::ffi;
+use crate::{ffi, floats};
 use crate::{FieldRecord, Memory, Outline, Refusal, Settings, OFF};
 
 /// What a step did with the edge named. The numbers are those that cross from the library.
@@ -44,7 +46,9 @@ impl fmt::Display for Outcome {
 /// How much of a mesh's lists is in use.
 #[derive(Clone, Copy, Debug, PartialEq, Eq)]
 pub struct MeshCounts {
+    /// Nodes.
     pub nodes: u32,
+    /// Quads.
     pub quads: usize,
     /// Distinct edges.
     pub edges: usize,
@@ -55,35 +59,53 @@ pub struct MeshCounts {
 /// What stays the same throughout a sequence of steps: the outline, the size, and the field.
 #[derive(Clone, Copy, Debug)]
 pub struct Ground<'a> {
+    /// The outline.
     pub outline: Outline<'a>,
+    /// The length wanted of a quad's side.
     pub size: f64,
+    /// The field's floats and counts.
     pub record: FieldRecord,
+    /// The field's values, two a field node.
     pub values: &'a [f64],
+    /// The field's marks, one a field node.
     pub marks: &'a [u8],
 }
 
 /// A mesh's lists, lent to a step. Any slices may be lent; those that don't hold a sound mesh are refused.
 #[derive(Debug)]
 pub struct MeshLists<'a> {
+    /// A node's first coordinate.
     pub xs: &'a mut [f64],
+    /// A node's second coordinate.
     pub ys: &'a mut [f64],
+    /// A node's successor on the front, or [`OFF`].
     pub next: &'a mut [u32],
+    /// A node's predecessor on the front, or [`OFF`].
     pub prev: &'a mut [u32],
-    /// The number of the loop that a node came from.
+    /// The number of the outline's loop that a node came from.
     pub origins: &'a mut [u16],
+    /// Four ids a quad, in the order a, b, d, c.
     pub quads: &'a mut [u32],
+    /// Two ids a distinct edge, the smaller first.
     pub edges: &'a mut [u32],
 }
 
 /// A mesh's lists, which are only read. Any slices may be lent; those that don't hold a sound mesh are refused.
 #[derive(Clone, Copy, Debug)]
 pub struct MeshRead<'a> {
+    /// As in [`MeshLists`], here and below.
     pub xs: &'a [f64],
+    /// A node's second coordinate.
     pub ys: &'a [f64],
+    /// A node's successor on the front.
     pub next: &'a [u32],
+    /// A node's predecessor on the front.
     pub prev: &'a [u32],
+    /// The number of the outline's loop that a node came from.
     pub origins: &'a [u16],
+    /// Four ids a quad.
     pub quads: &'a [u32],
+    /// Two ids a distinct edge.
     pub edges: &'a [u32],
 }
 
@@ -93,6 +115,7 @@ pub struct MeshRead<'a> {
 ///
 /// In the answer: 1 to 7 of outline and size, 11 of the field, 23 of the mesh, 24 of the edge. Nothing is written then.
 pub fn step_numbers(ground: &Ground<'_>, lists: &mut MeshLists<'_>, counts: MeshCounts, edge: [u32; 2]) -> ffi::StepAnswer {
+    floats::check();
     let Ground { outline: Outline { outer, holes, hole_lengths: lens }, size, record, values, marks } = *ground;
     // SAFETY: each pointer comes with the length of its slice, and the slices live until the call returns; those that may be
     // written are borrowed for that. The entry is proved to read and write nothing else.
@@ -150,6 +173,7 @@ pub fn preview_numbers(
     edge: [u32; 2],
     list: &mut [u32],
 ) -> ffi::PreviewAnswer {
+    floats::check();
     let Ground { outline: Outline { outer, holes, hole_lengths: lens }, size, record, values, marks } = *ground;
     // SAFETY: as in `step_numbers`; only the list may be written.
     unsafe {
@@ -213,6 +237,7 @@ pub struct Preview<'a> {
 
 impl<'a> Preview<'a> {
     /// Each front edge after the step, by the first node's id.
+    #[must_use]
     pub fn front(&self) -> impl ExactSizeIterator<Item = [u32; 2]> + Clone + 'a {
         self.front.chunks_exact(2).map(|edge| [edge[0], edge[1]])
     }
@@ -342,6 +367,7 @@ impl<'a> Stepper<'a> {
     }
 
     /// The counts of the mesh as it stands.
+    #[must_use]
     pub fn counts(&self) -> MeshCounts {
         self.counts
     }
@@ -374,6 +400,7 @@ impl<'a> Stepper<'a> {
     }
 
     /// The number of the outline's loop that each node came from: 0 for the outer one.
+    #[must_use]
     pub fn origins(&self) -> &[u16] {
         &self.origins[..self.counts.nodes as usize]
     }

@@ -1,8 +1,10 @@
 //! The motor bowl: the nodes of a mesh in whole steps of 1/64 degree, for meshes whose quads it can show.
 
-use std::{error, fmt};
+use alloc::vec;
+use alloc::vec::Vec;
+use core::{error, fmt};
 
-use crate::ffi;
+use crate::{ffi, floats};
 use crate::{Mesh, MeshCounts, MeshRead, Refusal};
 
 /// How many steps make a degree.
@@ -14,11 +16,15 @@ pub enum NotShown {
     /// The lent mesh isn't sound, or the step buffer has fewer than two places a node.
     UnsoundMesh,
     /// This quad, counted from 0, doesn't turn left at all four corners in steps; every one before it does.
-    Quad { quad: usize },
+    Quad {
+        /// Its number.
+        quad: usize,
+    },
 }
 
 impl NotShown {
     /// The refusal: 23 or 25.
+    #[must_use]
     pub fn refusal(self) -> Refusal {
         match self {
             NotShown::UnsoundMesh => Refusal::UnsoundMesh,
@@ -62,16 +68,19 @@ impl Steps {
     }
 
     /// Each node's steps from the origin, by id.
+    #[must_use]
     pub fn counts(&self) -> impl ExactSizeIterator<Item = [i32; 2]> + Clone + '_ {
         self.places.chunks_exact(2).map(|node| [node[0], node[1]])
     }
 
     /// Each node's coordinates in degrees, by id. They are exact: a step is 2^-6 of a degree.
+    #[must_use]
     pub fn degrees(&self) -> impl ExactSizeIterator<Item = [f64; 2]> + Clone + '_ {
         self.counts().map(|node| node.map(|count| f64::from(count) / f64::from(STEPS_PER_DEGREE)))
     }
 
     /// The places as they were written, two a node.
+    #[must_use]
     pub fn as_slice(&self) -> &[i32] {
         &self.places
     }
@@ -115,6 +124,7 @@ pub fn steps(mesh: &MeshRead<'_>, counts: MeshCounts, places: &mut [i32]) -> Res
 
 /// As [`steps`], with the numbers as they cross.
 pub fn steps_numbers(mesh: &MeshRead<'_>, counts: MeshCounts, places: &mut [i32]) -> ffi::StepsAnswer {
+    floats::check();
     // SAFETY: each pointer comes with the length of its slice, and the slices live until the call returns; the one that may be
     // written is borrowed for that. The entry is proved to read and write nothing else.
     unsafe {

@@ -186,7 +186,7 @@ fn the_library_refuses_one_place_fewer() {
     for _ in 0..300 {
         let (drawing, size) = spoilt(&mut rng);
         if let Err(refusal) = least_places(&drawing.outline(), size) {
-            let mut lists = RunPlaces::new([0; 14]);
+            let mut lists = RunPlaces::new([0; common::LISTS.len()]);
             assert_eq!(lists.pave(&drawing.outline(), &settings(size)).err(), Some(refusal), "{size} {drawing:?}");
         }
     }

@@ -1,5 +1,7 @@
 """What the tests have in common: where things are, and how the commands and the oracle are asked."""
 
+import importlib.machinery
+import importlib.util
 import pathlib
 import subprocess
 import sys
@@ -35,6 +37,13 @@ SQUARE = "0,0\n2,0\n2,2\n0,2\n"
 SQUARE_LISTING = (ROOT / "crates/pave/stdout").read_text()
 
 LEAST = 5e-324
+
+def command(name):
+    """A command of tools/ as a module."""
+    loader = importlib.machinery.SourceFileLoader(name, str(TOOLS / name))
+    module = importlib.util.module_from_spec(importlib.util.spec_from_loader(name, loader))
+    loader.exec_module(module)
+    return module
 
 
 def slit(e, f):

@@ -1,13 +1,15 @@
-"""The built program: document 01's square, endless input, and generated files beside the oracle; and `tools/pave` over it."""
+"""The built program: document 01's square, endless input, and generated files beside the oracle; and `tools/pave` over it, which builds it."""
 
 import os
 import pathlib
+import re
 import shutil
 import subprocess
 import tempfile
 import unittest
 
 import common
+import crates
 from common import LEAST, ORACLE, ROOT, SQUARE, SQUARE_LISTING, TOOLS, ask, run, slit
 
 PROGRAM = ROOT / "target/bin/pave"
@@ -79,6 +81,63 @@ class Program(unittest.TestCase):
                 self.assertEqual((status, said), (0, f"mesh 10 4 2 still {word}\n".encode()), (e, f))
                 self.assertEqual("outline: unsound: the segments from" in wrong, word == "open", wrong)
                 self.assertIn(unsound, wrong)
+
+
+# In the place of rt: says what rt says of each crate, and leaves a program that prints a listing.
+RT = """#!/usr/bin/env bash
+echo asked "$@" >> asked
+echo "fn laws::forUp: proved"
+for crate in laws numbers {crates}; do echo "rt: $crate proved (1 s)"; done
+{end}
+mkdir -p target/bin && printf '#!/bin/sh\\ncat %s/listing\\n' "$PWD" > target/bin/pave && chmod +x target/bin/pave
+"""
+
+
+class FirstBuild(unittest.TestCase):
+    def setUp(self):
+        folder = tempfile.TemporaryDirectory()
+        self.addCleanup(folder.cleanup)
+        self.root = pathlib.Path(folder.name)
+        shutil.copytree(TOOLS, self.root / "tools", ignore=shutil.ignore_patterns("tests", "__pycache__"))
+        (self.root / "host").mkdir()
+        (self.root / "bin").mkdir()
+        for name in ("crates.txt", "host/Cargo.toml"):
+            shutil.copy(ROOT / name, self.root / name)
+        (self.root / "listing").write_text(SQUARE_LISTING)
+        (self.root / "square.csv").write_text(SQUARE)
+        self.crates = crates.reached("pave", crates.dependencies())
+
+    def pave(self, *words, end=""):
+        """Status, standard output and standard error of `tools/pave`, where the program isn't built."""
+        rt = self.root / "bin/rt"
+        rt.write_text(RT.format(crates=" ".join(self.crates), end=end))
+        rt.chmod(0o755)
+        path = f"{rt.parent}:{os.environ['PATH']}"
+        result = subprocess.run([self.root / "tools/pave", *words], cwd=self.root, env={**os.environ, "PATH": path}, capture_output=True, text=True)
+        return result.returncode, result.stdout, result.stderr.splitlines()
+
+    def test_how_far_it_is(self):
+        status, said, told = self.pave("square.csv", "square.svg", "--size", "1")
+        self.assertEqual((status, said), (0, "mesh 9 4 2 still whole\n"), told)
+        self.assertEqual((self.root / "asked").read_text(), "asked check pave\n")
+        log = self.root / "target/log/first-build"
+        self.assertIn(str(log), told[0])
+        self.assertIn("fn laws::forUp: proved\n", log.read_text())
+        shown = [re.fullmatch(r"pave: (\d+) of (\d+) crates, \d+:\d\d", line).groups() for line in told[1:]]
+        self.assertEqual(shown, [(str(k), str(len(self.crates))) for k in range(1, len(self.crates) + 1)])
+        self.assertTrue((self.root / "square.svg").is_file())
+
+    def test_inputs_are_looked_at_first(self):
+        for words, status in ((["square.csv", "square.svg", "--size", "0.001"], 1), (["none.csv", "square.svg", "--size", "1"], 2),
+                              (["square.csv", "none/square.svg", "--size", "1"], 2), (["square.csv", "tools", "--size", "1"], 2),
+                              (["square.csv", "square.svg"], 2)):
+            self.assertEqual(self.pave(*words)[:2], (status, ""), words)
+        self.assertFalse((self.root / "asked").exists())
+
+    def test_a_build_that_fails(self):
+        status, said, told = self.pave("square.csv", "square.svg", "--size", "1", end="exit 1")
+        self.assertEqual((status, said), (2, ""))
+        self.assertRegex(told[-1], "^pave: the program can't be built: .*/target/log/first-build says why$")
 
 
 @unittest.skipUnless(os.access(REPLAY, os.X_OK), "the program isn't built")

@@ -160,7 +160,8 @@ fn steps_answer(
     lowest_hidden(xs, ys, quads, k.quads)
 }
 
-// The mesh is only read, and the buffer is written once nothing is refused.
+// The nodes of a lent mesh in whole steps of 1/64 degree, each coordinate at the nearest step, halves at the even one. The mesh is only read, and the buffer is
+// written once nothing is refused.
 #[no_mangle]
 pub extern "C" fn sitjorbe_steps(
     xs: &[f64],

@@ -190,7 +190,8 @@ fn first_early(
     }
 }
 
-// The entry. `places` and `pool` are scratch of any length: what they hold doesn't change the answer.
+// Whether the quads may be tested in this order: each of them once, and after every quad that laid a front edge which it used up. `places` and `pool`
+// are scratch of any length: what they hold doesn't change the answer.
 #[no_mangle]
 pub extern "C" fn sitjorbe_order(
     quad_count: usize,

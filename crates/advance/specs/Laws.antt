@@ -36,7 +36,7 @@ use Rattle.books.specs.Answered.{choice}
 use Rattle.attempts.specs.Seen.{seenOf}
 use Rattle.attempts.specs.SeenLaws.{try-seen}
 use Rattle.retries.specs.Vain.{Remembers}
-use Rattle.retries.specs.Untried.{meshOf, Untried}
+use Rattle.retries.specs.Untried.{seenMesh, Untried}
 use Rattle.advance.specs.declared.Settled.{Settled}
 use Rattle.advance.specs.declared.Settled.the-variants.{Same, Put}
 use Rattle.advance.specs.declared.Settled.the-variants as settled-is
@@ -101,7 +101,7 @@ module _ (o : Outline) (size : Float) (g : Grid) (values : List Float) (s : Stat
         let h = edge-there (getD (s .next) a 0) b e f in
         ap₂ there (sym link-now) (sym (h .1)) ∙ h .0
 
-    pub settle-untried : (blocks : List ℕ) → Paveable o blocks g values s → {l : List ℕ} → Remembers o size field l (meshOf s)
+    pub settle-untried : (blocks : List ℕ) → Paveable o blocks g values s → {l : List ℕ} → Remembers o size field l (seenMesh s)
         → Untried o size field (seenOf s) l a to
     settle-untried blocks P R =
         record {

@@ -31,7 +31,7 @@ use Rattle.indexed.specs.Rects.{nodeRects, edgeRects, NodesFiled, EdgesFiled}
 use Rattle.attempts.specs.Seen.{seenEdges}
 use Rattle.retries.specs.Vain.{forgotten, Remembers}
 use Rattle.retries.specs.VainLaws.{forgotten-remembers, remembers-later, remembers-same}
-use Rattle.retries.specs.Untried.{meshOf}
+use Rattle.retries.specs.Untried.{seenMesh}
 use Rattle.advance.specs.declared.Settled.{Settled}
 use Rattle.advance.specs.declared.Settled.the-variants.{Put}
 use Rattle.advance.specs.declared.Settled.the-variants as settled-is
@@ -108,7 +108,7 @@ module _ (o : Outline) (blocks : List ℕ) (g : Grid) (values : List Float) (siz
     placed-adds {m} e = done-adds m _ (rw e at Q)
 
   -- where it is full, nothing changes
-  module _ (field : FieldRecord) (tried : List ℕ) (M : Remembers o size field tried (meshOf s)) {xs ys : List Float}
+  module _ (field : FieldRecord) (tried : List ℕ) (M : Remembers o size field tried (seenMesh s)) {xs ys : List Float}
       {next prev snapshot quads edges : List ℕ} {r : Placed}
       (Q : Places a b c d s r (stateOf xs ys next prev snapshot quads edges (countsAfter (s .counts) r))) where
     pub full-helped : r ≡ placed-is.Full → Helped o size field xs ys edges (s .counts) node-pool edge-pool tried
@@ -118,16 +118,16 @@ module _ (o : Outline) (blocks : List ℕ) (g : Grid) (values : List Float) (siz
         (record { search = S; remembers = M })
 
     done-remembers : (m : Counts) (t : State) → Places a b c d s (placed-is.Done m) t
-        → Remembers o size field (forgotten (s .counts .nodes) (t .counts .nodes) tried) (meshOf t)
+        → Remembers o size field (forgotten (s .counts .nodes) (t .counts .nodes) tried) (seenMesh t)
     done-remembers m t D =
         let f = placed-done a b c d s t m D in
         let L = later-placed o blocks g values s P a b c d (R .choice) (f .0) in
         let u = place a b c d s in
         let l = forgotten (s .counts .nodes) (u .counts .nodes) tried in
         let few = held o blocks g values u (L .paveable) .few in
-        subst (λ (t : State). Remembers o size field (forgotten (s .counts .nodes) (t .counts .nodes) tried) (meshOf t)) (sym (f .1))
-        (remembers-same o size field l u (meshOf u) refl refl refl refl
-        (remembers-later o size field tried s u (L .frame) few (remembers-same o size field tried (meshOf s) s refl refl refl refl M)))
+        subst (λ (t : State). Remembers o size field (forgotten (s .counts .nodes) (t .counts .nodes) tried) (seenMesh t)) (sym (f .1))
+        (remembers-same o size field l u (seenMesh u) refl refl refl refl
+        (remembers-later o size field tried s u (L .frame) few (remembers-same o size field tried (seenMesh s) s refl refl refl refl M)))
 
     -- where it is done, new nodes and edges are filed, and nothing was tried from the nodes
     pub done-helped : {m : Counts} → r ≡ placed-is.Done m → {node-pool₁ edge-pool₁ tried₁ : List ℕ}

@@ -29,7 +29,7 @@ use Rattle.retries.specs.Attempts.{try-fails}
 -- ---- the states that are reached
 
 -- t is a state that a run of n sampled points can be in, and comes after s
-pub record Stands (n : ℕ) (s t : State) : Type 0 where
+pub record StandsAfter (n : ℕ) (s t : State) : Type 0 where
   pub loops : List (List ℕ)
   pub sound : Sound n t loops
   pub known : Known t
@@ -40,7 +40,7 @@ unfolding withSnapshot hasEdge
 known-snapshot s K = record { fronts = K .fronts; joined = K .joined }
 
 pub stands : {n : ℕ} {o : Outline} {size : Float} {s : State} {ls : List (List ℕ)} {k : ℕ} {t : State} → Sound n s ls → Known s
-    → Reaches o size s k t → Stands n s t
+    → Reaches o size s k t → StandsAfter n s t
 stands {s = s} {ls = ls} S K begin = record { loops = ls; sound = S; known = K; frame = frame-same s }
 stands {n = n} {s = s} S K (snapshot {t = t} r) =
     let Y = stands S K r in

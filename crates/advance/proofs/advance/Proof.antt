@@ -59,17 +59,18 @@ file-all-requires : tie.Need-file-all-requires Inv-loop μ-loop
 file-all-requires c κs = held _ _ _ _ _ (c .before .before .before .before .before .before .before .before .before .before .before .before .before .before .before .before .before .before .before .before .before .before .pre) .edges
 
 loop-holds : tie.Need-loop-holds Inv-loop μ-loop
-loop-holds c = let start = c .before .before .before .before .before .before .before .before .before .before .before .before .before .before .before .before .before .before .before .before .before .before .before .before .before .before .before .before .before in
-    (run-start _ allUsed _ _,
-      record {
-        help = record {
-          search = c .before .before .before .before .before .before .file-all .ensures .0;
-          remembers = all-forgotten (around start) (start .args .size) (field start) _ _ _ _ _ (c .before .before .before .before .before .before .file-all .ensures .1);
-        };
-        node-long = refl;
-        edge-long = refl;
-        tried-long = refl;
-      })
+loop-holds c = let start = c .before .before .before .before .before .before .before .before .before .before .before .before .before .before .before .before .before .before .before .before .before .before .before .before .before .before .before .before .before in (
+  run-start _ allUsed _ _,
+  record {
+    help = record {
+      search = c .before .before .before .before .before .before .file-all .ensures .0;
+      remembers = all-forgotten (around start) (start .args .size) (field start) _ _ _ _ _ (c .before .before .before .before .before .before .file-all .ensures .1);
+    };
+    node-long = refl;
+    edge-long = refl;
+    tried-long = refl;
+  },
+)
 
 add-i : tie.Need-add-i Inv-loop μ-loop
 add-i c = omega arith
@@ -85,14 +86,15 @@ loop-less c = omega arith
 
 loop-again : tie.Need-loop-again Inv-loop μ-loop
 loop-again c = let at-loop = c .before .before .before .before .before .before .before .before .before .before .before .before .before .before .before .before .before .before .before .before .before .before .before .before .before .before .before .before .before .before .before .before .before .before .before in
-    let at-pass = c .before .before .before .before .before .before .before .before .before .before .before .before .before .before .before .before .before .before .before .before .before .before .before in
-    (run-go _ allUsed _ _ (at-loop .loop .inv .0) (c .before .before .before .before .before .before .before .before .before .before .before .before .before .before .before .before .before .before .before .before .before .before .before .before .before .before .before .before .before .before .before .before .before .before .loop-test .taken) (pass-on (at-pass .pass .result) (at-pass .pass .ensures .0) (c .before .p .given .1)),
+    let at-pass = c .before .before .before .before .before .before .before .before .before .before .before .before .before .before .before .before .before .before .before .before .before .before .before in (
+      run-go _ allUsed _ _ (at-loop .loop .inv .0) (c .before .before .before .before .before .before .before .before .before .before .before .before .before .before .before .before .before .before .before .before .before .before .before .before .before .before .before .before .before .before .before .before .before .before .loop-test .taken) (pass-on (at-pass .pass .result) (at-pass .pass .ensures .0) (c .before .p .given .1)),
       record {
         help = helped-at (ap (λ (r : Swept). passedCounts r) (c .before .p .given .1)) (at-pass .pass .ensures .1);
         node-long = at-pass .pass .kept .1 .1 .1 .1 .1 .1 .1 .1 .1 .1 .1 .1 .1 .1 .0 ∙ at-loop .loop .inv .1 .node-long;
         edge-long = at-pass .pass .kept .1 .1 .1 .1 .1 .1 .1 .1 .1 .1 .1 .1 .1 .1 .1 .0 ∙ at-loop .loop .inv .1 .edge-long;
         tried-long = at-pass .pass .kept .1 .1 .1 .1 .1 .1 .1 .1 .1 .1 .1 .1 .1 .1 .1 .1 .0 ∙ at-loop .loop .inv .1 .tried-long;
-      })
+      },
+    )
 
 enum-known-p-2 : tie.Need-enum-known-p-2 Inv-loop μ-loop
 enum-known-p-2 c = search needs

@@ -67,15 +67,16 @@ loop-less c = omega arith
 
 loop-again : tie.Need-loop-again Inv-loop μ-loop
 loop-again c = let at-loop = c .before .before .before .before .before .before .before .before .before .before .before .before .before .before .before .before .before .before .before .before .before .before .before .before .before .before .before .before .before .before .before .before in
-    let at-settle = c .before .before .before .before .before .before .before .before .before .before .before .before .before .before .before .before .before .before .before .before in
-    (run-go _ afterPass _ _ (at-loop .loop .inv .0) (c .before .before .before .before .before .before .before .before .before .before .before .before .before .before .before .before .before .before .before .before .before .before .before .before .before .before .before .before .before .before .before .loop-test .taken)
-      (went-same (at-loop .loop .j) (at-loop .loop .some) (at-settle .settle .result) (at-settle .settle .ensures .0 (at-loop .loop .some)) (c .enum-told .given .1)),
+    let at-settle = c .before .before .before .before .before .before .before .before .before .before .before .before .before .before .before .before .before .before .before .before in (
+      run-go _ afterPass _ _ (at-loop .loop .inv .0) (c .before .before .before .before .before .before .before .before .before .before .before .before .before .before .before .before .before .before .before .before .before .before .before .before .before .before .before .before .before .before .before .loop-test .taken)
+          (went-same (at-loop .loop .j) (at-loop .loop .some) (at-settle .settle .result) (at-settle .settle .ensures .0 (at-loop .loop .some)) (c .enum-told .given .1)),
       record {
         help = helped-at (ap (λ (t : Settled). settledCounts (at-loop .loop .j) t) (c .enum-told .given .1)) (at-settle .settle .ensures .1);
         node-long = at-settle .settle .kept .1 .1 .1 .1 .1 .1 .1 .1 .1 .1 .1 .1 .1 .1 .0 ∙ at-loop .loop .inv .1 .node-long;
         edge-long = at-settle .settle .kept .1 .1 .1 .1 .1 .1 .1 .1 .1 .1 .1 .1 .1 .1 .1 .0 ∙ at-loop .loop .inv .1 .edge-long;
         tried-long = at-settle .settle .kept .1 .1 .1 .1 .1 .1 .1 .1 .1 .1 .1 .1 .1 .1 .1 .1 .0 ∙ at-loop .loop .inv .1 .tried-long;
-      })
+      },
+    )
 
 enum-known-t : tie.Need-enum-known-t Inv-loop μ-loop
 enum-known-t c = search needs
@@ -85,15 +86,16 @@ loop-less-2 c = omega arith
 
 loop-again-2 : tie.Need-loop-again-2 Inv-loop μ-loop
 loop-again-2 c = let at-loop = c .before .before .before .before .before .before .before .before .before .before .before .before .before .before .before .before .before .before .before .before .before .before .before .before .before .before .before .before .before .before .before .before .before in
-    let at-settle = c .before .before .before .before .before .before .before .before .before .before .before .before .before .before .before .before .before .before .before .before .before in
-    (run-go _ afterPass _ _ (at-loop .loop .inv .0) (c .before .before .before .before .before .before .before .before .before .before .before .before .before .before .before .before .before .before .before .before .before .before .before .before .before .before .before .before .before .before .before .before .loop-test .taken)
-      (went-put (at-loop .loop .j) (at-loop .loop .some) (at-settle .settle .result) (at-settle .settle .ensures .0 (at-loop .loop .some)) (c .before .t .given .1)),
+    let at-settle = c .before .before .before .before .before .before .before .before .before .before .before .before .before .before .before .before .before .before .before .before .before in (
+      run-go _ afterPass _ _ (at-loop .loop .inv .0) (c .before .before .before .before .before .before .before .before .before .before .before .before .before .before .before .before .before .before .before .before .before .before .before .before .before .before .before .before .before .before .before .before .loop-test .taken)
+          (went-put (at-loop .loop .j) (at-loop .loop .some) (at-settle .settle .result) (at-settle .settle .ensures .0 (at-loop .loop .some)) (c .before .t .given .1)),
       record {
         help = helped-at (ap (λ (t : Settled). settledCounts (at-loop .loop .j) t) (c .before .t .given .1)) (at-settle .settle .ensures .1);
         node-long = at-settle .settle .kept .1 .1 .1 .1 .1 .1 .1 .1 .1 .1 .1 .1 .1 .1 .0 ∙ at-loop .loop .inv .1 .node-long;
         edge-long = at-settle .settle .kept .1 .1 .1 .1 .1 .1 .1 .1 .1 .1 .1 .1 .1 .1 .1 .0 ∙ at-loop .loop .inv .1 .edge-long;
         tried-long = at-settle .settle .kept .1 .1 .1 .1 .1 .1 .1 .1 .1 .1 .1 .1 .1 .1 .1 .1 .0 ∙ at-loop .loop .inv .1 .tried-long;
-      })
+      },
+    )
 
 enum-known-t-2 : tie.Need-enum-known-t-2 Inv-loop μ-loop
 enum-known-t-2 c = search needs
@@ -137,11 +139,12 @@ same-length-10 c = c .before .before .before .before .before .before .before .be
 returns : tie.Need-returns Inv-loop μ-loop
 returns c = let start = c .before .before .before .before .before .before .before .before .before .before .before .before .before .before .before .before .before .before .before .before .before .before .before .before .before .before .before .before .before .before .before .before .before .before .before .before .before .before .before .before .before .before .before .before .before .before .before .before .before .before .before .before .before .before in
     let at-loop = c .before .before .before .before .before .before .before .before .before .before .before .before .before .before .before .before .before .before .before .before .before .before .before .before .before .before .before .before .before .before .before .before .before in
-    let at-settle = c .before .before .before .before .before .before .before .before .before .before .before .before .before .before .before .before .before .before .before .before .before in
-    (pass-whole (around start) (start .args .size) (field start) (lent start) _ _ (c .before .before .before .before .before .before .before .before .before .before .before .before .before .before .before .before .before .before .before .before .before .before .before .before .before .before .before .before .before .before .before .before .before .before .before .before .copy-links .ensures)
-      (run-out _ afterPass _ _ (at-loop .loop .inv .0) (c .before .before .before .before .before .before .before .before .before .before .before .before .before .before .before .before .before .before .before .before .before .before .before .before .before .before .before .before .before .before .before .before .loop-test .taken)
-      (went-over (at-loop .loop .j) (at-loop .loop .some) (at-settle .settle .result) (at-settle .settle .ensures .0 (at-loop .loop .some)) (c .before .t2 .given .1))),
-      helped-at (ap (λ (t : Settled). settledCounts (at-loop .loop .j) t) (c .before .t2 .given .1)) (at-settle .settle .ensures .1))
+    let at-settle = c .before .before .before .before .before .before .before .before .before .before .before .before .before .before .before .before .before .before .before .before .before in (
+      pass-whole (around start) (start .args .size) (field start) (lent start) _ _ (c .before .before .before .before .before .before .before .before .before .before .before .before .before .before .before .before .before .before .before .before .before .before .before .before .before .before .before .before .before .before .before .before .before .before .before .before .copy-links .ensures)
+          (run-out _ afterPass _ _ (at-loop .loop .inv .0) (c .before .before .before .before .before .before .before .before .before .before .before .before .before .before .before .before .before .before .before .before .before .before .before .before .before .before .before .before .before .before .before .before .loop-test .taken)
+          (went-over (at-loop .loop .j) (at-loop .loop .some) (at-settle .settle .result) (at-settle .settle .ensures .0 (at-loop .loop .some)) (c .before .t2 .given .1))),
+      helped-at (ap (λ (t : Settled). settledCounts (at-loop .loop .j) t) (c .before .t2 .given .1)) (at-settle .settle .ensures .1),
+    )
 
 after-pass-requires : tie.Need-after-pass-requires Inv-loop μ-loop
 after-pass-requires c κs = search needs
@@ -184,10 +187,11 @@ same-length-20 c = c .before .before .loop .inv .1 .tried-long
 
 returns-2 : tie.Need-returns-2 Inv-loop μ-loop
 returns-2 c = let start = c .before .before .before .before .before .before .before .before .before .before .before .before .before .before .before .before .before .before .before .before .before .before .before in
-    let at-loop = c .before .before in
-    (pass-whole (around start) (start .args .size) (field start) (lent start) _ _ (c .before .before .before .before .before .copy-links .ensures)
-      (pass-ends _ (at-loop .loop .inv .0) (c .before .loop-test .left) (c .after-pass .ensures)),
-      helped-at (sym (counts-passed (at-loop .loop .some) (at-loop .loop .j) (c .after-pass .ensures))) (at-loop .loop .inv .1 .help))
+    let at-loop = c .before .before in (
+      pass-whole (around start) (start .args .size) (field start) (lent start) _ _ (c .before .before .before .before .before .copy-links .ensures)
+          (pass-ends _ (at-loop .loop .inv .0) (c .before .loop-test .left) (c .after-pass .ensures)),
+      helped-at (sym (counts-passed (at-loop .loop .some) (at-loop .loop .j) (c .after-pass .ensures))) (at-loop .loop .inv .1 .help),
+    )
 
 pub pass-spec : {M : Type 1} → statement M
 pass-spec =

@@ -39,15 +39,18 @@ same-length : tie.Need-same-length
 same-length c = search needs
 
 returns : tie.Need-returns
-returns c = let start = c .before .before .before .before .before .before .before .before .before .before .before .before .before .before .before .before .before .before .before in
-    (settle-gone (around start) (start .args .size) (start .args .grid) (start .args .values .now) (lent start) (start .args .a) (start .pre .1)
-      (held _ _ _ _ _ (start .pre .0)) (c .before .before .snapshot-edge .ensures) (c .enum-told .given .1), start .pre .2)
+returns c = let start = c .before .before .before .before .before .before .before .before .before .before .before .before .before .before .before .before .before .before .before in (
+  settle-gone (around start) (start .args .size) (start .args .grid) (start .args .values .now) (lent start) (start .args .a) (start .pre .1)
+      (held _ _ _ _ _ (start .pre .0)) (c .before .before .snapshot-edge .ensures) (c .enum-told .given .1),
+  start .pre .2,
+)
 
 try-untried-requires : tie.Need-try-untried-requires
-try-untried-requires c κs = let start = c .before .before .before .before .before .before .before .before .before .before .before .before .before .before .before .before .before .before .before .before .before .before .before .before .before .before .before .before in
-    (try-lent _ _ _ _ _ (start .pre .0) _ (start .pre .2 .search .nodes-filed) (start .pre .2 .search .edges-filed),
-      settle-untried (around start) (start .args .size) (start .args .grid) (start .args .values .now) (lent start) (start .args .a) (start .pre .1)
-      (held _ _ _ _ _ (start .pre .0)) (c .before .before .before .before .before .before .before .before .before .before .before .snapshot-edge .ensures) (c .before .before .before .before .before .before .before .before .before .edge .given .1) _ (start .pre .0) (start .pre .2 .remembers))
+try-untried-requires c κs = let start = c .before .before .before .before .before .before .before .before .before .before .before .before .before .before .before .before .before .before .before .before .before .before .before .before .before .before .before .before in (
+  try-lent _ _ _ _ _ (start .pre .0) _ (start .pre .2 .search .nodes-filed) (start .pre .2 .search .edges-filed),
+  settle-untried (around start) (start .args .size) (start .args .grid) (start .args .values .now) (lent start) (start .args .a) (start .pre .1)
+      (held _ _ _ _ _ (start .pre .0)) (c .before .before .before .before .before .before .before .before .before .before .before .snapshot-edge .ensures) (c .before .before .before .before .before .before .before .before .before .edge .given .1) _ (start .pre .0) (start .pre .2 .remembers),
+)
 
 enum-known-attempt : tie.Need-enum-known-attempt
 enum-known-attempt c = search needs
@@ -80,19 +83,22 @@ same-length-9 : tie.Need-same-length-9
 same-length-9 c = search needs
 
 returns-2 : tie.Need-returns-2
-returns-2 c = let start = c .before .before .before .before .before .before .before .before .before .before .before .before .before .before .before .before .before .before .before .before .before .before .before .before .before .before .before .before .before .before .before .before .before in
-    (settle-same (around start) (start .args .size) (start .args .grid) (start .args .values .now) (lent start) (start .args .a) (start .pre .1)
+returns-2 c = let start = c .before .before .before .before .before .before .before .before .before .before .before .before .before .before .before .before .before .before .before .before .before .before .before .before .before .before .before .before .before .before .before .before .before in (
+  settle-same (around start) (start .args .size) (start .args .grid) (start .args .values .now) (lent start) (start .args .a) (start .pre .1)
       (held _ _ _ _ _ (start .pre .0)) (c .before .before .before .before .before .before .before .before .before .before .before .before .before .before .before .before .snapshot-edge .ensures) (c .before .before .before .before .before .before .before .before .before .before .before .before .before .before .edge .given .1) _ (c .before .before .before .before .try-untried .ensures .0) (c .enum-told2 .given .1),
-      record { search = start .pre .2 .search; remembers = c .before .before .before .before .try-untried .ensures .1 })
+  record { search = start .pre .2 .search; remembers = c .before .before .before .before .try-untried .ensures .1 },
+)
 
 is-known-across-requires : tie.Need-is-known-across-requires
 is-known-across-requires c κs = let start = c .before .before .before .before .before .before .before .before .before .before .before .before .before .before .before .before .before .before .before .before .before .before .before .before .before .before .before .before .before .before .before .before .before .before .before .before .before .before in
     (held _ _ _ _ _ (start .pre .0) .edges, start .pre .2 .search .edges-filed)
 
 place-requires : tie.Need-place-requires
-place-requires c κs = let start = c .before .before .before .before .before .before .before .before .before .before .before .before .before .before .before .before .before .before .before .before .before .before .before .before .before .before .before .before .before .before .before .before .before .before .before .before .before .before .before .before .before .before .before .before .before in
-    (settle-ready (around start) (start .args .size) (start .args .grid) (start .args .values .now) (lent start) (start .args .a) (start .pre .1)
-      (held _ _ _ _ _ (start .pre .0)) (c .before .before .before .before .before .before .before .before .before .before .before .before .before .before .before .before .before .before .before .before .before .before .before .before .before .before .before .before .snapshot-edge .ensures) (c .before .before .before .before .before .before .before .before .before .before .before .before .before .before .before .before .before .before .before .before .before .before .before .before .before .before .edge .given .1) _ (c .before .before .before .before .before .before .before .before .before .before .before .before .before .before .before .before .try-untried .ensures .0) _ _ (c .before .before .before .before .before .before .before .before .before .before .before .before .attempt .given .1) _ (start .pre .0), c .before .before .before .before .before .before .is-known-across .ensures)
+place-requires c κs = let start = c .before .before .before .before .before .before .before .before .before .before .before .before .before .before .before .before .before .before .before .before .before .before .before .before .before .before .before .before .before .before .before .before .before .before .before .before .before .before .before .before .before .before .before .before .before in (
+  settle-ready (around start) (start .args .size) (start .args .grid) (start .args .values .now) (lent start) (start .args .a) (start .pre .1)
+      (held _ _ _ _ _ (start .pre .0)) (c .before .before .before .before .before .before .before .before .before .before .before .before .before .before .before .before .before .before .before .before .before .before .before .before .before .before .before .before .snapshot-edge .ensures) (c .before .before .before .before .before .before .before .before .before .before .before .before .before .before .before .before .before .before .before .before .before .before .before .before .before .before .edge .given .1) _ (c .before .before .before .before .before .before .before .before .before .before .before .before .before .before .before .before .try-untried .ensures .0) _ _ (c .before .before .before .before .before .before .before .before .before .before .before .before .attempt .given .1) _ (start .pre .0),
+  c .before .before .before .before .before .before .is-known-across .ensures,
+)
 
 enum-told-3 : tie.Need-enum-told-3
 enum-told-3 c = search needs
@@ -103,7 +109,7 @@ enum-known-placed c = search needs
 file-added-requires : tie.Need-file-added-requires
 file-added-requires c κs = let start = c .before .before .before .before .before .before .before .before .before .before .before .before .before .before .before .before .before .before .before .before .before .before .before .before .before .before .before .before .before .before .before .before .before .before .before .before .before .before .before .before .before .before .before .before .before .before .before .before .before .before .before .before .before .before .before .before .before .before .before .before .before .before .before .before .before .before .before in
     let ready = settle-ready (around start) (start .args .size) (start .args .grid) (start .args .values .now) (lent start) (start .args .a) (start .pre .1)
-      (held _ _ _ _ _ (start .pre .0)) (c .before .before .before .before .before .before .before .before .before .before .before .before .before .before .before .before .before .before .before .before .before .before .before .before .before .before .before .before .before .before .before .before .before .before .before .before .before .before .before .before .before .before .before .before .before .before .before .before .before .before .snapshot-edge .ensures) (c .before .before .before .before .before .before .before .before .before .before .before .before .before .before .before .before .before .before .before .before .before .before .before .before .before .before .before .before .before .before .before .before .before .before .before .before .before .before .before .before .before .before .before .before .before .before .before .before .edge .given .1) _ (c .before .before .before .before .before .before .before .before .before .before .before .before .before .before .before .before .before .before .before .before .before .before .before .before .before .before .before .before .before .before .before .before .before .before .before .before .before .before .try-untried .ensures .0) _ _ (c .before .before .before .before .before .before .before .before .before .before .before .before .before .before .before .before .before .before .before .before .before .before .before .before .before .before .before .before .before .before .before .before .before .before .attempt .given .1) _ (start .pre .0) in
+    (held _ _ _ _ _ (start .pre .0)) (c .before .before .before .before .before .before .before .before .before .before .before .before .before .before .before .before .before .before .before .before .before .before .before .before .before .before .before .before .before .before .before .before .before .before .before .before .before .before .before .before .before .before .before .before .before .before .before .before .before .before .snapshot-edge .ensures) (c .before .before .before .before .before .before .before .before .before .before .before .before .before .before .before .before .before .before .before .before .before .before .before .before .before .before .before .before .before .before .before .before .before .before .before .before .before .before .before .before .before .before .before .before .before .before .before .before .edge .given .1) _ (c .before .before .before .before .before .before .before .before .before .before .before .before .before .before .before .before .before .before .before .before .before .before .before .before .before .before .before .before .before .before .before .before .before .before .before .before .before .before .try-untried .ensures .0) _ _ (c .before .before .before .before .before .before .before .before .before .before .before .before .before .before .before .before .before .before .before .before .before .before .before .before .before .before .before .before .before .before .before .before .before .before .attempt .given .1) _ (start .pre .0) in
     let adds = placed-adds (around start) _ _ _ (start .args .size) (lent start) (start .pre .0) (start .args .a) _ _ _ ready (start .pre .2 .search) (c .before .before .before .before .before .before .before .before .before .before .before .before .before .before .before .before .before .before .before .before .before .place .ensures) (c .before .before .before .before .before .before .before .placed .given .1) in
     (adds .nodes, adds .edges)
 
@@ -140,10 +146,11 @@ same-length-18 c = search needs
 returns-3 : tie.Need-returns-3
 returns-3 c = let start = c .before .before .before .before .before .before .before .before .before .before .before .before .before .before .before .before .before .before .before .before .before .before .before .before .before .before .before .before .before .before .before .before .before .before .before .before .before .before .before .before .before .before .before .before .before .before .before .before .before .before .before .before .before .before .before .before .before .before .before .before in
     let ready = settle-ready (around start) (start .args .size) (start .args .grid) (start .args .values .now) (lent start) (start .args .a) (start .pre .1)
-      (held _ _ _ _ _ (start .pre .0)) (c .before .before .before .before .before .before .before .before .before .before .before .before .before .before .before .before .before .before .before .before .before .before .before .before .before .before .before .before .before .before .before .before .before .before .before .before .before .before .before .before .before .before .before .snapshot-edge .ensures) (c .before .before .before .before .before .before .before .before .before .before .before .before .before .before .before .before .before .before .before .before .before .before .before .before .before .before .before .before .before .before .before .before .before .before .before .before .before .before .before .before .before .edge .given .1) _ (c .before .before .before .before .before .before .before .before .before .before .before .before .before .before .before .before .before .before .before .before .before .before .before .before .before .before .before .before .before .before .before .try-untried .ensures .0) _ _ (c .before .before .before .before .before .before .before .before .before .before .before .before .before .before .before .before .before .before .before .before .before .before .before .before .before .before .before .attempt .given .1) _ (start .pre .0) in
-    (settle-full (around start) (start .args .size) (start .args .grid) (start .args .values .now) (lent start) (start .args .a) (start .pre .1)
-      (held _ _ _ _ _ (start .pre .0)) (c .before .before .before .before .before .before .before .before .before .before .before .before .before .before .before .before .before .before .before .before .before .before .before .before .before .before .before .before .before .before .before .before .before .before .before .before .before .before .before .before .before .before .before .snapshot-edge .ensures) (c .before .before .before .before .before .before .before .before .before .before .before .before .before .before .before .before .before .before .before .before .before .before .before .before .before .before .before .before .before .before .before .before .before .before .before .before .before .before .before .before .before .edge .given .1) _ (c .before .before .before .before .before .before .before .before .before .before .before .before .before .before .before .before .before .before .before .before .before .before .before .before .before .before .before .before .before .before .before .try-untried .ensures .0) _ _ (c .before .before .before .before .before .before .before .before .before .before .before .before .before .before .before .before .before .before .before .before .before .before .before .before .before .before .before .attempt .given .1) (start .args .k) (c .before .before .before .before .before .before .before .before .before .before .before .before .before .before .place .ensures) (c .enum-told3 .given .1),
-      full-helped (around start) _ _ _ (start .args .size) (lent start) (start .pre .0) (start .args .a) _ _ _ ready (start .pre .2 .search) (field start) _ (c .before .before .before .before .before .before .before .before .before .before .before .before .before .before .before .before .before .before .before .before .before .before .before .before .before .before .before .before .before .before .before .try-untried .ensures .1) (c .before .before .before .before .before .before .before .before .before .before .before .before .before .before .place .ensures) (c .enum-told3 .given .1))
+    (held _ _ _ _ _ (start .pre .0)) (c .before .before .before .before .before .before .before .before .before .before .before .before .before .before .before .before .before .before .before .before .before .before .before .before .before .before .before .before .before .before .before .before .before .before .before .before .before .before .before .before .before .before .before .snapshot-edge .ensures) (c .before .before .before .before .before .before .before .before .before .before .before .before .before .before .before .before .before .before .before .before .before .before .before .before .before .before .before .before .before .before .before .before .before .before .before .before .before .before .before .before .before .edge .given .1) _ (c .before .before .before .before .before .before .before .before .before .before .before .before .before .before .before .before .before .before .before .before .before .before .before .before .before .before .before .before .before .before .before .try-untried .ensures .0) _ _ (c .before .before .before .before .before .before .before .before .before .before .before .before .before .before .before .before .before .before .before .before .before .before .before .before .before .before .before .attempt .given .1) _ (start .pre .0) in (
+      settle-full (around start) (start .args .size) (start .args .grid) (start .args .values .now) (lent start) (start .args .a) (start .pre .1)
+          (held _ _ _ _ _ (start .pre .0)) (c .before .before .before .before .before .before .before .before .before .before .before .before .before .before .before .before .before .before .before .before .before .before .before .before .before .before .before .before .before .before .before .before .before .before .before .before .before .before .before .before .before .before .before .snapshot-edge .ensures) (c .before .before .before .before .before .before .before .before .before .before .before .before .before .before .before .before .before .before .before .before .before .before .before .before .before .before .before .before .before .before .before .before .before .before .before .before .before .before .before .before .before .edge .given .1) _ (c .before .before .before .before .before .before .before .before .before .before .before .before .before .before .before .before .before .before .before .before .before .before .before .before .before .before .before .before .before .before .before .try-untried .ensures .0) _ _ (c .before .before .before .before .before .before .before .before .before .before .before .before .before .before .before .before .before .before .before .before .before .before .before .before .before .before .before .attempt .given .1) (start .args .k) (c .before .before .before .before .before .before .before .before .before .before .before .before .before .before .place .ensures) (c .enum-told3 .given .1),
+      full-helped (around start) _ _ _ (start .args .size) (lent start) (start .pre .0) (start .args .a) _ _ _ ready (start .pre .2 .search) (field start) _ (c .before .before .before .before .before .before .before .before .before .before .before .before .before .before .before .before .before .before .before .before .before .before .before .before .before .before .before .before .before .before .before .try-untried .ensures .1) (c .before .before .before .before .before .before .before .before .before .before .before .before .before .before .place .ensures) (c .enum-told3 .given .1),
+    )
 
 same-length-19 : tie.Need-same-length-19
 same-length-19 c = search needs
@@ -176,11 +183,12 @@ same-length-27 c = let start = c .before .before .before .before .before .before
 returns-4 : tie.Need-returns-4
 returns-4 c = let start = c .before .before .before .before .before .before .before .before .before .before .before .before .before .before .before .before .before .before .before .before .before .before .before .before .before .before .before .before .before .before .before .before .before .before .before .before .before .before .before .before .before .before .before .before .before .before .before .before .before .before .before .before .before .before .before .before .before .before .before .before .before .before .before .before .before .before .before .before .before .before .before .before .before .before .before in
     let ready = settle-ready (around start) (start .args .size) (start .args .grid) (start .args .values .now) (lent start) (start .args .a) (start .pre .1)
-      (held _ _ _ _ _ (start .pre .0)) (c .before .before .before .before .before .before .before .before .before .before .before .before .before .before .before .before .before .before .before .before .before .before .before .before .before .before .before .before .before .before .before .before .before .before .before .before .before .before .before .before .before .before .before .before .before .before .before .before .before .before .before .before .before .before .before .before .before .before .snapshot-edge .ensures) (c .before .before .before .before .before .before .before .before .before .before .before .before .before .before .before .before .before .before .before .before .before .before .before .before .before .before .before .before .before .before .before .before .before .before .before .before .before .before .before .before .before .before .before .before .before .before .before .before .before .before .before .before .before .before .before .before .edge .given .1) _ (c .before .before .before .before .before .before .before .before .before .before .before .before .before .before .before .before .before .before .before .before .before .before .before .before .before .before .before .before .before .before .before .before .before .before .before .before .before .before .before .before .before .before .before .before .before .before .try-untried .ensures .0) _ _ (c .before .before .before .before .before .before .before .before .before .before .before .before .before .before .before .before .before .before .before .before .before .before .before .before .before .before .before .before .before .before .before .before .before .before .before .before .before .before .before .before .before .before .attempt .given .1) _ (start .pre .0) in
-    (settle-done (around start) (start .args .size) (start .args .grid) (start .args .values .now) (lent start) (start .args .a) (start .pre .1)
-      (held _ _ _ _ _ (start .pre .0)) (c .before .before .before .before .before .before .before .before .before .before .before .before .before .before .before .before .before .before .before .before .before .before .before .before .before .before .before .before .before .before .before .before .before .before .before .before .before .before .before .before .before .before .before .before .before .before .before .before .before .before .before .before .before .before .before .before .before .before .snapshot-edge .ensures) (c .before .before .before .before .before .before .before .before .before .before .before .before .before .before .before .before .before .before .before .before .before .before .before .before .before .before .before .before .before .before .before .before .before .before .before .before .before .before .before .before .before .before .before .before .before .before .before .before .before .before .before .before .before .before .before .before .edge .given .1) _ (c .before .before .before .before .before .before .before .before .before .before .before .before .before .before .before .before .before .before .before .before .before .before .before .before .before .before .before .before .before .before .before .before .before .before .before .before .before .before .before .before .before .before .before .before .before .before .try-untried .ensures .0) _ _ (c .before .before .before .before .before .before .before .before .before .before .before .before .before .before .before .before .before .before .before .before .before .before .before .before .before .before .before .before .before .before .before .before .before .before .before .before .before .before .before .before .before .before .attempt .given .1) (start .args .k) (c .before .before .before .before .before .before .before .before .before .before .before .before .before .before .before .before .before .before .before .before .before .before .before .before .before .before .before .before .before .place .ensures) (c .before .before .before .before .before .before .before .before .before .before .before .before .before .before .before .placed .given .1) (c .after-quad .ensures),
+    (held _ _ _ _ _ (start .pre .0)) (c .before .before .before .before .before .before .before .before .before .before .before .before .before .before .before .before .before .before .before .before .before .before .before .before .before .before .before .before .before .before .before .before .before .before .before .before .before .before .before .before .before .before .before .before .before .before .before .before .before .before .before .before .before .before .before .before .before .before .snapshot-edge .ensures) (c .before .before .before .before .before .before .before .before .before .before .before .before .before .before .before .before .before .before .before .before .before .before .before .before .before .before .before .before .before .before .before .before .before .before .before .before .before .before .before .before .before .before .before .before .before .before .before .before .before .before .before .before .before .before .before .before .edge .given .1) _ (c .before .before .before .before .before .before .before .before .before .before .before .before .before .before .before .before .before .before .before .before .before .before .before .before .before .before .before .before .before .before .before .before .before .before .before .before .before .before .before .before .before .before .before .before .before .before .try-untried .ensures .0) _ _ (c .before .before .before .before .before .before .before .before .before .before .before .before .before .before .before .before .before .before .before .before .before .before .before .before .before .before .before .before .before .before .before .before .before .before .before .before .before .before .before .before .before .before .attempt .given .1) _ (start .pre .0) in (
+      settle-done (around start) (start .args .size) (start .args .grid) (start .args .values .now) (lent start) (start .args .a) (start .pre .1)
+          (held _ _ _ _ _ (start .pre .0)) (c .before .before .before .before .before .before .before .before .before .before .before .before .before .before .before .before .before .before .before .before .before .before .before .before .before .before .before .before .before .before .before .before .before .before .before .before .before .before .before .before .before .before .before .before .before .before .before .before .before .before .before .before .before .before .before .before .before .before .snapshot-edge .ensures) (c .before .before .before .before .before .before .before .before .before .before .before .before .before .before .before .before .before .before .before .before .before .before .before .before .before .before .before .before .before .before .before .before .before .before .before .before .before .before .before .before .before .before .before .before .before .before .before .before .before .before .before .before .before .before .before .before .edge .given .1) _ (c .before .before .before .before .before .before .before .before .before .before .before .before .before .before .before .before .before .before .before .before .before .before .before .before .before .before .before .before .before .before .before .before .before .before .before .before .before .before .before .before .before .before .before .before .before .before .try-untried .ensures .0) _ _ (c .before .before .before .before .before .before .before .before .before .before .before .before .before .before .before .before .before .before .before .before .before .before .before .before .before .before .before .before .before .before .before .before .before .before .before .before .before .before .before .before .before .before .attempt .given .1) (start .args .k) (c .before .before .before .before .before .before .before .before .before .before .before .before .before .before .before .before .before .before .before .before .before .before .before .before .before .before .before .before .before .place .ensures) (c .before .before .before .before .before .before .before .before .before .before .before .before .before .before .before .placed .given .1) (c .after-quad .ensures),
       helped-at (sym (counts-settled (start .args .k) _ (c .after-quad .ensures)))
-      (done-helped (around start) _ _ _ (start .args .size) (lent start) (start .pre .0) (start .args .a) _ _ _ ready (start .pre .2 .search) (field start) _ (c .before .before .before .before .before .before .before .before .before .before .before .before .before .before .before .before .before .before .before .before .before .before .before .before .before .before .before .before .before .before .before .before .before .before .before .before .before .before .before .before .before .before .before .before .before .before .try-untried .ensures .1) (c .before .before .before .before .before .before .before .before .before .before .before .before .before .before .before .before .before .before .before .before .before .before .before .before .before .before .before .before .before .place .ensures) (c .before .before .before .before .before .before .before .before .before .before .before .before .before .before .before .placed .given .1) (c .before .before .before .before .before .before .before .file-added .ensures .0) (c .before .before .before .before .before .before .before .file-added .ensures .1)))
+          (done-helped (around start) _ _ _ (start .args .size) (lent start) (start .pre .0) (start .args .a) _ _ _ ready (start .pre .2 .search) (field start) _ (c .before .before .before .before .before .before .before .before .before .before .before .before .before .before .before .before .before .before .before .before .before .before .before .before .before .before .before .before .before .before .before .before .before .before .before .before .before .before .before .before .before .before .before .before .before .before .try-untried .ensures .1) (c .before .before .before .before .before .before .before .before .before .before .before .before .before .before .before .before .before .before .before .before .before .before .before .before .before .before .before .before .before .place .ensures) (c .before .before .before .before .before .before .before .before .before .before .before .before .before .before .before .placed .given .1) (c .before .before .before .before .before .before .before .file-added .ensures .0) (c .before .before .before .before .before .before .before .file-added .ensures .1)),
+    )
 
 pub settle-spec : {M : Type 1} → statement M
 settle-spec =

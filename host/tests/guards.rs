@@ -6,8 +6,8 @@ use common::blocks::Block;
 use common::exam::ExamLists;
 use common::{by_kind, list_lengths, refused, said, used, Drawing, FieldPlaces, Lengths, Lent, Raw, RunPlaces, LISTS};
 use sitjorbe::{
-    check_order_in, direction, directions_in, ffi, least_places, pave, small_quads, steps, Asked, FieldRecord, Lists, Memory, MeshCounts, MeshRead,
-    NotAccepted, Outline, Places, Refusal, Settings, OFF,
+    check_order_in, direction, directions_in, ffi, least_places, pave, small_quads, steps, Asked, FieldRecord, Lists,
+    Memory, MeshCounts, MeshRead, NotAccepted, Outline, Places, Refusal, Settings, OFF,
 };
 
 /// Drawings and points that are accepted and refused.
@@ -181,7 +181,10 @@ fn the_guards_of_a_run_show_a_write() {
     (values[7], marks[0], origins[19], last[4], blocks[15], tried[59]) = (1.0, 1, 1, 1, 1, 1);
     assert_eq!(places.written_past([0; LISTS.len()]), ["values", "marks", "origins", "lengths", "blocks", "tried"]);
     assert_eq!(places.written_past([8, 0, 0, 0, 0, 0, 0, 20, 0, 0, 0, 4, 0, 0, 16, 60]), ["marks", "lengths"]);
-    assert_eq!(places.written_past([7, 1, 0, 0, 0, 0, 0, 19, 0, 0, 0, 5, 0, 0, 15, 59]), ["values", "origins", "blocks", "tried"]);
+    assert_eq!(
+        places.written_past([7, 1, 0, 0, 0, 0, 0, 19, 0, 0, 0, 5, 0, 0, 15, 59]),
+        ["values", "origins", "blocks", "tried"]
+    );
 }
 
 /// The outline in read-only memory, and each of the sixteen lists of a run, just as long as the run needs, in memory of its own

@@ -248,8 +248,14 @@ fn a_mesh_does_not_depend_on_the_tries() {
     let mut left = RunPlaces::new(list_lengths(PROGRAM));
     left.pave(&drawing.outline(), &Settings { size: 0.3, ..USUAL }).unwrap();
     let left = left.lists().tried.to_vec();
-    let junk: [fn(usize, &[u32]) -> u32; 6] =
-        [|_, _| 0, |i, _| (i % 40) as u32, |i, _| (i / 3 + 1) as u32, |i, _| (i / 3) as u32, |_, _| u32::MAX, |i, left| left[i]];
+    let junk: [fn(usize, &[u32]) -> u32; 6] = [
+        |_, _| 0,
+        |i, _| (i % 40) as u32,
+        |i, _| (i / 3 + 1) as u32,
+        |i, _| (i / 3) as u32,
+        |_, _| u32::MAX,
+        |i, left| left[i],
+    ];
     for length in [0, 2, 3, 7, 90, nodes, 3 * nodes - 1, 3 * nodes, 2_400] {
         for fill in junk {
             let mut lengths = list_lengths(PROGRAM);

@@ -575,6 +575,7 @@ SITJORBE_ASSERT(sizeof(sitjorbe_preview_answer) == 72);
  * lengths      the lengths of the listed loops; a place a loop of the outline
  * node_pool    scratch of any length, which saves time: four numbers a node place are enough
  * edge_pool    scratch of any length, which saves time: sixteen numbers an edge place are enough
+ * tried        scratch of any length, which saves time: three numbers a node place are enough
  * role         who asks: 1 the desk, 2 a reader, 3 a masked reader
  * operation    what is asked: 1 begin, 2 enter, 3 withdraw; 4 to 6 read a node, a quad, a loop; 7 to 9 read a threshold, the figures, an estimate
  * item         the number of the node, quad or loop, from 0
@@ -716,8 +717,9 @@ SITJORBE_MUST_USE sitjorbe_direction_answer sitjorbe_direction(
 
 /**
  * The run whole, from the field to the loops of the front, in the lists lent. `origins` gets for each node the number
- * of the outline's loop that it came from. Nothing is written on a refusal. The pools and the list of blocks are
- * scratch of any length, which searches go by as far as they have room; the answer doesn't depend on them.
+ * of the outline's loop that it came from. Nothing is written on a refusal. The pools, the list of blocks and `tried`
+ * are scratch of any length, which searches go by as far as they have room, and which edges tried in vain are noted in,
+ * three numbers a node; the answer doesn't depend on them.
  */
 SITJORBE_MUST_USE sitjorbe_pave_answer sitjorbe_pave(
     const double *outer, size_t outer_len,
@@ -740,7 +742,8 @@ SITJORBE_MUST_USE sitjorbe_pave_answer sitjorbe_pave(
     uint32_t *lengths, size_t lengths_len,
     uint32_t *node_pool, size_t node_pool_len,
     uint32_t *edge_pool, size_t edge_pool_len,
-    uint32_t *blocks, size_t blocks_len);
+    uint32_t *blocks, size_t blocks_len,
+    uint32_t *tried, size_t tried_len);
 
 /** One request of one role to an exam. 20 comes before all else; where anything is refused, nothing lent is written. */
 SITJORBE_MUST_USE sitjorbe_exam_answer sitjorbe_exam(

@@ -37,6 +37,7 @@ PARAMETERS = {
     "lengths": "the lengths of the listed loops; a place a loop of the outline",
     "node_pool": "scratch of any length, which saves time: four numbers a node place are enough",
     "edge_pool": "scratch of any length, which saves time: sixteen numbers an edge place are enough",
+    "tried": "scratch of any length, which saves time: three numbers a node place are enough",
     "blocks": "scratch of any length, which saves time: two numbers a point of the outline are enough",
     "nodes": "how many nodes the mesh has",
     "quad_count": "how many quads the mesh has",

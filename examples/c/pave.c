@@ -65,7 +65,7 @@ struct memory {
     double *values, *xs, *ys;
     uint8_t *marks;
     uint16_t *origins;
-    uint32_t *next, *prev, *snapshot, *quads, *edges, *loops, *lengths, *node_pool, *edge_pool, *blocks;
+    uint32_t *next, *prev, *snapshot, *quads, *edges, *loops, *lengths, *node_pool, *edge_pool, *blocks, *tried;
 };
 
 static void *list(void *old, size_t count, size_t size) {
@@ -92,6 +92,7 @@ static void lend(struct memory *m) {
     m->node_pool = list(m->node_pool, 4 * m->nodes, sizeof *m->node_pool);
     m->edge_pool = list(m->edge_pool, 16 * 3 * m->nodes, sizeof *m->edge_pool);
     m->blocks = list(m->blocks, 2 * SITJORBE_MOST_POINTS, sizeof *m->blocks);
+    m->tried = list(m->tried, 3 * m->nodes, sizeof *m->tried);
 }
 
 static sitjorbe_pave_answer pave(const struct outline *o, double size, const struct memory *m) {
@@ -99,7 +100,7 @@ static sitjorbe_pave_answer pave(const struct outline *o, double size, const str
         m->values, 2 * m->field_nodes, m->marks, m->field_nodes, m->xs, m->nodes, m->ys, m->nodes, m->next, m->nodes,
         m->prev, m->nodes, m->snapshot, m->nodes, m->origins, m->nodes, m->quads, 4 * m->nodes, m->edges, 2 * 3 * m->nodes,
         m->loops, m->nodes, m->lengths, m->nodes, m->node_pool, 4 * m->nodes, m->edge_pool, 16 * 3 * m->nodes,
-        m->blocks, 2 * SITJORBE_MOST_POINTS);
+        m->blocks, 2 * SITJORBE_MOST_POINTS, m->tried, 3 * m->nodes);
 }
 
 /* What the run can't do without, and twice as many nodes. */

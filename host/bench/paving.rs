@@ -149,7 +149,7 @@ impl Bench {
     fn without_scratch(&mut self, settings: Settings) -> f64 {
         let drawn = Outline { outer: &self.outer, holes: &[], hole_lengths: &[] };
         let run = |memory: &mut Memory| {
-            let lists = Lists { node_pool: &mut [], edge_pool: &mut [], blocks: &mut [], ..memory.lists() };
+            let lists = Lists { node_pool: &mut [], edge_pool: &mut [], blocks: &mut [], tried: &mut [], ..memory.lists() };
             timed(|| paved(&drawn, &settings, lists).is_ok()).0
         };
         (0..self.rounds).map(|_| run(&mut self.memory)).fold(f64::INFINITY, f64::min)

@@ -546,9 +546,9 @@ extern "C" {
     ) -> DirectionAnswer;
 
     /// The run whole, from the field to the loops of the front, in the lists lent. `origins` gets for each node the
-    /// number of the outline's loop that it came from. Nothing is written on a refusal. The pools and the list of
-    /// blocks are scratch of any length, which searches go by as far as they have room; the answer doesn't depend on
-    /// them.
+    /// number of the outline's loop that it came from. Nothing is written on a refusal. The pools, the list of blocks
+    /// and `tried` are scratch of any length, which searches go by as far as they have room, and which edges tried in
+    /// vain are noted in, three numbers a node; the answer doesn't depend on them.
     pub fn sitjorbe_pave(
         outer: *const f64,
         outer_len: usize,
@@ -589,6 +589,8 @@ extern "C" {
         edge_pool_len: usize,
         blocks: *mut u32,
         blocks_len: usize,
+        tried: *mut u32,
+        tried_len: usize,
     ) -> PaveAnswer;
 
     /// One request of one role to an exam. 20 comes before all else; where anything is refused, nothing lent is

@@ -51,18 +51,21 @@ pub struct Lists<'a> {
     pub edge_pool: &'a mut [u32],
     /// As `node_pool`, for the outline's segments, 16 to a block; [`crate::field`] says more.
     pub blocks: &'a mut [u32],
+    /// For the run's own use: three numbers a node, of the edge from it that was last tried in vain, so as not to try it again. Edges from nodes that
+    /// have none are tried each time: with few places or none it takes longer, and answers the same.
+    pub tried: &'a mut [u32],
 }
 
 impl<'a> Lists<'a> {
-    /// The lists by kind, each kind in the order of the fields: `values`, `xs`, `ys`; `marks`; `origins`; `next` to `blocks`.
+    /// The lists by kind, each kind in the order of the fields: `values`, `xs`, `ys`; `marks`; `origins`; `next` to `tried`.
     pub fn new(
         floats: [&'a mut [f64]; 3],
         marks: &'a mut [u8],
         origins: &'a mut [u16],
-        numbers: [&'a mut [u32]; 10],
+        numbers: [&'a mut [u32]; 11],
     ) -> Lists<'a> {
         let [values, xs, ys] = floats;
-        let [next, prev, snapshot, quads, edges, loops, lengths, node_pool, edge_pool, blocks] = numbers;
+        let [next, prev, snapshot, quads, edges, loops, lengths, node_pool, edge_pool, blocks, tried] = numbers;
         Lists {
             values,
             marks,
@@ -79,6 +82,7 @@ impl<'a> Lists<'a> {
             node_pool,
             edge_pool,
             blocks,
+            tried,
         }
     }
 }
@@ -140,6 +144,7 @@ pub struct Mesh<'a> {
     front: usize,
     loops: &'a [u32],
     lengths: &'a [u32],
+    filed: [usize; 2],
 }
 
 impl<'a> Mesh<'a> {
@@ -154,6 +159,12 @@ impl<'a> Mesh<'a> {
     #[must_use]
     pub fn is_whole(&self) -> bool {
         self.whole
+    }
+
+    /// How many nodes and how many edges found no place in `node_pool` and in `edge_pool`: the run searched those one by one. Both are 0 where the pools
+    /// sufficed; otherwise a run takes longer, and longer pools would help ([`Places::pools`]).
+    pub fn unfiled(&self) -> [usize; 2] {
+        [self.node_count() - self.filed[0], self.edge_count() - self.filed[1]]
     }
 
     /// The field's record.
@@ -266,7 +277,7 @@ impl<'a> Mesh<'a> {
 
 /// Paves an outline with quads, in the lists lent.
 ///
-/// Places past those that the mesh counts keep their contents, but in the pools and the blocks.
+/// Places past those that the mesh counts keep their contents, but in the pools, the blocks and `tried`.
 ///
 /// # Errors
 ///
@@ -293,7 +304,16 @@ pub fn pave<'a>(outline: &Outline<'_>, settings: &Settings, mut lists: Lists<'a>
         front,
         loops: &lists.loops[..answer.ids],
         lengths: &lists.lengths[..answer.loops],
+        filed: [filed(lists.node_pool), filed(lists.edge_pool)],
     })
+}
+
+/// How many items a run has filed in a pool: the second number says it. A pool of fewer than four has room for none.
+fn filed(pool: &[u32]) -> usize {
+    if pool.len() < 4 {
+        return 0;
+    }
+    pool[1] as usize
 }
 
 /// As [`pave`], with the numbers as they cross.
@@ -343,6 +363,8 @@ pub fn pave_numbers(outline: &Outline<'_>, settings: &Settings, lists: &mut List
             lists.edge_pool.len(),
             lists.blocks.as_mut_ptr(),
             lists.blocks.len(),
+            lists.tried.as_mut_ptr(),
+            lists.tried.len(),
         )
     }
 }
@@ -369,6 +391,11 @@ impl Places {
     #[must_use]
     pub fn pools(&self) -> [usize; 2] {
         [self.nodes.saturating_mul(4), self.edges.saturating_mul(16)]
+    }
+
+    /// A length of `tried` that is always enough: three numbers a node. Where it is beyond a `usize` it is [`usize::MAX`], and no list is so long.
+    pub fn tried(&self) -> usize {
+        self.nodes.saturating_mul(3)
     }
 
     /// A length of `blocks` that is always enough: 16 points take four numbers, and each loop, which has at least three points, four more. No outline
@@ -419,7 +446,7 @@ pub struct Memory {
     floats: [Vec<f64>; 3],
     marks: Vec<u8>,
     origins: Vec<u16>,
-    numbers: [Vec<u32>; 10],
+    numbers: [Vec<u32>; 11],
 }
 
 impl Memory {
@@ -438,7 +465,7 @@ impl Memory {
             floats: zeros([values, n, n])?,
             marks,
             origins,
-            numbers: zeros([n, n, n, quads, edges, n, n / 4, node_pool, edge_pool, places.blocks()])?,
+            numbers: zeros([n, n, n, quads, edges, n, n / 4, node_pool, edge_pool, places.blocks(), places.tried()])?,
         })
     }
 

@@ -177,14 +177,17 @@ fn the_guards_of_a_run_show_a_write() {
     let nothing = RunPlaces::new(lengths);
     assert_eq!(nothing.written_past([0; LISTS.len()]), [""; 0]);
     let mut places = RunPlaces::new(lengths);
-    let Lists { values, marks, origins, lengths: last, blocks, .. } = places.lists();
-    (values[7], marks[0], origins[19], last[4], blocks[15]) = (1.0, 1, 1, 1, 1);
-    assert_eq!(places.written_past([0; LISTS.len()]), ["values", "marks", "origins", "lengths", "blocks"]);
-    assert_eq!(places.written_past([8, 0, 0, 0, 0, 0, 0, 20, 0, 0, 0, 4, 0, 0, 16]), ["marks", "lengths"]);
-    assert_eq!(places.written_past([7, 1, 0, 0, 0, 0, 0, 19, 0, 0, 0, 5, 0, 0, 15]), ["values", "origins", "blocks"]);
+    let Lists { values, marks, origins, lengths: last, blocks, tried, .. } = places.lists();
+    (values[7], marks[0], origins[19], last[4], blocks[15], tried[59]) = (1.0, 1, 1, 1, 1, 1);
+    assert_eq!(places.written_past([0; LISTS.len()]), ["values", "marks", "origins", "lengths", "blocks", "tried"]);
+    assert_eq!(places.written_past([8, 0, 0, 0, 0, 0, 0, 20, 0, 0, 0, 4, 0, 0, 16, 60]), ["marks", "lengths"]);
+    assert_eq!(
+        places.written_past([7, 1, 0, 0, 0, 0, 0, 19, 0, 0, 0, 5, 0, 0, 15, 59]),
+        ["values", "origins", "blocks", "tried"]
+    );
 }
 
-/// The outline in read-only memory, and each of the fifteen lists of a run, just as long as the run needs, in memory of its own
+/// The outline in read-only memory, and each of the sixteen lists of a run, just as long as the run needs, in memory of its own
 /// between pages that can't be touched: a run that ends still, runs that are full where a list is shorter, and refused ones.
 #[cfg(target_os = "linux")]
 #[test]
@@ -459,7 +462,7 @@ struct RunPages {
     floats: [pages::Pages<f64>; 3],
     marks: pages::Pages<u8>,
     origins: pages::Pages<u16>,
-    numbers: [pages::Pages<u32>; 10],
+    numbers: [pages::Pages<u32>; 11],
 }
 
 #[cfg(target_os = "linux")]

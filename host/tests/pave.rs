@@ -230,9 +230,47 @@ fn a_mesh_does_not_depend_on_the_pools() {
         let mut places = RunPlaces::new(lengths);
         let mesh = places.pave(&ring().outline(), &settings).unwrap();
         assert_eq!(said(&mesh), expected, "pools of {node_pool} and {edge_pool}");
+        let unfiled = mesh.unfiled();
+        assert_eq!(unfiled.map(|count| count == 0), [node_pool > 2_000, edge_pool > 5_000], "{unfiled:?} unfiled");
         let used = used(&mesh);
         assert_eq!(places.written_past(used), [""; 0], "pools of {node_pool} and {edge_pool}");
     }
+}
+
+/// Lists for tries that are empty, too short for a node, for some nodes, for all, and longer; of zeros, of ids, of marks, and as another run left them.
+#[test]
+fn a_mesh_does_not_depend_on_the_tries() {
+    let settings = Settings { size: 0.4, ..USUAL };
+    let drawing = ring();
+    let mut memory = Memory::new(PROGRAM).unwrap();
+    let mesh = memory.pave(&drawing.outline(), &settings).unwrap();
+    let (expected, nodes) = (said(&mesh), mesh.node_count());
+    let mut left = RunPlaces::new(list_lengths(PROGRAM));
+    left.pave(&drawing.outline(), &Settings { size: 0.3, ..USUAL }).unwrap();
+    let left = left.lists().tried.to_vec();
+    let junk: [fn(usize, &[u32]) -> u32; 6] = [
+        |_, _| 0,
+        |i, _| (i % 40) as u32,
+        |i, _| (i / 3 + 1) as u32,
+        |i, _| (i / 3) as u32,
+        |_, _| u32::MAX,
+        |i, left| left[i],
+    ];
+    for length in [0, 2, 3, 7, 90, nodes, 3 * nodes - 1, 3 * nodes, 2_400] {
+        for fill in junk {
+            let mut lengths = list_lengths(PROGRAM);
+            lengths[15] = length;
+            let mut places = RunPlaces::new(lengths);
+            for (i, place) in places.lists().tried.iter_mut().enumerate() {
+                *place = fill(i, &left);
+            }
+            let mesh = places.pave(&drawing.outline(), &settings).unwrap();
+            assert_eq!(said(&mesh), expected, "{length} numbers");
+            let used = used(&mesh);
+            assert_eq!(places.written_past(used), [""; 0], "{length} numbers");
+        }
+    }
+    assert_eq!([0, 7, usize::MAX].map(|nodes| Places { nodes, ..PROGRAM }.tried()), [0, 21, usize::MAX]);
 }
 
 /// Lists without a block, with some of them, with all, and longer ones.
@@ -386,7 +424,7 @@ fn the_shortest_list_counts() {
     needed[11] = 1;
     let just = Asked { drawing: square(), settings: USUAL, lengths: needed };
     assert_eq!((just.raw().0.refusal, just.raw().0.end), (0, End::Full as u32));
-    let numbers = [9, 9, 10, 10, 10, 10, 10, 10, 0, 10, 10, 10, 0, 0, 0];
+    let numbers = [9, 9, 10, 10, 10, 10, 10, 10, 0, 10, 10, 10, 0, 0, 0, 0];
     for (k, number) in numbers.into_iter().enumerate().filter(|(_, number)| *number != 0) {
         for length in [needed[k] - 1, 0] {
             let mut lengths = list_lengths(PROGRAM);

@@ -35,6 +35,8 @@ use Rattle.paving.specs.Reach.{begin}
 use Rattle.books.specs.Answered.{choice}
 use Rattle.attempts.specs.Seen.{seenOf}
 use Rattle.attempts.specs.SeenLaws.{try-seen}
+use Rattle.retries.specs.Vain.{Remembers}
+use Rattle.retries.specs.Untried.{seenMesh, Untried}
 use Rattle.advance.specs.declared.Settled.{Settled}
 use Rattle.advance.specs.declared.Settled.the-variants.{Same, Put}
 use Rattle.advance.specs.declared.Settled.the-variants as settled-is
@@ -93,62 +95,78 @@ module _ (o : Outline) (size : Float) (g : Grid) (values : List Float) (s : Stat
   unfolding passTurn
   settle-gone q some = rw (ap (λ (n : ℕ). there n b) (sym link-now) ∙ edge-gone (getD (s .next) a 0) b e q)
 
-  module _ {to : ℕ} (f : edge ≡ At to) (t : Attempt) (u : t ≡ tryEdge o size field (seenOf s) a to) where
+  module _ {to : ℕ} (f : edge ≡ At to) where
     on : isThere s a to ≡ true
     on =
         let h = edge-there (getD (s .next) a 0) b e f in
         ap₂ there (sym link-now) (sym (h .1)) ∙ h .0
 
-    is-try : tryEdge o size field s a to ≡ t
-    is-try = sym (try-seen s field o size a to) ∙ sym u
+    pub settle-untried : (blocks : List ℕ) → Paveable o blocks g values s → {l : List ℕ} → Remembers o size field l (seenMesh s)
+        → Untried o size field (seenOf s) l a to
+    settle-untried blocks P R =
+        record {
+          state = s;
+          same = refl;
+          sampled = P .sampled;
+          loops = P .loops;
+          sound = P .sound;
+          known = P .known;
+          node = less;
+          there = on;
+          remembers = R;
+        }
 
-    turned : (some : Bool) → settle a to t (passing s some) ≡ passTurn o size field a (passing s some)
-    unfolding passTurn
-    turned some =
-        rw (edge-there (getD (s .next) a 0) b e f .1, on) (ap (λ (x : Attempt). settle a to x (passing s some)) (sym is-try))
+    module _ (t : Attempt) (u : t ≡ tryEdge o size field (seenOf s) a to) where
+      is-try : tryEdge o size field s a to ≡ t
+      is-try = sym (try-seen s field o size a to) ∙ sym u
 
-    pub settle-same : t ≡ Nothing → (some : Bool) → go (passing s some) ≡ passTurn o size field a (passing s some)
-    settle-same q some = rw q at (turned some)
+      turned : (some : Bool) → settle a to t (passing s some) ≡ passTurn o size field a (passing s some)
+      unfolding passTurn
+      turned some =
+          rw (edge-there (getD (s .next) a 0) b e f .1, on) (ap (λ (x : Attempt). settle a to x (passing s some)) (sym is-try))
 
-    module _ (c d : Corner) (q : t ≡ Quad c d) where
-      pub settle-ready : (blocks : List ℕ) → Paveable o blocks g values s → Ready s a to c d
-      settle-ready blocks P =
-          let A = tried o size field s a to c d (is-try ∙ q) in
-          ready o blocks g values s P a to c d (choice o size s a to (A .da) (A .db) c d on (A .answered))
+      pub settle-same : t ≡ Nothing → (some : Bool) → go (passing s some) ≡ passTurn o size field a (passing s some)
+      settle-same q some = rw q at (turned some)
 
-      quad-turned : (some : Bool) → settle a to (Quad c d) (passing s some) ≡ passTurn o size field a (passing s some)
-      quad-turned some = rw q at (turned some)
+      module _ (c d : Corner) (q : t ≡ Quad c d) where
+        pub settle-ready : (blocks : List ℕ) → Paveable o blocks g values s → Ready s a to c d
+        settle-ready blocks P =
+            let A = tried o size field s a to c d (is-try ∙ q) in
+            ready o blocks g values s P a to c d (choice o size s a to (A .da) (A .db) c d on (A .answered))
 
-      full-turned : (s′ : State) → Places a to c d s placed-is.Full s′ → (some : Bool)
-          → out (out (paved s′ Full)) ≡ passTurn o size field a (passing s some)
-      full-turned s′ P some =
-          let f = placed-full a to c d s s′ P in
-          rw (f .1) (rw (f .0) at (quad-turned some))
+        quad-turned : (some : Bool) → settle a to (Quad c d) (passing s some) ≡ passTurn o size field a (passing s some)
+        quad-turned some = rw q at (turned some)
 
-      done-turned : (m : Counts) (s′ : Counts → State) → s′ m .counts ≡ m → Places a to c d s (placed-is.Done m) (s′ m)
-          → (k : Counts) (w : Settled) → w ≡ quadSettled m
-          → (some : Bool) → settled w some (s′ (settledCounts k w)) ≡ passTurn o size field a (passing s some)
-      unfolding afterQuad quadSettled
-      done-turned m s′ counts P k w v some =
-          let f = placed-done a to c d s (s′ m) m P in
-          let turn : afterQuad (place a to c d s) ≡ passTurn o size field a (passing s some) = rw (f .0) at (quad-turned some) in
-          rw v (by (leb mostQuads (m .quads)) refl ∙ (ap afterQuad (f .1) ∙ turn))
-        where
-          by : (cap : Bool) → leb mostQuads (m .quads) ≡ cap
-              → settled (cond cap (settled-is.Over Cap m) (Put m)) some (s′ (settledCounts k (cond cap (settled-is.Over Cap m) (Put m)))) ≡ afterQuad (s′ m)
-          by true e = rw (counts, e)
-          by false e = rw (counts, e)
+        full-turned : (s′ : State) → Places a to c d s placed-is.Full s′ → (some : Bool)
+            → out (out (paved s′ Full)) ≡ passTurn o size field a (passing s some)
+        full-turned s′ P some =
+            let f = placed-full a to c d s s′ P in
+            rw (f .1) (rw (f .0) at (quad-turned some))
 
-      module _ {xs ys : List Float} {next prev snapshot quads edges : List ℕ} {r : Placed} (k : Counts)
-          (P : Places a to c d s r (stateOf xs ys next prev snapshot quads edges (countsAfter k r))) where
-        pub settle-full : r ≡ placed-is.Full → (some : Bool)
-            → out (out (paved (stateOf xs ys next prev snapshot quads edges k) Full)) ≡ passTurn o size field a (passing s some)
-        settle-full e some = full-turned _ (rw e at P) some
+        done-turned : (m : Counts) (s′ : Counts → State) → s′ m .counts ≡ m → Places a to c d s (placed-is.Done m) (s′ m)
+            → (k : Counts) (w : Settled) → w ≡ quadSettled m
+            → (some : Bool) → settled w some (s′ (settledCounts k w)) ≡ passTurn o size field a (passing s some)
+        unfolding afterQuad quadSettled
+        done-turned m s′ counts P k w v some =
+            let f = placed-done a to c d s (s′ m) m P in
+            let turn : afterQuad (place a to c d s) ≡ passTurn o size field a (passing s some) = rw (f .0) at (quad-turned some) in
+            rw v (by (leb mostQuads (m .quads)) refl ∙ (ap afterQuad (f .1) ∙ turn))
+          where
+            by : (cap : Bool) → leb mostQuads (m .quads) ≡ cap
+                → settled (cond cap (settled-is.Over Cap m) (Put m)) some (s′ (settledCounts k (cond cap (settled-is.Over Cap m) (Put m)))) ≡ afterQuad (s′ m)
+            by true e = rw (counts, e)
+            by false e = rw (counts, e)
 
-        pub settle-done : {m : Counts} {w : Settled} → r ≡ placed-is.Done m → w ≡ quadSettled m → (some : Bool)
-            → settled w some (stateOf xs ys next prev snapshot quads edges (settledCounts k w)) ≡ passTurn o size field a (passing s some)
-        settle-done {m} {w} e f some =
-            done-turned m (λ (j : Counts). stateOf xs ys next prev snapshot quads edges j) refl (rw e at P) k w f some
+        module _ {xs ys : List Float} {next prev snapshot quads edges : List ℕ} {r : Placed} (k : Counts)
+            (P : Places a to c d s r (stateOf xs ys next prev snapshot quads edges (countsAfter k r))) where
+          pub settle-full : r ≡ placed-is.Full → (some : Bool)
+              → out (out (paved (stateOf xs ys next prev snapshot quads edges k) Full)) ≡ passTurn o size field a (passing s some)
+          settle-full e some = full-turned _ (rw e at P) some
+
+          pub settle-done : {m : Counts} {w : Settled} → r ≡ placed-is.Done m → w ≡ quadSettled m → (some : Bool)
+              → settled w some (stateOf xs ys next prev snapshot quads edges (settledCounts k w)) ≡ passTurn o size field a (passing s some)
+          settle-done {m} {w} e f some =
+              done-turned m (λ (j : Counts). stateOf xs ys next prev snapshot quads edges j) refl (rw e at P) k w f some
 
 -- what an answer says, once it is known which
 module _ {xs ys : List Float} {next prev snapshot quads edges : List ℕ} (k : Counts) (some : Bool) (r : Settled) {T : Turn Passing Passed}

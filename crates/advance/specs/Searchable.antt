@@ -1,4 +1,4 @@
--- What the pools of a paving have filed, and that a placing keeps it.
+-- What the pools of a paving have filed and the list of tries remembers, and that a placing keeps it.
 use mathlib.Core.Bool.{Bool, true, false, cond}
 use mathlib.Core.List.{List}
 use mathlib.Core.Path.{_≡_, refl, sym, ap, subst}
@@ -13,6 +13,7 @@ use Rattle.index.specs.FileLaws.{indexed-same, indexed-none}
 use Rattle.domain.specs.declared.Point.{Point}
 use Rattle.domain.specs.Outline.{Outline}
 use Rattle.direction.specs.declared.Grid.{Grid}
+use Rattle.direction.specs.Record.{FieldRecord}
 use Rattle.front.specs.declared.Corner.{Corner}
 use Rattle.front.specs.declared.Counts.{Counts}
 use Rattle.front.specs.declared.Placed.{Placed}
@@ -27,6 +28,10 @@ use Rattle.front.specs.KnownLaws.{placed-full, placed-done}
 use Rattle.paving.specs.declared.End.the-variants.{Cap}
 use Rattle.paving.specs.Advance.{mostQuads}
 use Rattle.indexed.specs.Rects.{nodeRects, edgeRects, NodesFiled, EdgesFiled}
+use Rattle.attempts.specs.Seen.{seenEdges}
+use Rattle.retries.specs.Vain.{forgotten, Remembers}
+use Rattle.retries.specs.VainLaws.{forgotten-remembers, remembers-later, remembers-same}
+use Rattle.retries.specs.Untried.{seenMesh}
 use Rattle.advance.specs.declared.Settled.{Settled}
 use Rattle.advance.specs.declared.Settled.the-variants.{Put}
 use Rattle.advance.specs.declared.Settled.the-variants as settled-is
@@ -49,11 +54,19 @@ pub record Addable (size : Float) (s t : State) (node-pool edge-pool : List ℕ)
   pub nodes : NodesFiled node-pool size (t .xs) (t .ys) (s .counts .nodes) (t .counts .nodes)
   pub edges : EdgesFiled edge-pool size (t .xs) (t .ys) (t .edges) (s .counts .edges) (t .counts .edges)
 
--- in a loop: the pools are as long as they were
-pub record Pools (size : Float) (xs ys : List Float) (edges : List ℕ) (counts : Counts) (node-pool₀ edge-pool₀ node-pool edge-pool : List ℕ) : Type 0 where
+-- and what the list has of an edge was tried in vain
+pub record Helped (o : Outline) (size : Float) (field : FieldRecord) (xs ys : List Float) (edges : List ℕ) (counts : Counts)
+    (node-pool edge-pool tried : List ℕ) : Type 0 where
   pub search : Searchable size xs ys edges counts node-pool edge-pool
+  pub remembers : Remembers o size field tried (seenEdges xs ys edges counts)
+
+-- in a loop: the pools and the list are as long as they were
+pub record Pools (o : Outline) (size : Float) (field : FieldRecord) (xs ys : List Float) (edges : List ℕ) (counts : Counts)
+    (node-pool₀ edge-pool₀ tried₀ node-pool edge-pool tried : List ℕ) : Type 0 where
+  pub help : Helped o size field xs ys edges counts node-pool edge-pool tried
   pub node-long : length node-pool ≡ length node-pool₀
   pub edge-long : length edge-pool ≡ length edge-pool₀
+  pub tried-long : length tried ≡ length tried₀
 
 -- ---- what was there is filed where it was
 
@@ -94,11 +107,34 @@ module _ (o : Outline) (blocks : List ℕ) (g : Grid) (values : List Float) (siz
     pub placed-adds : {m : Counts} → r ≡ placed-is.Done m → Addable size s (stateOf xs ys next prev snapshot quads edges m) node-pool edge-pool
     placed-adds {m} e = done-adds m _ (rw e at Q)
 
-    -- where it is full, nothing changes
-    pub full-search : r ≡ placed-is.Full → Searchable size xs ys edges (s .counts) node-pool edge-pool
-    full-search e =
+  -- where it is full, nothing changes
+  module _ (field : FieldRecord) (tried : List ℕ) (M : Remembers o size field tried (seenMesh s)) {xs ys : List Float}
+      {next prev snapshot quads edges : List ℕ} {r : Placed}
+      (Q : Places a b c d s r (stateOf xs ys next prev snapshot quads edges (countsAfter (s .counts) r))) where
+    pub full-helped : r ≡ placed-is.Full → Helped o size field xs ys edges (s .counts) node-pool edge-pool tried
+    full-helped e =
         let f = placed-full a b c d s (stateOf xs ys next prev snapshot quads edges (s .counts)) (rw e at Q) in
-        subst (λ (t : State). SearchableIn size t node-pool edge-pool) (sym (f .1)) S
+        subst (λ (t : State). Helped o size field (t .xs) (t .ys) (t .edges) (t .counts) node-pool edge-pool tried) (sym (f .1))
+        (record { search = S; remembers = M })
+
+    done-remembers : (m : Counts) (t : State) → Places a b c d s (placed-is.Done m) t
+        → Remembers o size field (forgotten (s .counts .nodes) (t .counts .nodes) tried) (seenMesh t)
+    done-remembers m t D =
+        let f = placed-done a b c d s t m D in
+        let L = later-placed o blocks g values s P a b c d (R .choice) (f .0) in
+        let u = place a b c d s in
+        let l = forgotten (s .counts .nodes) (u .counts .nodes) tried in
+        let few = held o blocks g values u (L .paveable) .few in
+        subst (λ (t : State). Remembers o size field (forgotten (s .counts .nodes) (t .counts .nodes) tried) (seenMesh t)) (sym (f .1))
+        (remembers-same o size field l u (seenMesh u) refl refl refl refl
+        (remembers-later o size field tried s u (L .frame) few (remembers-same o size field tried (seenMesh s) s refl refl refl refl M)))
+
+    -- where it is done, new nodes and edges are filed, and nothing was tried from the nodes
+    pub done-helped : {m : Counts} → r ≡ placed-is.Done m → {node-pool₁ edge-pool₁ tried₁ : List ℕ}
+        → Searchable size xs ys edges m node-pool₁ edge-pool₁ → tried₁ ≡ forgotten (s .counts .nodes) (m .nodes) tried
+        → Helped o size field xs ys edges m node-pool₁ edge-pool₁ tried₁
+    done-helped {m} e found left =
+        record { search = found; remembers = rw left (done-remembers m (stateOf xs ys next prev snapshot quads edges m) (rw e at Q)) }
 
 -- ---- the start
 
@@ -111,11 +147,17 @@ all-addable size xs ys edges k fit node-pool₀ edge-pool₀ en ee = (
   record { more = omega arith; lent = fit; filed = rw ee (indexed-none edge-pool₀ (edgeRects size xs ys edges)) },
 )
 
+-- at first nothing is remembered
+pub all-forgotten : (o : Outline) (size : Float) (field : FieldRecord) (xs ys : List Float) (edges : List ℕ) (k : Counts) (l : List ℕ) {tried : List ℕ}
+    → tried ≡ forgotten 0 (k .nodes) l → Remembers o size field tried (seenEdges xs ys edges k)
+all-forgotten o size field xs ys edges k l e = rw e (forgotten-remembers o size field l (seenEdges xs ys edges k))
+
 -- ---- the counts that an answer gives
 
-module _ {size : Float} {xs ys : List Float} {edges node-pool edge-pool : List ℕ} where
-  pub search-at : {k m : Counts} → k ≡ m → Searchable size xs ys edges k node-pool edge-pool → Searchable size xs ys edges m node-pool edge-pool
-  search-at e S = subst (λ (n : Counts). Searchable size xs ys edges n node-pool edge-pool) e S
+module _ {o : Outline} {size : Float} {field : FieldRecord} {xs ys : List Float} {edges node-pool edge-pool tried : List ℕ} where
+  pub helped-at : {k m : Counts} → k ≡ m → Helped o size field xs ys edges k node-pool edge-pool tried
+      → Helped o size field xs ys edges m node-pool edge-pool tried
+  helped-at e H = subst (λ (n : Counts). Helped o size field xs ys edges n node-pool edge-pool tried) e H
 
 -- the counts after a quad
 pub counts-settled : (k m : Counts) {w : Settled} → w ≡ quadSettled m → settledCounts k w ≡ m

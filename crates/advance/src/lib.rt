@@ -1,6 +1,6 @@
 // The passes of the paving (src/alt_crossfield.rs): a pass over the front edges present at its start, and `advance` with its four ends.
-// All seven lists of a `Paving` are lent, and two pools in which its nodes and edges are filed, so that searches go by them; the counts go in and come
-// back by value.
+// All seven lists of a `Paving` are lent, two pools in which its nodes and edges are filed, so that searches go by them, and a list of the edges that
+// were tried in vain, so that none is tried again; the counts go in and come back by value.
 ghost use mathlib.Core.Path.{_≡_};
 ghost use mathlib.Core.List.{[]};
 ghost use Prim.Native.Nat.{_*_, _≤_, _<_, min};
@@ -10,9 +10,10 @@ ghost use Rattle.direction.specs.Record.{fieldRecord};
 ghost use Rattle.front.specs.State.{stateOf};
 ghost use Rattle.indexed.specs.Rects.{NodesFiled, EdgesFiled};
 ghost use Rattle.paving.specs.Advance.{copied, pass, paved, advance};
+ghost use Rattle.retries.specs.Vain.{forgotten};
 ghost use Rattle.advance.specs.Answers.{snapshotEdge, Settles, settledCounts, quadSettled, passed, passedCounts, passAnswer};
 ghost use Rattle.advance.specs.Paveable.{Paveable};
-ghost use Rattle.advance.specs.Searchable.{Searchable};
+ghost use Rattle.advance.specs.Searchable.{Searchable, Helped};
 use direction::Grid;
 use domain::Settings;
 use front::Counts;
@@ -84,7 +85,7 @@ fn after_quad(m: Counts) -> Settled
     }
 }
 
-// Files what `m` counts and `k` doesn't.
+// Files what `m` counts and `k` doesn't; nothing was tried from nodes that are new.
 fn file_added(
     size: f64,
     xs: &[f64],
@@ -92,15 +93,18 @@ fn file_added(
     edges: &[u32],
     node_pool: &mut [u32],
     edge_pool: &mut [u32],
+    tried: &mut [u32],
     k: Counts,
     m: Counts,
 )
     requires { ⌜ NodesFiled (now «node_pool») size (now xs) (now ys) (k .nodes) (m .nodes)
         × EdgesFiled (now «edge_pool») size (now xs) (now ys) (now edges) (k .edges) (m .edges) ⌝ }
-    ensures { λ r. ⌜ Searchable size (now (xs .entry)) (now (ys .entry)) (now (edges .entry)) m (now («node_pool» .exit)) (now («edge_pool» .exit)) ⌝ }
+    ensures { λ r. ⌜ Searchable size (now (xs .entry)) (now (ys .entry)) (now (edges .entry)) m (now («node_pool» .exit)) (now («edge_pool» .exit))
+        × (now (tried .exit) ≡ forgotten (k .nodes) (m .nodes) (now (tried .entry))) ⌝ }
 {
     indexed::file_nodes(node_pool, size, xs, ys, k.nodes, m.nodes);
     indexed::file_edges(edge_pool, size, xs, ys, edges, k.edges, m.edges);
+    retries::forget(tried, k.nodes, m.nodes);
 }
 
 // Tries the snapshot's edge from node a, and places and files the quad that is answered.
@@ -121,24 +125,27 @@ fn settle<'a>(
     edges: &mut [u32],
     node_pool: &mut [u32],
     edge_pool: &mut [u32],
+    tried: &mut [u32],
     k: Counts,
     a: u32,
 ) -> Settled
     requires { ⌜ Paveable (outline (now outer) (now holes) (now lens)) (now blocks) grid (now values)
         (stateOf (now xs) (now ys) (now next) (now prev) (now snapshot) (now quads) (now edges) k) × (a < k .nodes)
-        × Searchable size (now xs) (now ys) (now edges) k (now «node_pool») (now «edge_pool») ⌝ }
+        × Helped (outline (now outer) (now holes) (now lens)) size (fieldRecord grid (now values) []) (now xs) (now ys) (now edges) k
+        (now «node_pool») (now «edge_pool») (now tried) ⌝ }
     ensures { λ r. ⌜ Settles (outline (now (outer .entry)) (now (holes .entry)) (now (lens .entry))) size (fieldRecord grid (now (values .entry)) [])
         (stateOf (now (xs .entry)) (now (ys .entry)) (now (next .entry)) (now (prev .entry)) (now (snapshot .entry)) (now (quads .entry))
         (now (edges .entry)) k) a r
         (stateOf (now (xs .exit)) (now (ys .exit)) (now (next .exit)) (now (prev .exit)) (now (snapshot .entry)) (now (quads .exit)) (now (edges .exit))
         (settledCounts k r))
-        × Searchable size (now (xs .exit)) (now (ys .exit)) (now (edges .exit)) (settledCounts k r) (now («node_pool» .exit)) (now («edge_pool» .exit)) ⌝ }
+        × Helped (outline (now (outer .entry)) (now (holes .entry)) (now (lens .entry))) size (fieldRecord grid (now (values .entry)) [])
+        (now (xs .exit)) (now (ys .exit)) (now (edges .exit)) (settledCounts k r) (now («node_pool» .exit)) (now («edge_pool» .exit)) (now (tried .exit)) ⌝ }
 {
     let edge = snapshot_edge(next, snapshot, a);
     let Neighbour::At(b) = edge else {
         return Settled::Same;
     };
-    let attempt = attempts::try_edge(
+    let attempt = retries::try_untried(
         outer,
         holes,
         lens,
@@ -153,6 +160,7 @@ fn settle<'a>(
         edges,
         node_pool,
         edge_pool,
+        tried,
         k,
         a,
         b,
@@ -179,7 +187,7 @@ fn settle<'a>(
     match placed {
         Placed::Full => Settled::Over(End::Full, k),
         Placed::Done(m) => {
-            file_added(size, xs, ys, edges, node_pool, edge_pool, k, m);
+            file_added(size, xs, ys, edges, node_pool, edge_pool, tried, k, m);
             after_quad(m)
         }
     }
@@ -216,11 +224,13 @@ fn pass<'a>(
     edges: &mut [u32],
     node_pool: &mut [u32],
     edge_pool: &mut [u32],
+    tried: &mut [u32],
     k: Counts,
 ) -> Swept
     requires { ⌜ Paveable (outline (now outer) (now holes) (now lens)) (now blocks) grid (now values)
         (stateOf (now xs) (now ys) (now next) (now prev) (now snapshot) (now quads) (now edges) k)
-        × Searchable size (now xs) (now ys) (now edges) k (now «node_pool») (now «edge_pool») ⌝ }
+        × Helped (outline (now outer) (now holes) (now lens)) size (fieldRecord grid (now values) []) (now xs) (now ys) (now edges) k
+        (now «node_pool») (now «edge_pool») (now tried) ⌝ }
     ensures { λ r. ⌜
         (passed r
         (stateOf (now (xs .exit)) (now (ys .exit)) (now (next .exit)) (now (prev .exit)) (now (snapshot .exit)) (now (quads .exit)) (now (edges .exit))
@@ -228,7 +238,8 @@ fn pass<'a>(
         ≡ pass (outline (now (outer .entry)) (now (holes .entry)) (now (lens .entry))) size (fieldRecord grid (now (values .entry)) [])
         (stateOf (now (xs .entry)) (now (ys .entry)) (now (next .entry)) (now (prev .entry)) (now (snapshot .entry)) (now (quads .entry))
         (now (edges .entry)) k))
-        × Searchable size (now (xs .exit)) (now (ys .exit)) (now (edges .exit)) (passedCounts r) (now («node_pool» .exit)) (now («edge_pool» .exit)) ⌝ }
+        × Helped (outline (now (outer .entry)) (now (holes .entry)) (now (lens .entry))) size (fieldRecord grid (now (values .entry)) [])
+        (now (xs .exit)) (now (ys .exit)) (now (edges .exit)) (passedCounts r) (now («node_pool» .exit)) (now («edge_pool» .exit)) (now (tried .exit)) ⌝ }
 {
     copy_links(next, snapshot, k.nodes);
     let n = k.nodes;
@@ -255,6 +266,7 @@ fn pass<'a>(
             edges,
             node_pool,
             edge_pool,
+            tried,
             j,
             i,
         );
@@ -274,7 +286,7 @@ fn pass<'a>(
 
 // ---- `advance`
 
-// Files all that `k` counts, in pools that hold nothing else.
+// Files all that `k` counts, in pools that hold nothing else; nothing was tried from its nodes.
 fn file_all(
     size: f64,
     xs: &[f64],
@@ -282,10 +294,12 @@ fn file_all(
     edges: &[u32],
     node_pool: &mut [u32],
     edge_pool: &mut [u32],
+    tried: &mut [u32],
     k: Counts,
 )
     requires { ⌜ 2 * k .edges ≤ length (now edges) ⌝ }
-    ensures { λ r. ⌜ Searchable size (now (xs .entry)) (now (ys .entry)) (now (edges .entry)) k (now («node_pool» .exit)) (now («edge_pool» .exit)) ⌝ }
+    ensures { λ r. ⌜ Searchable size (now (xs .entry)) (now (ys .entry)) (now (edges .entry)) k (now («node_pool» .exit)) (now («edge_pool» .exit))
+        × (now (tried .exit) ≡ forgotten 0 (k .nodes) (now (tried .entry))) ⌝ }
 {
     index::clear(node_pool);
     index::clear(edge_pool);
@@ -295,7 +309,7 @@ fn file_all(
         edges: 0,
         front: 0,
     };
-    file_added(size, xs, ys, edges, node_pool, edge_pool, none, k);
+    file_added(size, xs, ys, edges, node_pool, edge_pool, tried, none, k);
 }
 
 fn most_passes(passes: usize) -> usize
@@ -308,7 +322,7 @@ fn most_passes(passes: usize) -> usize
     }
 }
 
-// The pools are scratch: nothing is said of what they hold, before or after.
+// The pools and `tried` are scratch of any length: nothing is said of what they hold, before or after.
 // Pass after pass, until one places nothing, the cap is reached, the places lent are full, or as many are done as asked for, at most 600.
 pub fn advance<'a>(
     outer: &'a [f64],
@@ -327,6 +341,7 @@ pub fn advance<'a>(
     edges: &mut [u32],
     node_pool: &mut [u32],
     edge_pool: &mut [u32],
+    tried: &mut [u32],
     k: Counts,
     passes: usize,
 ) -> Advanced
@@ -341,7 +356,7 @@ pub fn advance<'a>(
         (now (edges .entry)) k) ⌝ }
 {
     let most = most_passes(passes);
-    file_all(size, xs, ys, edges, node_pool, edge_pool, k);
+    file_all(size, xs, ys, edges, node_pool, edge_pool, tried, k);
     let mut counts = k;
     let mut i = 0;
     while i < most {
@@ -363,6 +378,7 @@ pub fn advance<'a>(
             edges,
             node_pool,
             edge_pool,
+            tried,
             counts,
         );
         match p {

@@ -41,7 +41,7 @@ pub record Answered (o : Outline) (size : Float) (s : State) (a b : ℕ) (c d : 
 
 -- ---- the corners
 
-chosen : (size : Float) (s : State) (other v : ℕ) (p : Point) (c : Corner) → cornerAt size s other (neighbourOf v) p ≡ c → Chosen c other v
+pub chosen : (size : Float) (s : State) (other v : ℕ) (p : Point) (c : Corner) → cornerAt size s other (neighbourOf v) p ≡ c → Chosen c other v
 unfolding cornerAt isReused neighbourOf
 chosen size s other v p c = by (eqb v off) refl c
   where

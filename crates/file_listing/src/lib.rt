@@ -26,7 +26,7 @@ fn heading(r: Paved) -> Heading
 
 // The listing of an outline. The lists that the program lends are all here: 1,600 field nodes, 800 nodes, 800 quads, 2,400 edges, 8 loops.
 // The pools have room for each node, and for each edge six times; the list of blocks has four numbers for each of 23: one for 16 of up to 248
-// points, and one more for each of up to eight loops.
+// points, and one more for each of up to eight loops. The list of tries has three numbers for each node.
 fn list_outline<'a>(
     outer: &'a [f64],
     holes: &'a [f64],
@@ -52,6 +52,7 @@ fn list_outline<'a>(
     let mut node_pool = [0u32; 3200];
     let mut edge_pool = [0u32; 38400];
     let mut blocks = [0u32; 92];
+    let mut tried = [0u32; 2400];
     let paved = run::pave(
         outer,
         holes,
@@ -74,6 +75,7 @@ fn list_outline<'a>(
         &mut node_pool,
         &mut edge_pool,
         &mut blocks,
+        &mut tried,
     );
     listing::write_listing(
         out,

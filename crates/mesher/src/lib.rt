@@ -162,8 +162,8 @@ fn pave_numbers(paved: Paved) -> PaveAnswer
 }
 
 // The run whole, from the field to the loops of the front, in the lists lent. `origins` gets for each node the number of the outline's loop that it came from.
-// Nothing is written on a refusal. The pools and the list of blocks are
-// scratch of any length, which searches go by as far as they have room; the answer doesn't depend on them.
+// Nothing is written on a refusal. The pools, the list of blocks and `tried` are scratch of any length, which searches go by as far as they have room, and
+// which edges tried in vain are noted in, three numbers a node; the answer doesn't depend on them.
 #[no_mangle]
 pub extern "C" fn sitjorbe_pave<'a>(
     outer: &'a [f64],
@@ -187,6 +187,7 @@ pub extern "C" fn sitjorbe_pave<'a>(
     node_pool: &mut [u32],
     edge_pool: &mut [u32],
     blocks: &mut [u32],
+    tried: &mut [u32],
 ) -> PaveAnswer
     ensures { λ r. ⌜ HostPaves (outline (now (outer .entry)) (now (holes .entry)) (now (lens .entry))) (settings size sweeps passes)
         (lent (now (values .entry)) (now (marks .entry)) (now (xs .entry)) (now (ys .entry)) (now (next .entry)) (now (prev .entry))
@@ -194,8 +195,8 @@ pub extern "C" fn sitjorbe_pave<'a>(
         r
         (lent (now (values .exit)) (now (marks .exit)) (now (xs .exit)) (now (ys .exit)) (now (next .exit)) (now (prev .exit)) (now (snapshot .exit))
         (now (origins .exit)) (now (quads .exit)) (now (edges .exit)) (now (loops .exit)) (now (lengths .exit)))
-        × Spares (r .refusal) (scratch (now («node_pool» .entry)) (now («edge_pool» .entry)) (now (blocks .entry)))
-        (scratch (now («node_pool» .exit)) (now («edge_pool» .exit)) (now (blocks .exit))) ⌝ }
+        × Spares (r .refusal) (scratch (now («node_pool» .entry)) (now («edge_pool» .entry)) (now (blocks .entry)) (now (tried .entry)))
+        (scratch (now («node_pool» .exit)) (now («edge_pool» .exit)) (now (blocks .exit)) (now (tried .exit))) ⌝ }
 {
     let paved = run::pave(
         outer,
@@ -219,6 +220,7 @@ pub extern "C" fn sitjorbe_pave<'a>(
         node_pool,
         edge_pool,
         blocks,
+        tried,
     );
     pave_numbers(paved)
 }

@@ -64,14 +64,15 @@ lent values marks xs ys next prev snapshot origins quads edges loops lengths =
       lengths = lengths;
     }
 
--- scratch, of which no answer is made: the pools, and the outline's blocks
+-- scratch, of which no answer is made: the pools, the outline's blocks, and the edges tried in vain
 pub record Scratch : Type 0 where
   pub node-pool : List ℕ
   pub edge-pool : List ℕ
   pub blocks : List ℕ
+  pub tried : List ℕ
 
-abbrev pub scratch : List ℕ → List ℕ → List ℕ → Scratch
-scratch node-pool edge-pool blocks = record { node-pool = node-pool; edge-pool = edge-pool; blocks = blocks }
+abbrev pub scratch : List ℕ → List ℕ → List ℕ → List ℕ → Scratch
+scratch node-pool edge-pool blocks tried = record { node-pool = node-pool; edge-pool = edge-pool; blocks = blocks; tried = tried }
 
 -- the same lists with another snapshot
 abbrev pub withSnapshot : Lent → List ℕ → Lent

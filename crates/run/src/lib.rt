@@ -147,6 +147,7 @@ fn sample_and_advance<'a>(
     edges: &mut [u32],
     node_pool: &mut [u32],
     edge_pool: &mut [u32],
+    tried: &mut [u32],
     passes: usize,
 ) -> Advanced
     requires { ⌜ CanPave (outline (now outer) (now holes) (now lens)) (now blocks) size grid (now values)
@@ -178,6 +179,7 @@ fn sample_and_advance<'a>(
         edges,
         node_pool,
         edge_pool,
+        tried,
         k,
         passes,
     )
@@ -206,6 +208,7 @@ fn pave_in<'a>(
     node_pool: &mut [u32],
     edge_pool: &mut [u32],
     blocks: &mut [u32],
+    tried: &mut [u32],
 ) -> Paved
     requires { ⌜ CanRun (outline (now outer) (now holes) (now lens)) (settings size sweeps passes)
         (lent (now values) (now marks) (now xs) (now ys) (now next) (now prev) (now snapshot) (now origins) (now quads) (now edges) (now loops)
@@ -236,6 +239,7 @@ fn pave_in<'a>(
         edges,
         node_pool,
         edge_pool,
+        tried,
         passes,
     );
     origins::number_nodes(outer, holes, lens, size, quads, a.counts.quads, origins);
@@ -247,9 +251,9 @@ fn pave_in<'a>(
 // ---- the run
 
 // Paves an outline, in the lists that the caller lends; on a refusal nothing is written. Of the lists of nodes the shortest counts, `loops` and
-// `origins` among them: so the run gets no more of `snapshot` than they have places. `lengths` holds a number for each loop. The pools and the list of blocks
-// are scratch of any length: searches go by them as far as they have room. The answer doesn't depend on what they hold, and what a run leaves in
-// them is free.
+// `origins` among them: so the run gets no more of `snapshot` than they have places. `lengths` holds a number for each loop. The pools, the list of blocks
+// and `tried` are scratch of any length: searches go by the first three as far as they have room, and the last has three numbers for a node from which an
+// edge was tried in vain. The answer doesn't depend on what they hold, and what a run leaves in them is free.
 pub fn pave<'a>(
     outer: &'a [f64],
     holes: &'a [f64],
@@ -272,6 +276,7 @@ pub fn pave<'a>(
     node_pool: &mut [u32],
     edge_pool: &mut [u32],
     blocks: &mut [u32],
+    tried: &mut [u32],
 ) -> Paved
     ensures { λ r. ⌜ Paves (outline (now (outer .entry)) (now (holes .entry)) (now (lens .entry))) (settings size sweeps passes)
         (lent (now (values .entry)) (now (marks .entry)) (now (xs .entry)) (now (ys .entry)) (now (next .entry)) (now (prev .entry))
@@ -279,8 +284,8 @@ pub fn pave<'a>(
         r
         (lent (now (values .exit)) (now (marks .exit)) (now (xs .exit)) (now (ys .exit)) (now (next .exit)) (now (prev .exit)) (now (snapshot .exit))
         (now (origins .exit)) (now (quads .exit)) (now (edges .exit)) (now (loops .exit)) (now (lengths .exit)))
-        × Spares (r .refusal) (scratch (now («node_pool» .entry)) (now («edge_pool» .entry)) (now (blocks .entry)))
-        (scratch (now («node_pool» .exit)) (now («edge_pool» .exit)) (now (blocks .exit))) ⌝ }
+        × Spares (r .refusal) (scratch (now («node_pool» .entry)) (now («edge_pool» .entry)) (now (blocks .entry)) (now (tried .entry)))
+        (scratch (now («node_pool» .exit)) (now («edge_pool» .exit)) (now (blocks .exit)) (now (tried .exit))) ⌝ }
 {
     let m = snapshot_places(snapshot.len(), loops.len(), origins.len());
     let field = numbers::min_usize(values.len() / 2, marks.len());
@@ -321,5 +326,6 @@ pub fn pave<'a>(
         node_pool,
         edge_pool,
         blocks,
+        tried,
     )
 }

@@ -239,7 +239,7 @@ impl FieldPlaces {
 }
 
 /// The lists lent to a run, in the entry's order.
-pub const LISTS: [&str; 15] = [
+pub const LISTS: [&str; 16] = [
     "values",
     "marks",
     "xs",
@@ -255,6 +255,7 @@ pub const LISTS: [&str; 15] = [
     "node_pool",
     "edge_pool",
     "blocks",
+    "tried",
 ];
 
 /// A length for each of them, in that order.
@@ -264,15 +265,15 @@ pub type Lengths = [usize; LISTS.len()];
 pub fn list_lengths(places: Places) -> Lengths {
     let Places { field_nodes: f, nodes: n, quads: q, edges: e, .. } = places;
     let [node_pool, edge_pool] = places.pools();
-    [2 * f, f, n, n, n, n, n, n, 4 * q, 2 * e, n, n / 4, node_pool, edge_pool, places.blocks()]
+    [2 * f, f, n, n, n, n, n, n, 4 * q, 2 * e, n, n / 4, node_pool, edge_pool, places.blocks(), places.tried()]
 }
 
-/// How many places of each list a mesh has used: of the pools and the blocks it may use all.
+/// How many places of each list a mesh has used: of the pools, the blocks and `tried` it may use all.
 pub fn used(mesh: &Mesh<'_>) -> Lengths {
     let (f, n) = (mesh.record().nodes(), mesh.node_count());
     let ids = mesh.front_loops().map(<[u32]>::len).sum();
     let (quads, edges, all) = (4 * mesh.quad_count(), 2 * mesh.edge_count(), usize::MAX);
-    [2 * f, f, n, n, n, n, n, n, quads, edges, ids, mesh.loop_count(), all, all, all]
+    [2 * f, f, n, n, n, n, n, n, quads, edges, ids, mesh.loop_count(), all, all, all, all]
 }
 
 /// All that a mesh says, as bits.
@@ -290,10 +291,10 @@ pub fn said(mesh: &Mesh<'_>) -> Vec<Vec<u64>> {
 }
 
 /// Lengths by kind, as `Lists::new` takes the lists.
-pub fn by_kind(lengths: Lengths) -> ([usize; 3], usize, usize, [usize; 10]) {
-    let [values, marks, xs, ys, next, prev, snapshot, origins, quads, edges, loops, by_loop, nodes, filed, blocks] =
+pub fn by_kind(lengths: Lengths) -> ([usize; 3], usize, usize, [usize; 11]) {
+    let [values, marks, xs, ys, next, prev, snapshot, origins, quads, edges, loops, by_loop, nodes, filed, blocks, tried] =
         lengths;
-    let numbers = [next, prev, snapshot, quads, edges, loops, by_loop, nodes, filed, blocks];
+    let numbers = [next, prev, snapshot, quads, edges, loops, by_loop, nodes, filed, blocks, tried];
     ([values, xs, ys], marks, origins, numbers)
 }
 
@@ -308,7 +309,7 @@ pub struct RunPlaces {
     pub floats: [Guarded<f64>; 3],
     pub marks: Guarded<u8>,
     pub origins: Guarded<u16>,
-    pub numbers: [Guarded<u32>; 10],
+    pub numbers: [Guarded<u32>; 11],
 }
 
 impl RunPlaces {

@@ -441,11 +441,12 @@ pub fn passes(rng: &mut Rng) -> usize {
 }
 
 /// Lists of which the shortest have these places, for so many loops, and pools and blocks of these lengths; of those that hold the same places
-/// one is the shortest, and others may be longer.
+/// one is the shortest, and others may be longer. The list of tries is full, short or empty.
 pub fn lengths(rng: &mut Rng, places: &Places, loops: usize, pools: [usize; 2], blocks: usize) -> Lengths {
     let mut lengths = list_lengths(*places);
     let [values, marks, xs, ys, next, prev, snapshot, origins, quads, edges, ids, by_loop, scratch @ ..] = &mut lengths;
-    *scratch = [pools[0], pools[1], blocks];
+    let tried = [places.tried(), rng.below(places.nodes.clamp(1, 1_000)), rng.below(3)][rng.below(3)];
+    *scratch = [pools[0], pools[1], blocks, tried];
     *by_loop = loops + rng.below(4);
     let by_node = [xs, ys, next, prev, snapshot, origins, ids];
     let shortest = rng.below(by_node.len());

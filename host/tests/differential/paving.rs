@@ -327,7 +327,7 @@ impl Tally {
     /// Notes how far the pools serve a run that files so much. Names those that have everything filed at its end and shouldn't, or the reverse:
     /// a pool without a cell has nothing filed, and in others the first number says how many places are in use.
     fn pools(&mut self, kind: Pools, lists: &RunPlaces, filed: &Filed) -> Vec<String> {
-        let [.., node_pool, edge_pool, _] = lists.numbers.each_ref().map(Guarded::list);
+        let [.., node_pool, edge_pool, _, _] = lists.numbers.each_ref().map(Guarded::list);
         let pools = [("node_pool", node_pool), ("edge_pool", edge_pool)];
         let served = [0, 1].map(|k| Served::new(pools[k].1.len(), filed.first[k], filed.all[k]));
         *self.pools.entry((kind, served)).or_default() += 1;

@@ -13,20 +13,20 @@ use Rattle.advance.specs.Laws.{in-advance, pass-on, pass-over, advance-w
 use Rattle.advance.specs.declared.Swept.{Swept}
 use Rattle.advance.specs.Answers.{passedCounts}
 use Rattle.advance.specs.Paveable.{Later, held}
-use Rattle.advance.specs.Searchable.{Pools, search-at}
+use Rattle.advance.specs.Searchable.{Pools, all-forgotten, helped-at}
 use Rattle.advance.proofs.advance.Statement.{statement}
 use Rattle.advance.proofs.advance.Tie as tie
 
 abbrev Inv-loop : tie.InvT-loop
-Inv-loop outer holes lens blocks size grid values xs₀ ys₀ next₀ prev₀ snapshot₀ quads₀ edges₀ nodePool₀ edgePool₀ passes most counts₀ i₀ xs ys next prev
-    snapshot quads edges nodePool edgePool counts i =
+Inv-loop outer holes lens blocks size grid values xs₀ ys₀ next₀ prev₀ snapshot₀ quads₀ edges₀ nodePool₀ edgePool₀ tried₀ passes most counts₀ i₀ xs ys next prev
+    snapshot quads edges nodePool edgePool tried counts i =
     Run (passesTurn (outline outer holes lens) size (fieldRecord grid values [])) allUsed
     (stateOf xs₀ ys₀ next₀ prev₀ snapshot₀ quads₀ edges₀ counts₀) most i (stateOf xs ys next prev snapshot quads edges counts)
-    × Pools size xs ys edges counts nodePool₀ edgePool₀ nodePool edgePool
+    × Pools (outline outer holes lens) size (fieldRecord grid values []) xs ys edges counts nodePool₀ edgePool₀ tried₀ nodePool edgePool tried
 
 abbrev μ-loop : tie.MeasureT-loop
-μ-loop outer holes lens blocks size grid values xs₀ ys₀ next₀ prev₀ snapshot₀ quads₀ edges₀ nodePool₀ edgePool₀ passes most counts₀ i₀ xs ys next prev
-    snapshot quads edges nodePool edgePool counts i =
+μ-loop outer holes lens blocks size grid values xs₀ ys₀ next₀ prev₀ snapshot₀ quads₀ edges₀ nodePool₀ edgePool₀ tried₀ passes most counts₀ i₀ xs ys next prev
+    snapshot quads edges nodePool edgePool tried counts i =
     most - i
 
 -- the outline, the field and the state as they are lent
@@ -44,8 +44,8 @@ lent s =
 -- the state in the loop comes after the one that is lent
 abbrev start : tie.At-loop Inv-loop μ-loop → tie.Start Inv-loop μ-loop
 start c =
-    let at-most-passes = c .before .before .before .before .before .before .before .before .before .before .before .before in
-    at-most-passes .before .before .before .before .before .before .before .before .before .before .before .before .before .before
+    let midway = c .before .before .before .before .before .before .before .before .before .before .before .before .before .before .before in
+    midway .before .before .before .before .before .before .before .before .before .before .before .before .before .before .before
 
 later : (c : tie.At-loop Inv-loop μ-loop) → Later (around (start c)) (start c .args .blocks .now) (start c .args .grid) (start c .args .values .now)
     (lent (start c))
@@ -56,23 +56,27 @@ most-passes-requires : tie.Need-most-passes-requires Inv-loop μ-loop
 most-passes-requires c κs = search needs
 
 file-all-requires : tie.Need-file-all-requires Inv-loop μ-loop
-file-all-requires c κs =
-    let at-slice-known3 = c .before .before .before .before .before .before .before .before .before .before .before .before in
-    let start = at-slice-known3 .before .before .before .before .before .before .before .before in
-    held _ _ _ _ _ (start .pre) .edges
+file-all-requires c κs = held _ _ _ _ _ (c .before .before .before .before .before .before .before .before .before .before .before .before .before .before .before .before .before .before .before .before .before .before .pre) .edges
 
 loop-holds : tie.Need-loop-holds Inv-loop μ-loop
-loop-holds c =
-    let at-file-all = c .before .before .before .before in
-    (run-start _ allUsed _ _, record { search = at-file-all .file-all .ensures; node-long = refl; edge-long = refl })
+loop-holds c = let start = c .before .before .before .before .before .before .before .before .before .before .before .before .before .before .before .before .before .before .before .before .before .before .before .before .before .before .before .before .before in (
+  run-start _ allUsed _ _,
+  record {
+    help = record {
+      search = c .before .before .before .before .before .before .file-all .ensures .0;
+      remembers = all-forgotten (around start) (start .args .size) (field start) _ _ _ _ _ (c .before .before .before .before .before .before .file-all .ensures .1);
+    };
+    node-long = refl;
+    edge-long = refl;
+    tried-long = refl;
+  },
+)
 
 add-i : tie.Need-add-i Inv-loop μ-loop
 add-i c = omega arith
 
 pass-requires : tie.Need-pass-requires Inv-loop μ-loop
-pass-requires c κs =
-    let at-loop = c .before .before .before .before .before .before .before .before .before .before in
-    (later at-loop .paveable, at-loop .loop .inv .1 .search)
+pass-requires c κs = (later (c .before .before .before .before .before .before .before .before .before .before .before) .paveable, c .before .before .before .before .before .before .before .before .before .before .before .loop .inv .1 .help)
 
 enum-known-p : tie.Need-enum-known-p Inv-loop μ-loop
 enum-known-p c = search needs
@@ -81,18 +85,14 @@ loop-less : tie.Need-loop-less Inv-loop μ-loop
 loop-less c = omega arith
 
 loop-again : tie.Need-loop-again Inv-loop μ-loop
-loop-again c =
-    let at-p = c .before in
-    let at-slice-known15 = at-p .before .before .before .before .before .before .before .before .before .before .before .before in
-    let at-pass = at-slice-known15 .before .before .before .before .before .before .before .before in
-    let in-loop = at-pass .before .before .before .before .before .before .before .before .before .before in
-    let at-loop = in-loop .before in (
-      run-go _ allUsed _ _ (at-loop .loop .inv .0) (in-loop .loop-test .taken)
-          (pass-on (at-pass .pass .result) (at-pass .pass .ensures .0) (at-p .p .given .1)),
+loop-again c = let at-loop = c .before .before .before .before .before .before .before .before .before .before .before .before .before .before .before .before .before .before .before .before .before .before .before .before .before .before .before .before .before .before .before .before .before .before .before in
+    let at-pass = c .before .before .before .before .before .before .before .before .before .before .before .before .before .before .before .before .before .before .before .before .before .before .before in (
+      run-go _ allUsed _ _ (at-loop .loop .inv .0) (c .before .before .before .before .before .before .before .before .before .before .before .before .before .before .before .before .before .before .before .before .before .before .before .before .before .before .before .before .before .before .before .before .before .before .loop-test .taken) (pass-on (at-pass .pass .result) (at-pass .pass .ensures .0) (c .before .p .given .1)),
       record {
-        search = search-at (ap (λ (r : Swept). passedCounts r) (at-p .p .given .1)) (at-pass .pass .ensures .1);
+        help = helped-at (ap (λ (r : Swept). passedCounts r) (c .before .p .given .1)) (at-pass .pass .ensures .1);
         node-long = at-pass .pass .kept .1 .1 .1 .1 .1 .1 .1 .1 .1 .1 .1 .1 .1 .1 .0 ∙ at-loop .loop .inv .1 .node-long;
         edge-long = at-pass .pass .kept .1 .1 .1 .1 .1 .1 .1 .1 .1 .1 .1 .1 .1 .1 .1 .0 ∙ at-loop .loop .inv .1 .edge-long;
+        tried-long = at-pass .pass .kept .1 .1 .1 .1 .1 .1 .1 .1 .1 .1 .1 .1 .1 .1 .1 .1 .0 ∙ at-loop .loop .inv .1 .tried-long;
       },
     )
 
@@ -100,139 +100,74 @@ enum-known-p-2 : tie.Need-enum-known-p-2 Inv-loop μ-loop
 enum-known-p-2 c = search needs
 
 same-length : tie.Need-same-length Inv-loop μ-loop
-same-length c =
-    let at-snapshot = c .before .before .before .before .before .before .before .before .before .before .before .before in
-    let at-pass = at-snapshot .before .before .before .before .before .before .before .before .before in
-    let at-loop = at-pass .before .before .before .before .before .before .before .before .before .before .before in
-    at-pass .pass .kept .1 .1 .1 .1 .1 .1 .1 .0 ∙ later at-loop .frame .xs .long
+same-length c = c .before .before .before .before .before .before .before .before .before .before .before .before .before .before .before .before .before .before .before .before .before .before .before .pass .kept .1 .1 .1 .1 .1 .1 .1 .0 ∙ later (c .before .before .before .before .before .before .before .before .before .before .before .before .before .before .before .before .before .before .before .before .before .before .before .before .before .before .before .before .before .before .before .before .before .before .before) .frame .xs .long
 
 same-length-2 : tie.Need-same-length-2 Inv-loop μ-loop
-same-length-2 c =
-    let at-snapshot = c .before .before .before .before .before .before .before .before .before .before .before .before in
-    let at-pass = at-snapshot .before .before .before .before .before .before .before .before .before in
-    let at-loop = at-pass .before .before .before .before .before .before .before .before .before .before .before in
-    at-pass .pass .kept .1 .1 .1 .1 .1 .1 .1 .1 .0 ∙ later at-loop .frame .ys .long
+same-length-2 c = c .before .before .before .before .before .before .before .before .before .before .before .before .before .before .before .before .before .before .before .before .before .before .before .pass .kept .1 .1 .1 .1 .1 .1 .1 .1 .0 ∙ later (c .before .before .before .before .before .before .before .before .before .before .before .before .before .before .before .before .before .before .before .before .before .before .before .before .before .before .before .before .before .before .before .before .before .before .before) .frame .ys .long
 
 same-length-3 : tie.Need-same-length-3 Inv-loop μ-loop
-same-length-3 c =
-    let at-snapshot = c .before .before .before .before .before .before .before .before .before .before .before .before in
-    let at-pass = at-snapshot .before .before .before .before .before .before .before .before .before in
-    let at-loop = at-pass .before .before .before .before .before .before .before .before .before .before .before in
-    at-pass .pass .kept .1 .1 .1 .1 .1 .1 .1 .1 .1 .0 ∙ later at-loop .frame .next .long
+same-length-3 c = c .before .before .before .before .before .before .before .before .before .before .before .before .before .before .before .before .before .before .before .before .before .before .before .pass .kept .1 .1 .1 .1 .1 .1 .1 .1 .1 .0 ∙ later (c .before .before .before .before .before .before .before .before .before .before .before .before .before .before .before .before .before .before .before .before .before .before .before .before .before .before .before .before .before .before .before .before .before .before .before) .frame .next .long
 
 same-length-4 : tie.Need-same-length-4 Inv-loop μ-loop
-same-length-4 c =
-    let at-snapshot = c .before .before .before .before .before .before .before .before .before .before .before .before in
-    let at-pass = at-snapshot .before .before .before .before .before .before .before .before .before in
-    let at-loop = at-pass .before .before .before .before .before .before .before .before .before .before .before in
-    at-pass .pass .kept .1 .1 .1 .1 .1 .1 .1 .1 .1 .1 .0 ∙ later at-loop .frame .prev .long
+same-length-4 c = c .before .before .before .before .before .before .before .before .before .before .before .before .before .before .before .before .before .before .before .before .before .before .before .pass .kept .1 .1 .1 .1 .1 .1 .1 .1 .1 .1 .0 ∙ later (c .before .before .before .before .before .before .before .before .before .before .before .before .before .before .before .before .before .before .before .before .before .before .before .before .before .before .before .before .before .before .before .before .before .before .before) .frame .prev .long
 
 same-length-5 : tie.Need-same-length-5 Inv-loop μ-loop
-same-length-5 c =
-    let at-snapshot = c .before .before .before .before .before .before .before .before .before .before .before .before in
-    let at-pass = at-snapshot .before .before .before .before .before .before .before .before .before in
-    let at-loop = at-pass .before .before .before .before .before .before .before .before .before .before .before in
-    at-pass .pass .kept .1 .1 .1 .1 .1 .1 .1 .1 .1 .1 .1 .0 ∙ later at-loop .frame .snapshot .long
+same-length-5 c = c .before .before .before .before .before .before .before .before .before .before .before .before .before .before .before .before .before .before .before .before .before .before .before .pass .kept .1 .1 .1 .1 .1 .1 .1 .1 .1 .1 .1 .0 ∙ later (c .before .before .before .before .before .before .before .before .before .before .before .before .before .before .before .before .before .before .before .before .before .before .before .before .before .before .before .before .before .before .before .before .before .before .before) .frame .snapshot .long
 
 same-length-6 : tie.Need-same-length-6 Inv-loop μ-loop
-same-length-6 c =
-    let at-snapshot = c .before .before .before .before .before .before .before .before .before .before .before .before in
-    let at-pass = at-snapshot .before .before .before .before .before .before .before .before .before in
-    let at-loop = at-pass .before .before .before .before .before .before .before .before .before .before .before in
-    at-pass .pass .kept .1 .1 .1 .1 .1 .1 .1 .1 .1 .1 .1 .1 .0 ∙ later at-loop .frame .quadList .long
+same-length-6 c = c .before .before .before .before .before .before .before .before .before .before .before .before .before .before .before .before .before .before .before .before .before .before .before .pass .kept .1 .1 .1 .1 .1 .1 .1 .1 .1 .1 .1 .1 .0 ∙ later (c .before .before .before .before .before .before .before .before .before .before .before .before .before .before .before .before .before .before .before .before .before .before .before .before .before .before .before .before .before .before .before .before .before .before .before) .frame .quadList .long
 
 same-length-7 : tie.Need-same-length-7 Inv-loop μ-loop
-same-length-7 c =
-    let at-snapshot = c .before .before .before .before .before .before .before .before .before .before .before .before in
-    let at-pass = at-snapshot .before .before .before .before .before .before .before .before .before in
-    let at-loop = at-pass .before .before .before .before .before .before .before .before .before .before .before in
-    at-pass .pass .kept .1 .1 .1 .1 .1 .1 .1 .1 .1 .1 .1 .1 .1 .0 ∙ later at-loop .frame .edgeList .long
+same-length-7 c = c .before .before .before .before .before .before .before .before .before .before .before .before .before .before .before .before .before .before .before .before .before .before .before .pass .kept .1 .1 .1 .1 .1 .1 .1 .1 .1 .1 .1 .1 .1 .0 ∙ later (c .before .before .before .before .before .before .before .before .before .before .before .before .before .before .before .before .before .before .before .before .before .before .before .before .before .before .before .before .before .before .before .before .before .before .before) .frame .edgeList .long
 
 same-length-8 : tie.Need-same-length-8 Inv-loop μ-loop
-same-length-8 c =
-    let at-snapshot = c .before .before .before .before .before .before .before .before .before .before .before .before in
-    let at-pass = at-snapshot .before .before .before .before .before .before .before .before .before in
-    let at-loop = at-pass .before .before .before .before .before .before .before .before .before .before .before in
-    let at-file-all = at-loop .before .before .before .before .before in
-    at-pass .pass .kept .1 .1 .1 .1 .1 .1 .1 .1 .1 .1 .1 .1 .1 .1 .0 ∙ at-loop .loop .inv .1 .node-long ∙ at-file-all .file-all .kept .1 .1 .1 .1 .0
+same-length-8 c = c .before .before .before .before .before .before .before .before .before .before .before .before .before .before .before .before .before .before .before .before .before .before .before .pass .kept .1 .1 .1 .1 .1 .1 .1 .1 .1 .1 .1 .1 .1 .1 .0 ∙ c .before .before .before .before .before .before .before .before .before .before .before .before .before .before .before .before .before .before .before .before .before .before .before .before .before .before .before .before .before .before .before .before .before .before .before .loop .inv .1 .node-long ∙ c .before .before .before .before .before .before .before .before .before .before .before .before .before .before .before .before .before .before .before .before .before .before .before .before .before .before .before .before .before .before .before .before .before .before .before .before .before .before .before .before .before .before .file-all .kept .1 .1 .1 .1 .0
 
 same-length-9 : tie.Need-same-length-9 Inv-loop μ-loop
-same-length-9 c =
-    let at-snapshot = c .before .before .before .before .before .before .before .before .before .before .before .before in
-    let at-pass = at-snapshot .before .before .before .before .before .before .before .before .before in
-    let at-loop = at-pass .before .before .before .before .before .before .before .before .before .before .before in
-    let at-file-all = at-loop .before .before .before .before .before in
-    at-pass .pass .kept .1 .1 .1 .1 .1 .1 .1 .1 .1 .1 .1 .1 .1 .1 .1 .0 ∙ at-loop .loop .inv .1 .edge-long ∙ at-file-all .file-all .kept .1 .1 .1 .1 .1 .0
-
-returns : tie.Need-returns Inv-loop μ-loop
-returns c =
-    let at-p2 = c .before in
-    let at-slice-known15 = at-p2 .before .before .before .before .before .before .before .before .before .before .before .before in
-    let at-pass = at-slice-known15 .before .before .before .before .before .before .before .before in
-    let in-loop = at-pass .before .before .before .before .before .before .before .before .before .before in
-    let at-loop = in-loop .before in
-    let at-most-passes = at-loop .before .before .before .before .before .before .before .before .before .before .before in
-    let at-shared-slice-known3 = at-most-passes .before .before .before .before .before .before .before .before .before .before .before .before in
-    let start = at-shared-slice-known3 .before .before .before in
-    advance-whole (around start) (start .args .size) (field start) (start .args .passes) (lent start) (at-most-passes .most-passes .ensures)
-    (run-out _ allUsed _ _ (at-loop .loop .inv .0) (in-loop .loop-test .taken)
-    (pass-over (at-pass .pass .result) (at-pass .pass .ensures .0) (at-p2 .p2 .given .1)))
+same-length-9 c = c .before .before .before .before .before .before .before .before .before .before .before .before .before .before .before .before .before .before .before .before .before .before .before .pass .kept .1 .1 .1 .1 .1 .1 .1 .1 .1 .1 .1 .1 .1 .1 .1 .0 ∙ c .before .before .before .before .before .before .before .before .before .before .before .before .before .before .before .before .before .before .before .before .before .before .before .before .before .before .before .before .before .before .before .before .before .before .before .loop .inv .1 .edge-long ∙ c .before .before .before .before .before .before .before .before .before .before .before .before .before .before .before .before .before .before .before .before .before .before .before .before .before .before .before .before .before .before .before .before .before .before .before .before .before .before .before .before .before .before .file-all .kept .1 .1 .1 .1 .1 .0
 
 same-length-10 : tie.Need-same-length-10 Inv-loop μ-loop
-same-length-10 c =
-    let at-loop = c .before in
-    later at-loop .frame .xs .long
+same-length-10 c = c .before .before .before .before .before .before .before .before .before .before .before .before .before .before .before .before .before .before .before .before .before .before .before .pass .kept .1 .1 .1 .1 .1 .1 .1 .1 .1 .1 .1 .1 .1 .1 .1 .1 .0 ∙ c .before .before .before .before .before .before .before .before .before .before .before .before .before .before .before .before .before .before .before .before .before .before .before .before .before .before .before .before .before .before .before .before .before .before .before .loop .inv .1 .tried-long ∙ c .before .before .before .before .before .before .before .before .before .before .before .before .before .before .before .before .before .before .before .before .before .before .before .before .before .before .before .before .before .before .before .before .before .before .before .before .before .before .before .before .before .before .file-all .kept .1 .1 .1 .1 .1 .1 .0
+
+returns : tie.Need-returns Inv-loop μ-loop
+returns c = let start = c .before .before .before .before .before .before .before .before .before .before .before .before .before .before .before .before .before .before .before .before .before .before .before .before .before .before .before .before .before .before .before .before .before .before .before .before .before .before .before .before .before .before .before .before .before .before .before .before .before .before .before .before .before .before .before .before .before .before .before .before .before .before .before .before .before in
+    advance-whole (around start) (start .args .size) (field start) (start .args .passes) (lent start) (c .before .before .before .before .before .before .before .before .before .before .before .before .before .before .before .before .before .before .before .before .before .before .before .before .before .before .before .before .before .before .before .before .before .before .before .before .before .before .before .before .before .before .before .before .before .before .before .before .before .most-passes .ensures)
+    (run-out _ allUsed _ _ (c .before .before .before .before .before .before .before .before .before .before .before .before .before .before .before .before .before .before .before .before .before .before .before .before .before .before .before .before .before .before .before .before .before .before .before .loop .inv .0) (c .before .before .before .before .before .before .before .before .before .before .before .before .before .before .before .before .before .before .before .before .before .before .before .before .before .before .before .before .before .before .before .before .before .before .loop-test .taken) (pass-over (c .before .before .before .before .before .before .before .before .before .before .before .before .before .before .before .before .before .before .before .before .before .before .before .pass .result) (c .before .before .before .before .before .before .before .before .before .before .before .before .before .before .before .before .before .before .before .before .before .before .before .pass .ensures .0) (c .before .p2 .given .1)))
 
 same-length-11 : tie.Need-same-length-11 Inv-loop μ-loop
-same-length-11 c =
-    let at-loop = c .before in
-    later at-loop .frame .ys .long
+same-length-11 c = later (c .before) .frame .xs .long
 
 same-length-12 : tie.Need-same-length-12 Inv-loop μ-loop
-same-length-12 c =
-    let at-loop = c .before in
-    later at-loop .frame .next .long
+same-length-12 c = later (c .before) .frame .ys .long
 
 same-length-13 : tie.Need-same-length-13 Inv-loop μ-loop
-same-length-13 c =
-    let at-loop = c .before in
-    later at-loop .frame .prev .long
+same-length-13 c = later (c .before) .frame .next .long
 
 same-length-14 : tie.Need-same-length-14 Inv-loop μ-loop
-same-length-14 c =
-    let at-loop = c .before in
-    later at-loop .frame .snapshot .long
+same-length-14 c = later (c .before) .frame .prev .long
 
 same-length-15 : tie.Need-same-length-15 Inv-loop μ-loop
-same-length-15 c =
-    let at-loop = c .before in
-    later at-loop .frame .quadList .long
+same-length-15 c = later (c .before) .frame .snapshot .long
 
 same-length-16 : tie.Need-same-length-16 Inv-loop μ-loop
-same-length-16 c =
-    let at-loop = c .before in
-    later at-loop .frame .edgeList .long
+same-length-16 c = later (c .before) .frame .quadList .long
 
 same-length-17 : tie.Need-same-length-17 Inv-loop μ-loop
-same-length-17 c =
-    let at-loop = c .before in
-    let at-file-all = at-loop .before .before .before .before .before in
-    at-loop .loop .inv .1 .node-long ∙ at-file-all .file-all .kept .1 .1 .1 .1 .0
+same-length-17 c = later (c .before) .frame .edgeList .long
 
 same-length-18 : tie.Need-same-length-18 Inv-loop μ-loop
-same-length-18 c =
-    let at-loop = c .before in
-    let at-file-all = at-loop .before .before .before .before .before in
-    at-loop .loop .inv .1 .edge-long ∙ at-file-all .file-all .kept .1 .1 .1 .1 .1 .0
+same-length-18 c = c .before .loop .inv .1 .node-long ∙ c .before .before .before .before .before .before .before .before .file-all .kept .1 .1 .1 .1 .0
+
+same-length-19 : tie.Need-same-length-19 Inv-loop μ-loop
+same-length-19 c = c .before .loop .inv .1 .edge-long ∙ c .before .before .before .before .before .before .before .before .file-all .kept .1 .1 .1 .1 .1 .0
+
+same-length-20 : tie.Need-same-length-20 Inv-loop μ-loop
+same-length-20 c = c .before .loop .inv .1 .tried-long ∙ c .before .before .before .before .before .before .before .before .file-all .kept .1 .1 .1 .1 .1 .1 .0
 
 returns-2 : tie.Need-returns-2 Inv-loop μ-loop
-returns-2 c =
-    let at-loop = c .before in
-    let at-most-passes = at-loop .before .before .before .before .before .before .before .before .before .before .before in
-    let at-shared-slice-known3 = at-most-passes .before .before .before .before .before .before .before .before .before .before .before .before in
-    let start = at-shared-slice-known3 .before .before .before in
-    advance-whole (around start) (start .args .size) (field start) (start .args .passes) (lent start) (at-most-passes .most-passes .ensures)
-    (run-end _ allUsed _ (at-loop .loop .inv .0) (c .loop-test .left))
+returns-2 c = let start = c .before .before .before .before .before .before .before .before .before .before .before .before .before .before .before .before .before .before .before .before .before .before .before .before .before .before .before .before .before .before .before in
+    advance-whole (around start) (start .args .size) (field start) (start .args .passes) (lent start) (c .before .before .before .before .before .before .before .before .before .before .before .before .before .before .before .most-passes .ensures)
+    (run-end _ allUsed _ (c .before .loop .inv .0) (c .loop-test .left))
 
 pub advance-spec : {M : Type 1} → statement M
 advance-spec =
@@ -258,8 +193,8 @@ advance-spec =
     same-length-7
     same-length-8
     same-length-9
-    returns
     same-length-10
+    returns
     same-length-11
     same-length-12
     same-length-13
@@ -268,4 +203,6 @@ advance-spec =
     same-length-16
     same-length-17
     same-length-18
+    same-length-19
+    same-length-20
     returns-2)

@@ -11,13 +11,10 @@ clear-requires-2 : tie.Need-clear-requires-2
 clear-requires-2 c κs = search needs
 
 file-added-requires : tie.Need-file-added-requires
-file-added-requires c κs =
-    let at-clear2 = c .before .before .before .before in
-    let at-clear = at-clear2 .before .before .before .before in
-    let start = at-clear .before .before .before .before .before .before .before in
+file-added-requires c κs = let start = c .before .before .before .before .before .before .before .before .before .before .before .before .before .before .before .before .before in
     let args = start .args in
     all-addable (args .size) (args .xs .now) (args .ys .now) (args .edges .now) (args .k) (start .pre) (args .node-pool .now) (args .edge-pool .now)
-    (at-clear .clear .ensures) (at-clear2 .clear2 .ensures)
+    (c .before .before .before .before .before .before .before .before .before .clear .ensures) (c .before .before .before .before .before .clear2 .ensures)
 
 same-length : tie.Need-same-length
 same-length c = search needs
@@ -25,10 +22,11 @@ same-length c = search needs
 same-length-2 : tie.Need-same-length-2
 same-length-2 c = search needs
 
+same-length-3 : tie.Need-same-length-3
+same-length-3 c = search needs
+
 returns : tie.Need-returns
-returns c =
-    let at-file-added = c .before .before .before .before in
-    at-file-added .file-added .ensures
+returns c = c .before .before .before .before .before .before .file-added .ensures
 
 pub file-all-spec : {M : Type 1} → statement M
 file-all-spec =
@@ -39,4 +37,5 @@ file-all-spec =
     file-added-requires
     same-length
     same-length-2
+    same-length-3
     returns)

@@ -50,6 +50,9 @@ slice-aggregate-pave-14 c = search needs
 slice-aggregate-pave-15 : tie.Need-slice-aggregate-pave-15
 slice-aggregate-pave-15 c = search needs
 
+slice-aggregate-pave-16 : tie.Need-slice-aggregate-pave-16
+slice-aggregate-pave-16 c = search needs
+
 pave-requires : tie.Need-pave-requires
 pave-requires c κs = search needs
 
@@ -81,7 +84,7 @@ returns : tie.Need-returns
 unfolding programLent
 returns c =
     let at-heading = c .before .before .before .before .before .before .before .before in
-    let at-pave = at-heading .before .before .before .before .before .before .before .before .before .before .before .before .before .before .before .before .before in
+    let at-pave = at-heading .before .before .before .before .before .before .before .before .before .before .before .before .before .before .before .before .before .before in
     let kept = at-pave .pave .kept .1 .1 .1 .1 .1 .1 .1 .1 in
     run-listed _ _ _ _ (at-pave .pave .ensures .0) (at-heading .heading .ensures)
     (record { xs = kept .0; quads = kept .1 .1 .1 .1 .1 .1 .0; loops = kept .1 .1 .1 .1 .1 .1 .1 .1 .0; lengths = kept .1 .1 .1 .1 .1 .1 .1 .1 .1 .0 })
@@ -106,6 +109,7 @@ list-outline-spec =
     slice-aggregate-pave-13
     slice-aggregate-pave-14
     slice-aggregate-pave-15
+    slice-aggregate-pave-16
     pave-requires
     heading-requires
     slice-aggregate-write-listing

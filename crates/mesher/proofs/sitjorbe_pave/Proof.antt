@@ -25,8 +25,8 @@ host-spares {before} {after} p k e = subst⁻¹ (λ (v : PaveAnswer). Spares (v 
 -- the run, as it stands at the end
 abbrev paved : tie.After-pave-numbers → tie.After-pave
 paved c =
-    let midway = c .before .before .before .before .before .before .before .before .before .before .before .before .before .before .before in
-    midway .before .before .before .before .before .before .before .before .before .before .before .before .before .before .before .before
+    let midway = c .before .before .before .before .before .before .before .before .before .before .before .before .before .before .before .before in
+    midway .before .before .before .before .before .before .before .before .before .before .before .before .before .before .before .before .before
 
 pave-requires : tie.Need-pave-requires
 pave-requires c κs = search needs
@@ -79,6 +79,9 @@ same-length-14 c = paved c .pave .kept .1 .1 .1 .1 .1 .1 .1 .1 .1 .1 .1 .1 .1 .1
 same-length-15 : tie.Need-same-length-15
 same-length-15 c = paved c .pave .kept .1 .1 .1 .1 .1 .1 .1 .1 .1 .1 .1 .1 .1 .1 .1 .1 .1 .1 .1 .1 .0
 
+same-length-16 : tie.Need-same-length-16
+same-length-16 c = paved c .pave .kept .1 .1 .1 .1 .1 .1 .1 .1 .1 .1 .1 .1 .1 .1 .1 .1 .1 .1 .1 .1 .1 .0
+
 returns : tie.Need-returns
 returns c =
     let same = c .pave-numbers .ensures in
@@ -106,4 +109,5 @@ sitjorbe-pave-spec =
     same-length-13
     same-length-14
     same-length-15
+    same-length-16
     returns)

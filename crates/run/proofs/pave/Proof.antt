@@ -25,18 +25,18 @@ given s =
 
 abbrev start-of : tie.After-snapshot-places → tie.Start
 start-of c =
-    c .before .before .before .before .before .before .before .before .before .before .before .before .before .before .before .before .before .before .before
+    c .before .before .before .before .before .before .before .before .before .before .before .before .before .before .before .before .before .before .before .before
 
 -- the run, as it stands at the end
-abbrev paved : tie.After-slice-known30 → tie.After-pave-in
+abbrev paved : tie.After-slice-known32 → tie.After-pave-in
 paved c =
-    let midway = c .before .before .before .before .before .before .before .before .before .before .before .before .before .before .before in
-    midway .before .before .before .before .before .before .before .before .before .before .before .before .before .before .before
+    let midway = c .before .before .before .before .before .before .before .before .before .before .before .before .before .before .before .before in
+    midway .before .before .before .before .before .before .before .before .before .before .before .before .before .before .before .before
 
 -- the coordinates lent are doubles
 doubles : (c : tie.After-snapshot-places) → OutlineFits (around (start-of c))
 doubles c =
-    let at-holes = c .before .before .before .before .before .before .before .before .before .before .before .before .before .before .before .before .before in
+    let at-holes = c .before .before .before .before .before .before .before .before .before .before .before .before .before .before .before .before .before .before in
     record { outer = λ i h. at-holes .before .shared-slice-known .given i; holes = λ i h. at-holes .shared-slice-known2 .given i }
 
 places-are : (c : tie.After-snapshot-places) → c .snapshot-places .result ≡ snapshotPlaces (given (start-of c))
@@ -85,7 +85,7 @@ slice-aggregate-pave-in c =
 
 pave-in-requires : tie.Need-pave-in-requires
 pave-in-requires c κs =
-    let else1 = c .before .before .before .before .before .before .before .before .before .before .before .before .before .before .before in
+    let else1 = c .before .before .before .before .before .before .before .before .before .before .before .before .before .before .before .before in
     let at-refusal = else1 .before in
     let at-snapshot-places = at-refusal .before .before .before in
     let start = start-of at-snapshot-places in
@@ -136,10 +136,13 @@ same-length-14 c = paved c .pave-in .kept .1 .1 .1 .1 .1 .1 .1 .1 .1 .1 .1 .1 .1
 same-length-15 : tie.Need-same-length-15
 same-length-15 c = paved c .pave-in .kept .1 .1 .1 .1 .1 .1 .1 .1 .1 .1 .1 .1 .1 .1 .1 .1 .1 .1 .1 .1 .0
 
+same-length-16 : tie.Need-same-length-16
+same-length-16 c = paved c .pave-in .kept .1 .1 .1 .1 .1 .1 .1 .1 .1 .1 .1 .1 .1 .1 .1 .1 .1 .1 .1 .1 .1 .0
+
 returns-2 : tie.Need-returns-2
 returns-2 c =
     let at-pave-in = paved c in
-    let else1 = at-pave-in .before .before .before .before .before .before .before .before .before .before .before .before .before .before .before .before in
+    let else1 = at-pave-in .before .before .before .before .before .before .before .before .before .before .before .before .before .before .before .before .before in
     let at-refusal = else1 .before in
     let at-snapshot-places = at-refusal .before .before .before in
     let start = start-of at-snapshot-places in
@@ -177,4 +180,5 @@ pave-spec =
     same-length-13
     same-length-14
     same-length-15
+    same-length-16
     returns-2)

@@ -24,16 +24,14 @@ given s =
 -- the start and the stages, as they stand later
 abbrev start-of : tie.After-make-field-arg3 → tie.Start
 start-of c =
-    let midway = c .before .before .before .before .before .before .before .before .before .before .before in
-    midway .before .before .before .before .before .before .before .before .before .before
+    c .before .before .before .before .before .before .before .before .before .before .before .before .before .before .before .before .before .before .before .before .before .before
 
-abbrev made : tie.After-sample-and-advance-arg11 → tie.After-make-field
-made c = c .before .before .before .before .before .before .before .before .before .before .before .before .before .before .before .before .before
+abbrev made : tie.After-sample-and-advance-arg12 → tie.After-make-field
+made c = c .before .before .before .before .before .before .before .before .before .before .before .before .before .before .before .before .before .before
 
 abbrev advanced : tie.After-number-nodes-arg2 → tie.After-sample-and-advance
 advanced c =
-    let midway = c .before .before .before .before .before .before .before .before .before .before in
-    midway .before .before .before .before .before .before .before .before .before .before
+    c .before .before .before .before .before .before .before .before .before .before .before .before .before .before .before .before .before .before .before .before .before .before
 
 abbrev numbered : tie.After-front-loops-arg4 → tie.After-number-nodes
 numbered c = c .before .before .before .before .before .before
@@ -134,6 +132,9 @@ same-length-14 c = advanced-by c .sample-and-advance .kept .1 .1 .1 .1 .1 .1 .1 
 same-length-15 : tie.Need-same-length-15
 same-length-15 c = made-by c .make-field .kept .1 .1 .1 .1 .1 .1 .1 .0
 
+same-length-16 : tie.Need-same-length-16
+same-length-16 c = advanced-by c .sample-and-advance .kept .1 .1 .1 .1 .1 .1 .1 .1 .1 .1 .1 .1 .1 .1 .1 .1 .0
+
 returns : tie.Need-returns
 returns c =
     let at-make-field = made-by c in
@@ -167,4 +168,5 @@ pave-in-spec =
     same-length-13
     same-length-14
     same-length-15
+    same-length-16
     returns)

@@ -24,14 +24,15 @@ given s =
 -- the start and the two calls, as they stand later
 abbrev start-of : tie.After-from-boundary-arg5 → tie.Start
 start-of c =
-    c .before .before .before .before .before .before .before .before .before .before .before .before .before .before .before .before .before .before .before
+    c .before .before .before .before .before .before .before .before .before .before .before .before .before .before .before .before .before .before .before .before
 
-abbrev laid : tie.After-advance-arg9 → tie.After-from-boundary
+abbrev laid : tie.After-advance-arg10 → tie.After-from-boundary
 laid c =
-    c .before .before .before .before .before .before .before .before .before .before .before .before .before .before .before .before .before .before .before
+    c .before .before .before .before .before .before .before .before .before .before .before .before .before .before .before .before .before .before .before .before
 
-abbrev advanced : tie.After-slice-known23 → tie.After-advance
-advanced c = c .before .before .before .before .before .before .before .before .before .before .before .before .before .before .before .before .before .before
+abbrev advanced : tie.After-slice-known25 → tie.After-advance
+advanced c =
+    c .before .before .before .before .before .before .before .before .before .before .before .before .before .before .before .before .before .before .before .before
 
 from-boundary-requires : tie.Need-from-boundary-requires
 from-boundary-requires c κs =
@@ -82,6 +83,9 @@ same-length-8 c = search needs
 same-length-9 : tie.Need-same-length-9
 same-length-9 c = search needs
 
+same-length-10 : tie.Need-same-length-10
+same-length-10 c = search needs
+
 returns : tie.Need-returns
 returns c =
     let at-advance = advanced c in
@@ -106,4 +110,5 @@ sample-and-advance-spec =
     same-length-7
     same-length-8
     same-length-9
+    same-length-10
     returns)

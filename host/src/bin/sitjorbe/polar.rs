@@ -79,9 +79,9 @@ pub fn labels(sheet: &Sheet, labels: &mut Labels) -> String {
     let [width, height] = sheet.frame();
     let frame = [sheet.x, sheet.x + width, sheet.y, sheet.y + height];
     let around = [frame[0] - SIDE, frame[1] + SIDE, frame[2] - 24.0, frame[3] + 24.0];
-    for meridian in MERIDIANS {
+    for (meridian, exit) in exits(sheet) {
         let words = format!("{meridian}°");
-        if let Some((at, anchor)) = labels.take(&words, TEXT, around, &meridian_places(sheet, meridian)) {
+        if let Some((at, anchor)) = labels.take(&words, TEXT, around, &meridian_places(sheet, meridian, &exit)) {
             drawn += &text(at, anchor, "degrees", &words);
         }
     }
@@ -110,26 +110,53 @@ fn on_circle(sheet: &Sheet, meridian: f64, radius: f64) -> Place {
     ([x, y + 0.35 * TEXT], Anchor::Middle)
 }
 
-/// Outside the frame where the meridian leaves it, or a little along the frame from there; else on the meridian, farther and farther in.
-fn meridian_places(sheet: &Sheet, meridian: u32) -> Vec<Place> {
-    let meridian = f64::from(meridian);
-    let Some([from, to]) = span(sheet, meridian) else {
-        return vec![];
-    };
+/// Where a meridian leaves the frame: the label's place outside it, a step along the frame away from fixation, and how far along it is from there.
+struct Exit {
+    outside: Place,
+    step: [f64; 2],
+    along: f64,
+}
+
+/// The meridians that leave the frame: the horizontal and the vertical first, then those nearest to fixation along their side. So labels that have to step aside
+/// keep their order.
+fn exits(sheet: &Sheet) -> Vec<(u32, Exit)> {
+    let mut found: Vec<(u32, Exit)> =
+        MERIDIANS.iter().filter_map(|meridian| Some((*meridian, exit(sheet, f64::from(*meridian))?))).collect();
+    found.sort_by(|(one, a), (other, b)| {
+        (one % 90 != 0).cmp(&(other % 90 != 0)).then(a.along.abs().total_cmp(&b.along.abs()))
+    });
+    found
+}
+
+fn exit(sheet: &Sheet, meridian: f64) -> Option<Exit> {
+    let [_, to] = span(sheet, meridian)?;
     let [x, y] = sheet.at(point(meridian, to));
-    let [width, height] = sheet.frame();
-    let (outside, along) = match () {
-        () if x >= sheet.x + width - 0.5 => (([x + 6.0, y + 0.35 * TEXT], Anchor::Start), [0.0, 5.0]),
-        () if x <= sheet.x + 0.5 => (([x - 6.0, y + 0.35 * TEXT], Anchor::End), [0.0, 5.0]),
-        () if y <= sheet.y + 0.5 => (([x, y - 6.0], Anchor::Middle), [10.0, 0.0]),
-        () if y >= sheet.y + height - 0.5 => (([x, y + 16.0], Anchor::Middle), [10.0, 0.0]),
-        () => return vec![],
+    let ([width, height], fixation) = (sheet.frame(), sheet.at([0.0, 0.0]));
+    let beside = |x: f64, anchor: Anchor| {
+        let along = y - fixation[1];
+        Exit { outside: ([x, y + 0.35 * TEXT], anchor), step: [0.0, 5f64.copysign(along)], along }
     };
-    let shifted = |k: i32| {
-        let ([x, y], anchor) = outside;
-        ([x + f64::from(k) * along[0], y + f64::from(k) * along[1]], anchor)
+    let over = |y: f64| {
+        let along = x - fixation[0];
+        Exit { outside: ([x, y], Anchor::Middle), step: [8f64.copysign(along), 0.0], along }
     };
-    let aside = (0..=6).flat_map(|k| [shifted(k), shifted(-k)]);
+    match () {
+        () if x >= sheet.x + width - 0.5 => Some(beside(x + 6.0, Anchor::Start)),
+        () if x <= sheet.x + 0.5 => Some(beside(x - 6.0, Anchor::End)),
+        () if y <= sheet.y + 0.5 => Some(over(y - 6.0)),
+        () if y >= sheet.y + height - 0.5 => Some(over(y + 16.0)),
+        () => None,
+    }
+}
+
+/// Outside the frame where the meridian leaves it; else on the meridian, farther and farther in; else a little along the frame, away from fixation.
+fn meridian_places(sheet: &Sheet, meridian: u32, exit: &Exit) -> Vec<Place> {
+    let meridian = f64::from(meridian);
+    let [from, to] = span(sheet, meridian).unwrap_or([0.0; 2]);
     let inside = (1..10).map(|k| on_circle(sheet, meridian, to - (to - from) * (f64::from(k) - 0.5) / 10.0));
-    aside.chain(inside).collect()
+    let aside = (1..=12).map(|k| {
+        let ([x, y], anchor) = exit.outside;
+        ([x + f64::from(k) * exit.step[0], y + f64::from(k) * exit.step[1]], anchor)
+    });
+    [exit.outside].into_iter().chain(inside).chain(aside).collect()
 }

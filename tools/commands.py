@@ -32,14 +32,17 @@ def parser(doc):
     return made
 
 
+def named(path):
+    return "standard input" if path == "-" else path
+
+
 @contextlib.contextmanager
 def reading(path):
     """Says of which file something is that can't be read."""
     try:
         yield
     except Unusable as error:
-        name = "standard input" if path == "-" else path
-        raise Unusable("\n".join(f"{name}: {line}" for line in str(error).split("\n"))) from None
+        raise Unusable("\n".join(f"{named(path)}: {line}" for line in str(error).split("\n"))) from None
 
 
 def read_bytes(path):

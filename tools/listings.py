@@ -15,8 +15,8 @@ PRINTED = (*range(1, 11), 12, 13)
 ENDS = {
     "still": "the last pass placed nothing",
     "passes": "every pass allowed was used",
-    "cap": "stopped at 250,000 quads",
-    "full": "stopped before a quad that no space was lent for",
+    "cap": "250,000 quads are the most",
+    "full": "no space was lent for another quad",
 }
 
 

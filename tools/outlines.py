@@ -4,6 +4,7 @@ An outline is a list of loops, the outer one first; a loop is a list of points.
 """
 
 import bisect
+import collections
 import math
 import re
 import struct
@@ -48,50 +49,148 @@ class Settings(NamedTuple):
 
 
 # ---- points as text
+#
+# The command's reader, host/src/bin/sitjorbe/csv.rs, is the same in Rust: host/tests/readers.rs holds the two equal.
 
 NUMBER = re.compile(r"[-+]?(\d+\.?\d*|\.\d+)(e[-+]?\d+)?|[-+]?(inf|infinity|nan)", re.ASCII | re.IGNORECASE)
+CONTROL = re.compile("[\x00-\x1f\x7f-\x9f]")
+LONGEST_NAME = 40  # longer ones aren't taken from comments
+LONGEST_SHOWN = 60  # of a line that can't be read
+IN_A_LOOP = "put a blank line before it if a new loop begins there, or take the comment out if the loop goes on"
+CLOSES = "so it is left out: a loop closes by itself"
 
 
-def number(word):
-    """The float that a word says, or None."""
+class Field(NamedTuple):
+    """A field as it was read: the loops, the outer one first, a name for each, and what the operator should know of how it was read."""
+    loops: list
+    names: list
+    notes: list
+
+
+def number(word, separator=","):
+    """The float that a word says, or None; with semicolons between x and y it may have a decimal comma."""
+    word = word.replace("\u2212", "-")
+    if separator == ";" and word.count(",") == 1 and "." not in word:
+        word = word.replace(",", ".")
     return float(word) if NUMBER.fullmatch(word) else None
 
 
-def read_point(row, line):
+def shown(row, separator):
+    """A row as it is shown on a terminal: no more than fits, and nothing that a terminal would obey."""
+    whole = separator.join(row)
+    return CONTROL.sub("?", whole[:LONGEST_SHOWN]) + (".." if len(whole) > LONGEST_SHOWN else "")
+
+
+def is_heading(row, separator):
+    """Whether a first row is a heading: two words that begin with a letter and aren't numbers."""
+    def letter(word):
+        return word[:1].isalpha() if word[:1].isascii() else word != ""
+
+    return len(row) == 2 and all(letter(word) and number(word, separator) is None for word in row)
+
+
+def read_point(row, line, separator):
     """The point of a row, or Unusable with what is wrong."""
     if len(row) != 2:
         values = "one value" if len(row) == 1 else f"{len(row)} values"
-        raise Unusable(f"{values}, where x and y are wanted with a comma between: {','.join(row)}")
+        between = "semicolon" if separator == ";" else "comma"
+        hint = "; if the decimals have commas, put ; between x and y" if len(row) == 4 and separator == "," else ""
+        raise Unusable(f"{values}, where x and y are wanted with a {between} between: {shown(row, separator)}{hint}")
     for name, word in zip("xy", row):
         if not word:
             raise Unusable(f"{name} is missing")
-        if number(word) is None:
-            raise Unusable(f"{name} isn't a number: {word}")
-    return Point(number(row[0]), number(row[1]), line)
+        if number(word, separator) is None:
+            raise Unusable(f"{name} isn't a number: {shown([word], separator)}")
+    return Point(number(row[0], separator), number(row[1], separator), line)
+
+
+def name_in(comment):
+    """The name in a comment: its first clause without an article, where that is short; else None."""
+    clause = re.split("[,:;(]", comment.lstrip("#"))[0].split(". ")[0]
+    words = [word for word in re.split('[ "]', CONTROL.sub(" ", clause)) if word]
+    if len(words) > 1 and words[0].lower() in ("the", "a", "an", "its"):
+        del words[0]
+    name = " ".join(words).rstrip(".")
+    return name if name and len(name) <= LONGEST_NAME else None
+
+
+def names_of(named):
+    """A name for each loop; those that would be alike are numbered."""
+    names = [name or ("blind spot" if place else "outline") for place, name in enumerate(named)]
+    counts, places = collections.Counter(names), collections.Counter()
+    for k, name in enumerate(names):
+        places[name] += 1
+        if counts[name] > 1:
+            names[k] = f"{name} {places[name]}"
+    return names
+
+
+class Reader:
+    """Reads a text line by line."""
+
+    def __init__(self, separator):
+        self.separator = separator
+        self.loops, self.named, self.notes, self.wrong = [], [], [], []
+        self.between = True  # whether the next point begins a loop
+        self.pending = None  # the first of the comments right before this line: its line, and the name in it
+        self.heading = False
+
+    def read(self, line, whole):
+        told, mark, comment = whole.partition("#")
+        row = [word.strip(' \t"') for word in told.split(self.separator)]
+        while len(row) > 2 and not row[-1]:  # columns that a table has and a point hasn't
+            row.pop()
+        if any(row):
+            self.row(line, row)
+        elif mark:
+            self.pending = self.pending or (line, name_in(comment))
+        else:
+            self.between, self.pending = True, None
+
+    def row(self, line, row):
+        first = not (self.loops or self.wrong or self.heading)
+        if first and is_heading(row, self.separator):
+            self.heading = True
+            self.notes.append(f"line {line}: taken for a heading: {shown(row, self.separator)}")
+            return
+        try:
+            point = read_point(row, line, self.separator)
+        except Unusable as error:
+            self.wrong.append(f"line {line}: {error}" + ("; if it is a heading, put # before it" if first else ""))
+            return
+        if self.between:
+            self.loops.append([])
+            self.named.append(self.pending and self.pending[1])
+            self.between = False
+        elif self.pending:
+            self.wrong.append(f"line {self.pending[0]}: a comment between two points: {IN_A_LOOP}")
+        self.pending = None
+        self.loops[-1].append(point)
+
+    def close(self):
+        """The field; Unusable names every line that can't be read."""
+        if self.wrong:
+            raise Unusable("\n".join(self.wrong))
+        for points in self.loops:
+            first, last = points[0], points[-1]
+            if len(points) > 1 and (first.x, first.y) == (last.x, last.y):
+                points.pop()
+                self.notes.append(f"line {last.line}: it repeats the point of line {first.line}, {CLOSES}")
+        return Field(self.loops, names_of(self.named), self.notes)
+
+
+def read_field(text):
+    """The field that a text says."""
+    lines = text.split("\n")
+    reader = Reader(";" if any(";" in line.partition("#")[0] for line in lines) else ",")
+    for line, whole in enumerate(lines, start=1):
+        reader.read(line, whole)
+    return reader.close()
 
 
 def read_points(text):
-    """The outline that a text says. Unusable names every line that can't be read."""
-    loops, between, wrong = [], True, []
-    for line, whole in enumerate(text.split("\n"), start=1):
-        told, mark, _ = whole.partition("#")
-        row = [word.strip(' \t"') for word in told.split(",")]
-        if not any(row):
-            between = between or not mark
-            continue
-        try:
-            point = read_point(row, line)
-        except Unusable as error:
-            hint = "; if it is a heading, put # before it" if not loops and not wrong else ""
-            wrong.append(f"line {line}: {error}{hint}")
-            continue
-        if between:
-            loops.append([])
-        between = False
-        loops[-1].append(point)
-    if wrong:
-        raise Unusable("\n".join(wrong))
-    return loops
+    """The outline that a text says."""
+    return read_field(text).loops
 
 
 # ---- the file

@@ -29,10 +29,11 @@ pub struct LentMesh<'a> {
 }
 
 impl<'a> LentMesh<'a> {
-    /// The mesh that a run made, with a number a node: the outline loop that it came from.
+    /// The mesh that a run made.
     #[must_use]
-    pub fn of(mesh: &Mesh<'a>, origins: &'a [u16]) -> LentMesh<'a> {
+    pub fn of(mesh: &Mesh<'a>) -> LentMesh<'a> {
         let ((xs, ys), quads, (next, prev)) = (mesh.coordinates(), mesh.quad_ids(), mesh.links());
+        let origins = mesh.origins();
         LentMesh { nodes: xs.len() as u32, xs, ys, quad_count: quads.len() / 4, quads, next, prev, origins }
     }
 }

@@ -114,7 +114,12 @@ pub struct MeshRead<'a> {
 /// # Errors
 ///
 /// In the answer: 1 to 7 of outline and size, 11 of the field, 23 of the mesh, 24 of the edge. Nothing is written then.
-pub fn step_numbers(ground: &Ground<'_>, lists: &mut MeshLists<'_>, counts: MeshCounts, edge: [u32; 2]) -> ffi::StepAnswer {
+pub fn step_numbers(
+    ground: &Ground<'_>,
+    lists: &mut MeshLists<'_>,
+    counts: MeshCounts,
+    edge: [u32; 2],
+) -> ffi::StepAnswer {
     floats::check();
     let Ground { outline: Outline { outer, holes, hole_lengths: lens }, size, record, values, marks } = *ground;
     // SAFETY: each pointer comes with the length of its slice, and the slices live until the call returns; those that may be
@@ -250,7 +255,6 @@ pub struct Stepper<'a> {
     size: f64,
     memory: &'a mut Memory,
     record: FieldRecord,
-    origins: Vec<u16>,
     counts: MeshCounts,
     list: Vec<u32>,
 }
@@ -271,9 +275,6 @@ impl<'a> Stepper<'a> {
     ///
     /// Those of [`Memory::pave`].
     pub fn after(outline: Outline<'a>, settings: &Settings, memory: &'a mut Memory) -> Result<Stepper<'a>, Refusal> {
-        let sampled = Settings { passes: 0, ..*settings };
-        let mesh = memory.pave(&outline, &sampled)?;
-        let loops = loops_of(mesh.links().0);
         let mesh = memory.pave(&outline, settings)?;
         let record = mesh.record();
         let counts = MeshCounts {
@@ -282,18 +283,9 @@ impl<'a> Stepper<'a> {
             edges: mesh.edge_count(),
             front: mesh.front_count(),
         };
-        let mut origins = loops;
-        for [a, _, d, c] in mesh.quads() {
-            for id in [c, d] {
-                if id as usize == origins.len() {
-                    origins.push(origins[a as usize]);
-                }
-            }
-        }
         let places = memory.lists().xs.len();
-        origins.resize(places, 0);
         let list = vec![0; 2 * places.saturating_add(2)];
-        Ok(Stepper { outline, size: settings.size, memory, record, origins, counts, list })
+        Ok(Stepper { outline, size: settings.size, memory, record, counts, list })
     }
 
     /// Steps on the front edge from a node to the next one.
@@ -316,7 +308,7 @@ impl<'a> Stepper<'a> {
             ys: lists.ys,
             next: lists.next,
             prev: lists.prev,
-            origins: &mut self.origins,
+            origins: lists.origins,
             quads: lists.quads,
             edges: lists.edges,
         };
@@ -347,7 +339,7 @@ impl<'a> Stepper<'a> {
             ys: lists.ys,
             next: lists.next,
             prev: lists.prev,
-            origins: &self.origins,
+            origins: lists.origins,
             quads: lists.quads,
             edges: lists.edges,
         };
@@ -399,37 +391,21 @@ impl<'a> Stepper<'a> {
         links.filter(|(_, &next)| next != OFF).map(|(id, &next)| [id, next]).collect()
     }
 
-    /// The number of the outline's loop that each node came from: 0 for the outer one.
-    #[must_use]
-    pub fn origins(&self) -> &[u16] {
-        &self.origins[..self.counts.nodes as usize]
+    /// The number of the outline's loop that each node came from, by id: 0 for the outer one.
+    pub fn origins(&mut self) -> Vec<u16> {
+        let count = self.counts.nodes as usize;
+        self.memory.lists().origins[..count].to_vec()
     }
-}
-
-/// Which loop each node of a sampled outline came from: the nodes of a loop have numbers one after the other.
-fn loops_of(next: &[u32]) -> Vec<u16> {
-    let mut origins = Vec::with_capacity(next.len());
-    let mut number = 0;
-    while let Some(&second) = next.get(origins.len()) {
-        let start = origins.len() as u32;
-        let (mut id, mut length) = (second, 1);
-        while id != start {
-            id = next[id as usize];
-            length += 1;
-        }
-        origins.resize(origins.len() + length, number);
-        number += 1;
-    }
-    origins
 }
 
 #[cfg(test)]
 mod tests {
-    use super::{loops_of, Outcome};
+    use super::Outcome;
 
     #[test]
     fn outcomes_are_the_papers() {
-        let found: Vec<(u32, String)> = Outcome::ALL.iter().map(|outcome| (*outcome as u32, outcome.to_string())).collect();
+        let found: Vec<(u32, String)> =
+            Outcome::ALL.iter().map(|outcome| (*outcome as u32, outcome.to_string())).collect();
         let words = ["placed", "none", "full", "cap"].map(String::from);
         assert_eq!(found, (0..).zip(words).collect::<Vec<_>>());
         assert_eq!(Outcome::ALL.map(|outcome| Outcome::of_number(outcome as u32)), Outcome::ALL);
@@ -439,11 +415,5 @@ mod tests {
     #[should_panic(expected = "a bug: the library answered outcome 4")]
     fn an_unknown_number_is_a_bug() {
         Outcome::of_number(4);
-    }
-
-    #[test]
-    fn loops_are_numbered_in_their_order() {
-        assert_eq!(loops_of(&[1, 2, 3, 0, 7, 4, 5, 6]), [0, 0, 0, 0, 1, 1, 1, 1]);
-        assert_eq!(loops_of(&[]), []);
     }
 }

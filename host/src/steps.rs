@@ -94,14 +94,14 @@ impl Mesh<'_> {
     /// [`NotShown::Quad`] with the lowest quad that can't be shown.
     pub fn steps(&self) -> Result<Steps, NotShown> {
         let ((xs, ys), (next, prev)) = (self.coordinates(), self.links());
-        let (quads, edges, origins) = (self.quad_ids(), self.edge_ids(), vec![0; xs.len()]);
+        let (quads, edges, origins) = (self.quad_ids(), self.edge_ids(), self.origins());
         let counts = MeshCounts {
             nodes: xs.len() as u32,
             quads: self.quad_count(),
             edges: self.edge_count(),
             front: self.front_count(),
         };
-        Steps::of(&MeshRead { xs, ys, next, prev, origins: &origins, quads, edges }, counts)
+        Steps::of(&MeshRead { xs, ys, next, prev, origins, quads, edges }, counts)
     }
 }
 

@@ -6,7 +6,7 @@ mod common;
 use common::exam::{hostile, junk_thresholds, moved, Event, ExamLists, Model};
 use common::rng::Rng;
 use common::Drawing;
-use sitjorbe::{ffi, Asked, Exam, LentMesh, Memory, Places, Refusal, Settings, NO_THRESHOLD, OFF};
+use sitjorbe::{ffi, Asked, Exam, LentMesh, Memory, Node, Places, Refusal, Settings, NO_THRESHOLD, OFF};
 
 // ---- paper 8
 
@@ -387,8 +387,7 @@ fn a_runs_mesh_is_read_as_it_was_answered() {
         let mut memory =
             Memory::new(Places { field_nodes: 4_000, nodes: 800, quads: 800, edges: 2_400, points: 8 }).unwrap();
         let mesh = memory.pave(&drawing.outline(), &Settings { size: 1.0, sweeps: 400, passes }).unwrap();
-        let origins: Vec<u16> = (0..mesh.node_count()).map(|k| k as u16).collect();
-        let exam = Exam::begin(LentMesh::of(&mesh, &origins));
+        let exam = Exam::begin(LentMesh::of(&mesh));
         let (masked, mut reply) = (exam.masked_reader(), vec![0; mesh.node_count()]);
         for (k, ids) in (0..).zip(mesh.front_loops()) {
             assert_eq!(masked.loop_in(k, &mut reply), Ok(ids));
@@ -398,8 +397,9 @@ fn a_runs_mesh_is_read_as_it_was_answered() {
         for past in [mesh.loop_count() as u32, u32::MAX] {
             assert_eq!(masked.loop_in(past, &mut []), Ok(&[][..]));
         }
-        for (k, [x, y]) in (0..).zip(mesh.nodes()) {
-            assert_eq!(masked.node(k).map(|node| (node.x, node.y, node.origin)), Ok((x, y, k)));
+        for ((k, [x, y]), &origin) in (0..).zip(mesh.nodes()).zip(mesh.origins()) {
+            let node = Node { x, y, origin: u32::from(origin) };
+            assert_eq!(masked.node(k), Ok(node));
         }
         for (k, ids) in (0..).zip(mesh.quads()) {
             assert_eq!(masked.quad(k), Ok(ids));

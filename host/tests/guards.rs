@@ -6,8 +6,8 @@ use common::blocks::Block;
 use common::exam::ExamLists;
 use common::{by_kind, list_lengths, refused, said, used, Drawing, FieldPlaces, Lengths, Lent, Raw, RunPlaces, LISTS};
 use sitjorbe::{
-    check_order_in, direction, directions_in, ffi, least_places, pave, small_quads, steps, Asked, FieldRecord, Lists,
-    Memory, MeshCounts, MeshRead, NotAccepted, Outline, Places, Refusal, Settings, OFF,
+    check_order_in, direction, directions_in, ffi, least_places, pave, preview_numbers, small_quads, step_numbers, steps, Asked, FieldRecord, Ground,
+    Lists, Memory, MeshCounts, MeshLists, MeshRead, NotAccepted, Outline, Places, Refusal, Settings, OFF,
 };
 
 /// Drawings and points that are accepted and refused.
@@ -384,6 +384,76 @@ fn steps_are_read_and_written_within_their_lists() {
             assert_eq!(lent.list(), usual, "{counts:?} {places}");
         }
     }
+}
+
+/// Every list that a step reads in read-only memory, and each that it writes just as long as the step needs, between pages that can't be touched: quads placed,
+/// none, full and refused. A preview's mesh is in read-only memory whole.
+#[cfg(target_os = "linux")]
+#[test]
+fn a_step_is_taken_within_its_lists() {
+    let drawing = queries()[0].0.clone();
+    let mut memory = Memory::new(Places { field_nodes: 1_600, nodes: 800, quads: 800, edges: 2_400, points: 0 }).unwrap();
+    let mesh = memory.pave(&drawing.outline(), &Settings { size: 0.5, sweeps: 400, passes: 1 }).unwrap();
+    let ((values, marks), record) = (mesh.field(), mesh.record());
+    let counts = MeshCounts {
+        nodes: mesh.node_count() as u32,
+        quads: mesh.quad_count(),
+        edges: mesh.edge_count(),
+        front: mesh.front_count(),
+    };
+    let n = mesh.node_count();
+    let (xs, ys): (Vec<f64>, Vec<f64>) = mesh.nodes().map(|[x, y]| (x, y)).unzip();
+    let (next, prev) = mesh.links();
+    let (quads, edges): (Vec<u32>, Vec<u32>) = (mesh.quads().flatten().collect(), mesh.edges().flatten().collect());
+    let front: Vec<[u32; 2]> = mesh.front().chain([[0, u32::MAX], [u32::MAX, 0], [n as u32, 0]]).collect();
+    let mut found = [0; 5];
+    for (side, more) in [pages::Side::Start, pages::Side::End].into_iter().flat_map(|side| [0, 1, 2].map(|more| (side, more))) {
+        let lent = [&drawing.outer[..], &drawing.holes, values].map(|list| pages::Pages::read_only(list, side));
+        let (lengths, marks) = (pages::Pages::read_only(&drawing.hole_lengths, side), pages::Pages::read_only(marks, side));
+        let outline = Outline { outer: lent[0].list(), holes: lent[1].list(), hole_lengths: lengths.list() };
+        let ground = Ground { outline, size: 0.5, record, values: lent[2].list(), marks: marks.list() };
+        for &edge in front.iter().step_by(3).chain(&front[front.len() - 3..]) {
+            let floats = [&xs, &ys].map(|list| [&list[..], &vec![0.0; more]].concat());
+            let links = [next, prev].map(|list| [list, &vec![7; more]].concat());
+            let longer = |list: &[u32], places: usize| [list, &vec![7; places]].concat();
+            let (origins, quads, edges) = (vec![3u16; n + more], longer(&quads, 4), longer(&edges, 4 * more));
+
+            let [xs, ys] = [0, 1].map(|k| pages::Pages::read_only(&floats[k], side));
+            let [next, prev] = [0, 1].map(|k| pages::Pages::read_only(&links[k], side));
+            let (read_quads, read_edges) = (pages::Pages::read_only(&quads, side), pages::Pages::read_only(&edges, side));
+            let read_origins = pages::Pages::read_only(&origins, side);
+            let read = MeshRead {
+                xs: xs.list(),
+                ys: ys.list(),
+                next: next.list(),
+                prev: prev.list(),
+                origins: read_origins.list(),
+                quads: read_quads.list(),
+                edges: read_edges.list(),
+            };
+            let mut list = pages::Pages::writable(&vec![7; 2 * counts.front + 4], side);
+            let preview = preview_numbers(&ground, &read, counts, edge, list.list_mut());
+
+            let [mut xs, mut ys] = [0, 1].map(|k| pages::Pages::writable(&floats[k], side));
+            let [mut next, mut prev] = [0, 1].map(|k| pages::Pages::writable(&links[k], side));
+            let [mut quads, mut edges] = [&quads, &edges].map(|list| pages::Pages::writable(list, side));
+            let mut origins = pages::Pages::writable(&origins, side);
+            let mut lists = MeshLists {
+                xs: xs.list_mut(),
+                ys: ys.list_mut(),
+                next: next.list_mut(),
+                prev: prev.list_mut(),
+                origins: origins.list_mut(),
+                quads: quads.list_mut(),
+                edges: edges.list_mut(),
+            };
+            let step = step_numbers(&ground, &mut lists, counts, edge);
+            assert_eq!((step.refusal, step.outcome, step.front), (preview.refusal, preview.outcome, preview.front), "{edge:?}");
+            found[if step.refusal == 0 { step.outcome as usize } else { 4 }] += 1;
+        }
+    }
+    let [placed, none, full, _, refused] = found;
+    assert!(placed > 5 && none > 5 && full > 5 && refused > 5, "{found:?}");
 }
 
 /// A run's lists, each in pages of its own.

@@ -167,9 +167,9 @@ const SQUARE: [[f64; 2]; 4] = [[0.0, 0.0], [1.0, 0.0], [1.0, 1.0], [0.0, 1.0]];
 fn a_quad_must_turn_left_at_all_four_corners() {
     let quad = |nodes: [[f64; 2]; 4]| Lists::new(&nodes, &[[0, 1, 2, 3]]).compare(8);
     assert_eq!(quad(SQUARE), (0, 0));
-    // In steps: a straight corner, two corners in one step, a right turn at each corner in turn.
+    // A straight corner, one that is straight in steps alone, two corners in one step, a right turn at each corner in turn.
     assert_eq!(quad([[0.0, 0.0], [1.0, 0.0], [2.0, 0.0], [0.0, 1.0]]), (25, 0));
-    assert_eq!(quad([[0.0, 0.0], [1.0, 0.001], [2.0, 0.0], [0.0, 1.0]]), (25, 0));
+    assert_eq!(quad([[0.0, 0.0], [1.0, -0.001], [2.0, 0.0], [0.0, 1.0]]), (25, 0));
     assert_eq!(quad([[0.0, 0.0], [1e-9, 0.0], [1e-9, 1.0], [0.0, 1.0]]), (25, 0));
     for corner in 0..4 {
         // Past the middle of the square, so that only this corner turns right.

@@ -201,8 +201,7 @@ fn events_on_a_run_are_the_models() {
         Memory::new(Places { field_nodes: 2_000, nodes: 800, quads: 800, edges: 2_400, points: 4 }).unwrap();
     let mesh = memory.pave(&drawing.outline(), &Settings { size: 1.0, sweeps: 400, passes: 600 }).unwrap();
     let (nodes, quads) = (mesh.node_count() as u32, mesh.quad_count() as u32);
-    let origins = vec![0; nodes as usize];
-    let mut exam = Exam::begin(LentMesh::of(&mesh, &origins));
+    let mut exam = Exam::begin(LentMesh::of(&mesh));
     let mut model = Model::of(exam.mesh(), &vec![NO_THRESHOLD; nodes as usize]);
     assert_eq!((model.nodes, &model.quads), (nodes, &mesh.quads().collect::<Vec<_>>()));
     let mut rng = Rng(66);

@@ -65,7 +65,7 @@ class Examples(unittest.TestCase):
             self.assertEqual(check(), (0, ["same", "same"]))
             self.edit(kept / "24-2.listing", "mesh 251", "mesh 252")
             self.assertEqual(check(), (1, ["DIFFERS", "same"]))
-            self.edit(kept / "24-2.svg", "Whole", "Open")
+            self.edit(kept / "24-2.svg", "All of the", "Part of the")
             self.assertEqual(check(), (1, ["DIFFERS", "DIFFERS"]))
             (kept / "24-2.svg").unlink()
             self.assertEqual(check(), (1, ["DIFFERS", "DIFFERS"]))

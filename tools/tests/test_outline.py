@@ -33,8 +33,26 @@ class Reading(unittest.TestCase):
     def test_blank_lines_before_after_and_in_a_row(self):
         self.assertEqual(plain(outlines.read_points("\n\n1,2\n\n \n\t\n3,4\n\n\n")), [[(1, 2)], [(3, 4)]])
 
-    def test_a_comment_alone_ends_no_loop(self):
-        self.assertEqual(plain(outlines.read_points("# a\n1,2\n# b\n3,4 # c\n\n# d\n5,6\n")), [[(1, 2), (3, 4)], [(5, 6)]])
+    def test_comments(self):
+        field = outlines.read_field("# A field, drawn by hand\n1,2\n3,4 # c\n\n# The blind spot, 5 by 7\n5,6\n# end\n\n# An arcuate scotoma: it bends\n7,8\n")
+        self.assertEqual(plain(field.loops), [[(1, 2), (3, 4)], [(5, 6)], [(7, 8)]])
+        self.assertEqual(field.names, ["field", "blind spot", "arcuate scotoma"])
+
+    def test_names_that_are_alike_are_numbered(self):
+        self.assertEqual(outlines.read_field("1,2\n\n3,4\n\n5,6\n").names, ["outline", "blind spot 1", "blind spot 2"])
+
+    def test_a_comment_between_two_points_is_refused(self):
+        self.wrong("1,2\n3,4\n# the blind spot\n5,6\n", "line 3: a comment between two points: put a blank line before it if a new loop begins there, or "
+                   "take the comment out if the loop goes on")
+
+    def test_semicolons_and_decimal_commas(self):
+        self.assertEqual(plain(outlines.read_points("1,5;-2,25\n3;4.5\n")), [[(1.5, -2.25), (3, 4.5)]])
+        self.wrong("1,2\n3;4\n", "line 1: one value, where x and y are wanted with a semicolon between: 1,2; if it is a heading, put # before it")
+
+    def test_a_last_point_that_repeats_the_first_is_left_out(self):
+        field = outlines.read_field("0,0\n1,0\n1,1\n0,0\n")
+        self.assertEqual(plain(field.loops), [[(0, 0), (1, 0), (1, 1)]])
+        self.assertEqual(field.notes, ["line 4: it repeats the point of line 1, so it is left out: a loop closes by itself"])
 
     def test_commas_alone_are_blank(self):
         self.assertEqual(plain(outlines.read_points("1,2\n,\n3,4\n,,\n5,6")), [[(1, 2)], [(3, 4)], [(5, 6)]])
@@ -51,7 +69,6 @@ class Reading(unittest.TestCase):
     def test_a_bad_line_is_named(self):
         wanted = "where x and y are wanted with a comma between"
         self.wrong("1,2\n3\n", f"line 2: one value, {wanted}: 3")
-        self.wrong("1,2\n3;4\n", f"line 2: one value, {wanted}: 3;4")
         self.wrong("1,2\n1,2,3\n", f"line 2: 3 values, {wanted}: 1,2,3")
         self.wrong("1,2\n\nx,3\n", "line 3: x isn't a number: x")
         self.wrong("1,2\n3,1_000\n", "line 2: y isn't a number: 1_000")
@@ -63,8 +80,10 @@ class Reading(unittest.TestCase):
     def test_every_bad_line_is_named(self):
         self.wrong("1,2\n?\n3,4\n5,z\n", "line 2: one value, where x and y are wanted with a comma between: ?", "line 4: y isn't a number: z")
 
-    def test_a_heading_is_guessed(self):
-        self.wrong("x,y\n1,2\n", "line 1: x isn't a number: x; if it is a heading, put # before it")
+    def test_a_heading_is_passed_over(self):
+        field = outlines.read_field("x,y\n1,2\n")
+        self.assertEqual((plain(field.loops), field.notes), ([[(1, 2)]], ["line 1: taken for a heading: x,y"]))
+        self.wrong("1O,2O\n1,2\n", "line 1: x isn't a number: 1O; if it is a heading, put # before it")
 
 
 class Writing(unittest.TestCase):

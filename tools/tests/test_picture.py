@@ -158,17 +158,18 @@ class Drawing(unittest.TestCase):
         self.assertEqual(paths["nodes"][0].count("M"), 9)
         self.assertNotIn("open", paths)
         self.assertNotIn("outline", paths)
-        for words in ("field", "Whole: nothing is left to pave.", "9 nodes, 4 quads, 2 front edges.",
-                      "Ended still: the last pass placed nothing.", "0°", "2°", "quad", "fixation"):
+        for words in ("field", "All of the field is paved.", "9 nodes, 4 quads.", "0°", "2°", "quad", "fixation"):
             self.assertIn(words, texts)
-        self.assertNotIn("left open", texts)
+        self.assertNotIn("measured nowhere", texts)
 
     def test_an_open_one(self):
         paths, texts = self.drawn(OPEN)
         self.assertEqual((paths["quads"][0].count("Z"), paths["open"][0].count("Z")), (3, 1))
-        for words in ("Open: 1 loop of the front remains, drawn red.", "9 nodes, 3 quads, 4 front edges.",
-                      "Ended full: stopped before a quad that no space was lent for.", "left open"):
+        for words in ("Part of the field is paved; the red part is measured nowhere.", "9 nodes, 3 quads.",
+                      "The paving stopped early: no space was lent for another quad.", "measured nowhere"):
             self.assertIn(words, texts)
+        _, texts = self.drawn(OPEN, "--outline", self.file("it.csv", SQUARE))
+        self.assertIn("75 % of the field is paved; the red part, 25 %, is measured nowhere.", texts)
 
     def test_the_patch_round_a_blind_spot(self):
         example = ROOT / "examples/right-eye"
@@ -191,7 +192,7 @@ class Drawing(unittest.TestCase):
     def test_an_unsound_one(self):
         paths, texts = self.drawn(UNSOUND)
         self.assertNotIn("open", paths)
-        self.assertIn("Open: the outline is unsound, and nothing is left to pave.", texts)
+        self.assertIn("The outline isn't sound, so how much of the field is paved can't be said.", texts)
 
     def test_where_points_fall(self):
         paths, _ = self.drawn(SQUARE_LISTING)
@@ -207,7 +208,11 @@ class Drawing(unittest.TestCase):
             paths, texts = self.drawn(HOLED, "--outline", outline)
             self.assertEqual((paths["outline"][0].count("Z"), paths["blind"][0].count("Z")), (2, 1))
             self.assertIn("blind spot", texts)
-            self.assertEqual("Size 1°, 400 sweeps, 1 pass allowed." in texts, outline.suffix == ".outline")
+
+    def test_no_size_is_said_of_a_listing_of_another(self):
+        sizes = [self.file(f"{size}.outline", outlines.to_blocks(outlines.read_points(SQUARE), Settings(size))) for size in (1.0, 1.5)]
+        one, other = (self.draw(SQUARE_LISTING, "--outline", outline) for outline in sizes)
+        self.assertEqual(one, other, "both files have the listing's outline, and only one its size")
 
     def test_an_edge_is_lit(self):
         blocks = outlines.to_blocks(outlines.read_points(SQUARE + HOLE), Settings(1.0, 400, 1))

@@ -71,6 +71,14 @@ class Program(unittest.TestCase):
             self.assertEqual((status, said, picture.exists()), (1, b"", False))
             self.assertIn("refused (6)", wrong)
 
+    def test_standard_input_and_output_title_and_numbers(self):
+        words = ("-", "-", "--size", "1", "--title", "A < B", "--numbers")
+        status, picture, said = run(TOOLS / "pave", *words, data=SQUARE.encode())
+        self.assertEqual((status, said), (0, "mesh 9 4 2 still whole\n"))
+        for part in (b"<title>A &lt; B</title>", b'class="number">8</text>'):
+            self.assertIn(part, picture)
+        self.assertIn(b"<title>Paved field</title>", run(TOOLS / "pave", "-", "-", "--size", "1", data=SQUARE.encode())[1])
+
     def test_slits_are_paved_and_said(self):
         """Paper 4's family: the mesh is the same at every width of the mouth, and whole only where the two sides don't meet."""
         with tempfile.TemporaryDirectory() as folder:

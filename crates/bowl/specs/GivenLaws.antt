@@ -24,7 +24,7 @@ use Rattle.nearest_step.specs.Step.{nearestStep}
 use Rattle.nearest_step.specs.StepLaws.{step-near}
 use Rattle.bowl.specs.declared.StepsAnswer.{StepsAnswer}
 use Rattle.bowl.specs.Steps.{stepsGiven, meshUnstepped, lowestHidden, stepsAnswer, stored, stepsLeft}
-use Rattle.bowl.specs.Stepped.{NodeWithin, NodesWithin, QuadsWithin, Near, Bowls}
+use Rattle.bowl.specs.Stepped.{NodeWithin, NodesWithin, QuadsWithin, Near, MeshStepped}
 use Rattle.bowl.specs.StepsLaws.{stored-x, stored-y, stored-past}
 
 -- ---- coordinates
@@ -102,9 +102,9 @@ near-of : (x : Float) (z : ℤ) → z ≡ nearestStep x → Near x z
 near-of x z e = rw e (step-near x)
 
 module _ (s : State) (lent : List ℤ) (r : StepsAnswer) (answer : r ≡ stepsAnswer s (length lent)) where
-  pub bowls-stored : r .refusal ≡ 0 → (left : List ℤ) → left ≡ stored (s .xs) (s .ys) (s .counts .nodes) lent → Bowls s lent r left
+  pub mesh-stored : r .refusal ≡ 0 → (left : List ℤ) → left ≡ stored (s .xs) (s .ys) (s .counts .nodes) lent → MeshStepped s lent r left
   unfolding stepsLeft
-  bowls-stored none left e =
+  mesh-stored none left e =
       let n = s .counts .nodes in
       let enough = given-passes s (length lent) (ap (λ (a : StepsAnswer). a .refusal) (sym answer) ∙ none) .1 in
       record {
@@ -119,9 +119,9 @@ module _ (s : State) (lent : List ℤ) (r : StepsAnswer) (answer : r ≡ stepsAn
         unwritten = λ some. absurd (some none);
       }
 
-  pub bowls-refused : (r .refusal ≡ 0 → ⊥) → Bowls s lent r lent
+  pub mesh-refused : (r .refusal ≡ 0 → ⊥) → MeshStepped s lent r lent
   unfolding stepsLeft
-  bowls-refused some =
+  mesh-refused some =
       record {
         answer = answer;
         steps = rw (ne-eqb (r .refusal) 0 some) refl;

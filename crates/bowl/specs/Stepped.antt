@@ -1,4 +1,4 @@
--- What the code of the bowl asks and gives, place by place; and what a host gets of `sitjorbe_steps` (`Bowls`). Statements only.
+-- What the code of the bowl asks and gives, place by place; and what a host gets of `sitjorbe_steps` (`MeshStepped`). Statements only.
 use mathlib.Core.List.{List}
 use mathlib.Core.Path.{_≡_}
 use Prim.Native.Nat.{ℕ, _+_, _*_, _<_, _≤_}
@@ -54,7 +54,7 @@ abbrev pub Near : Float → ℤ → Type 0
 Near x step = (natAbs (pos 128 *ℤ units x -ℤ pos (2 * W) *ℤ step) ≤ W)
 
 -- the mesh s and a step buffer were lent, r is answered and the buffer left
-pub record Bowls (s : State) (lent : List ℤ) (r : StepsAnswer) (left : List ℤ) : Type 0 where
+pub record MeshStepped (s : State) (lent : List ℤ) (r : StepsAnswer) (left : List ℤ) : Type 0 where
   pub answer : r ≡ stepsAnswer s (length lent)
   pub steps : left ≡ stepsLeft s r lent
   -- no node moves by more than 1/128 in either coordinate

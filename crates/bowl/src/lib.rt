@@ -6,7 +6,7 @@ ghost use Rattle.orientation.specs.Orient.{way};
 ghost use Rattle.front.specs.State.{counted};
 ghost use Rattle.mesh_check.specs.Check.{lentState};
 ghost use Rattle.bowl.specs.Steps.{stepsAt, isLeft, isShown, lowestHidden, stepsAnswer, stored};
-ghost use Rattle.bowl.specs.Stepped.{vector, NodeWithin, Few, IsVector, ids, QuadsWithin, NodesWithin, Bowls};
+ghost use Rattle.bowl.specs.Stepped.{vector, NodeWithin, Few, IsVector, ids, QuadsWithin, NodesWithin, MeshStepped};
 use front::Counts;
 
 // `refusal` is 23 or 25, 0 where nothing is refused; `quad` is the lowest quad that the bowl can't show, where 25 says so.
@@ -177,7 +177,7 @@ pub extern "C" fn sitjorbe_steps(
     front_count: usize,
     steps: &mut [i32],
 ) -> StepsAnswer
-    ensures { λ r. ⌜ Bowls
+    ensures { λ r. ⌜ MeshStepped
         (lentState (now (xs .entry)) (now (ys .entry)) (now (next .entry)) (now (prev .entry)) (now (origins .entry)) (now (quads .entry))
         (now (edges .entry)) (counted «node_count» «quad_count» «edge_count» «front_count»)) (now (steps .entry)) r (now (steps .exit)) ⌝ }
 {

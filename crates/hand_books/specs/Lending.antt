@@ -17,8 +17,8 @@ use Rattle.domain.specs.Outline.{Outline, loopAt, pointAt, pointAfter}
 use Rattle.front.specs.declared.Corner.{Corner}
 use Rattle.front.specs.declared.Corner.the-variants.{Reused, Fresh}
 use Rattle.front.specs.declared.Ring.{Ring}
-use Rattle.front.specs.State.{State, mostNodes, nodePlaces, quadPlaces, edgePlaces, nextOf, hasEdge, pushNode, withFront, addFront, removeFront, pushEdge, addEdge}
-use Rattle.front.specs.State.{pushQuad, cleared}
+use Rattle.front.specs.State.{State, mostNodes, nodePlaces, quadPlaces, edgePlaces, nextOf, hasEdge, pushNode, withFront, addFront, removeFront}
+use Rattle.front.specs.State.{pushEdge, addEdge, pushQuad, cleared}
 use Rattle.front.specs.Place.{added, idC, idD, pushCorner, addEdges, takeOff, putOn, moveFront, place, edgesAdded, isFull}
 use Rattle.front.specs.Sampling.{cutTurn, parts, sampleSegment, sampleTurn, sampleLoop, midpoint, splitLongest, joinTurn, joinRing, ringCount, ringIn}
 use Rattle.front.specs.Sampling.{closeLoop, boundaryTurn, loopCount, fromBoundary}

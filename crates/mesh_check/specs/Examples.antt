@@ -66,7 +66,8 @@ pub record Meshes : Type 0 where
   pub no-number : meshRefusal (at nan) ≡ 23
 
 pub meshes : Meshes
-unfolding ofBits isFinite absF le eq lt replicate forUp anyUp sumUp linkOf within nodePlaces quadPlaces edgePlaces allOff beyondPlaces idsBeyond linkUnsound linkCount frontUnsound coordinateUnsound meshUnsound meshRefusal
+unfolding ofBits isFinite absF le eq lt replicate forUp anyUp sumUp linkOf within nodePlaces quadPlaces edgePlaces allOff beyondPlaces idsBeyond
+    linkUnsound linkCount frontUnsound coordinateUnsound meshUnsound meshRefusal
 meshes =
     record {
       passes = refl;

@@ -58,8 +58,8 @@ module _ (o : Outline) (size : Float) (g : Grid) (values : List Float) (marks : 
   unfolding foreseenOn
   foreseen-cap h = rw (le-leb _ _ h)
 
-  pub foreseen-tried : s .counts .quads < mostQuads → {t : Attempt} → t ≡ tryEdge o size (fieldRecord g values []) (seenOf s) a b → {w : Foreseen} → w ≡ foreseen a b t s
-      → w ≡ foreseenOn o size field a b s
+  pub foreseen-tried : s .counts .quads < mostQuads → {t : Attempt} → t ≡ tryEdge o size (fieldRecord g values []) (seenOf s) a b → {w : Foreseen}
+      → w ≡ foreseen a b t s → w ≡ foreseenOn o size field a b s
   unfolding foreseenOn
   foreseen-tried less e p = rw (lt-leb _ _ less, ← (e ∙ try-seen s field o size a b)) p
 

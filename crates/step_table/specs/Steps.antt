@@ -1,5 +1,5 @@
--- Document 01's square (0,0) (2,0) (2,2) (0,2) at size 1, sampled and stepped by hand: what the entries answer and leave, computed from the definitions. And the
--- smallest inputs of the readings in docs/DECISIONS.md.
+-- Document 01's square (0,0) (2,0) (2,2) (0,2) at size 1, sampled and stepped by hand: what the entries answer and leave, computed from the definitions.
+-- And the smallest inputs of the readings in docs/DECISIONS.md.
 use mathlib.Core.Path.{_≡_, refl}
 use mathlib.Core.List.{List, [], _∷_}
 use Prim.Native.Nat.{ℕ}

@@ -101,15 +101,15 @@ unfolding newOrigins forUp
 origins-same a n l = let z : n - n ≡ 0 = omega arith in rw z
 
 -- the invariant of the loop that writes them
-abbrev pub Numbering : ℕ → ℕ → ℕ → List ℕ → ℕ → List ℕ → Type 0
-Numbering number n more before i l = Loop (originTurn number n) before more i l × (length l ≡ length before)
+abbrev pub NewNumbered : ℕ → ℕ → ℕ → List ℕ → ℕ → List ℕ → Type 0
+NewNumbered number n more before i l = Loop (originTurn number n) before more i l × (length l ≡ length before)
 
-pub numbering-start : (number n more : ℕ) (l : List ℕ) → Numbering number n more l 0 l
-numbering-start number n more l = (loop-start (originTurn number n) l more, refl)
+pub new-start : (number n more : ℕ) (l : List ℕ) → NewNumbered number n more l 0 l
+new-start number n more l = (loop-start (originTurn number n) l more, refl)
 
-pub numbering-next : (number n more : ℕ) (before : List ℕ) {i : ℕ} {l : List ℕ} → Numbering number n more before i l → i < more
-    → Numbering number n more before (i + 1) (set l (n + i) number)
-numbering-next number n more before {i} {l} w h = (loop-next (originTurn number n) before (w .0) h, length-set l (n + i) number ∙ w .1)
+pub new-next : (number n more : ℕ) (before : List ℕ) {i : ℕ} {l : List ℕ} → NewNumbered number n more before i l → i < more
+    → NewNumbered number n more before (i + 1) (set l (n + i) number)
+new-next number n more before {i} {l} w h = (loop-next (originTurn number n) before (w .0) h, length-set l (n + i) number ∙ w .1)
 
 -- ---- a step
 

@@ -197,7 +197,7 @@ fn place_on<'a>(
 }
 
 // The places of the nodes n to m - 1 take the number that stands at node a's.
-fn number_nodes(origins: &mut [u16], a: u32, n: u32, m: u32)
+fn number_new(origins: &mut [u16], a: u32, n: u32, m: u32)
     requires { ⌜ (a < length (now origins)) × (n ≤ m) × (m ≤ length (now origins)) ⌝ }
     ensures { λ r. ⌜ now (origins .exit) ≡ newOrigins a n m (now (origins .entry)) ⌝ }
 {
@@ -262,6 +262,6 @@ pub fn step<'a>(
     );
     let outcome = h.outcome;
     let m = h.counts;
-    number_nodes(origins, a, k.nodes, m.nodes);
+    number_new(origins, a, k.nodes, m.nodes);
     HandStep::Done(outcome, m)
 }

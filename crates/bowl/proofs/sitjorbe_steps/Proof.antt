@@ -1,11 +1,11 @@
--- `bowl::sitjorbe_steps` meets its contract: `bowls-stored` and `bowls-refused`.
+-- `bowl::sitjorbe_steps` meets its contract: `mesh-stored` and `mesh-refused`.
 use borrow.Author.Needs.{needs}
 use mathlib.Core.Path.{_≡_, sym, _∙_, ap}
 use Rattle.front.specs.declared.Counts.{Counts}
 use Rattle.front.specs.State.{State, counted}
 use Rattle.mesh_check.specs.Check.{lentState}
 use Rattle.bowl.specs.declared.StepsAnswer.{StepsAnswer}
-use Rattle.bowl.specs.GivenLaws.{nodes-within, given-passes, bowls-stored, bowls-refused}
+use Rattle.bowl.specs.GivenLaws.{nodes-within, given-passes, mesh-stored, mesh-refused}
 use Rattle.bowl.proofs.sitjorbe_steps.Statement.{statement}
 use Rattle.bowl.proofs.sitjorbe_steps.Tie as tie
 
@@ -43,13 +43,13 @@ returns c =
     let at-if1 = stored .before .before in
     let answered = at-if1 .before .before in
     let start = answered .before .before .before .before .before .before .before .before in
-    bowls-stored (lent start) _ _ (answered .steps-answer .ensures) (at-if1 .if1 .taken) _ (stored .store-steps .ensures)
+    mesh-stored (lent start) _ _ (answered .steps-answer .ensures) (at-if1 .if1 .taken) _ (stored .store-steps .ensures)
 
 returns-2 : tie.Need-returns-2
 returns-2 c =
     let answered = c .before .before in
     let start = answered .before .before .before .before .before .before .before .before in
-    bowls-refused (lent start) _ _ (answered .steps-answer .ensures) (c .if1 .left)
+    mesh-refused (lent start) _ _ (answered .steps-answer .ensures) (c .if1 .left)
 
 pub sitjorbe-steps-spec : {M : Type 1} → statement M
 sitjorbe-steps-spec = tie.close (tie.spec steps-answer-requires store-steps-requires same-length returns returns-2)

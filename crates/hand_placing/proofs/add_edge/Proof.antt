@@ -30,7 +30,10 @@ mul-edges-2 : tie.Need-mul-edges-2
 mul-edges-2 c = search needs
 
 slice-write-edges : tie.Need-slice-write-edges
-slice-write-edges c = omega (arith, ap unless (sym (c .before .before .before .has-edge .ensures) ∙ c .before .before .if1 .left))
+slice-write-edges c =
+    let at-if1 = c .before .before in
+    let at-has-edge = at-if1 .before in
+    omega (arith, ap unless (sym (at-has-edge .has-edge .ensures) ∙ at-if1 .if1 .left))
 
 mul-edges-3 : tie.Need-mul-edges-3
 mul-edges-3 c = search needs
@@ -42,7 +45,10 @@ mul-edges-4 : tie.Need-mul-edges-4
 mul-edges-4 c = search needs
 
 slice-write-edges-2 : tie.Need-slice-write-edges-2
-slice-write-edges-2 c = simp length-set (omega (arith, ap unless (sym (c .before .before .before .has-edge .ensures) ∙ c .before .before .if1 .left)))
+slice-write-edges-2 c =
+    let at-if1 = c .before .before in
+    let at-has-edge = at-if1 .before in
+    simp length-set (omega (arith, ap unless (sym (at-has-edge .has-edge .ensures) ∙ at-if1 .if1 .left)))
 
 add-result : tie.Need-add-result
 add-result c = search needs
@@ -51,7 +57,10 @@ same-length-2 : tie.Need-same-length-2
 same-length-2 c = search needs
 
 returns-2 : tie.Need-returns-2
-returns-2 c = rw (c .before .min-u32 .ensures, c .max-u32 .ensures) (edge-new _ _ _ _ (sym (c .before .before .before .has-edge .ensures) ∙ c .before .before .if1 .left))
+returns-2 c =
+    let at-if1 = c .before .before in
+    let at-has-edge = at-if1 .before in
+    rw (c .before .min-u32 .ensures, c .max-u32 .ensures) (edge-new _ _ _ _ (sym (at-has-edge .has-edge .ensures) ∙ at-if1 .if1 .left))
 
 pub add-edge-spec : {M : Type 1} → statement M
 add-edge-spec =

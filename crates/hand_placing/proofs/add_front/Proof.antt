@@ -33,8 +33,10 @@ same-length-2 : tie.Need-same-length-2
 same-length-2 c = search needs
 
 returns : tie.Need-returns
-returns c = let s = c .before .before in
-    (add-free (s .args .next .now) (s .args .prev .now) (s .args .n) (s .args .f) (s .args .u) (s .args .v) (s .pre .1) (s .pre .0) (c .if1 .taken), omega arith)
+returns c = let s = c .before .before in (
+  add-free (s .args .next .now) (s .args .prev .now) (s .args .n) (s .args .f) (s .args .u) (s .args .v) (s .pre .1) (s .pre .0) (c .if1 .taken),
+  omega arith,
+)
 
 same-length-3 : tie.Need-same-length-3
 same-length-3 c = search needs
@@ -43,8 +45,10 @@ same-length-4 : tie.Need-same-length-4
 same-length-4 c = search needs
 
 returns-2 : tie.Need-returns-2
-returns-2 c = let s = c .before .before in
-    (add-over (s .args .next .now) (s .args .prev .now) (s .args .n) (s .args .f) (s .args .u) (s .args .v) (s .pre .1) (s .pre .0) (c .if1 .left), omega arith)
+returns-2 c = let s = c .before .before in (
+  add-over (s .args .next .now) (s .args .prev .now) (s .args .n) (s .args .f) (s .args .u) (s .args .v) (s .pre .1) (s .pre .0) (c .if1 .left),
+  omega arith,
+)
 
 pub add-front-spec : {M : Type 1} → statement M
 add-front-spec =

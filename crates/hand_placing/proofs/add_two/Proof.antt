@@ -10,19 +10,18 @@ add-edge-requires : tie.Need-add-edge-requires
 add-edge-requires c κs = first-fits _ _ _ _ _ (c .before .before .pre)
 
 add-edge-requires-2 : tie.Need-add-edge-requires-2
-add-edge-requires-2 c κs =
-    let at-add-edge = c .before .before .before in
-    let at-pre = at-add-edge .before .before .before in
-    second-fits _ _ _ _ _ _ _ (at-add-edge .add-edge .ensures) (search needs) (at-pre .pre)
+add-edge-requires-2 c κs = second-fits _ _ _ _ _ _ _ (c .before .before .before .add-edge .ensures) (search needs)
+    (c .before .before .before .before .before .before .pre)
 
 same-length : tie.Need-same-length
 same-length c = search needs
 
 returns : tie.Need-returns
 returns c =
-    let at-add-edge = c .before .before .before .before .before .before in
+    let at-add-edge2 = c .before .before in
+    let at-add-edge = at-add-edge2 .before .before .before .before in
     let at-args = at-add-edge .before .before .before in
-    c .before .before .add-edge2 .ensures ∙ ap (addEdge (at-args .args .v) (at-args .args .w)) (at-add-edge .add-edge .ensures)
+    at-add-edge2 .add-edge2 .ensures ∙ ap (addEdge (at-args .args .v) (at-args .args .w)) (at-add-edge .add-edge .ensures)
 
 pub add-two-spec : {M : Type 1} → statement M
 add-two-spec = tie.close (tie.spec add-edge-requires add-edge-requires-2 same-length returns)

@@ -27,7 +27,19 @@ add-result-3 : tie.Need-add-result-3
 add-result-3 c = search needs
 
 returns : tie.Need-returns
-returns c = (added-are _ _ _ _ _ _ (c .before .before .before .missing .ensures .0) (c .before .before .missing2 .ensures .0) (c .before .missing3 .ensures .0) (c .missing4 .ensures .0), omega (arith, c .before .before .before .missing .ensures .1, c .before .before .missing2 .ensures .1, c .before .missing3 .ensures .1, c .missing4 .ensures .1))
+returns c =
+    let at-missing2 = c .before .before in
+    let at-missing = at-missing2 .before in (
+      added-are _ _ _ _ _ _ (at-missing .missing .ensures .0) (at-missing2 .missing2 .ensures .0) (c .before .missing3 .ensures .0)
+          (c .missing4 .ensures .0),
+      omega (
+        arith,
+        at-missing .missing .ensures .1,
+        at-missing2 .missing2 .ensures .1,
+        c .before .missing3 .ensures .1,
+        c .missing4 .ensures .1,
+      ),
+    )
 
 pub edges-added-spec : {M : Type 1} → statement M
 edges-added-spec =

@@ -49,12 +49,13 @@ shared-slice-read-if2 c = search needs
 
 returns : tie.Need-returns Inv-loop μ-loop
 returns c =
-    let at-loop-test = c .before .before .before .before in
+    let at-if1 = c .before .before in
+    let at-loop-test = at-if1 .before .before in
     let at-loop = at-loop-test .before in
     let at-max-u32 = at-loop .before in
     let at-min-u32 = at-max-u32 .before in
     rw (← at-min-u32 .min-u32 .ensures, ← at-max-u32 .max-u32 .ensures)
-    (scan-hit _ (at-loop .loop .inv) (at-loop-test .loop-test .taken) (simp (eq-eqb _ _ (c .before .before .if1 .taken), eq-eqb _ _ (c .if2 .taken))))
+    (scan-hit _ (at-loop .loop .inv) (at-loop-test .loop-test .taken) (simp (eq-eqb _ _ (at-if1 .if1 .taken), eq-eqb _ _ (c .if2 .taken))))
 
 add-k : tie.Need-add-k Inv-loop μ-loop
 add-k c = search needs
@@ -63,11 +64,17 @@ loop-less : tie.Need-loop-less Inv-loop μ-loop
 loop-less c = search needs
 
 loop-again : tie.Need-loop-again Inv-loop μ-loop
-loop-again c = scan-next _ (c .before .before .before .loop .inv) (c .before .before .loop-test .taken)
+loop-again c =
+    let at-loop-test = c .before .before in
+    let at-loop = at-loop-test .before in
+    scan-next _ (at-loop .loop .inv) (at-loop-test .loop-test .taken)
     (⊎-elim (λ w. simp (eq-eqb _ _ (w .0 .taken), ne-eqb _ _ (w .2 .left))) (λ w. simp (ne-eqb _ _ (w .left))) (c .if1 .came))
 
 returns-2 : tie.Need-returns-2 Inv-loop μ-loop
-returns-2 c = rw (← c .before .before .before .min-u32 .ensures, ← c .before .before .max-u32 .ensures) (scan-none _ (c .before .loop .inv) (c .loop-test .left))
+returns-2 c =
+    let at-max-u32 = c .before .before in
+    let at-min-u32 = at-max-u32 .before in
+    rw (← at-min-u32 .min-u32 .ensures, ← at-max-u32 .max-u32 .ensures) (scan-none _ (c .before .loop .inv) (c .loop-test .left))
 
 pub has-edge-spec : {M : Type 1} → statement M
 has-edge-spec =

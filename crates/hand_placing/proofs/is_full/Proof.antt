@@ -55,7 +55,8 @@ returns c =
     let at-added = at-added2 .before in
     let at-args = at-added .before .before .before .before .before .before .before .before in
     let v = at-args .args in
-    full-is _ _ _ (v .c) (v .d) (at-id2 .id2 .ensures) (second-id _ (v .c) (v .d) (at-added .added .ensures .0) (at-id .id .ensures)) (at-added .added .ensures .0)
+    full-is _ _ _ (v .c) (v .d) (at-id2 .id2 .ensures) (second-id _ (v .c) (v .d) (at-added .added .ensures .0) (at-id .id .ensures))
+    (at-added .added .ensures .0)
     (at-added2 .added2 .ensures .0) (at-edges-added .edges-added .ensures .0) (c .beyond-places .ensures (v .k))
 
 pub is-full-spec : {M : Type 1} → statement M

@@ -28,8 +28,11 @@ returns : tie.Need-returns
 returns c =
     let at-new-corner2 = c .before .before .before .before .before .before .before .before in
     let at-new-corner = at-new-corner2 .before .before .before .before .before .before .before .before .before .before .before .before .before in
-    let at-args = at-new-corner .before .before .before .before .before .before .before .before .before in
-    (at-new-corner2 .new-corner2 .ensures .0 ∙ ap (pushCorner (at-args .args .d)) (at-new-corner .new-corner .ensures .0), omega (arith, at-new-corner2 .new-corner2 .ensures .1, at-new-corner .new-corner .ensures .1))
+    let at-args = at-new-corner .before .before .before .before .before .before .before .before .before in (
+      at-new-corner2 .new-corner2 .ensures .0 ∙ ap (pushCorner (at-args .args .d)) (at-new-corner .new-corner .ensures .0),
+      omega
+          (arith, at-new-corner2 .new-corner2 .ensures .1, at-new-corner .new-corner .ensures .1),
+    )
 
 pub new-corners-spec : {M : Type 1} → statement M
 new-corners-spec =

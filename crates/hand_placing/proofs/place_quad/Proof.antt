@@ -37,13 +37,20 @@ store-quad-requires : tie.Need-store-quad-requires
 store-quad-requires c κs = search needs
 
 move-front-requires : tie.Need-move-front-requires
-move-front-requires c κs = let m = c .before .before .before .before .before .before .before .before .before .before .before .before .before .before .before .before .before .before .new-corners .ensures .1 in
-    let v = c .before .before .before .before .before .before .before .before .before .before .before .before .before .before .before .before .before .before .before .before .before .before .before .before .before .before .before .before .before .before .before .before .args in
-    let P = c .before .before .before .before .before .before .before .before .before .before .before .before .before .before .before .before .before .before .before .before .before .before .before .before .before .before .before .before .before .before .before .before .pre in
-    let N = P .nodes in (
-      search needs,
-      search needs,
-      rw (m, c .before .before .before .before .before .before .before .before .before .before .before .before .before .before .before .before .before .before .before .before .before .before .before .before .before .id .ensures, second-id (v .k .nodes) (v .c) (v .d) (c .before .before .before .before .before .before .before .before .before .before .before .before .before .before .before .before .before .before .before .before .before .before .before .before .added .ensures .0) (c .before .before .before .before .before .before .before .before .before .before .before .before .before .before .before .before .before .before .before .before .before .before .before .id2 .ensures)) (P .ids),
+move-front-requires c κs =
+    let at-prev = c .before .before .before .before .before .before .before .before .before .before .before in
+    let at-next = at-prev .before .before in
+    let at-new-corners = at-next .before .before .before .before .before in
+    let at-id2 = at-new-corners .before .before .before .before .before in
+    let at-added = at-id2 .before in
+    let at-id = at-added .before in
+    let at-args = at-id .before .before .before .before .before .before .before in
+    let m = at-new-corners .new-corners .ensures .1 in
+    let v = at-args .args in
+    let P = at-args .pre in (
+      omega (arith, m, P .nodes .next-fit, at-next .next .given),
+      omega (arith, m, P .nodes .prev-fit, at-prev .prev .given),
+      rw (m, at-id .id .ensures, second-id (v .k .nodes) (v .c) (v .d) (at-added .added .ensures .0) (at-id2 .id2 .ensures)) (P .ids),
       omega (arith, P .front),
     )
 
@@ -77,8 +84,10 @@ returns c =
     let at-args = at-id .before .before .before .before .before .before .before in
     let v = at-args .args in
     λ snapshot.
-    parts-placed _ _ _ _ _ _ _ _ snapshot _ _ (v .k) (at-id .id .ensures) (second-id (v .k .nodes) (v .c) (v .d) (at-added .added .ensures .0) (at-id2 .id2 .ensures))
-    (at-new-corners .new-corners .ensures .0) (at-add-edges .add-edges .ensures) (at-store-quad .store-quad .ensures) (at-move-front .move-front .ensures)
+    parts-placed _ _ _ _ _ _ _ _ snapshot _ _ (v .k) (at-id .id .ensures)
+    (second-id (v .k .nodes) (v .c) (v .d) (at-added .added .ensures .0) (at-id2 .id2 .ensures))
+    (at-new-corners .new-corners .ensures .0) (at-add-edges .add-edges .ensures) (at-store-quad .store-quad .ensures)
+    (at-move-front .move-front .ensures)
 
 pub place-quad-spec : {M : Type 1} → statement M
 place-quad-spec =

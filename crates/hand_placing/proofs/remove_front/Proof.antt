@@ -14,8 +14,11 @@ slice-read-if1 c = search needs
 returns : tie.Need-returns
 returns c =
     let at-args = c .before .before .before .before in
-    let s = at-args in
-    (remove-other (s .args .next .now) (s .args .prev .now) (s .args .n) (s .args .f) (s .args .u) (s .args .v) (s .pre .1) (s .pre .0) (c .if1 .taken), omega arith)
+    let s = at-args in (
+      remove-other (s .args .next .now) (s .args .prev .now) (s .args .n) (s .args .f) (s .args .u) (s .args .v) (s .pre .1) (s .pre .0)
+          (c .if1 .taken),
+      omega arith,
+    )
 
 mul-next : tie.Need-mul-next
 mul-next c = search needs

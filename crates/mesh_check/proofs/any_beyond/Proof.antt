@@ -23,7 +23,10 @@ shared-slice-read-if1 : tie.Need-shared-slice-read-if1 Inv-loop μ-loop
 shared-slice-read-if1 c = search needs
 
 returns : tie.Need-returns Inv-loop μ-loop
-returns c = scan-hit _ (c .before .before .before .loop .inv) (c .before .before .loop-test .taken) (le-leb _ _ (c .if1 .taken))
+returns c =
+    let at-loop-test = c .before .before in
+    let at-loop = at-loop-test .before in
+    scan-hit _ (at-loop .loop .inv) (at-loop-test .loop-test .taken) (le-leb _ _ (c .if1 .taken))
 
 add-i : tie.Need-add-i Inv-loop μ-loop
 add-i c = search needs
@@ -32,10 +35,25 @@ loop-less : tie.Need-loop-less Inv-loop μ-loop
 loop-less c = search needs
 
 loop-again : tie.Need-loop-again Inv-loop μ-loop
-loop-again c = scan-next _ (c .before .before .before .loop .inv) (c .before .before .loop-test .taken) (lt-leb _ _ (c .if1 .left))
+loop-again c =
+    let at-loop-test = c .before .before in
+    let at-loop = at-loop-test .before in
+    scan-next _ (at-loop .loop .inv) (at-loop-test .loop-test .taken) (lt-leb _ _ (c .if1 .left))
 
 returns-2 : tie.Need-returns-2 Inv-loop μ-loop
 returns-2 c = scan-none _ (c .before .loop .inv) (c .loop-test .left)
 
 pub any-beyond-spec : {M : Type 1} → statement M
-any-beyond-spec = tie.close (tie.spec Inv-loop μ-loop loop-holds mul-if1 shared-slice-read-if1 returns add-i loop-less loop-again returns-2)
+any-beyond-spec =
+    tie.close
+    (tie.spec
+    Inv-loop
+    μ-loop
+    loop-holds
+    mul-if1
+    shared-slice-read-if1
+    returns
+    add-i
+    loop-less
+    loop-again
+    returns-2)

@@ -20,7 +20,10 @@ link-unsound-requires : tie.Need-link-unsound-requires Inv-loop μ-loop
 link-unsound-requires c κs = search needs
 
 returns : tie.Need-returns Inv-loop μ-loop
-returns c = scan-hit _ (c .before .before .before .loop .inv) (c .before .before .loop-test .taken) (sym (c .before .link-unsound .ensures) ∙ c .if1 .taken)
+returns c =
+    let at-loop-test = c .before .before in
+    let at-loop = at-loop-test .before in
+    scan-hit _ (at-loop .loop .inv) (at-loop-test .loop-test .taken) (sym (c .before .link-unsound .ensures) ∙ c .if1 .taken)
 
 add-u : tie.Need-add-u Inv-loop μ-loop
 add-u c = search needs
@@ -29,10 +32,24 @@ loop-less : tie.Need-loop-less Inv-loop μ-loop
 loop-less c = search needs
 
 loop-again : tie.Need-loop-again Inv-loop μ-loop
-loop-again c = scan-next _ (c .before .before .before .loop .inv) (c .before .before .loop-test .taken) (sym (c .before .link-unsound .ensures) ∙ c .if1 .left)
+loop-again c =
+    let at-loop-test = c .before .before in
+    let at-loop = at-loop-test .before in
+    scan-next _ (at-loop .loop .inv) (at-loop-test .loop-test .taken) (sym (c .before .link-unsound .ensures) ∙ c .if1 .left)
 
 returns-2 : tie.Need-returns-2 Inv-loop μ-loop
 returns-2 c = scan-none _ (c .before .loop .inv) (c .loop-test .left)
 
 pub any-link-unsound-spec : {M : Type 1} → statement M
-any-link-unsound-spec = tie.close (tie.spec Inv-loop μ-loop loop-holds link-unsound-requires returns add-u loop-less loop-again returns-2)
+any-link-unsound-spec =
+    tie.close
+    (tie.spec
+    Inv-loop
+    μ-loop
+    loop-holds
+    link-unsound-requires
+    returns
+    add-u
+    loop-less
+    loop-again
+    returns-2)

@@ -26,7 +26,10 @@ coordinate-unsound-requires : tie.Need-coordinate-unsound-requires Inv-loop μ-l
 coordinate-unsound-requires c κs = search needs
 
 returns : tie.Need-returns Inv-loop μ-loop
-returns c = scan-hit _ (c .before .before .before .before .loop .inv) (c .before .before .before .loop-test .taken) (rw (sym (c .before .coordinate-unsound .ensures) ∙ c .if1 .taken))
+returns c =
+    let at-loop-test = c .before .before .before in
+    let at-loop = at-loop-test .before in
+    scan-hit _ (at-loop .loop .inv) (at-loop-test .loop-test .taken) (rw (sym (c .before .coordinate-unsound .ensures) ∙ c .if1 .taken))
 
 mul-coordinate-unsound-2 : tie.Need-mul-coordinate-unsound-2 Inv-loop μ-loop
 mul-coordinate-unsound-2 c = search needs
@@ -38,8 +41,13 @@ coordinate-unsound-requires-2 : tie.Need-coordinate-unsound-requires-2 Inv-loop 
 coordinate-unsound-requires-2 c κs = search needs
 
 returns-2 : tie.Need-returns-2 Inv-loop μ-loop
-returns-2 c = scan-hit _ (c .before .before .before .before .before .before .before .loop .inv) (c .before .before .before .before .before .before .loop-test .taken)
-    (rw (sym (c .before .before .before .before .coordinate-unsound .ensures) ∙ c .before .before .before .if1 .left, sym (c .before .coordinate-unsound2 .ensures) ∙ c .if2 .taken))
+returns-2 c =
+    let at-if1 = c .before .before .before in
+    let at-coordinate-unsound = at-if1 .before in
+    let at-loop-test = at-coordinate-unsound .before .before in
+    let at-loop = at-loop-test .before in
+    scan-hit _ (at-loop .loop .inv) (at-loop-test .loop-test .taken)
+    (rw (sym (at-coordinate-unsound .coordinate-unsound .ensures) ∙ at-if1 .if1 .left, sym (c .before .coordinate-unsound2 .ensures) ∙ c .if2 .taken))
 
 add-i : tie.Need-add-i Inv-loop μ-loop
 add-i c = search needs
@@ -48,11 +56,33 @@ loop-less : tie.Need-loop-less Inv-loop μ-loop
 loop-less c = search needs
 
 loop-again : tie.Need-loop-again Inv-loop μ-loop
-loop-again c = scan-next _ (c .before .before .before .before .before .before .before .loop .inv) (c .before .before .before .before .before .before .loop-test .taken)
-    (rw (sym (c .before .before .before .before .coordinate-unsound .ensures) ∙ c .before .before .before .if1 .left, sym (c .before .coordinate-unsound2 .ensures) ∙ c .if2 .left))
+loop-again c =
+    let at-if1 = c .before .before .before in
+    let at-coordinate-unsound = at-if1 .before in
+    let at-loop-test = at-coordinate-unsound .before .before in
+    let at-loop = at-loop-test .before in
+    scan-next _ (at-loop .loop .inv) (at-loop-test .loop-test .taken)
+    (rw (sym (at-coordinate-unsound .coordinate-unsound .ensures) ∙ at-if1 .if1 .left, sym (c .before .coordinate-unsound2 .ensures) ∙ c .if2 .left))
 
 returns-3 : tie.Need-returns-3 Inv-loop μ-loop
 returns-3 c = scan-none _ (c .before .loop .inv) (c .loop-test .left)
 
 pub any-node-unsound-spec : {M : Type 1} → statement M
-any-node-unsound-spec = tie.close (tie.spec Inv-loop μ-loop loop-holds mul-coordinate-unsound shared-slice-read-coordinate-unsound coordinate-unsound-requires returns mul-coordinate-unsound-2 shared-slice-read-coordinate-unsound-2 coordinate-unsound-requires-2 returns-2 add-i loop-less loop-again returns-3)
+any-node-unsound-spec =
+    tie.close
+    (tie.spec
+    Inv-loop
+    μ-loop
+    loop-holds
+    mul-coordinate-unsound
+    shared-slice-read-coordinate-unsound
+    coordinate-unsound-requires
+    returns
+    mul-coordinate-unsound-2
+    shared-slice-read-coordinate-unsound-2
+    coordinate-unsound-requires-2
+    returns-2
+    add-i
+    loop-less
+    loop-again
+    returns-3)

@@ -27,15 +27,31 @@ returns-5 c = λ k. nodes-beyond _ _ _ _ (omega arith)
 
 returns-6 : tie.Need-returns-6
 unfolding nodePlaces
-returns-6 c = λ k. nodes-beyond _ _ _ _ (omega (arith, length-off (c .before .before .before .before .before .before .args .origins .now)))
+returns-6 c =
+    let at-args = c .before .before .before .before .before .before in
+    λ k. nodes-beyond _ _ _ _ (omega (arith, length-off (at-args .args .origins .now)))
 
 returns-7 : tie.Need-returns-7
 unfolding nodePlaces quadPlaces
-returns-7 c = λ k. quads-beyond _ _ _ _ (omega (arith, length-off (c .before .before .before .before .before .before .before .args .origins .now))) (omega arith)
+returns-7 c =
+    let at-args = c .before .before .before .before .before .before .before in
+    λ k. quads-beyond _ _ _ _ (omega (arith, length-off (at-args .args .origins .now))) (omega arith)
 
 returns-8 : tie.Need-returns-8
 unfolding nodePlaces quadPlaces edgePlaces
-returns-8 c = λ k. edges-beyond _ _ _ _ (omega (arith, length-off (c .before .before .before .before .before .before .before .args .origins .now))) (omega arith)
+returns-8 c =
+    let at-args = c .before .before .before .before .before .before .before in
+    λ k. edges-beyond _ _ _ _ (omega (arith, length-off (at-args .args .origins .now))) (omega arith)
 
 pub beyond-places-spec : {M : Type 1} → statement M
-beyond-places-spec = tie.close (tie.spec returns returns-2 returns-3 returns-4 returns-5 returns-6 returns-7 returns-8)
+beyond-places-spec =
+    tie.close
+    (tie.spec
+    returns
+    returns-2
+    returns-3
+    returns-4
+    returns-5
+    returns-6
+    returns-7
+    returns-8)

@@ -17,4 +17,10 @@ returns-2 : tie.Need-returns-2
 returns-2 c = size-unsound _ (c .before .before .is-finite-f64 .ensures) (c .before .if1 .left) (c .abs-f64 .ensures)
 
 pub coordinate-unsound-spec : {M : Type 1} → statement M
-coordinate-unsound-spec = tie.close (tie.spec is-finite-f64-requires returns abs-f64-requires returns-2)
+coordinate-unsound-spec =
+    tie.close
+    (tie.spec
+    is-finite-f64-requires
+    returns
+    abs-f64-requires
+    returns-2)

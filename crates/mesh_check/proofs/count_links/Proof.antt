@@ -34,9 +34,14 @@ loop-less : tie.Need-loop-less Inv-loop μ-loop
 loop-less c = search needs
 
 loop-again : tie.Need-loop-again Inv-loop μ-loop
-loop-again c = let l = c .before .before .before .loop .inv .0 in
-    let h = c .before .before .loop-test .taken in
-    ⊎-elim (λ w. rw (w .1) (count-on _ _ l h (c .before .before .before .before .pre) (w .0 .taken), omega arith)) (λ w. rw (w .1) (count-off _ _ l h (c .before .before .before .before .pre) (w .0 .left), omega arith))
+loop-again c =
+    let at-loop-test = c .before .before in
+    let at-loop = at-loop-test .before in
+    let at-pre = at-loop .before in
+    let l = at-loop .loop .inv .0 in
+    let h = at-loop-test .loop-test .taken in
+    ⊎-elim (λ w. rw (w .1) (count-on _ _ l h (at-pre .pre) (w .0 .taken), omega arith))
+    (λ w. rw (w .1) (count-off _ _ l h (at-pre .pre) (w .0 .left), omega arith))
     (c .if1 .came)
 
 returns : tie.Need-returns Inv-loop μ-loop
@@ -44,4 +49,16 @@ unfolding linkCount sumUp
 returns c = loop-end _ _ (c .before .loop .inv .0) (c .loop-test .left)
 
 pub count-links-spec : {M : Type 1} → statement M
-count-links-spec = tie.close (tie.spec Inv-loop μ-loop loop-holds mul-if1 shared-slice-read-if1 add-sum add-u loop-less loop-again returns)
+count-links-spec =
+    tie.close
+    (tie.spec
+    Inv-loop
+    μ-loop
+    loop-holds
+    mul-if1
+    shared-slice-read-if1
+    add-sum
+    add-u
+    loop-less
+    loop-again
+    returns)

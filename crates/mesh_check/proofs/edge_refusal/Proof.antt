@@ -17,10 +17,26 @@ shared-slice-read-if3 : tie.Need-shared-slice-read-if3
 shared-slice-read-if3 c = search needs
 
 returns-3 : tie.Need-returns-3
-returns-3 c = edge-gone _ _ _ _ (c .before .before .before .if1 .left) (c .before .before .if2 .left) (c .before .before .before .before .pre) (c .if3 .taken)
+returns-3 c =
+    let at-if2 = c .before .before in
+    let at-if1 = at-if2 .before in
+    let at-pre = at-if1 .before in
+    edge-gone _ _ _ _ (at-if1 .if1 .left) (at-if2 .if2 .left) (at-pre .pre) (c .if3 .taken)
 
 returns-4 : tie.Need-returns-4
-returns-4 c = edge-there _ _ _ _ (c .before .before .before .if1 .left) (c .before .before .if2 .left) (c .before .before .before .before .pre) (c .if3 .left)
+returns-4 c =
+    let at-if2 = c .before .before in
+    let at-if1 = at-if2 .before in
+    let at-pre = at-if1 .before in
+    edge-there _ _ _ _ (at-if1 .if1 .left) (at-if2 .if2 .left) (at-pre .pre) (c .if3 .left)
 
 pub edge-refusal-spec : {M : Type 1} → statement M
-edge-refusal-spec = tie.close (tie.spec returns returns-2 mul-if3 shared-slice-read-if3 returns-3 returns-4)
+edge-refusal-spec =
+    tie.close
+    (tie.spec
+    returns
+    returns-2
+    mul-if3
+    shared-slice-read-if3
+    returns-3
+    returns-4)

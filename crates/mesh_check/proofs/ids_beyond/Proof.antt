@@ -23,4 +23,12 @@ returns-2 : tie.Need-returns-2
 returns-2 c = ids-edges _ _ _ _ _ (c .before .before .any-beyond .ensures) (c .before .if1 .left) (c .any-beyond2 .ensures)
 
 pub ids-beyond-spec : {M : Type 1} → statement M
-ids-beyond-spec = tie.close (tie.spec mul-any-beyond any-beyond-requires returns mul-any-beyond-2 any-beyond-requires-2 returns-2)
+ids-beyond-spec =
+    tie.close
+    (tie.spec
+    mul-any-beyond
+    any-beyond-requires
+    returns
+    mul-any-beyond-2
+    any-beyond-requires-2
+    returns-2)

@@ -18,10 +18,14 @@ is-full-requires : tie.Need-is-full-requires
 is-full-requires c κs = search needs
 
 returns-2 : tie.Need-returns-2
-returns-2 c = foreseen-full _ _ _ _ _ (c .before .before .before .attempt .given .1) (c .before .is-full .ensures) (c .if1 .taken)
+returns-2 c =
+    let at-attempt = c .before .before .before in
+    foreseen-full _ _ _ _ _ (at-attempt .attempt .given .1) (c .before .is-full .ensures) (c .if1 .taken)
 
 returns-3 : tie.Need-returns-3
-returns-3 c = foreseen-placed _ _ _ _ _ (c .before .before .before .attempt .given .1) (c .before .is-full .ensures) (c .if1 .left)
+returns-3 c =
+    let at-attempt = c .before .before .before in
+    foreseen-placed _ _ _ _ _ (at-attempt .attempt .given .1) (c .before .is-full .ensures) (c .if1 .left)
 
 pub foresee-spec : {M : Type 1} → statement M
 foresee-spec =

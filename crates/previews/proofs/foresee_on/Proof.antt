@@ -38,10 +38,11 @@ foresee-requires c κs =
 
 returns-2 : tie.Need-returns-2
 returns-2 c =
-    let at-args = c .before .before .before .before .before .before .before .before .before .before .before .before .before .before .before in
+    let at-if1 = c .before .before in
+    let at-args = at-if1 .before .before .before .before .before .before .before .before .before .before .before .before .before in
     let s = at-args in
     λ marks.
-    foreseen-tried (around s) (s .args .size) (s .args .grid) (s .args .values .now) marks (s .args .a) (s .args .b) (lent s) (c .before .before .if1 .left)
+    foreseen-tried (around s) (s .args .size) (s .args .grid) (s .args .values .now) marks (s .args .a) (s .args .b) (lent s) (at-if1 .if1 .left)
     (c .before .attempt-on .ensures) (c .foresee .ensures)
 
 pub foresee-on-spec : {M : Type 1} → statement M

@@ -23,9 +23,12 @@ link-put-requires-2 c κs = search needs
 returns : tie.Need-returns
 unfolding movedLinks
 returns c =
-    let at-link-bare = c .before .before .before in
+    let at-link-put = c .before .before in
+    let at-link-bare = at-link-put .before in
     let at-args = at-link-bare .before .before in
-    c .link-put2 .ensures _ (c .before .link-stored .ensures ∙ ap (λ (x : ℕ). cond (eqb (at-args .args .id-c) (at-args .args .u)) (at-args .args .id-d) x) (c .before .before .link-put .ensures _ (at-link-bare .link-bare .ensures)))
+    c .link-put2 .ensures _ (c .before .link-stored .ensures ∙ ap
+    (λ (x : ℕ). cond (eqb (at-args .args .id-c) (at-args .args .u)) (at-args .args .id-d) x)
+    (at-link-put .link-put .ensures _ (at-link-bare .link-bare .ensures)))
 
 pub link-after-spec : {M : Type 1} → statement M
 link-after-spec =

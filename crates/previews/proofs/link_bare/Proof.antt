@@ -22,8 +22,10 @@ enum-told-2 c = search needs
 returns : tie.Need-returns
 unfolding bareLinks
 returns c =
-    let at-link-without-c = c .before .before .before .before in
-    rw (c .before .before .enum-told .given .1, ← c .before .link-without-c2 .ensures, ← at-link-without-c .link-without-c .ensures) (c .link-removed .ensures)
+    let at-enum-told = c .before .before in
+    let at-link-without-c = at-enum-told .before .before in
+    rw (at-enum-told .enum-told .given .1, ← c .before .link-without-c2 .ensures, ← at-link-without-c .link-without-c .ensures)
+    (c .link-removed .ensures)
 
 returns-2 : tie.Need-returns-2
 unfolding bareLinks

@@ -33,11 +33,17 @@ link-after-requires c κs = search needs
 
 returns-2 : tie.Need-returns-2
 returns-2 c =
-    let at-id = c .before .before .before in
+    let at-added = c .before .before in
+    let at-id = at-added .before in
     let at-quad = at-id .before .before in
     let at-args = at-quad .before .before .before in
     let v = at-args .args in
-    rw (at-quad .quad .given .1, ← second-id (v .n) (at-quad .quad .given .0 .0) (at-quad .quad .given .0 .1 .0) (c .before .before .added .ensures .0) (c .before .id2 .ensures), ← at-id .id .ensures)
+    rw (
+      at-quad .quad .given .1,
+      ← second-id (v .n) (at-quad .quad .given .0 .0) (at-quad .quad .given .0 .1 .0) (at-added .added .ensures .0)
+          (c .before .id2 .ensures),
+      ← at-id .id .ensures,
+    )
     (c .link-after .ensures)
 
 pub link-shown-spec : {M : Type 1} → statement M

@@ -20,8 +20,9 @@ enum-told-2 c = search needs
 
 returns : tie.Need-returns
 returns c =
-    let at-link-without = c .before .before .before .before in
-    rw (c .before .before .enum-told .given .1, ← c .before .link-without2 .ensures, ← at-link-without .link-without .ensures) (c .link-removed .ensures)
+    let at-enum-told = c .before .before in
+    let at-link-without = at-enum-told .before .before in
+    rw (at-enum-told .enum-told .given .1, ← c .before .link-without2 .ensures, ← at-link-without .link-without .ensures) (c .link-removed .ensures)
 
 returns-2 : tie.Need-returns-2
 returns-2 c = rw (c .enum-told2 .given .1) (c .before .before .link-without .ensures)

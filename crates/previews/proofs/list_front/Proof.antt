@@ -24,51 +24,91 @@ link-shown-requires c κs = search needs
 
 mul-list : tie.Need-mul-list Inv-loop μ-loop
 mul-list c =
-    let at-loop = c .before .before .before in
+    let at-loop-test = c .before .before in
+    let at-loop = at-loop-test .before in
     let at-pre = at-loop .before .before .before in
-    omega (arith, written-room _ _ _ (at-loop .loop .inv) (c .before .before .loop-test .taken) (at-pre .pre .2) (c .before .link-shown .ensures) (c .if1 .taken))
+    omega (
+      arith,
+      written-room _ _ _ (at-loop .loop .inv) (at-loop-test .loop-test .taken) (at-pre .pre .2) (c .before .link-shown .ensures)
+          (c .if1 .taken),
+    )
 
 mul-list-2 : tie.Need-mul-list-2 Inv-loop μ-loop
 mul-list-2 c =
-    let at-loop = c .before .before .before in
+    let at-loop-test = c .before .before in
+    let at-loop = at-loop-test .before in
     let at-pre = at-loop .before .before .before in
-    omega (arith, written-room _ _ _ (at-loop .loop .inv) (c .before .before .loop-test .taken) (at-pre .pre .2) (c .before .link-shown .ensures) (c .if1 .taken))
+    omega (
+      arith,
+      written-room _ _ _ (at-loop .loop .inv) (at-loop-test .loop-test .taken) (at-pre .pre .2) (c .before .link-shown .ensures)
+          (c .if1 .taken),
+    )
 
 slice-write-list : tie.Need-slice-write-list Inv-loop μ-loop
 slice-write-list c =
-    let at-loop = c .before .before .before in
+    let at-loop-test = c .before .before in
+    let at-loop = at-loop-test .before in
     let at-pre = at-loop .before .before .before in
-    omega (arith, written-room _ _ _ (at-loop .loop .inv) (c .before .before .loop-test .taken) (at-pre .pre .2) (c .before .link-shown .ensures) (c .if1 .taken))
+    omega (
+      arith,
+      written-room _ _ _ (at-loop .loop .inv) (at-loop-test .loop-test .taken) (at-pre .pre .2) (c .before .link-shown .ensures)
+          (c .if1 .taken),
+    )
 
 mul-list-3 : tie.Need-mul-list-3 Inv-loop μ-loop
 mul-list-3 c =
-    let at-loop = c .before .before .before in
+    let at-loop-test = c .before .before in
+    let at-loop = at-loop-test .before in
     let at-pre = at-loop .before .before .before in
-    omega (arith, written-room _ _ _ (at-loop .loop .inv) (c .before .before .loop-test .taken) (at-pre .pre .2) (c .before .link-shown .ensures) (c .if1 .taken))
+    omega (
+      arith,
+      written-room _ _ _ (at-loop .loop .inv) (at-loop-test .loop-test .taken) (at-pre .pre .2) (c .before .link-shown .ensures)
+          (c .if1 .taken),
+    )
 
 add-list : tie.Need-add-list Inv-loop μ-loop
 add-list c =
-    let at-loop = c .before .before .before in
+    let at-loop-test = c .before .before in
+    let at-loop = at-loop-test .before in
     let at-pre = at-loop .before .before .before in
-    omega (arith, written-room _ _ _ (at-loop .loop .inv) (c .before .before .loop-test .taken) (at-pre .pre .2) (c .before .link-shown .ensures) (c .if1 .taken))
+    omega (
+      arith,
+      written-room _ _ _ (at-loop .loop .inv) (at-loop-test .loop-test .taken) (at-pre .pre .2) (c .before .link-shown .ensures)
+          (c .if1 .taken),
+    )
 
 mul-list-4 : tie.Need-mul-list-4 Inv-loop μ-loop
 mul-list-4 c =
-    let at-loop = c .before .before .before in
+    let at-loop-test = c .before .before in
+    let at-loop = at-loop-test .before in
     let at-pre = at-loop .before .before .before in
-    omega (arith, written-room _ _ _ (at-loop .loop .inv) (c .before .before .loop-test .taken) (at-pre .pre .2) (c .before .link-shown .ensures) (c .if1 .taken))
+    omega (
+      arith,
+      written-room _ _ _ (at-loop .loop .inv) (at-loop-test .loop-test .taken) (at-pre .pre .2) (c .before .link-shown .ensures)
+          (c .if1 .taken),
+    )
 
 slice-write-list-2 : tie.Need-slice-write-list-2 Inv-loop μ-loop
 slice-write-list-2 c =
-    let at-loop = c .before .before .before in
+    let at-loop-test = c .before .before in
+    let at-loop = at-loop-test .before in
     let at-pre = at-loop .before .before .before in
-    simp length-set (omega (arith, written-room _ _ _ (at-loop .loop .inv) (c .before .before .loop-test .taken) (at-pre .pre .2) (c .before .link-shown .ensures) (c .if1 .taken)))
+    simp length-set (omega (
+      arith,
+      written-room _ _ _ (at-loop .loop .inv) (at-loop-test .loop-test .taken) (at-pre .pre .2)
+          (c .before .link-shown .ensures) (c .if1 .taken),
+    ))
 
 add-j : tie.Need-add-j Inv-loop μ-loop
 add-j c =
-    let at-loop = c .before .before .before in
+    let at-loop-test = c .before .before in
+    let at-loop = at-loop-test .before in
     let at-pre = at-loop .before .before .before in
-    omega (arith, written-room _ _ _ (at-loop .loop .inv) (c .before .before .loop-test .taken) (at-pre .pre .2) (c .before .link-shown .ensures) (c .if1 .taken))
+    omega (
+      arith,
+      written-room _ _ _ (at-loop .loop .inv) (at-loop-test .loop-test .taken) (at-pre .pre .2) (c .before .link-shown .ensures)
+          (c .if1 .taken),
+    )
 
 add-u : tie.Need-add-u Inv-loop μ-loop
 add-u c = search needs
@@ -77,8 +117,13 @@ loop-less : tie.Need-loop-less Inv-loop μ-loop
 loop-less c = search needs
 
 loop-again : tie.Need-loop-again Inv-loop μ-loop
-loop-again c = ⊎-elim (λ w. rw (w .1, w .2) (written-on _ _ _ (c .before .before .before .loop .inv) (c .before .before .loop-test .taken) (c .before .link-shown .ensures) (w .0 .taken)))
-    (λ w. rw (w .1, w .2) (written-off _ _ _ (c .before .before .before .loop .inv) (c .before .before .loop-test .taken) (c .before .link-shown .ensures) (w .0 .left))) (c .if1 .came)
+loop-again c =
+    let at-loop-test = c .before .before in
+    let at-loop = at-loop-test .before in
+    ⊎-elim (λ w. rw (w .1, w .2) (written-on _ _ _ (at-loop .loop .inv) (at-loop-test .loop-test .taken) (c .before .link-shown .ensures)
+    (w .0 .taken)))
+    (λ w. rw (w .1, w .2) (written-off _ _ _ (at-loop .loop .inv) (at-loop-test .loop-test .taken) (c .before .link-shown .ensures) (w .0 .left)))
+    (c .if1 .came)
 
 same-length : tie.Need-same-length Inv-loop μ-loop
 same-length c = search needs

@@ -30,13 +30,25 @@ add-result-2 : tie.Need-add-result-2
 add-result-2 c =
     let at-quad = c .before .before .before in
     let at-args = at-quad .before .before in
-    omega (arith, c .before .added .ensures .0, c .added2 .ensures .0, ap (λ (q : Attempt). shownNodes q (at-args .args .n)) (at-quad .quad .given .1))
+    omega (
+      arith,
+      c .before .added .ensures .0,
+      c .added2 .ensures .0,
+      ap (λ (q : Attempt). shownNodes q (at-args .args .n))
+          (at-quad .quad .given .1),
+    )
 
 returns-2 : tie.Need-returns-2
 returns-2 c =
     let at-quad = c .before .before .before in
     let at-args = at-quad .before .before in
-    omega (arith, c .before .added .ensures .0, c .added2 .ensures .0, ap (λ (q : Attempt). shownNodes q (at-args .args .n)) (at-quad .quad .given .1))
+    omega (
+      arith,
+      c .before .added .ensures .0,
+      c .added2 .ensures .0,
+      ap (λ (q : Attempt). shownNodes q (at-args .args .n))
+          (at-quad .quad .given .1),
+    )
 
 pub nodes-shown-spec : {M : Type 1} → statement M
 nodes-shown-spec =

@@ -33,31 +33,40 @@ returns : tie.Need-returns
 returns c =
     let at-args = c .before .before .before .before .before .before .before .before .before .before .before .before .before .before in
     let s = at-args in
-    λ marks. preview-refused (around s) (s .args .size) (field s marks) (s .args .a) (s .args .b) (lent s) _ (c .before .preview-refusal .ensures) (c .if1 .taken)
+    λ marks. preview-refused (around s) (s .args .size) (field s marks) (s .args .a) (s .args .b) (lent s) _ (c .before .preview-refusal .ensures)
+    (c .if1 .taken)
 
 foresee-on-requires : tie.Need-foresee-on-requires
 foresee-on-requires c κs =
     let at-args = c .before .before .before .before .before .before .before .before .before .before .before .before .before .before in
-    let s = at-args in
-    (s .pre, on-front (lent s) (s .args .a) (s .args .b) (preview-passes (lent s) _ _ _ (sym (c .before .preview-refusal .ensures) ∙ c .if1 .left) .0))
+    let s = at-args in (
+      s .pre,
+      on-front (lent s) (s .args .a) (s .args .b) (preview-passes (lent s) _ _ _
+          (sym (c .before .preview-refusal .ensures) ∙ c .if1 .left) .0),
+    )
 
 nodes-shown-requires : tie.Need-nodes-shown-requires
 nodes-shown-requires c κs =
-    let at-args = c .before .before .before .before .before .before .before .before .before .before .before .before .before .before .before in
+    let at-preview-refusal = c .before .before in
+    let at-args = at-preview-refusal .before .before .before .before .before .before .before .before .before .before .before .before .before in
     let s = at-args in
-    let S = on-front (lent s) (s .args .a) (s .args .b) (preview-passes (lent s) _ _ _ (sym (c .before .before .preview-refusal .ensures) ∙ c .before .if1 .left) .0) in
-    shown _ _ _ _ _ _ _ (s .args .k) (s .args .a) (s .args .b) S (around s) (s .args .size) (field s []) (c .foresee-on .result) (c .foresee-on .ensures []) .few
+    let S = on-front (lent s) (s .args .a) (s .args .b) (preview-passes (lent s) _ _ _
+    (sym (at-preview-refusal .preview-refusal .ensures) ∙ c .before .if1 .left) .0) in
+    shown _ _ _ _ _ _ _ (s .args .k) (s .args .a) (s .args .b) S (around s) (s .args .size) (field s []) (c .foresee-on .result)
+    (c .foresee-on .ensures []) .few
 
 list-front-requires : tie.Need-list-front-requires
 list-front-requires c κs =
-    let at-if1 = c .before .before .before in
+    let at-foresee-on = c .before .before in
+    let at-if1 = at-foresee-on .before in
     let at-preview-refusal = at-if1 .before in
     let at-args = at-preview-refusal .before .before .before .before .before .before .before .before .before .before .before .before .before in
     let s = at-args in
     let P = preview-passes (lent s) _ _ _ (sym (at-preview-refusal .preview-refusal .ensures) ∙ at-if1 .if1 .left) in
     let S = on-front (lent s) (s .args .a) (s .args .b) (P .0) in
     let R = front-room _ _ _ _ _ _ _ (s .args .k) (s .args .a) (s .args .b) S in
-    let F = shown-fits _ _ _ _ _ _ _ (s .args .k) (s .args .a) (s .args .b) S (around s) (s .args .size) (field s []) (c .before .before .foresee-on .result) (c .before .before .foresee-on .ensures []) _ (P .1) in
+    let F = shown-fits _ _ _ _ _ _ _ (s .args .k) (s .args .a) (s .args .b) S (around s) (s .args .size) (field s [])
+    (at-foresee-on .foresee-on .result) (at-foresee-on .foresee-on .ensures []) _ (P .1) in
     (R .nodes .next-fit, R .nodes .few, rw (c .before .nodes-shown .ensures) (omega (arith, F)))
 
 same-length : tie.Need-same-length
@@ -65,7 +74,8 @@ same-length c = search needs
 
 returns-2 : tie.Need-returns-2
 returns-2 c =
-    let at-nodes-shown = c .before .before .before .before in
+    let at-list-front = c .before .before in
+    let at-nodes-shown = at-list-front .before .before in
     let at-foresee-on = at-nodes-shown .before in
     let at-if1 = at-foresee-on .before in
     let at-preview-refusal = at-if1 .before in
@@ -74,8 +84,10 @@ returns-2 c =
     let z = sym (at-preview-refusal .preview-refusal .ensures) ∙ at-if1 .if1 .left in
     let S = on-front (lent s) (s .args .a) (s .args .b) (preview-passes (lent s) _ _ _ z .0) in
     λ marks.
-    preview-shown _ _ _ _ _ _ _ (s .args .k) (s .args .a) (s .args .b) S (around s) (s .args .size) (field s marks) _ (at-preview-refusal .preview-refusal .ensures) (at-if1 .if1 .left)
-    (at-foresee-on .foresee-on .result) (at-foresee-on .foresee-on .ensures marks) _ _ (rw (at-nodes-shown .nodes-shown .ensures) at (c .before .before .list-front .ensures))
+    preview-shown _ _ _ _ _ _ _ (s .args .k) (s .args .a) (s .args .b) S (around s) (s .args .size) (field s marks) _
+    (at-preview-refusal .preview-refusal .ensures) (at-if1 .if1 .left)
+    (at-foresee-on .foresee-on .result) (at-foresee-on .foresee-on .ensures marks) _ _
+    (rw (at-nodes-shown .nodes-shown .ensures) at (at-list-front .list-front .ensures))
 
 pub preview-spec : {M : Type 1} → statement M
 preview-spec =

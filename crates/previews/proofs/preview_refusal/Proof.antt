@@ -13,17 +13,22 @@ returns c = preview-mesh _ _ _ _ (c .before .mesh-refusal .ensures) (c .if1 .tak
 
 add-if2 : tie.Need-add-if2
 add-if2 c =
-    let at-args = c .before .before .before .before .before .before .before .before .before .before in
-    omega (arith, lent-passes _ _ _ _ _ _ _ (at-args .args .k) (c .before .before .mesh-refusal .ensures) (c .before .if1 .left) .0)
+    let at-mesh-refusal = c .before .before in
+    let at-args = at-mesh-refusal .before .before .before .before .before .before .before .before in
+    omega (arith, lent-passes _ _ _ _ _ _ _ (at-args .args .k) (at-mesh-refusal .mesh-refusal .ensures) (c .before .if1 .left) .0)
 
 returns-2 : tie.Need-returns-2
-returns-2 c = preview-list _ _ _ _ (c .before .before .before .mesh-refusal .ensures) (c .before .before .if1 .left) (c .if2 .taken)
+returns-2 c =
+    let at-if1 = c .before .before in
+    let at-mesh-refusal = at-if1 .before in
+    preview-list _ _ _ _ (at-mesh-refusal .mesh-refusal .ensures) (at-if1 .if1 .left) (c .if2 .taken)
 
 edge-refusal-requires : tie.Need-edge-refusal-requires
 edge-refusal-requires c κs =
-    let at-mesh-refusal = c .before .before .before in
+    let at-if1 = c .before .before in
+    let at-mesh-refusal = at-if1 .before in
     let at-args = at-mesh-refusal .before .before .before .before .before .before .before .before in
-    lent-passes _ _ _ _ _ _ _ (at-args .args .k) (at-mesh-refusal .mesh-refusal .ensures) (c .before .before .if1 .left) .1
+    lent-passes _ _ _ _ _ _ _ (at-args .args .k) (at-mesh-refusal .mesh-refusal .ensures) (at-if1 .if1 .left) .1
 
 returns-3 : tie.Need-returns-3
 returns-3 c =

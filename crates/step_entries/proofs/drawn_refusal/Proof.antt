@@ -11,10 +11,15 @@ field-refusal-requires c κs = search needs
 
 returns : tie.Need-returns
 returns c =
-    let at-shared-slice-known = c .before .before .before in
+    let at-shared-slice-known2 = c .before .before in
+    let at-shared-slice-known = at-shared-slice-known2 .before in
     let at-good = at-shared-slice-known .before in
     c .field-refusal .ensures
-    ∙ drawn-is _ _ (record { outer = λ i h. at-shared-slice-known .shared-slice-known .given i; holes = λ i h. c .before .before .shared-slice-known2 .given i })
+    ∙ drawn-is _ _ (record {
+      outer = λ i h. at-shared-slice-known .shared-slice-known .given i;
+      holes = λ i h.
+          at-shared-slice-known2 .shared-slice-known2 .given i;
+    })
     (subst T (sym (at-good .good .1 .1 .1 .0 .1)) tt)
 
 pub drawn-refusal-spec : {M : Type 1} → statement M

@@ -19,9 +19,11 @@ record-refusal-requires c κs = search needs
 
 returns-2 : tie.Need-returns-2
 returns-2 c =
-    let at-args = c .before .before .before .before .before .before .before .before in
+    let at-drawn-refusal = c .before .before in
+    let at-args = at-drawn-refusal .before .before .before .before .before .before in
     let v = at-args .args in
-    given-record _ _ (fieldRecord (v .grid) (v .values .now) (v .marks .now)) (c .before .before .drawn-refusal .ensures) (c .before .if1 .left) (c .record-refusal .ensures)
+    given-record _ _ (fieldRecord (v .grid) (v .values .now) (v .marks .now)) (at-drawn-refusal .drawn-refusal .ensures) (c .before .if1 .left)
+    (c .record-refusal .ensures)
 
 pub given-refusal-spec : {M : Type 1} → statement M
 given-refusal-spec =

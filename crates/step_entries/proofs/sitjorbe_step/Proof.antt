@@ -16,7 +16,8 @@ abbrev around : tie.Start → Outline
 around s = outline (s .args .outer .now) (s .args .holes .now) (s .args .lens .now)
 
 abbrev field : tie.Start → FieldRecord
-field s = fieldRecord (gridGiven (s .args .xmin) (s .args .ymin) (s .args .h) (s .args .nx) (s .args .ny)) (s .args .values .now) (s .args .marks .now)
+field s = fieldRecord (gridGiven (s .args .xmin) (s .args .ymin) (s .args .h) (s .args .nx) (s .args .ny)) (s .args .values .now)
+    (s .args .marks .now)
 
 abbrev counts : tie.Start → Counts
 counts s = counted (s .args .node-count) (s .args .quad-count) (s .args .edge-count) (s .args .front-count)
@@ -29,9 +30,11 @@ refused-step-requires c κs = search needs
 
 returns : tie.Need-returns
 returns c =
-    let at-args = c .before .before .before .before .before .before .before .before .before .before .before .before .before .before .before in
+    let at-given-refusal = c .before .before in
+    let at-args = at-given-refusal .before .before .before .before .before .before .before .before .before .before .before .before .before in
     let s = at-args in
-    lists-refused (around s) (s .args .size) (field s) (s .args .a) (s .args .b) _ _ _ _ _ _ _ (counts s) (c .before .before .given-refusal .ensures) _ (c .before .if1 .taken)
+    lists-refused (around s) (s .args .size) (field s) (s .args .a) (s .args .b) _ _ _ _ _ _ _ (counts s) (at-given-refusal .given-refusal .ensures) _
+    (c .before .if1 .taken)
     (c .refused-step .ensures)
 
 step-requires : tie.Need-step-requires
@@ -43,7 +46,10 @@ step-requires c κs =
     let at-args = at-shared-slice-known .before in
     let s = at-args in
     given-around (around s) (s .args .size) (field s)
-    (record { outer = λ i h. at-shared-slice-known .shared-slice-known .given i; holes = λ i h. at-shared-slice-known2 .shared-slice-known2 .given i })
+    (record {
+      outer = λ i h. at-shared-slice-known .shared-slice-known .given i;
+      holes = λ i h. at-shared-slice-known2 .shared-slice-known2 .given i;
+    })
     (sym (at-given-refusal .given-refusal .ensures) ∙ at-if1 .if1 .left)
 
 step-numbers-requires : tie.Need-step-numbers-requires
@@ -77,7 +83,8 @@ returns-2 c =
     let at-given-refusal = at-if1 .before in
     let at-args = at-given-refusal .before .before .before .before .before .before .before .before .before .before .before .before .before in
     let s = at-args in
-    lists-stepped (around s) (s .args .size) (field s) (s .args .a) (s .args .b) _ _ _ _ _ _ _ (counts s) (at-given-refusal .given-refusal .ensures) _ (at-if1 .if1 .left)
+    lists-stepped (around s) (s .args .size) (field s) (s .args .a) (s .args .b) _ _ _ _ _ _ _ (counts s) (at-given-refusal .given-refusal .ensures) _
+    (at-if1 .if1 .left)
     (at-step .step .result) _ _ _ _ _ _ _ (at-step .step .ensures (s .args .marks .now)) (c .step-numbers .ensures)
 
 pub sitjorbe-step-spec : {M : Type 1} → statement M

@@ -49,7 +49,8 @@ fresh-y-requires-2 c κs = search needs
 
 returns-2 : tie.Need-returns-2
 returns-2 c =
-    let at-fresh-x = c .before .before .before in
+    let at-fresh-y = c .before .before in
+    let at-fresh-x = at-fresh-y .before in
     let at-added2 = at-fresh-x .before in
     let at-id2 = at-added2 .before in
     let at-id = at-id2 .before in
@@ -58,8 +59,10 @@ returns-2 c =
     let at-outcome-number = at-quad .before .before in
     let at-args = at-outcome-number .before in
     let v = at-args .args in
-    view-made (v .v) (v .n) (v .a) (v .b) (at-quad .quad .given .0 .0) (at-quad .quad .given .0 .1 .0) (at-quad .quad .given .1) (at-outcome-number .outcome-number .ensures) (at-added .added .ensures .0)
-    (at-id .id .ensures) (at-id2 .id2 .ensures) (at-added2 .added2 .ensures .0) (at-fresh-x .fresh-x .ensures) (c .before .before .fresh-y .ensures) (c .before .fresh-x2 .ensures) (c .fresh-y2 .ensures)
+    view-made (v .v) (v .n) (v .a) (v .b) (at-quad .quad .given .0 .0) (at-quad .quad .given .0 .1 .0) (at-quad .quad .given .1)
+    (at-outcome-number .outcome-number .ensures) (at-added .added .ensures .0)
+    (at-id .id .ensures) (at-id2 .id2 .ensures) (at-added2 .added2 .ensures .0) (at-fresh-x .fresh-x .ensures) (at-fresh-y .fresh-y .ensures)
+    (c .before .fresh-x2 .ensures) (c .fresh-y2 .ensures)
 
 pub view-numbers-spec : {M : Type 1} → statement M
 view-numbers-spec =

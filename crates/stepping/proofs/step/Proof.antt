@@ -57,7 +57,8 @@ returns c =
     let at-args = c .before .before .before .before .before .before .before .before .before .before .before .before .before .before .before .before .before .before .before .before in
     let s = at-args in
     λ marks.
-    step-refused (around s) (s .args .size) (field s marks) (s .args .a) (s .args .b) _ _ _ _ _ _ _ (s .args .k) (c .before .hand-refusal .ensures) (c .if1 .taken)
+    step-refused (around s) (s .args .size) (field s marks) (s .args .a) (s .args .b) _ _ _ _ _ _ _ (s .args .k) (c .before .hand-refusal .ensures)
+    (c .if1 .taken)
 
 place-on-requires : tie.Need-place-on-requires
 place-on-requires c κs =
@@ -67,9 +68,9 @@ place-on-requires c κs =
     let s = at-args in
     (s .pre, on-front (lent s) (s .args .a) (s .args .b) (sym (at-hand-refusal .hand-refusal .ensures) ∙ at-if1 .if1 .left))
 
-number-nodes-requires : tie.Need-number-nodes-requires
+number-new-requires : tie.Need-number-new-requires
 unfolding nodePlaces
-number-nodes-requires c κs =
+number-new-requires c κs =
     let at-place-on = c .before .before .before .before .before .before .before .before .before .before .before .before .before .before in
     let at-if1 = at-place-on .before .before .before .before .before .before .before .before in
     let at-hand-refusal = at-if1 .before in
@@ -104,14 +105,16 @@ same-length-14 c = search needs
 
 returns-2 : tie.Need-returns-2
 returns-2 c =
-    let at-place-on = c .before .before .before .before .before .before .before .before .before .before .before .before .before .before .before .before .before in
+    let at-number-new = c .before .before in
+    let at-place-on = at-number-new .before .before .before .before .before .before .before .before .before .before .before .before .before .before .before in
     let at-if1 = at-place-on .before .before .before .before .before .before .before .before in
     let at-hand-refusal = at-if1 .before in
     let at-args = at-hand-refusal .before .before .before .before .before .before .before .before .before .before .before .before .before .before .before .before .before .before .before in
     let s = at-args in
     λ marks.
-    step-done (around s) (s .args .size) (field s marks) (s .args .a) (s .args .b) _ _ _ _ _ _ _ (s .args .k) (at-hand-refusal .hand-refusal .ensures) (at-if1 .if1 .left)
-    _ _ _ _ _ _ _ _ (at-place-on .place-on .ensures marks) _ (c .before .before .number-nodes .ensures)
+    step-done (around s) (s .args .size) (field s marks) (s .args .a) (s .args .b) _ _ _ _ _ _ _ (s .args .k) (at-hand-refusal .hand-refusal .ensures)
+    (at-if1 .if1 .left)
+    _ _ _ _ _ _ _ _ (at-place-on .place-on .ensures marks) _ (at-number-new .number-new .ensures)
 
 pub step-spec : {M : Type 1} → statement M
 step-spec =
@@ -127,7 +130,7 @@ step-spec =
     same-length-7
     returns
     place-on-requires
-    number-nodes-requires
+    number-new-requires
     same-length-8
     same-length-9
     same-length-10

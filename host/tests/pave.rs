@@ -246,7 +246,7 @@ fn a_mesh_does_not_depend_on_the_tries() {
     let mesh = memory.pave(&drawing.outline(), &settings).unwrap();
     let (expected, nodes) = (said(&mesh), mesh.node_count());
     let mut left = RunPlaces::new(list_lengths(PROGRAM));
-    left.pave(&drawing.outline(), &Settings { size: 0.3, ..USUAL }).unwrap();
+    left.pave(&drawing.outline(), &Settings { size: 0.5, ..USUAL }).unwrap();
     let left = left.lists().tried.to_vec();
     let junk: [fn(usize, &[u32]) -> u32; 6] = [
         |_, _| 0,

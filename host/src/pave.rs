@@ -163,6 +163,7 @@ impl<'a> Mesh<'a> {
 
     /// How many nodes and how many edges found no place in `node_pool` and in `edge_pool`: the run searched those one by one. Both are 0 where the pools
     /// sufficed; otherwise a run takes longer, and longer pools would help ([`Places::pools`]).
+    #[must_use]
     pub fn unfiled(&self) -> [usize; 2] {
         [self.node_count() - self.filed[0], self.edge_count() - self.filed[1]]
     }
@@ -394,6 +395,7 @@ impl Places {
     }
 
     /// A length of `tried` that is always enough: three numbers a node. Where it is beyond a `usize` it is [`usize::MAX`], and no list is so long.
+    #[must_use]
     pub fn tried(&self) -> usize {
         self.nodes.saturating_mul(3)
     }

@@ -12,14 +12,17 @@ use Rattle.exact.specs.Corner.{Vector}
 use Rattle.domain.specs.declared.Settings.{Settings}
 use Rattle.domain.specs.Outline.{Outline}
 use Rattle.domain.specs.Accepted.{OutlineFits}
-use Rattle.direction.specs.Record.{FieldLists}
+use Rattle.direction.specs.Record.{FieldLists, FieldRecord}
 use Rattle.front.specs.State.{State}
+use Rattle.front.specs.Sampling.{fromBoundary}
 use Rattle.whole_run.specs.Run.{runRefusal, runOf}
 use Rattle.books.specs.Book.{Book, startBook, bookAfter, placeOf, frontArea, quadsArea}
 use Rattle.books.specs.Holds.{HoldsAfter, Closes, BooksHold}
 use Rattle.books.specs.Areas.{areas-balance}
 use Rattle.books_hold.specs.Runs.{Accepted, accepted, sampled-joins}
 use Rattle.books_hold.specs.Theorem.{books-hold}
+use Rattle.hand_books.specs.Moves.{Move, movesOn}
+use Rattle.hand_books.specs.Sequences.{sequence-holds}
 use Rattle.nearest_step.specs.Step.{nearestStep}
 use Rattle.bowl.specs.Steps.{stepsAt}
 
@@ -30,7 +33,7 @@ pub record StepsBalance (o : Outline) (size : Float) (s : State) (k : ℕ) : Typ
   -- in steps, the start's area is the sum of the quads' and of the front left
   pub areas : frontArea nearestStep (startBook o size) ≡ quadsArea nearestStep book s k +ℤ frontArea nearestStep book
 
--- Of every state that has the exact books of a sampled outline: a run's, and that of every other sequence of placings.
+-- Of every state that has the exact books of a sampled outline.
 pub books-balance : (o : Outline) (size : Float) (lent : State) → Accepted o size lent → (s : State) → BooksHold o size s → (k : ℕ) → k ≤ s .counts .quads
     → StepsBalance o size s k
 books-balance o size lent A s B k h =
@@ -46,6 +49,12 @@ pub run-balance : (o : Outline) (set : Settings) (f : FieldLists) (lent : State)
     → (k : ℕ) → k ≤ runOf o set f lent .paving .state .counts .quads → StepsBalance o (set .size) (runOf o set f lent .paving .state) k
 run-balance o set f lent doubles none =
     books-balance o (set .size) lent (accepted o set f lent doubles none) (runOf o set f lent .paving .state) (books-hold o set f lent doubles none)
+
+-- THE BALANCE OF EVERY HAND-STEPPED SEQUENCE that begins with a sampled outline, passes between the steps included.
+pub sequence-balance : (o : Outline) (size : Float) (lent : State) → Accepted o size lent → (field : FieldRecord) (ms : List Move) (k : ℕ)
+    → k ≤ movesOn o size field ms (fromBoundary o size lent) .counts .quads → StepsBalance o size (movesOn o size field ms (fromBoundary o size lent)) k
+sequence-balance o size lent A field ms =
+    books-balance o size lent A (movesOn o size field ms (fromBoundary o size lent)) (sequence-holds o size lent A field ms)
 
 -- Where the book closes, its nodes in steps are those of the mesh that was left: what `sitjorbe_steps` tests and stores.
 pub places-same : (o : Outline) (s : State) (b : Book) → Closes o s b → (id : ℕ) → id < s .counts .nodes → placeOf nearestStep b id ≡ stepsAt (s .xs) (s .ys) id

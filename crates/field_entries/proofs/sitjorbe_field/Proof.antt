@@ -1,9 +1,9 @@
 -- `sitjorbe_field` meets its contract: the answer is that of `field`, each arm is a line of `recordNumbers`, and a refusal spares the blocks. Assumes nothing.
 use mathlib.Core.Path.{refl}
 use borrow.Author.Needs.{needs}
-use Rattle.mesher.specs.Answers.{fieldNumbers, recordNumbers}
-use Rattle.mesher.proofs.sitjorbe_field.Statement.{statement}
-use Rattle.mesher.proofs.sitjorbe_field.Tie as tie
+use Rattle.field_entries.specs.Answers.{fieldNumbers, recordNumbers}
+use Rattle.field_entries.proofs.sitjorbe_field.Statement.{statement}
+use Rattle.field_entries.proofs.sitjorbe_field.Tie as tie
 
 field-requires : tie.Need-field-requires
 field-requires c κs = search needs

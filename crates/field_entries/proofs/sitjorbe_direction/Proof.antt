@@ -1,8 +1,8 @@
 -- `sitjorbe_direction` meets its contract: the answer is that of `query_direction`, and each arm is a line of `directionNumbers`. Assumes nothing.
 use borrow.Author.Needs.{needs}
-use Rattle.mesher.specs.Answers.{directionNumbers}
-use Rattle.mesher.proofs.sitjorbe_direction.Statement.{statement}
-use Rattle.mesher.proofs.sitjorbe_direction.Tie as tie
+use Rattle.field_entries.specs.Answers.{directionNumbers}
+use Rattle.field_entries.proofs.sitjorbe_direction.Statement.{statement}
+use Rattle.field_entries.proofs.sitjorbe_direction.Tie as tie
 
 query-direction-requires : tie.Need-query-direction-requires
 query-direction-requires c κs = search needs

@@ -1,33 +1,13 @@
--- The run's answer as it crosses to the host: document 01's number, 0 where nothing is refused, and the values. Definitions only.
+-- What a host gets of a run. Definitions only.
 use mathlib.Core.Path.{_≡_}
 use Rattle.domain.specs.declared.Settings.{Settings}
 use Rattle.domain.specs.Outline.{Outline}
 use Rattle.front.specs.State.{State, stateOf, counted}
 use Rattle.books.specs.Holds.{BooksAnswered}
 use Rattle.origins.specs.Origins.{OriginsAnswered}
-use Rattle.run.specs.declared.Paved.{Paved}
 use Rattle.run.specs.Run.{Lent, Ran, runAnswer}
-use Rattle.mesher.specs.declared.PaveAnswer.{PaveAnswer}
-
--- of the run: its end, whether it is whole, the field record's floats and counts, and the counts of the paving and of the loops listed
-unfoldable pub paveNumbers : Paved → PaveAnswer
-paveNumbers p =
-    record {
-      refusal = p .refusal;
-      end = p .end;
-      whole = p .whole;
-      xmin = p .grid .xmin;
-      ymin = p .grid .ymin;
-      h = p .grid .h;
-      nx = p .grid .nx;
-      ny = p .grid .ny;
-      nodes = p .counts .nodes;
-      quads = p .counts .quads;
-      edges = p .counts .edges;
-      front = p .counts .front;
-      loops = p .listed .count;
-      ids = p .listed .ids;
-    }
+use Rattle.pave_answer.specs.declared.PaveAnswer.{PaveAnswer}
+use Rattle.pave_answer.specs.Numbers.{paveNumbers}
 
 -- the numbers of the run, and every list lent as it leaves it
 pub record PaveExit : Type 0 where

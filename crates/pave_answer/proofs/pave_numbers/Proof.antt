@@ -1,8 +1,8 @@
 -- `pave_numbers` meets its contract. Assumes nothing.
 use mathlib.Core.Path.{refl}
-use Rattle.mesher.specs.Answers.{paveNumbers}
-use Rattle.mesher.proofs.pave_numbers.Statement.{statement}
-use Rattle.mesher.proofs.pave_numbers.Tie as tie
+use Rattle.pave_answer.specs.Numbers.{paveNumbers}
+use Rattle.pave_answer.proofs.pave_numbers.Statement.{statement}
+use Rattle.pave_answer.proofs.pave_numbers.Tie as tie
 
 returns : tie.Need-returns
 unfolding paveNumbers

@@ -36,7 +36,7 @@ use Rattle.paving.specs.Loops.{frontLoops}
 use Rattle.whole_run.specs.Run.{runRefusal, runOf}
 use Rattle.loops.specs.Listed.{Lists, written, Listable, listedIn}
 use Rattle.loops.specs.ListedLaws.{listed-front, sound-listable}
-use Rattle.advance.specs.Paveable.{Paveable}
+use Rattle.settling.specs.Paveable.{Paveable}
 use Rattle.sampled.specs.Outlines.{outline-three}
 use Rattle.sampled.specs.Begun.{Begun, begun}
 use Rattle.books.specs.Book.{Book, quadAt, newNode, side, bookQuad, bookAfter, quadsArea}

@@ -32,12 +32,12 @@ use Rattle.attempts.specs.Seen.{seenEdges}
 use Rattle.retries.specs.Vain.{forgotten, Remembers}
 use Rattle.retries.specs.VainLaws.{forgotten-remembers, remembers-later, remembers-same}
 use Rattle.retries.specs.Untried.{seenMesh}
-use Rattle.advance.specs.declared.Settled.{Settled}
-use Rattle.advance.specs.declared.Settled.the-variants.{Put}
-use Rattle.advance.specs.declared.Settled.the-variants as settled-is
-use Rattle.advance.specs.declared.Swept.{Swept}
-use Rattle.advance.specs.Answers.{settledCounts, quadSettled, passedCounts, passAnswer}
-use Rattle.advance.specs.Paveable.{Paveable, Later, held, later-placed}
+use Rattle.ends.specs.declared.Settled.{Settled}
+use Rattle.ends.specs.declared.Settled.the-variants.{Put}
+use Rattle.ends.specs.declared.Settled.the-variants as settled-is
+use Rattle.ends.specs.declared.Swept.{Swept}
+use Rattle.ends.specs.Answers.{settledCounts, quadSettled, passedCounts, passAnswer}
+use Rattle.settling.specs.Paveable.{Paveable, Later, held, later-placed}
 
 -- ---- definitions
 

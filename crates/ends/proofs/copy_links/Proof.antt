@@ -1,13 +1,13 @@
--- `advance::copy_links` meets its contract: the loop is the definition's. Assumes nothing.
+-- `ends::copy_links` meets its contract: the loop is the definition's. Assumes nothing.
 use mathlib.Core.Path.{_≡_, refl}
 use Prim.Native.Nat.{_-_}
 use native.Mathlib.Omega.{arith}
 use lib.ListN.{length, length-set}
 use Rattle.laws.specs.Loop.{Loop, loop-start, loop-end}
 use Rattle.paving.specs.Advance.{copyTurn, copied}
-use Rattle.advance.specs.Laws.{copy-next}
-use Rattle.advance.proofs.copy_links.Statement.{statement}
-use Rattle.advance.proofs.copy_links.Tie as tie
+use Rattle.ends.specs.SnapshotLaws.{copy-next}
+use Rattle.ends.proofs.copy_links.Statement.{statement}
+use Rattle.ends.proofs.copy_links.Tie as tie
 
 abbrev Inv-loop : tie.InvT-loop
 Inv-loop next snapshot₀ n m i₀ snapshot i = Loop (copyTurn next) snapshot₀ m i snapshot × (length snapshot ≡ length snapshot₀)

@@ -1,10 +1,10 @@
--- `advance::snapshot_edge` meets its contract.
-use Rattle.advance.specs.Answers.{snapshotEdge}
+-- `ends::snapshot_edge` meets its contract.
+use Rattle.ends.specs.Answers.{snapshotEdge}
 use borrow.Author.Tests.{eq-eqb, ne-eqb}
 use mathlib.Core.Path.{sym}
 use borrow.Author.Needs.{needs}
-use Rattle.advance.proofs.snapshot_edge.Statement.{statement}
-use Rattle.advance.proofs.snapshot_edge.Tie as tie
+use Rattle.ends.proofs.snapshot_edge.Statement.{statement}
+use Rattle.ends.proofs.snapshot_edge.Tie as tie
 
 mul-b : tie.Need-mul-b
 mul-b c = search needs

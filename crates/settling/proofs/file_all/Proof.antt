@@ -1,8 +1,8 @@
--- `advance::file_all` meets its contract: of pools that have been emptied everything is still to be filed. Assumes nothing.
+-- `settling::file_all` meets its contract: of pools that have been emptied everything is still to be filed. Assumes nothing.
 use borrow.Author.Needs.{needs}
-use Rattle.advance.specs.Searchable.{all-addable}
-use Rattle.advance.proofs.file_all.Statement.{statement}
-use Rattle.advance.proofs.file_all.Tie as tie
+use Rattle.settling.specs.Searchable.{all-addable}
+use Rattle.settling.proofs.file_all.Statement.{statement}
+use Rattle.settling.proofs.file_all.Tie as tie
 
 clear-requires : tie.Need-clear-requires
 clear-requires c κs = search needs

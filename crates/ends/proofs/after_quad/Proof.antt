@@ -1,8 +1,8 @@
--- `advance::after_quad` meets its contract. Assumes nothing.
+-- `ends::after_quad` meets its contract. Assumes nothing.
 use borrow.Author.Tests.{le-leb, lt-leb}
-use Rattle.advance.specs.Answers.{quadSettled}
-use Rattle.advance.proofs.after_quad.Statement.{statement}
-use Rattle.advance.proofs.after_quad.Tie as tie
+use Rattle.ends.specs.Answers.{quadSettled}
+use Rattle.ends.proofs.after_quad.Statement.{statement}
+use Rattle.ends.proofs.after_quad.Tie as tie
 
 returns : tie.Need-returns
 unfolding quadSettled

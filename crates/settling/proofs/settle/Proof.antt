@@ -1,7 +1,7 @@
--- `advance::settle` meets its contract: the edge is gone, the attempt answers nothing, a quad that is full, or a quad that is placed.
-use Rattle.advance.specs.Searchable.{placed-adds, full-helped, done-helped, helped-at, counts-settled}
-use Rattle.advance.specs.Paveable.{held, try-lent}
-use Rattle.advance.specs.Laws.{settle-gone, settle-untried, settle-same, settle-ready, settle-full, settle-done}
+-- `settling::settle` meets its contract: the edge is gone, the attempt answers nothing, a quad that is full, or a quad that is placed.
+use Rattle.settling.specs.Searchable.{placed-adds, full-helped, done-helped, helped-at, counts-settled}
+use Rattle.settling.specs.Paveable.{held, try-lent}
+use Rattle.settling.specs.Laws.{settle-gone, settle-untried, settle-same, settle-ready, settle-full, settle-done}
 use Rattle.front.specs.State.{State, stateOf}
 use Rattle.direction.specs.Record.{FieldRecord, fieldRecord}
 use Rattle.domain.specs.Outline.{Outline, outline}
@@ -9,8 +9,8 @@ use native.Mathlib.Omega.{arith}
 use mathlib.Core.Path.{_∙_, sym}
 use mathlib.Core.List.{[]}
 use borrow.Author.Needs.{needs}
-use Rattle.advance.proofs.settle.Statement.{statement}
-use Rattle.advance.proofs.settle.Tie as tie
+use Rattle.settling.proofs.settle.Statement.{statement}
+use Rattle.settling.proofs.settle.Tie as tie
 
 -- the outline, the field and the state as they are lent
 abbrev around : tie.Start → Outline

@@ -1,6 +1,6 @@
--- `advance::after_pass` meets its contract. Assumes nothing.
-use Rattle.advance.proofs.after_pass.Statement.{statement}
-use Rattle.advance.proofs.after_pass.Tie as tie
+-- `ends::after_pass` meets its contract. Assumes nothing.
+use Rattle.ends.proofs.after_pass.Statement.{statement}
+use Rattle.ends.proofs.after_pass.Tie as tie
 
 returns : tie.Need-returns
 returns c = rw (c .if1 .taken)

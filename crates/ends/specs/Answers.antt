@@ -14,12 +14,12 @@ use Rattle.front.specs.declared.Neighbour.the-variants.{At, Off}
 use Rattle.front.specs.State.{State}
 use Rattle.paving.specs.declared.End.the-variants.{Still, Cap}
 use Rattle.paving.specs.Advance.{Passing, passing, Passed, paved, passTurn, mostQuads}
-use Rattle.advance.specs.declared.Settled.{Settled}
-use Rattle.advance.specs.declared.Settled.the-variants.{Same, Put}
-use Rattle.advance.specs.declared.Settled.the-variants as settled-is
-use Rattle.advance.specs.declared.Swept.{Swept}
-use Rattle.advance.specs.declared.Swept.the-variants.{On}
-use Rattle.advance.specs.declared.Swept.the-variants as swept-is
+use Rattle.ends.specs.declared.Settled.{Settled}
+use Rattle.ends.specs.declared.Settled.the-variants.{Same, Put}
+use Rattle.ends.specs.declared.Settled.the-variants as settled-is
+use Rattle.ends.specs.declared.Swept.{Swept}
+use Rattle.ends.specs.declared.Swept.the-variants.{On}
+use Rattle.ends.specs.declared.Swept.the-variants as swept-is
 
 -- ---- one edge of a pass
 

@@ -1,8 +1,8 @@
--- `run::node_places` meets its contract. Assumes nothing.
+-- `run_refusal::node_places` meets its contract. Assumes nothing.
 use mathlib.Core.Path.{refl, _∙_}
 use borrow.Author.Needs.{needs}
-use Rattle.run.proofs.node_places.Statement.{statement}
-use Rattle.run.proofs.node_places.Tie as tie
+use Rattle.run_refusal.proofs.node_places.Statement.{statement}
+use Rattle.run_refusal.proofs.node_places.Tie as tie
 
 min-usize-requires : tie.Need-min-usize-requires
 min-usize-requires c κs = search needs

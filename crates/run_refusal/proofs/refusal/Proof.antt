@@ -1,4 +1,4 @@
--- `run::refusal` meets its contract: the first number that isn't 0. Assumes nothing.
+-- `run_refusal::refusal` meets its contract: the first number that isn't 0. Assumes nothing.
 use mathlib.Core.Path.{sym, _∙_}
 use native.Mathlib.Omega.{arith}
 use borrow.Author.Tests.{lt-ltb, le-ltb}
@@ -7,8 +7,8 @@ use Rattle.domain.specs.Accepted.{accepted}
 use Rattle.domain.specs.RefusalLaws.{first-stays}
 use Rattle.crossfield.specs.FieldLaws.{unrefused}
 use borrow.Author.Needs.{needs}
-use Rattle.run.proofs.refusal.Statement.{statement}
-use Rattle.run.proofs.refusal.Tie as tie
+use Rattle.run_refusal.proofs.refusal.Statement.{statement}
+use Rattle.run_refusal.proofs.refusal.Tie as tie
 
 below : {m n : ℕ} → m ≤ n → m < suc n
 below h = omega arith

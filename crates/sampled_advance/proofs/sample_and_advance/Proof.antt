@@ -1,4 +1,4 @@
--- `run::sample_and_advance` meets its contract: the refusals give what the two calls ask. Assumes nothing.
+-- `sampled_advance::sample_and_advance` meets its contract: the refusals give what the two calls ask. Assumes nothing.
 use mathlib.Core.Path.{_∙_, ap}
 use Rattle.domain.specs.Outline.{Outline, outline}
 use Rattle.direction.specs.Record.{fieldRecord}
@@ -6,11 +6,11 @@ use Rattle.front.specs.State.{State, stateOf}
 use Rattle.boundary.specs.Progress.{can-sample}
 use Rattle.paving.specs.Advance.{advance}
 use mathlib.Core.List.{[]}
-use Rattle.run.specs.Run.{unused}
-use Rattle.run.specs.Laws.{paveable-at}
+use Rattle.sampled_advance.specs.Asked.{unused}
+use Rattle.sampled_advance.specs.Laws.{paveable-at}
 use borrow.Author.Needs.{needs}
-use Rattle.run.proofs.sample_and_advance.Statement.{statement}
-use Rattle.run.proofs.sample_and_advance.Tie as tie
+use Rattle.sampled_advance.proofs.sample_and_advance.Statement.{statement}
+use Rattle.sampled_advance.proofs.sample_and_advance.Tie as tie
 
 -- the outline and the state as they are lent
 abbrev around : tie.Start → Outline

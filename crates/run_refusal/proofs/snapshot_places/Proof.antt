@@ -1,8 +1,8 @@
--- `run::snapshot_places` meets its contract. Assumes nothing.
+-- `run_refusal::snapshot_places` meets its contract. Assumes nothing.
 use mathlib.Core.Path.{refl, _∙_}
 use borrow.Author.Needs.{needs}
-use Rattle.run.proofs.snapshot_places.Statement.{statement}
-use Rattle.run.proofs.snapshot_places.Tie as tie
+use Rattle.run_refusal.proofs.snapshot_places.Statement.{statement}
+use Rattle.run_refusal.proofs.snapshot_places.Tie as tie
 
 min-usize-requires : tie.Need-min-usize-requires
 min-usize-requires c κs = search needs

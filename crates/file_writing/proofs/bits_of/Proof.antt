@@ -1,8 +1,8 @@
--- `outline_file::bits_of` meets its contract: at a NaN the pattern is given.
-use Rattle.outline_file.specs.WriteLaws.{nan-bits, no-nan}
+-- `file_writing::bits_of` meets its contract: at a NaN the pattern is given.
+use Rattle.file_writing.specs.WriteLaws.{nan-bits, no-nan}
 use borrow.Author.Needs.{needs}
-use Rattle.outline_file.proofs.bits_of.Statement.{statement}
-use Rattle.outline_file.proofs.bits_of.Tie as tie
+use Rattle.file_writing.proofs.bits_of.Statement.{statement}
+use Rattle.file_writing.proofs.bits_of.Tie as tie
 
 returns : tie.Need-returns
 returns c = nan-bits _ (c .if1 .taken)

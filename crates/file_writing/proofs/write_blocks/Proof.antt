@@ -1,13 +1,13 @@
--- `outline_file::write_blocks` meets its contract: the loop's invariant is `Blocks`, and each answer is a law of it.
-use Rattle.outline_file.specs.WriteLaws.{Blocks, blocks-start, blocks-long, part-requires, blocks-put, blocks-end}
+-- `file_writing::write_blocks` meets its contract: the loop's invariant is `Blocks`, and each answer is a law of it.
+use Rattle.file_writing.specs.WriteLaws.{Blocks, blocks-start, blocks-long, part-requires, blocks-put, blocks-end}
 use mathlib.Core.Path.{refl}
--- `outline_file::write_blocks` meets its contract: the loop's invariant is `Blocks`, and each answer is a law of it.
-use Rattle.outline_file.specs.WriteLaws.{Blocks, blocks-start, blocks-long}
+-- `file_writing::write_blocks` meets its contract: the loop's invariant is `Blocks`, and each answer is a law of it.
+use Rattle.file_writing.specs.WriteLaws.{Blocks, blocks-start, blocks-long}
 use Rattle.outline_file.specs.File.{pointBlocks}
 use native.Mathlib.Omega.{arith}
 use Prim.Native.Nat.{_-_}
-use Rattle.outline_file.proofs.write_blocks.Statement.{statement}
-use Rattle.outline_file.proofs.write_blocks.Tie as tie
+use Rattle.file_writing.proofs.write_blocks.Statement.{statement}
+use Rattle.file_writing.proofs.write_blocks.Tie as tie
 
 abbrev Inv-loop : tie.InvT-loop
 Inv-loop points file₀ all count k₀ file k = Blocks points file₀ (pointBlocks count) k file

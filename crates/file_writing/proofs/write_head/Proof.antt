@@ -1,13 +1,13 @@
--- `outline_file::write_head` meets its contract: the head's numbers one after the other, made a block.
-use Rattle.outline_file.specs.RoundTrip.{head-length}
+-- `file_writing::write_head` meets its contract: the head's numbers one after the other, made a block.
+use Rattle.file_writing.specs.RoundTrip.{head-length}
 use Rattle.outline_file.specs.File.{headBytes}
 use native.Mathlib.Omega.{arith}
 use mathlib.Core.Path.{sym}
--- `outline_file::write_head` meets its contract: the head's numbers one after the other, made a block.
-use Rattle.outline_file.specs.WriteLaws.{sealed, head-put}
+-- `file_writing::write_head` meets its contract: the head's numbers one after the other, made a block.
+use Rattle.file_writing.specs.WriteLaws.{sealed, head-put}
 use borrow.Author.Needs.{needs}
-use Rattle.outline_file.proofs.write_head.Statement.{statement}
-use Rattle.outline_file.proofs.write_head.Tie as tie
+use Rattle.file_writing.proofs.write_head.Statement.{statement}
+use Rattle.file_writing.proofs.write_head.Tie as tie
 
 bits-of-requires : tie.Need-bits-of-requires
 bits-of-requires c κs = search needs

@@ -1,10 +1,10 @@
--- `outline_file::clear` meets its contract: the loop's invariant is `Putting`, and each answer is a law of it.
-use Rattle.outline_file.specs.WriteLaws.{Putting, put-start, put-length, put-next, put-end, next-zero}
+-- `file_writing::clear` meets its contract: the loop's invariant is `Putting`, and each answer is a law of it.
+use Rattle.file_writing.specs.WriteLaws.{Putting, put-start, put-length, put-next, put-end, next-zero}
 use lib.ListN.{replicate, length-replicate}
 use native.Mathlib.Omega.{arith}
 use Prim.Native.Nat.{ℕ, _-_}
-use Rattle.outline_file.proofs.clear.Statement.{statement}
-use Rattle.outline_file.proofs.clear.Tie as tie
+use Rattle.file_writing.proofs.clear.Statement.{statement}
+use Rattle.file_writing.proofs.clear.Tie as tie
 
 abbrev Inv-loop : tie.InvT-loop
 Inv-loop b₀ from i₀ b i = Putting b₀ from (replicate (510 - from) 0) 510 i (replicate (510 - i) 0) b

@@ -1,10 +1,10 @@
--- `outline_file::can_file` meets its contract: each way out is a case of `fileable`.
+-- `file_writing::can_file` meets its contract: each way out is a case of `fileable`.
 use native.Mathlib.Omega.{arith}
--- `outline_file::can_file` meets its contract: each way out is a case of `fileable`.
-use Rattle.outline_file.specs.WriteLaws.{no-loops, many-loops, many-points, not-adding, many-sweeps, by-passes}
+-- `file_writing::can_file` meets its contract: each way out is a case of `fileable`.
+use Rattle.file_writing.specs.WriteLaws.{no-loops, many-loops, many-points, not-adding, many-sweeps, by-passes}
 use borrow.Author.Needs.{needs}
-use Rattle.outline_file.proofs.can_file.Statement.{statement}
-use Rattle.outline_file.proofs.can_file.Tie as tie
+use Rattle.file_writing.proofs.can_file.Statement.{statement}
+use Rattle.file_writing.proofs.can_file.Tie as tie
 
 returns : tie.Need-returns
 returns c = no-loops _ _ _ (c .if1 .taken)

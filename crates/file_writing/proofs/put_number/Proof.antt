@@ -1,10 +1,10 @@
--- `outline_file::put_number` meets its contract: the loop's invariant is `Putting`, and each answer is a law of it.
-use Rattle.outline_file.specs.WriteLaws.{Putting, put-first, put-length, put-next, put-end, next-byte}
+-- `file_writing::put_number` meets its contract: the loop's invariant is `Putting`, and each answer is a law of it.
+use Rattle.file_writing.specs.WriteLaws.{Putting, put-first, put-length, put-next, put-end, next-byte}
 use Rattle.outline_file.specs.File.{numberBytes}
 use native.Mathlib.Omega.{arith}
 use Prim.Native.Nat.{_-_}
-use Rattle.outline_file.proofs.put_number.Statement.{statement}
-use Rattle.outline_file.proofs.put_number.Tie as tie
+use Rattle.file_writing.proofs.put_number.Statement.{statement}
+use Rattle.file_writing.proofs.put_number.Tie as tie
 
 abbrev Inv-loop : tie.InvT-loop
 Inv-loop n x b₀ at end rest₀ i₀ b rest i = Putting b₀ at (numberBytes n x) end i (numberBytes (end - i) rest) b

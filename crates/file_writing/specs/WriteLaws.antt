@@ -17,10 +17,10 @@ use Rattle.laws.specs.Overlay.{overlay}
 use Rattle.laws.specs.Sums.{sum-term}
 use Rattle.laws.specs.Tabulate.{tabulate, tabulate-suc}
 use Rattle.domain.specs.declared.Settings.{Settings}
 use Rattle.outline_file.specs.File.{checkOf, numberBytes, floatBytes, blockOf, lengthBytes, headBytes, pointBytes}
 use Rattle.outline_file.specs.File.{Request, request, fileLength, pointBlocks, pointBlock, blocksOf, fileOf, totalPoints, fileable, writing, writeFile}
-use Rattle.outline_file.specs.RoundTrip.{bytes-length, pieces-length, block-wide, check-same, point-block-wide, Fileable, fileable-is}
-use Rattle.outline_file.specs.RoundTrip.{head-wide, file-length}
+use Rattle.file_writing.specs.RoundTrip.{bytes-length, pieces-length, block-wide, check-same, point-block-wide, Fileable, fileable-is}
+use Rattle.file_writing.specs.RoundTrip.{head-wide, file-length}
 
 -- ---- floats
 

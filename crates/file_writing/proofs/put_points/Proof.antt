@@ -1,13 +1,13 @@
--- `outline_file::put_points` meets its contract: the loop's invariant is `Pieces`, and each answer is a law of it.
+-- `file_writing::put_points` meets its contract: the loop's invariant is `Pieces`, and each answer is a law of it.
 use lib.ListN.{length, getD}
 use Prim.Native.Nat.{_-_, _*_}
--- `outline_file::put_points` meets its contract: the loop's invariant is `Pieces`, and each answer is a law of it.
-use Rattle.outline_file.specs.WriteLaws.{Pieces, pieces-start, pieces-long, pieces-next, pieces-end, float-wide, put-float}
+-- `file_writing::put_points` meets its contract: the loop's invariant is `Pieces`, and each answer is a law of it.
+use Rattle.file_writing.specs.WriteLaws.{Pieces, pieces-start, pieces-long, pieces-next, pieces-end, float-wide, put-float}
 use Rattle.outline_file.specs.File.{floatBytes, pointBytes}
 use lib.Ieee.{nan}
 use native.Mathlib.Omega.{arith}
-use Rattle.outline_file.proofs.put_points.Statement.{statement}
-use Rattle.outline_file.proofs.put_points.Tie as tie
+use Rattle.file_writing.proofs.put_points.Statement.{statement}
+use Rattle.file_writing.proofs.put_points.Tie as tie
 
 abbrev Inv-loop : tie.InvT-loop
 Inv-loop points b₀ c₀ b c = Pieces 8 floatBytes points 0 b₀ c b

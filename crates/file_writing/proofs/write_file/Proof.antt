@@ -1,11 +1,11 @@
--- `outline_file::write_file` meets its contract: refused, too short, or what the calls ensure makes it up.
-use Rattle.outline_file.specs.WriteLaws.{write-refused, within, few-coordinates, write-short, blocks-room, write-whole}
--- `outline_file::write_file` meets its contract: refused, too short, or what the calls ensure makes it up.
+-- `file_writing::write_file` meets its contract: refused, too short, or what the calls ensure makes it up.
+use Rattle.file_writing.specs.WriteLaws.{write-refused, within, few-coordinates, write-short, blocks-room, write-whole}
+-- `file_writing::write_file` meets its contract: refused, too short, or what the calls ensure makes it up.
 use Rattle.outline_file.specs.File.{request}
 use native.Mathlib.Omega.{arith}
 use borrow.Author.Needs.{needs}
-use Rattle.outline_file.proofs.write_file.Statement.{statement}
-use Rattle.outline_file.proofs.write_file.Tie as tie
+use Rattle.file_writing.proofs.write_file.Statement.{statement}
+use Rattle.file_writing.proofs.write_file.Tie as tie
 
 can-file-requires : tie.Need-can-file-requires
 can-file-requires c κs = search needs

@@ -1,10 +1,10 @@
--- `outline_file::few_points` meets its contract: the loop's invariant is `Few`, and each answer is a law of it.
-use Rattle.outline_file.specs.WriteLaws.{Few, few-start, few-next, few-out, few-end}
+-- `file_writing::few_points` meets its contract: the loop's invariant is `Few`, and each answer is a law of it.
+use Rattle.file_writing.specs.WriteLaws.{Few, few-start, few-next, few-out, few-end}
 use lib.ListN.{length}
 use native.Mathlib.Omega.{arith}
 use Prim.Native.Nat.{_-_}
-use Rattle.outline_file.proofs.few_points.Statement.{statement}
-use Rattle.outline_file.proofs.few_points.Tie as tie
+use Rattle.file_writing.proofs.few_points.Statement.{statement}
+use Rattle.file_writing.proofs.few_points.Tie as tie
 
 abbrev Inv-loop : tie.InvT-loop
 Inv-loop lens sum₀ k₀ sum k = Few lens k sum

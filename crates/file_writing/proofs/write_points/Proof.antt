@@ -1,11 +1,11 @@
--- `outline_file::write_points` meets its contract: the points, made a block.
+-- `file_writing::write_points` meets its contract: the points, made a block.
 use Rattle.outline_file.specs.File.{pointBytes}
 use native.Mathlib.Omega.{arith}
--- `outline_file::write_points` meets its contract: the points, made a block.
-use Rattle.outline_file.specs.WriteLaws.{sealed, points-used}
+-- `file_writing::write_points` meets its contract: the points, made a block.
+use Rattle.file_writing.specs.WriteLaws.{sealed, points-used}
 use borrow.Author.Needs.{needs}
-use Rattle.outline_file.proofs.write_points.Statement.{statement}
-use Rattle.outline_file.proofs.write_points.Tie as tie
+use Rattle.file_writing.proofs.write_points.Statement.{statement}
+use Rattle.file_writing.proofs.write_points.Tie as tie
 
 put-points-requires : tie.Need-put-points-requires
 put-points-requires c κs = search needs

@@ -1,13 +1,13 @@
--- `outline_file::put_lengths` meets its contract: the loop's invariant is `Pieces`, and each answer is a law of it.
-use Rattle.outline_file.specs.WriteLaws.{Pieces, pieces-start, pieces-long, pieces-next, pieces-end}
-use Rattle.outline_file.specs.RoundTrip.{bytes-length}
+-- `file_writing::put_lengths` meets its contract: the loop's invariant is `Pieces`, and each answer is a law of it.
+use Rattle.file_writing.specs.WriteLaws.{Pieces, pieces-start, pieces-long, pieces-next, pieces-end}
+use Rattle.file_writing.specs.RoundTrip.{bytes-length}
 use Rattle.outline_file.specs.File.{numberBytes, lengthBytes}
 use lib.ListN.{length}
 use native.Mathlib.Omega.{arith}
 use mathlib.Core.Path.{refl}
 use Prim.Native.Nat.{_-_}
-use Rattle.outline_file.proofs.put_lengths.Statement.{statement}
-use Rattle.outline_file.proofs.put_lengths.Tie as tie
+use Rattle.file_writing.proofs.put_lengths.Statement.{statement}
+use Rattle.file_writing.proofs.put_lengths.Tie as tie
 
 abbrev Inv-loop : tie.InvT-loop
 Inv-loop lens b₀ k₀ b k = Pieces 2 (numberBytes 2) lens 14 b₀ k b

@@ -1,8 +1,8 @@
--- `outline_file::seal` meets its contract: what the calls ensure makes it up.
-use Rattle.outline_file.specs.WriteLaws.{block-sealed}
+-- `file_writing::seal` meets its contract: what the calls ensure makes it up.
+use Rattle.file_writing.specs.WriteLaws.{block-sealed}
 use borrow.Author.Needs.{needs}
-use Rattle.outline_file.proofs.seal.Statement.{statement}
-use Rattle.outline_file.proofs.seal.Tie as tie
+use Rattle.file_writing.proofs.seal.Statement.{statement}
+use Rattle.file_writing.proofs.seal.Tie as tie
 
 clear-requires : tie.Need-clear-requires
 clear-requires c κs = search needs

@@ -14,9 +14,10 @@ use Rattle.laws.specs.Tests.{both, neither, and-both}
 use Rattle.laws.specs.Loop.{anyUp, any-none, none-found}
 use Rattle.domain.specs.Outline.{Outline, misshapen, outlineRefusal, holeAt, loopAt, points}
 use Rattle.domain.specs.Accepted.{OutlineFits, LoopWithin, accepted, loop-within}
-use Rattle.soundness.specs.Sound.{start, crossesItself, touch, isInside, straysOut, liesIn, outlineSound}
+use Rattle.sound_outlines.specs.Sound.{start, crossesItself, touch, isInside, straysOut, liesIn, outlineSound}
+use Rattle.sound_outlines.specs.Whole.{isWhole}
 use Rattle.soundness.specs.declared.SoundAnswer.{SoundAnswer}
-use Rattle.soundness.specs.Answer.{soundAnswer, isWhole}
+use Rattle.soundness.specs.Answer.{soundAnswer}
 
 -- ---- one walk over the holes
 

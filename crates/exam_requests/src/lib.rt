@@ -137,7 +137,7 @@ fn quad_reply(quad_count: usize, quads: &[u32], k: u32) -> ExamReply
 fn loop_reply(n: u32, next: &[u32], prev: &[u32], k: u32, reply: &mut [u32]) -> ExamReply
     ensures { λ r. ⌜ seen r (now (reply .exit)) ≡ loopSeen n (now (next .entry)) (now (prev .entry)) k (now (reply .entry)) ⌝ }
 {
-    let read = exam_loops::read_loop(n, next, prev, k, reply);
+    let read = loop_reads::read_loop(n, next, prev, k, reply);
     reply_or(read.refusal, ExamReply::Loop(read.length))
 }
 
@@ -182,12 +182,12 @@ pub fn change_results(
         (results (now (thresholds .entry)) (now (count .entry)) (now (sum .entry))) change ⌝ }
 {
     match change {
-        ResultChange::Begin => thresholds::begin(thresholds, count, sum),
+        ResultChange::Begin => exam_results::begin(thresholds, count, sum),
         ResultChange::Enter(id, v) => {
-            thresholds::enter(n, quad_count, quads, thresholds, count, sum, id, v)
+            exam_results::enter(n, quad_count, quads, thresholds, count, sum, id, v)
         }
         ResultChange::Withdraw(id) => {
-            thresholds::withdraw(n, quad_count, quads, thresholds, count, sum, id)
+            exam_results::withdraw(n, quad_count, quads, thresholds, count, sum, id)
         }
     }
 }
@@ -195,8 +195,8 @@ pub fn change_results(
 fn threshold_reply(n: u32, thresholds: &[u16], id: u32) -> ExamReply
     ensures { λ r. ⌜ r ≡ thresholdReply n (now (thresholds .entry)) id ⌝ }
 {
-    let v = thresholds::threshold_at(thresholds, id);
-    let refusal = thresholds::refusal_at(n, thresholds, id, v, 17);
+    let v = exam_results::threshold_at(thresholds, id);
+    let refusal = exam_results::refusal_at(n, thresholds, id, v, 17);
     reply_or(refusal, ExamReply::Threshold(v))
 }
 
@@ -211,7 +211,7 @@ fn estimate_reply(
 ) -> ExamReply
     ensures { λ r. ⌜ r ≡ estimateReply (mesh n (quadCount «quad_count» (now (quads .entry))) (now (quads .entry))) (now (thresholds .entry)) k u v ⌝ }
 {
-    let answer = estimates::estimate_at(n, quad_count, quads, thresholds, k as usize, u, v);
+    let answer = exam_results::estimate_at(n, quad_count, quads, thresholds, k as usize, u, v);
     reply_or(answer.refusal, ExamReply::Estimate(answer.estimate))
 }
 

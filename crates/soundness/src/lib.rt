@@ -107,12 +107,12 @@ fn folds_at(s: &[f64], i: usize, j: usize) -> bool
     requires { ⌜ LoopWithin (now s) × (i < points (now s)) × (j < points (now s)) ⌝ }
     ensures { λ r. ⌜ r ≡ foldsAt (now (s .entry)) i j ⌝ }
 {
-    if j != domain::after(s.len() / 2, i) {
+    if j != outlines::after(s.len() / 2, i) {
         return false;
     }
-    let a = domain::point_at(s, i);
-    let b = domain::point_at(s, j);
-    folds_back(a, b, domain::point_after(s, j))
+    let a = outlines::point_at(s, i);
+    let b = outlines::point_at(s, j);
+    folds_back(a, b, outlines::point_after(s, j))
 }
 
 // Whether segments i and j have in common what they may not: neighbours more than their common end, others anything.
@@ -126,16 +126,16 @@ fn clash(s: &[f64], i: usize, j: usize) -> bool
     if folds_at(s, j, i) {
         return true;
     }
-    if j == domain::after(s.len() / 2, i) {
+    if j == outlines::after(s.len() / 2, i) {
         return false;
     }
-    if i == domain::after(s.len() / 2, j) {
+    if i == outlines::after(s.len() / 2, j) {
         return false;
     }
-    let a = domain::point_at(s, i);
-    let b = domain::point_after(s, i);
-    let c = domain::point_at(s, j);
-    meets(a, b, c, domain::point_after(s, j))
+    let a = outlines::point_at(s, i);
+    let b = outlines::point_after(s, i);
+    let c = outlines::point_at(s, j);
+    meets(a, b, c, outlines::point_after(s, j))
 }
 
 // Whether some two segments of the loop clash. The search is left at the first that do.
@@ -170,8 +170,8 @@ fn meets_loop(a: Point, b: Point, t: &[f64]) -> bool
     let n = t.len() / 2;
     let mut j = 0;
     while j < n {
-        let c = domain::point_at(t, j);
-        if meets(a, b, c, domain::point_after(t, j)) {
+        let c = outlines::point_at(t, j);
+        if meets(a, b, c, outlines::point_after(t, j)) {
             return true;
         }
         j += 1;
@@ -187,8 +187,8 @@ fn touches(s: &[f64], t: &[f64]) -> bool
     let n = s.len() / 2;
     let mut i = 0;
     while i < n {
-        let a = domain::point_at(s, i);
-        if meets_loop(a, domain::point_after(s, i), t) {
+        let a = outlines::point_at(s, i);
+        if meets_loop(a, outlines::point_after(s, i), t) {
             return true;
         }
         i += 1;
@@ -222,8 +222,8 @@ fn is_inside(p: Point, s: &[f64]) -> bool
     let mut inside = false;
     let mut i = 0;
     while i < n {
-        let a = domain::point_at(s, i);
-        inside = inside != ray_meets(p, a, domain::point_after(s, i));
+        let a = outlines::point_at(s, i);
+        inside = inside != ray_meets(p, a, outlines::point_after(s, i));
         i += 1;
     }
     inside
@@ -237,7 +237,7 @@ fn any_point(s: &[f64], t: &[f64], inside: bool) -> bool
     let n = s.len() / 2;
     let mut i = 0;
     while i < n {
-        if is_inside(domain::point_at(s, i), t) == inside {
+        if is_inside(outlines::point_at(s, i), t) == inside {
             return true;
         }
         i += 1;
@@ -275,7 +275,7 @@ fn clashes_before<'a>(
     let mut l = 0;
     let mut start = 0;
     while l < k {
-        if holes_clash(s, domain::loop_points(outer, holes, lens, l + 1, start)) {
+        if holes_clash(s, outlines::loop_points(outer, holes, lens, l + 1, start)) {
             return true;
         }
         start += lens[l];
@@ -318,7 +318,7 @@ pub fn is_sound<'a>(outer: &'a [f64], holes: &'a [f64], lens: &[usize]) -> bool
     let mut k = 0;
     let mut start = 0;
     while k < lens.len() {
-        let s = domain::loop_points(outer, holes, lens, k + 1, start);
+        let s = outlines::loop_points(outer, holes, lens, k + 1, start);
         if is_hole_unsound(outer, holes, lens, s, k) {
             return false;
         }
@@ -357,7 +357,7 @@ pub extern "C" fn sitjorbe_sound<'a>(
 ) -> SoundAnswer
     ensures { λ r. ⌜ r ≡ soundAnswer (outline (now (outer .entry)) (now (holes .entry)) (now (lens .entry))) ⌝ }
 {
-    let refusal = domain::outline_refusal(outer, holes, lens);
+    let refusal = outlines::outline_refusal(outer, holes, lens);
     if refusal != 0 {
         return SoundAnswer {
             refusal,

@@ -13,7 +13,6 @@ ghost use Rattle.sound_outlines.specs.Sound.{start, end, overlap, parted, meets
 ghost use Rattle.sound_outlines.specs.Sound.{rayMeets, isInside, outlineSound};
 ghost use Rattle.sound_outlines.specs.Whole.{isWhole};
 ghost use Rattle.sound_outlines.specs.FoldsLaws.{isExtreme};
-ghost use Rattle.soundness.specs.Answer.{soundAnswer};
 ghost use Rattle.soundness.specs.SegmentLaws.{lesserF, greaterF};
 ghost use Rattle.soundness.specs.WalkLaws.{anyPoint, holesClash, holeUnsound, Judged};
 use domain::Point;
@@ -338,32 +337,4 @@ pub fn is_whole<'a>(outer: &'a [f64], holes: &'a [f64], lens: &[usize], listed: 
         return false;
     }
     is_sound(outer, holes, lens)
-}
-
-// ---- the entry
-
-#[repr(C)]
-pub struct SoundAnswer {
-    pub refusal: u32,
-    pub sound: bool,
-}
-
-// Whether the outline is sound; refusals 1 to 4 come first, with false.
-#[no_mangle]
-pub extern "C" fn sitjorbe_sound<'a>(
-    outer: &'a [f64],
-    holes: &'a [f64],
-    lens: &[usize],
-) -> SoundAnswer
-    ensures { λ r. ⌜ r ≡ soundAnswer (outline (now (outer .entry)) (now (holes .entry)) (now (lens .entry))) ⌝ }
-{
-    let refusal = outlines::outline_refusal(outer, holes, lens);
-    if refusal != 0 {
-        return SoundAnswer {
-            refusal,
-            sound: false,
-        };
-    }
-    let sound = is_sound(outer, holes, lens);
-    SoundAnswer { refusal: 0, sound }
 }

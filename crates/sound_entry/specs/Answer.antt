@@ -3,7 +3,7 @@ use mathlib.Core.Bool.{_&&_}
 use lib.Dec.{eqb}
 use Rattle.domain.specs.Outline.{Outline, outlineRefusal}
 use Rattle.sound_outlines.specs.Sound.{outlineSound}
-use Rattle.soundness.specs.declared.SoundAnswer.{SoundAnswer}
+use Rattle.sound_entry.specs.declared.SoundAnswer.{SoundAnswer}
 
 -- sound: nothing is refused, and the outline is sound
 unfoldable pub soundAnswer : Outline → SoundAnswer

@@ -1,8 +1,8 @@
--- `soundness::sitjorbe_sound` meets its contract: `sound-refused` and `sound-judged`.
+-- `sitjorbe_sound` meets its contract: `sound-refused` and `sound-judged`.
 use borrow.Author.Needs.{needs}
-use Rattle.soundness.specs.WalkLaws.{sound-refused, sound-judged}
-use Rattle.soundness.proofs.sitjorbe_sound.Statement.{statement}
-use Rattle.soundness.proofs.sitjorbe_sound.Tie as tie
+use Rattle.sound_entry.specs.Laws.{sound-refused, sound-judged}
+use Rattle.sound_entry.proofs.sitjorbe_sound.Statement.{statement}
+use Rattle.sound_entry.proofs.sitjorbe_sound.Tie as tie
 
 outline-refusal-requires : tie.Need-outline-refusal-requires
 outline-refusal-requires c κs = search needs

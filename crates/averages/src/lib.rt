@@ -17,7 +17,7 @@ fn plus_before(there: bool, values: &[f64], id: usize, d: usize, sum: Point) -> 
     ensures { λ r. ⌜ r ≡ plusIf there (pointAt (now (values .entry)) (id - d)) sum ⌝ }
 {
     if there {
-        let v = domain::point_at(values, id - d);
+        let v = outlines::point_at(values, id - d);
         Point {
             x: sum.x + v.x,
             y: sum.y + v.y,
@@ -33,7 +33,7 @@ fn plus_after(there: bool, values: &[f64], id: usize, d: usize, sum: Point) -> P
     ensures { λ r. ⌜ r ≡ plusIf there (pointAt (now (values .entry)) (id + d)) sum ⌝ }
 {
     if there {
-        let v = domain::point_at(values, id + d);
+        let v = outlines::point_at(values, id + d);
         Point {
             x: sum.x + v.x,
             y: sum.y + v.y,

@@ -63,7 +63,7 @@ fn loop_bounds(s: &[f64], b: Bounds) -> Bounds
     let mut wide = b;
     let mut i = 0;
     while i < n {
-        wide = widened(domain::point_at(s, i), wide);
+        wide = widened(outlines::point_at(s, i), wide);
         i += 1;
     }
     wide
@@ -73,11 +73,14 @@ pub fn bounds_of<'a>(outer: &'a [f64], holes: &'a [f64], lens: &[usize]) -> Boun
     requires { ⌜ misshapen (outline (now outer) (now holes) (now lens)) ≡ false ⌝ }
     ensures { λ r. ⌜ r ≡ bounds (outline (now (outer .entry)) (now (holes .entry)) (now (lens .entry))) ⌝ }
 {
-    let mut wide = loop_bounds(domain::loop_points(outer, holes, lens, 0, 0), no_bounds());
+    let mut wide = loop_bounds(outlines::loop_points(outer, holes, lens, 0, 0), no_bounds());
     let mut k = 0;
     let mut start = 0;
     while k < lens.len() {
-        wide = loop_bounds(domain::loop_points(outer, holes, lens, k + 1, start), wide);
+        wide = loop_bounds(
+            outlines::loop_points(outer, holes, lens, k + 1, start),
+            wide,
+        );
         start += lens[k];
         k += 1;
     }
@@ -289,8 +292,8 @@ fn seed_row<'a>(
 {
     let nx = g.nx;
     let mut near = Near {
-        a: domain::point_at(outer, 0),
-        b: domain::point_at(outer, 1),
+        a: outlines::point_at(outer, 0),
+        b: outlines::point_at(outer, 1),
         distance: 0.0,
         loop_index: 0,
         segment_index: 0,
@@ -355,7 +358,7 @@ pub fn field_refusal<'a>(
 ) -> u32
     ensures { λ r. ⌜ r ≡ refusalFor (outline (now (outer .entry)) (now (holes .entry)) (now (lens .entry))) size sweeps places ⌝ }
 {
-    let outline = domain::outline_refusal(outer, holes, lens);
+    let outline = outlines::outline_refusal(outer, holes, lens);
     if outline != 0 {
         return outline;
     }

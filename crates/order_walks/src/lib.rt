@@ -5,7 +5,7 @@ ghost use Prim.Native.Nat.{_*_, _<_, _≤_};
 ghost use Rattle.laws.specs.Loop.{anyUp};
 ghost use Rattle.index.specs.Pool.{filed, Indexed};
 ghost use Rattle.order.specs.Order.{tooEarly, firstEarly, orderAnswer};
-ghost use Rattle.order.specs.Places.{FirstPlaces};
+ghost use Rattle.order_checks.specs.Places.{FirstPlaces};
 ghost use Rattle.order_walks.specs.Steps.{laidFrom, laidTo, stepKey, stepRect, keepsBack};
 use index::Rect;
 use lent_mesh::QuadIds;
@@ -95,9 +95,9 @@ fn keeps_back(
     let i = k / 3;
     let q = lent_mesh::quad_at(quads, i);
     let s = k % 3;
-    if order::is_step(v, u, laid_from(q, s), laid_to(q, s)) {
+    if order_checks::is_step(v, u, laid_from(q, s), laid_to(q, s)) {
         if i < j {
-            p < order::place_at(order, places, i)
+            p < order_checks::place_at(order, places, i)
         } else {
             false
         }
@@ -158,7 +158,7 @@ fn is_early(
         return true;
     }
     let from = index::filed(pool) as usize / 3;
-    order::early_from(quads, from, n, order, places, p)
+    order_checks::early_from(quads, from, n, order, places, p)
 }
 
 // ---- the answer
@@ -203,8 +203,8 @@ pub extern "C" fn sitjorbe_order(
     ensures { λ r. ⌜ r ≡ orderAnswer «quad_count» (now (quads .entry)) (now (order .entry)) ⌝ }
 {
     let n = lent_mesh::quad_count(quad_count, quads);
-    order::fill_places(order, places);
-    if !order::names_each_once(n, order, places) {
+    order_checks::fill_places(order, places);
+    if !order_checks::names_each_once(n, order, places) {
         return OrderAnswer {
             refusal: 21,
             place: 0,

@@ -24,7 +24,7 @@ use Rattle.crossfield.specs.Grid.{bounds, gridOf}
 use Rattle.crossfield.specs.Field.{fieldPlaces, refusalFor, fieldRefusal, fieldOf}
 use Rattle.crossfield.specs.FieldLaws.{unrefused, few-made, sides}
 use Rattle.topology.specs.LongLoops.{none-listed}
-use Rattle.soundness.specs.Answer.{isWhole}
+use Rattle.sound_outlines.specs.Whole.{isWhole}
 use Rattle.soundness.specs.WalkLaws.{whole-means}
 use Rattle.front.specs.State.{State, stateOf, fewest, mostNodes, nodePlaces, edgePlaces}
 use Rattle.front.specs.Sampling.{loopCount, sampledRefusal, frontRefusal, fromBoundary}

@@ -19,7 +19,7 @@ use Rattle.paving.specs.declared.End.the-variants.{Still, Passes, Cap, Full}
 use Rattle.whole_run.specs.Run.{runRefusal, runOf}
 use Rattle.loops.specs.declared.Listed.{Listed}
 use Rattle.loops.specs.Listed as loops
-use Rattle.soundness.specs.Answer.{isWhole}
+use Rattle.sound_outlines.specs.Whole.{isWhole}
 use Rattle.books.specs.Holds.{BooksAnswered}
 use Rattle.origins.specs.Origins.{originsAfter, OriginsAnswered}
 use Rattle.run_refusal.specs.Lengths.{lengthsRefusal}

@@ -16,7 +16,7 @@ use Rattle.domain.specs.Outline.{holeStart, holeAt, loopAt, pointAt, pointAfter
 use Rattle.domain.specs.Outline.{outlineRefusal, pointRefusal, queryRefusal}
 use Rattle.domain.specs.Queries.{rayCrosses, pointInPolygon, contains, squaredDistance, footOf, pointSegmentDistance, nearer, nearestInLoop}
 use Rattle.domain.specs.Queries.{nearestSegment}
-use Rattle.soundness.specs.Examples.{openedSound}
+use Rattle.sound_outlines.specs.Examples.{openedSound}
 use Rattle.geometry.specs.Plane.{distance, tangent, areaTerm, cross2, doubledArea, leftOf, pointInConvex, onSegment, opposite, touches, segmentsCross}
 use Rattle.geometry.specs.Plane.{centroid, convexCcw}
 use Rattle.geometry.specs.Keys.{keyOf, spansKept, rangesMeet, rectanglesMeet, candidateAt, isCandidate, nearKeys, tooCloseAt, isTooClose, leastOf}

@@ -1,0 +1,158 @@
+// Beside the surface: what to do, what came out, and the controls.
+
+const HINTS = {
+  outline: "Click round the edge of what the patient sees, or draw it in one stroke.",
+  blind: "Click round the blind spot, or draw it in one stroke.",
+  move: "Drag a point to move it. Click on a line to add a point. Delete removes the selected one.",
+  step: "Point at a bold edge to see the quad that would come; press to place it.",
+  nearest: "Click anywhere: the nearest edge of the outline lights up.",
+};
+const GOING_ON = "Go on round. Click the first point, or press Enter, to close the loop.";
+const REPLACES = "Click round the new outline; it takes the place of the old one once it is closed.";
+const NO_OUTLINE = "Draw the outline first, or open an example.";
+
+/** Says something to those who don't see the surface. */
+function tell(words) {
+  part("live").textContent = words;
+}
+
+/** Leaves a live region alone that says the same already. */
+function put(name, ...inside) {
+  const place = part(name);
+  const made = html("div", {}, ...inside);
+  if (made.textContent !== place.textContent) place.replaceChildren(...made.childNodes);
+}
+
+function hint() {
+  if (isDrawing() && state.draft !== null) return GOING_ON;
+  if (state.mode === "outline" && isDrawn(0)) return REPLACES;
+  if (state.mode !== "outline" && !hasField()) return NO_OUTLINE;
+  return HINTS[state.mode];
+}
+
+function showControls() {
+  part("hint").textContent = hint();
+  document.querySelector(`#modes [value="${state.mode}"]`).checked = true;
+  for (const mode of document.querySelectorAll("#modes input")) mode.disabled = mode.value !== "outline" && !hasField();
+  document.querySelector(`#eyes [value="${state.eye ?? ""}"]`).checked = true;
+  typed("size", state.size);
+  typed("title", state.title);
+  part("undo").disabled = changes.past.length === 0;
+  part("redo").disabled = changes.future.length === 0;
+  part("close").disabled = state.draft === null;
+  part("remove").disabled = state.selected === null && state.draft === null;
+  part("clear").disabled = !hasField() && state.draft === null;
+  for (const name of ["save-csv", "save-svg", "save-png"]) part(name).disabled = !hasField();
+  part("show-crosses").checked = state.crosses;
+  part("steps").hidden = state.mode !== "step";
+  part("result").hidden = state.mode === "step";
+  surface.classList.toggle("moving", state.mode === "move");
+  showPoint();
+  showLoops();
+}
+
+/** A value into its box, unless it is being typed there. */
+function typed(name, value) {
+  const box = part(name);
+  if (document.activeElement !== box || Number(box.value) !== value) box.value = value ?? "";
+}
+
+function showPoint() {
+  part("point").disabled = state.selected === null;
+  const [x, y] = state.selected === null ? ["", ""] : pointAt(state.selected);
+  typed("point-x", x);
+  typed("point-y", y);
+}
+
+// ---- the loops
+
+function showLoops() {
+  const list = part("loop-list");
+  while (list.children.length > state.loops.length) list.lastChild.remove();
+  state.loops.forEach((loop, k) => {
+    if (k >= list.children.length) list.append(loopRow(k));
+    const [, name, count] = list.children[k].children;
+    if (document.activeElement !== name) name.value = loop.name;
+    count.textContent = counted(loop.points.length, "point");
+  });
+}
+
+function loopRow(k) {
+  const name = html("input", { type: "text", maxlength: 40, "aria-label": k === 0 ? "Name of the outline" : `Name of blind spot ${k}` });
+  name.addEventListener("input", () => change(() => { state.loops[k].name = name.value; }, `${TYPED}name ${k}`));
+  const remove = html("button", { type: "button", "aria-label": k === 0 ? "Remove the outline" : `Remove blind spot ${k}` }, "Remove");
+  remove.addEventListener("click", () => removeLoop(k));
+  return html("div", { class: "loop" }, html("span", { class: k === 0 ? "swatch swatch-0" : "swatch swatch-blind", "aria-hidden": "true" }), name, html("span"), remove);
+}
+
+function counted(count, one) {
+  return `${count.toLocaleString("en")} ${one}${count === 1 ? "" : "s"}`;
+}
+
+// ---- what came out
+
+/** Refusal, faults, verdict and figures of an answer; of none where nothing is drawn. */
+function showResult(answer) {
+  const { refusal = null, faults = [], mesh = null, notes = [] } = answer ?? {};
+  put("said", ...saidOf(refusal, faults, mesh));
+  put("faults", ...faults.map(({ words }) => html("li", {}, sentence(words))));
+  put("notes", ...notes.map((words) => html("li", {}, sentence(words))));
+  const share = mesh?.figures.share ?? null;
+  part("share").hidden = share === null;
+  part("share-paved").style.width = `${100 * Math.min(share ?? 0, 1)}%`;
+  part("figures").replaceChildren(...(mesh === null ? [] : [legend(mesh), figuresTable(mesh.figures)]));
+}
+
+function saidOf(refusal, faults, mesh) {
+  if (refusal !== null) return [html("p", { class: "wrong" }, sentence(refusal.words))];
+  if (mesh === null) return [html("p", {}, "Nothing is drawn yet.")];
+  const unsound = faults.length > 0 ? [html("p", { class: "wrong" }, "The outline isn't sound:")] : [];
+  return [html("p", { id: "verdict" }, mesh.verdict), ...unsound];
+}
+
+function sentence(words) {
+  const begun = words.charAt(0).toUpperCase() + words.slice(1);
+  return /[.?!]$/.test(begun) ? begun : `${begun}.`;
+}
+
+function showError(words) {
+  put("said", html("p", { class: "wrong" }, words));
+}
+
+function swatch(name) {
+  return html("span", { class: `swatch swatch-${name}`, "aria-hidden": "true" });
+}
+
+function legend(mesh) {
+  const parts = [mesh.left.length > 0 && ["open", "measured nowhere"], state.loops.length > 1 && ["blind", "blind spot"]];
+  return html("p", { class: "legend" }, ...parts.filter(Boolean).map(([name, words]) => html("span", {}, swatch(name), words)));
+}
+
+function percent(share) {
+  return share === null ? "–" : `${(100 * share).toFixed(1)} %`;
+}
+
+/** A row a patch, and one for all. */
+function figuresTable(figures) {
+  const heads = ["Patch", "Nodes", "Quads", "Share", "Least angle", "Median angle", "Most side ratio", "Median ratio"];
+  const rows = figures.patches.map((patch, k) => figuresRow([swatch(colourOf(k)), patch.name], patch));
+  const all = figures.patches.length > 1 ? [figuresRow(["All"], figures, "all")] : [];
+  const head = html("tr", {}, ...heads.map((words) => html("th", { scope: "col" }, words)));
+  return html("div", { class: "scroll" }, html("table", {}, html("thead", {}, head), html("tbody", {}, ...rows, ...all)));
+}
+
+function figuresRow(name, { nodes, quads, share, quality }, kind = "") {
+  const angle = (value) => (quality === null ? "–" : `${value(quality).toFixed(0)}°`);
+  const ratio = (value) => (quality === null ? "–" : value(quality).toFixed(1));
+  const cells = [
+    nodes.toLocaleString("en"), quads.toLocaleString("en"), percent(share), angle((one) => one.least_angle), angle((one) => one.median_angle),
+    ratio((one) => one.greatest_aspect), ratio((one) => one.median_aspect),
+  ];
+  return html("tr", { class: kind }, html("th", { scope: "row" }, ...name), ...cells.map((words) => html("td", {}, words)));
+}
+
+function showReadout(at) {
+  const [x, y] = at ?? [];
+  const meridian = Math.round((Math.atan2(y, x) * 180) / Math.PI + 360) % 360;
+  part("readout").textContent = at === null ? "" : `x ${x.toFixed(1)}°, y ${y.toFixed(1)}°; ${Math.hypot(x, y).toFixed(1)}° out on meridian ${meridian}°`;
+}

@@ -33,7 +33,9 @@ impl Fault {
         let blind_spot = |k: usize| naming.blind_spot(field, k, "the blind spot");
         match self {
             Fault::Folded(spots) => pair(spots) + " lie on each other",
-            Fault::Meet(spots) => pair(spots) + if spots[0][0] == spots[1][0] { " meet" } else { ", of two loops, meet" },
+            Fault::Meet(spots) => {
+                pair(spots) + if spots[0][0] == spots[1][0] { " meet" } else { ", of two loops, meet" }
+            }
             Fault::Outside(k) => format!("{} isn't inside the outer outline", blind_spot(*k)),
             Fault::Within(k, other) => {
                 format!("{} lies in {}", blind_spot(*k), naming.blind_spot(field, *other, "that"))

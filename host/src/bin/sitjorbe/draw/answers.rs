@@ -2,7 +2,9 @@
 
 use std::time::Instant;
 
-use sitjorbe::{contains, directions, is_sound, least_places, nearest_segment, LeastPlaces, Outline, Refusal, Settings};
+use sitjorbe::{
+    contains, directions, is_sound, least_places, nearest_segment, LeastPlaces, Outline, Refusal, Settings,
+};
 
 use crate::csv::{self, Field};
 use crate::figures::{self, Figures};

@@ -21,9 +21,20 @@ fn read<T>(value: &Value, name: &str, what: &str, as_it: impl Fn(&Value) -> Opti
     as_it(value).ok_or_else(|| Wrong::shape(&format!("{name} isn't {what}")))
 }
 
+/// Longer names and titles aren't taken.
+const LONGEST_TEXT: usize = 200;
+
+fn short(words: &str, name: &str) -> Result<(), Wrong> {
+    if words.chars().count() > LONGEST_TEXT {
+        return Err(Wrong::shape(&format!("a {name} has more than {LONGEST_TEXT} characters")));
+    }
+    Ok(())
+}
+
 /// The field, with a name of its own for each loop.
 pub fn field(body: &Value) -> Result<Field, Wrong> {
     let mut field = mesh_json::field_of(part(body, "loops")?).map_err(|words| Wrong::shape(&words))?;
+    field.names.iter().try_for_each(|name| short(name, "name"))?;
     let named = |name: String| Some(name).filter(|name| !name.trim().is_empty());
     field.names = csv::names(field.names.into_iter().map(named).collect());
     Ok(field)
@@ -45,7 +56,8 @@ pub fn eye(body: &Value) -> Result<Option<Eye>, Wrong> {
 /// The words above a picture, none where they are absent.
 pub fn title(body: &Value) -> Result<String, Wrong> {
     let text = |value: &Value| value.as_text().map(str::to_string);
-    maybe(body, "title").map_or(Ok(String::new()), |value| read(value, "title", "text", text))
+    let title = maybe(body, "title").map_or(Ok(String::new()), |value| read(value, "title", "text", text))?;
+    short(&title, "title").map(|()| title)
 }
 
 pub fn text(body: &Value) -> Result<&str, Wrong> {
@@ -57,17 +69,12 @@ pub fn point(body: &Value, name: &str) -> Result<[f64; 2], Wrong> {
 }
 
 /// A list, no longer than so many values.
-pub fn list<T>(
-    body: &Value,
-    name: &str,
-    most: usize,
-    as_it: impl Fn(&Value) -> Option<T>,
-) -> Result<Vec<T>, Wrong> {
-    let values = read(part(body, name)?, name, "a list", |value| value.as_list().map(<[Value]>::to_vec))?;
+pub fn list<T>(body: &Value, name: &str, most: usize, as_it: impl Fn(&Value) -> Option<T>) -> Result<Vec<T>, Wrong> {
+    let values = part(body, name)?.as_list().ok_or_else(|| Wrong::shape(&format!("{name} isn't a list")))?;
     if values.len() > most {
         return Err(Wrong::shape(&format!("{name} has more than {most} values")));
     }
-    mesh_json::all(&values, name, as_it).map_err(|words| Wrong::shape(&words))
+    mesh_json::all(values, name, as_it).map_err(|words| Wrong::shape(&words))
 }
 
 /// Two nodes.

@@ -37,7 +37,7 @@ impl Opening {
     }
 
     /// The books as they stand: the mesh's nodes, quads and front.
-    pub fn value(&self, counts: MeshCounts, nodes: &[[f64; 2]], quads: &[[u32; 4]], front: &[[u32; 2]]) -> Value {
+    pub fn books(&self, counts: MeshCounts, nodes: &[[f64; 2]], quads: &[[u32; 4]], front: &[[u32; 2]]) -> Value {
         let (of_quads, of_front) = (quad_area(nodes, quads), front_area(nodes, front));
         let mut two = Exact::ZERO;
         two.add(2.0, 1.0);

@@ -13,7 +13,6 @@ mod wrong;
 
 use std::net::{Ipv4Addr, TcpListener, TcpStream};
 use std::panic::{self, AssertUnwindSafe};
-use std::sync::atomic::{AtomicUsize, Ordering};
 use std::sync::Arc;
 use std::thread;
 use std::time::Duration;
@@ -71,7 +70,6 @@ pub fn command(words: &[String]) -> Result<Status, Failure> {
 /// What the connections share.
 struct Server {
     hosts: Vec<String>,
-    open: AtomicUsize,
     quiet: Quiet,
     turns: Turns,
     stepping: Stepping,
@@ -81,7 +79,6 @@ impl Server {
     fn new(port: u16) -> Server {
         Server {
             hosts: rules::hosts(port),
-            open: AtomicUsize::new(0),
             quiet: Quiet::default(),
             turns: Turns::default(),
             stepping: Stepping::begin(),
@@ -90,19 +87,14 @@ impl Server {
 
     /// Serves a connection in a thread of its own. One too many is cut off.
     fn admit(server: &Arc<Server>, stream: TcpStream) {
-        if server.open.load(Ordering::Relaxed) >= MOST_OPEN {
+        // Each thread has a share in the server.
+        if Arc::strong_count(server) > MOST_OPEN {
             return;
         }
         let Ok(number) = server.quiet.enter(&stream) else { return };
-        server.open.fetch_add(1, Ordering::Relaxed);
         let own = Arc::clone(server);
-        let begun = thread::Builder::new().spawn(move || {
-            own.serve(&stream, number);
-            own.open.fetch_sub(1, Ordering::Relaxed);
-        });
-        if begun.is_err() {
+        if thread::Builder::new().spawn(move || own.serve(&stream, number)).is_err() {
             server.quiet.leave(number);
-            server.open.fetch_sub(1, Ordering::Relaxed);
         }
     }
 
@@ -153,8 +145,10 @@ impl Server {
 }
 
 fn json_answer(status: u16, text: &str) -> Answer {
-    let headers =
-        ["Content-Type: application/json; charset=utf-8".to_string(), format!("Content-Security-Policy: {}", page::POLICY)];
+    let headers = [
+        "Content-Type: application/json; charset=utf-8".to_string(),
+        format!("Content-Security-Policy: {}", page::POLICY),
+    ];
     Answer { status, headers: headers.to_vec(), body: text.as_bytes().to_vec() }
 }
 

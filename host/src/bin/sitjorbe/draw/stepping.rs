@@ -6,7 +6,7 @@ use std::sync::mpsc::{self, Receiver, SyncSender};
 use std::thread;
 use std::time::{Duration, Instant};
 
-use sitjorbe::{least_places, Memory, Outcome, Places, Preview, Refusal, Settings, Stepper};
+use sitjorbe::{least_places, Memory, Outcome, Outline, Places, Preview, Refusal, Settings, Stepper};
 
 use crate::csv::Field;
 use crate::json::Value;
@@ -61,17 +61,17 @@ impl Asked {
         })
     }
 
-    /// The passes that the moves begin with: how many moves they are, and how many passes. A run makes them faster than steps do, up to as many as it
-    /// may make.
-    fn leading(&self) -> (usize, usize) {
+    /// How many moves at the beginning are passes. A run makes those faster than steps do, up to as many as it may make.
+    fn leading(&self) -> usize {
         let mut total = 0;
-        for (place, next) in self.moves.iter().enumerate() {
-            match next {
-                Move::Passes(count) if total + count <= PASSES => total += count,
-                _ => return (place, total),
+        let a_run_makes_it = |next: &&Move| match next {
+            Move::Passes(count) => {
+                total += count;
+                total <= PASSES
             }
-        }
-        (self.moves.len(), total)
+            Move::Edge(_) => false,
+        };
+        self.moves.iter().take_while(a_run_makes_it).count()
     }
 
     /// What tells one outline and size from another: every bit.
@@ -116,98 +116,127 @@ impl Stepping {
     }
 }
 
-/// A job to be done in lists that have so many times the usual places.
-struct Pending {
-    job: Job,
+/// What is known of an outline at a size, whatever moves are made.
+#[derive(Default)]
+struct Ground {
+    key: Vec<u64>,
+    /// How many times the usual places its lists need.
     growth: usize,
+    opening: Option<Opening>,
+    /// The quads after so many passes of a run.
+    placed: HashMap<usize, usize>,
 }
 
+/// Why moves weren't all made.
+enum Stopped {
+    Refused(Refusal),
+    /// There is no place for a quad in the lists, and they can be longer.
+    Full,
+    TooMuch(&'static str),
+}
+
+impl From<Refusal> for Stopped {
+    fn from(refusal: Refusal) -> Stopped {
+        Stopped::Refused(refusal)
+    }
+}
+
+const LATE: Stopped = Stopped::TooMuch("this takes too long: ask for fewer passes, or set a larger size");
+
 fn serve(jobs: &Receiver<Job>) {
-    let (mut next, mut ground) = (None, None);
-    loop {
-        let pending = match next.take() {
-            Some(pending) => pending,
-            None => match jobs.recv() {
-                Ok(job) => Pending { job, growth: 1 },
-                Err(_) => return,
-            },
-        };
-        let served = panic::catch_unwind(AssertUnwindSafe(|| sequence(pending, jobs, &mut ground)));
+    let (mut next, mut ground) = (None, Ground::default());
+    while let Some(job) = next.take().or_else(|| jobs.recv().ok()) {
+        let served = panic::catch_unwind(AssertUnwindSafe(|| sequence(job, jobs, &mut ground)));
         next = served.unwrap_or_else(|_| {
-            ground = None;
+            ground = Ground::default();
             None
         });
     }
 }
 
-/// What is known of an outline at a size, whatever moves are made.
-struct Ground {
-    key: Vec<u64>,
-    opening: Opening,
-    /// The quads after so many passes of a run.
-    placed: HashMap<usize, usize>,
-}
-
 /// Answers jobs as long as each goes on from the one before; what is next then, if that is known.
-fn sequence(pending: Pending, jobs: &Receiver<Job>, ground: &mut Option<Ground>) -> Option<Pending> {
-    let Pending { mut job, growth } = pending;
-    let (drawing, size) = (Drawing::of(&job.asked.field), job.asked.size);
-    let sampled = match least_places(&drawing.outline(), size) {
-        Ok(least) => least.sampled_nodes,
-        Err(refusal) => {
-            let answer = refused(&job.asked.field, refusal);
-            job.answer(Ok(answer));
-            return None;
-        }
-    };
-    if sampled > MOST_SAMPLED {
-        job.answer(Err(Wrong::too_much("the outline has too many samples to be stepped by hand: set a larger size")));
-        return None;
+fn sequence(first: Job, jobs: &Receiver<Job>, ground: &mut Ground) -> Option<Job> {
+    let key = first.asked.key();
+    if ground.key != key {
+        *ground = Ground { key, growth: 1, ..Ground::default() };
     }
-    let lent = Places::for_outline(&drawing.outline(), size, growth).ok();
-    let Some((places, mut memory)) = lent.and_then(|places| Some((places, Memory::new(places).ok()?))) else {
-        job.answer(Err(Wrong::too_much(NO_MEMORY)));
-        return None;
+    let drawing = Drawing::of(&first.asked.field);
+    let mut lent = match lent(&drawing.outline(), first.asked.size, ground.growth) {
+        Ok(lent) => lent,
+        Err(why) => return stopped(first, why, ground),
     };
-    let key = job.asked.key();
-    let may_grow = places.quads < Places::MOST_QUADS;
-    let mut made = match Sequence::begin(&job.asked, &drawing, &mut memory, ground) {
+    let mut made = match Sequence::begin(&first.asked, &drawing, &mut lent, ground) {
         Ok(made) => made,
-        Err(refusal) => {
-            let answer = refused(&job.asked.field, refusal);
-            job.answer(Ok(answer));
-            return None;
-        }
+        Err(why) => return stopped(first, why, ground),
     };
-    let opening = ground.as_ref()?.opening.clone();
+    let mut job = first;
     loop {
-        match made.advance(&job.asked, &opening) {
-            Err(Stopped::Full) if may_grow => return Some(Pending { job, growth: 2 * growth }),
-            Err(Stopped::Full) => unreachable!("a mesh of 250,000 quads is at its cap, not full"),
-            Err(Stopped::Late) => {
-                job.answer(Err(Wrong::too_much("this takes too long: ask for fewer passes, or set a larger size")));
-                return None;
-            }
+        match made.advance(&job.asked) {
             Ok(answer) => job.answer(Ok(answer)),
+            Err(why) => return stopped(job, why, ground),
         }
         job = jobs.recv().ok()?;
-        if job.asked.key() != key || !made.goes_on(&job.asked) {
-            return Some(Pending { job, growth: 1 });
+        if job.asked.key() != ground.key || !made.goes_on(&job.asked) {
+            return Some(job);
         }
     }
 }
 
-/// Why moves weren't all made.
-enum Stopped {
-    /// There is no place for a quad in the lists.
-    Full,
-    /// They take too long.
-    Late,
+/// Ends a sequence: says why, or has the job done again in longer lists.
+fn stopped(job: Job, why: Stopped, ground: &mut Ground) -> Option<Job> {
+    let answer = match why {
+        Stopped::Full => {
+            ground.growth *= 2;
+            return Some(job);
+        }
+        Stopped::Refused(refusal) => Ok(refused(&job.asked.field, refusal)),
+        Stopped::TooMuch(words) => Err(Wrong::too_much(words)),
+    };
+    job.answer(answer);
+    None
+}
+
+/// Lists for an outline, with so many times the usual places.
+fn lent(outline: &Outline<'_>, size: f64, growth: usize) -> Result<Lent, Stopped> {
+    if least_places(outline, size)?.sampled_nodes > MOST_SAMPLED {
+        return Err(Stopped::TooMuch("the outline has too many samples to be stepped by hand: set a larger size"));
+    }
+    let places = Places::for_outline(outline, size, growth)?;
+    let memory = Memory::new(places).map_err(|_| Stopped::TooMuch(NO_MEMORY))?;
+    Ok(Lent { memory, quads: places.quads })
+}
+
+/// Lists, and how many quads they have places for; of the others there are always enough.
+struct Lent {
+    memory: Memory,
+    quads: usize,
+}
+
+impl Lent {
+    /// Whether so many quads are all that there are places for, where there could be more.
+    fn is_full(&self, quads: usize) -> bool {
+        quads == self.quads && quads < Places::MOST_QUADS
+    }
+
+    /// The quads that a run of so many passes places.
+    fn placed(&mut self, outline: &Outline<'_>, settings: &Settings, ground: &mut Ground) -> Result<usize, Stopped> {
+        if let Some(quads) = ground.placed.get(&settings.passes) {
+            return Ok(*quads);
+        }
+        let quads = self.memory.pave(outline, settings)?.quad_count();
+        if self.is_full(quads) {
+            return Err(Stopped::Full);
+        }
+        ground.placed.insert(settings.passes, quads);
+        Ok(quads)
+    }
 }
 
 /// A sequence of moves, as far as it was made.
 struct Sequence<'a> {
     stepper: Stepper<'a>,
+    opening: Opening,
+    may_grow: bool,
     /// How many of the moves are passes that a run made.
     leading: usize,
     moves: Vec<Move>,
@@ -219,65 +248,53 @@ impl<'a> Sequence<'a> {
     fn begin(
         asked: &Asked,
         drawing: &'a Drawing,
-        memory: &'a mut Memory,
-        ground: &mut Option<Ground>,
-    ) -> Result<Sequence<'a>, Refusal> {
-        let (outline, key) = (drawing.outline(), asked.key());
-        let known = ground.take().filter(|ground| ground.key == key);
-        let mut known = match known {
-            Some(known) => known,
-            None => {
-                let opening = Opening::of(&mut Stepper::new(outline, asked.size, SWEEPS, memory)?);
-                Ground { key, opening, placed: HashMap::from([(0, 0)]) }
-            }
+        lent: &'a mut Lent,
+        ground: &mut Ground,
+    ) -> Result<Sequence<'a>, Stopped> {
+        let outline = drawing.outline();
+        let opening = match &ground.opening {
+            Some(opening) => opening.clone(),
+            None => Opening::of(&mut Stepper::new(outline, asked.size, SWEEPS, &mut lent.memory)?),
         };
-        let (leading, total) = asked.leading();
-        let (mut passes, mut outcomes) = (0, vec![]);
-        let mut after = |passes: usize, memory: &mut Memory| match known.placed.get(&passes) {
-            Some(quads) => Ok(*quads),
-            None => {
-                let settings = Settings { size: asked.size, sweeps: SWEEPS, passes };
-                let quads = memory.pave(&outline, &settings)?.quad_count();
-                known.placed.insert(passes, quads);
-                Ok(quads)
-            }
-        };
+        ground.opening = Some(opening.clone());
+        let leading = asked.leading();
+        let mut settings = Settings { size: asked.size, sweeps: SWEEPS, passes: 0 };
+        let mut outcomes = vec![];
         for next in &asked.moves[..leading] {
             let Move::Passes(count) = next else { continue };
-            let before = after(passes, memory)?;
-            passes += count;
-            outcomes.push(Value::count(after(passes, memory)? - before));
+            let before = lent.placed(&outline, &settings, ground)?;
+            settings.passes += count;
+            outcomes.push(Value::count(lent.placed(&outline, &settings, ground)? - before));
         }
-        *ground = Some(known);
-        let settings = Settings { size: asked.size, sweeps: SWEEPS, passes: total };
-        let stepper = Stepper::after(outline, &settings, memory)?;
-        Ok(Sequence { stepper, leading, moves: asked.moves[..leading].to_vec(), outcomes })
+        let may_grow = lent.quads < Places::MOST_QUADS;
+        let stepper = Stepper::after(outline, &settings, &mut lent.memory)?;
+        Ok(Sequence { stepper, opening, may_grow, leading, moves: asked.moves[..leading].to_vec(), outcomes })
     }
 
     /// Whether what is asked goes on from here.
     fn goes_on(&self, asked: &Asked) -> bool {
-        asked.leading().0 == self.leading && asked.moves.starts_with(&self.moves)
+        asked.leading() == self.leading && asked.moves.starts_with(&self.moves)
     }
 
     /// Makes the moves that are missing, and answers the mesh that they leave.
-    fn advance(&mut self, asked: &Asked, opening: &Opening) -> Result<Value, Stopped> {
+    fn advance(&mut self, asked: &Asked) -> Result<Value, Stopped> {
         let until = Instant::now() + PATIENCE;
         for (place, next) in asked.moves.iter().enumerate().skip(self.moves.len()) {
             let outcome = match next {
+                Move::Passes(count) => Value::count(self.passes(*count, until)?),
                 Move::Edge(edge) => match self.stepper.step(*edge) {
-                    Ok(Outcome::Full) => return Err(Stopped::Full),
+                    Ok(Outcome::Full) if self.may_grow => return Err(Stopped::Full),
                     Ok(outcome) => Value::text(&outcome.to_string()),
                     Err(refusal) => return Ok(refused_move(&asked.field, refusal, place)),
                 },
-                Move::Passes(count) => Value::count(self.passes(*count, until)?),
             };
             self.moves.push(*next);
             self.outcomes.push(outcome);
             if Instant::now() > until {
-                return Err(Stopped::Late);
+                return Err(LATE);
             }
         }
-        self.value(asked, opening)
+        self.value(asked)
     }
 
     /// Makes passes, until one places nothing; how many quads they placed.
@@ -287,32 +304,31 @@ impl<'a> Sequence<'a> {
             let pass = self.stepper.pass();
             placed += pass.placed;
             match pass.outcome {
-                Outcome::Placed if Instant::now() > until => return Err(Stopped::Late),
+                Outcome::Full if self.may_grow => return Err(Stopped::Full),
+                Outcome::Placed if Instant::now() > until => return Err(LATE),
                 Outcome::Placed => {}
-                Outcome::None | Outcome::Cap => break,
-                Outcome::Full => return Err(Stopped::Full),
+                Outcome::None | Outcome::Cap | Outcome::Full => break,
             }
         }
         Ok(placed)
     }
 
-    fn value(&mut self, asked: &Asked, opening: &Opening) -> Result<Value, Stopped> {
+    fn value(&mut self, asked: &Asked) -> Result<Value, Stopped> {
         let preview = match asked.look.map(|edge| self.stepper.preview(edge)) {
             None => Value::Null,
-            Some(Ok(Preview { outcome: Outcome::Full, .. })) => return Err(Stopped::Full),
+            Some(Ok(Preview { outcome: Outcome::Full, .. })) if self.may_grow => return Err(Stopped::Full),
             Some(Ok(preview)) => preview_value(&preview),
             Some(Err(refusal)) => refused(&asked.field, refusal),
         };
         let (nodes, origins) = (self.stepper.nodes(), self.stepper.origins());
         let (quads, front) = (self.stepper.quads(), self.stepper.front());
-        let books = opening.value(self.stepper.counts(), &nodes, &quads, &front);
-        let mesh = mesh_values(&nodes, &origins, &quads);
         let more = [
             ("outcomes", Value::List(self.outcomes.clone())),
             ("front", edges_value(&front)),
-            ("books", books),
+            ("books", self.opening.books(self.stepper.counts(), &nodes, &quads, &front)),
             ("preview", preview),
         ];
+        let mesh = mesh_values(&nodes, &origins, &quads);
         Ok(Value::Map(mesh.into_iter().chain(more).map(|(name, value)| (name.to_string(), value)).collect()))
     }
 }

@@ -5,9 +5,21 @@ use std::hash::BuildHasher;
 
 use super::http::Answer;
 
-const HTML: &str = include_str!("page.html");
-const STYLE: &str = include_str!("page.css");
-const SCRIPT: &str = include_str!("page.js");
+const HTML: &str = include_str!("page/page.html");
+const STYLE: &str = include_str!("page/page.css");
+/// One module in parts: what begins when it is read comes after what it needs.
+const SCRIPT: &str = concat!(
+    include_str!("page/state.js"),
+    include_str!("page/ask.js"),
+    include_str!("page/view.js"),
+    include_str!("page/shapes.js"),
+    include_str!("page/panel.js"),
+    include_str!("page/drawing.js"),
+    include_str!("page/steps.js"),
+    include_str!("page/files.js"),
+    include_str!("page/surface.js"),
+    include_str!("page/page.js"),
+);
 
 /// What no answer may do.
 pub const POLICY: &str = "default-src 'none'; base-uri 'none'; form-action 'none'; frame-ancestors 'none'";

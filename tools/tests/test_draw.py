@@ -2,6 +2,7 @@
 
 import csv
 import json
+import math
 import os
 import pathlib
 import re
@@ -64,12 +65,13 @@ class Server:
         return int(told.split()[1])
 
 
-@unittest.skipIf(not_built(), not_built())
 class Hostile(unittest.TestCase):
     """What a page elsewhere, or a program, may send to the server."""
 
     @classmethod
     def setUpClass(cls):
+        if not_built():
+            raise unittest.SkipTest(f"hostile requests to the server of the page to draw on: {not_built()}")
         cls.server = Server()
         cls.addClassCleanup(cls.server.close)
 
@@ -112,10 +114,11 @@ class Hostile(unittest.TestCase):
             self.assertLess(time.monotonic() - begun, 5)
 
 
-@unittest.skipIf(not_built() or browser.missing(), f"{not_built() or browser.missing()}: the page isn't tried in a browser")
 class Page(unittest.TestCase):
     @classmethod
     def setUpClass(cls):
+        if lacking := not_built() or browser.missing():
+            raise unittest.SkipTest(f"the page to draw on isn't tried in a browser: {lacking}")
         cls.server = Server()
         cls.addClassCleanup(cls.server.close)
         cls.browser = browser.Browser()
@@ -128,6 +131,9 @@ class Page(unittest.TestCase):
         self.browser.reload()
         self.browser.complaints()
         self.browser.wait("return document.querySelectorAll('#example option').length > 0")
+        for _ in range(2):
+            self.browser.click("#closer")
+        self.assertGreater(self.at(1, 0)[0] - self.at(0, 0)[0], 10, "a pixel is less than a tenth of a degree, so that whole degrees are hit")
 
     def tearDown(self):
         self.assertEqual(self.browser.complaints(), [])
@@ -222,16 +228,15 @@ class Page(unittest.TestCase):
         self.assertEqual(self.patches(), command_mesh(self.loops(), 3))
 
     def test_a_stroke_of_a_finger(self):
-        ring = [(20, 0), (18, 9), (10, 17), (0, 20), (-10, 17), (-18, 9), (-20, 0), (-18, -9), (-10, -17), (0, -20), (10, -17), (18, -9), (20, -1)]
+        ring = [(20 * math.cos(k * math.pi / 60), 20 * math.sin(k * math.pi / 60)) for k in range(120)]
         self.browser.pointer(self.at(*ring[0]), "down", *(self.at(*place) for place in ring[1:]), "up", kind="touch")
         self.browser.wait(STATE + ".loops.length === 1")
         [points] = self.loops()
-        self.assertGreater(len(points), 20)
-        for (ax, ay), (bx, by) in zip(points, points[1:]):
-            self.assertGreaterEqual(((bx - ax) ** 2 + (by - ay) ** 2) ** 0.5, 1.3)
-        for x, y in points:
-            self.assertTrue(16 < (x * x + y * y) ** 0.5 < 21, (x, y))
-            self.assertEqual((round(x, 1), round(y, 1)), (x, y))
+        for one, other in zip(points, points[1:]):
+            self.assertTrue(1.4 < math.dist(one, other) < 3, "about half a size apart")
+        for point in points:
+            self.assertAlmostEqual(math.hypot(*point), 20, delta=0.15)
+            self.assertEqual(self.rounded(point), point)
         self.waits_for_words("#verdict", "is paved")
         self.assertEqual(self.patches(), command_mesh([points], 3))
 

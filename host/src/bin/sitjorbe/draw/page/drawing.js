@@ -110,6 +110,7 @@ function select(name) {
     hand.cursor = [x, y];
     tell(`${state.loops[name[0]].name}, point ${name[1] + 1} of ${state.loops[name[0]].points.length}: x ${short(x)}, y ${short(y)}.`);
   }
+  keep();
   showControls();
   drawPoints();
   drawCursor();

@@ -44,6 +44,7 @@ function showControls() {
   part("clear").disabled = !hasField() && state.draft === null;
   for (const name of ["save-csv", "save-svg", "save-png"]) part(name).disabled = !hasField();
   part("show-crosses").checked = state.crosses;
+  part("loop-section").hidden = !hasField();
   part("steps").hidden = state.mode !== "step";
   part("result").hidden = state.mode === "step";
   surface.classList.toggle("moving", state.mode === "move");
@@ -134,7 +135,7 @@ function percent(share) {
 
 /** A row a patch, and one for all. */
 function figuresTable(figures) {
-  const heads = ["Patch", "Nodes", "Quads", "Share", "Least angle", "Median angle", "Most side ratio", "Median ratio"];
+  const heads = ["Patch", "Nodes", "Quads", "Share", "Angle, least and median", "Side ratio, most and median"];
   const rows = figures.patches.map((patch, k) => figuresRow([swatch(colourOf(k)), patch.name], patch));
   const all = figures.patches.length > 1 ? [figuresRow(["All"], figures, "all")] : [];
   const head = html("tr", {}, ...heads.map((words) => html("th", { scope: "col" }, words)));
@@ -142,12 +143,10 @@ function figuresTable(figures) {
 }
 
 function figuresRow(name, { nodes, quads, share, quality }, kind = "") {
-  const angle = (value) => (quality === null ? "–" : `${value(quality).toFixed(0)}°`);
-  const ratio = (value) => (quality === null ? "–" : value(quality).toFixed(1));
-  const cells = [
-    nodes.toLocaleString("en"), quads.toLocaleString("en"), percent(share), angle((one) => one.least_angle), angle((one) => one.median_angle),
-    ratio((one) => one.greatest_aspect), ratio((one) => one.median_aspect),
+  const [angles, ratios] = quality === null ? ["–", "–"] : [
+    `${quality.least_angle.toFixed(0)}°, ${quality.median_angle.toFixed(0)}°`, `${quality.greatest_aspect.toFixed(1)}, ${quality.median_aspect.toFixed(1)}`,
   ];
+  const cells = [nodes.toLocaleString("en"), quads.toLocaleString("en"), percent(share), angles, ratios];
   return html("tr", { class: kind }, html("th", { scope: "row" }, ...name), ...cells.map((words) => html("td", {}, words)));
 }
 

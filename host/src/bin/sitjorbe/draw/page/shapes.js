@@ -248,5 +248,6 @@ function crossHair(name, [x, y]) {
 }
 
 function drawCursor() {
+  surface.classList.toggle("by-keys", hand.byKeys);
   part("cursor").replaceChildren(...(hand.byKeys ? crossHair("cursor", toPixels(hand.cursor)) : []));
 }

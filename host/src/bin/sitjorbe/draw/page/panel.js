@@ -107,7 +107,7 @@ function showResult(answer) {
 function saidOf(refusal, faults, mesh) {
   if (refusal !== null) return [html("p", { class: "wrong" }, sentence(refusal.words))];
   if (mesh === null) return [html("p", {}, "Nothing is drawn yet.")];
-  const unsound = faults.length > 0 ? [html("p", { class: "wrong" }, "The outline isn't sound:")] : [];
+  const unsound = faults.length > 0 ? [html("p", { class: "wrong" }, "What is wrong, numbered in the drawing:")] : [];
   return [html("p", { id: "verdict" }, mesh.verdict), ...unsound];
 }
 

@@ -227,14 +227,13 @@ function refusalMarks() {
   return place === null ? [] : [dot(place, "wrong-ring", 14)];
 }
 
-/** The words of a refusal, or of the first fault, at their place. */
+/** The words of a refusal at its place. */
 function placeCallout() {
   const callout = part("callout");
-  const ends = shownNow.faults[0]?.segments.map(segmentEnds).filter(areThere) ?? [];
-  const place = refusalPlace() ?? (ends.length > 0 ? faultPlace(ends) : null);
+  const place = refusalPlace();
   callout.hidden = place === null || state.mode === "step";
   if (callout.hidden) return;
-  callout.textContent = shownNow.refusal?.words ?? shownNow.faults[0].words;
+  callout.textContent = sentence(shownNow.refusal.words);
   const [x, y] = toPixels(place);
   const [width, height] = [callout.offsetWidth, callout.offsetHeight];
   const left = Math.min(Math.max(x - width / 2, 4), Math.max(sheet.width - width - 4, 4));
@@ -243,7 +242,7 @@ function placeCallout() {
 }
 
 function crossHair(name, [x, y]) {
-  const d = `M${x - 12},${y}h9m6,0h9M${x},${y - 12}v9m0,6v9`;
+  const d = `M${x - 18},${y}h10m16,0h10M${x},${y - 18}v10m0,16v10`;
   return [path("cursor-halo", d), path(name, d)];
 }
 

@@ -148,7 +148,7 @@ pub fn read_head(stream: &TcpStream) -> Result<Asking<'_>, Unread> {
         }
         if found.is_some() {
             let rest = bytes.split_off(end + END_OF_HEAD.len());
-            return Ok(Asking { timed, head: Head::parse(&bytes)?, rest });
+            return Ok(Asking { timed, head: Head::parse(&bytes[..end])?, rest });
         }
     }
 }

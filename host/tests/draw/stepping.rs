@@ -1,6 +1,6 @@
 //! Fronts stepped by hand over the server, beside a stepper of the test's own that makes every move afresh.
 
-use sitjorbe::{End, Memory, Outcome, Places, Refusal, Settings, Stepper};
+use sitjorbe::{least_places, End, Memory, Outcome, Places, Refusal, Settings, Stepper};
 
 use crate::client::Server;
 use crate::common::rng::Rng;
@@ -209,12 +209,18 @@ fn moves_that_are_refused() {
     assert_eq!(list(&answer, "quads").len(), 1);
 }
 
+/// An outline of up to 20,000 samples can be stepped.
 #[test]
 fn too_much_to_be_stepped() {
     let server = Server::start();
-    let said = server.post("/step", asked(&vec![square(100.0)], 0.015, &[], None).to_string().as_bytes());
+    let loops = vec![square(100.0)];
+    let sampled = |size: f64| least_places(&drawing(&loops).outline(), size).unwrap().sampled_nodes;
+    let (most, over) = (0.019_05, 0.019);
+    assert!((19_900..=20_000).contains(&sampled(most)) && (20_001..20_100).contains(&sampled(over)));
+    let said = server.post("/step", asked(&loops, over, &[], None).to_string().as_bytes());
     assert_eq!(said.status, 422);
     assert!(said.error().contains("too many samples to be stepped by hand"), "{}", said.error());
-    let answer = server.value("/step", &asked(&vec![square(100.0)], 0.02, &[], None));
-    assert_eq!(part(part(&answer, "books"), "sampled"), &Value::count(20_000));
+    let answer = server.value("/step", &asked(&loops, most, &[], Some([0, 1])));
+    assert_eq!(part(part(&answer, "books"), "sampled"), &Value::count(sampled(most)));
+    assert_eq!(text(part(&answer, "preview"), "outcome"), "placed");
 }

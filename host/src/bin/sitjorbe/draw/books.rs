@@ -58,3 +58,45 @@ impl Opening {
         ])
     }
 }
+
+#[cfg(test)]
+mod tests {
+    use sitjorbe::{Memory, MeshCounts, Outline, Places, Stepper};
+
+    use super::Opening;
+    use crate::json::Value;
+
+    /// What the books of a mesh say of counts and of areas.
+    fn balance(
+        opening: &Opening,
+        counts: MeshCounts,
+        nodes: &[[f64; 2]],
+        quads: &[[u32; 4]],
+        front: &[[u32; 2]],
+    ) -> [bool; 2] {
+        let books = opening.books(counts, nodes, quads, front);
+        ["counts_balance", "areas_balance"].map(|name| books.get(name) == Some(&Value::Bool(true)))
+    }
+
+    #[test]
+    fn spoilt_books_do_not_balance() {
+        let outline = Outline { outer: &[0.1, 0.0, 5.3, 0.5, 6.0, 4.1, 2.0, 5.5], holes: &[], hole_lengths: &[] };
+        let mut memory = Memory::new(Places::for_outline(&outline, 0.7, 1).unwrap()).unwrap();
+        let mut stepper = Stepper::new(outline, 0.7, 400, &mut memory).unwrap();
+        let opening = Opening::of(&mut stepper);
+        let at_first = [stepper.nodes(), vec![]].concat();
+        assert_eq!(balance(&opening, stepper.counts(), &at_first, &[], &stepper.front()), [true, true]);
+        let placed = stepper.pass().placed;
+        assert!(placed > 5);
+        let (counts, nodes, quads, front) = (stepper.counts(), stepper.nodes(), stepper.quads(), stepper.front());
+        assert_eq!(balance(&opening, counts, &nodes, &quads, &front), [true, true]);
+        assert_eq!(balance(&opening, counts, &nodes, &quads[1..], &front), [true, false], "a quad is dropped");
+        assert_eq!(balance(&opening, counts, &nodes, &quads, &front[1..]), [true, false], "an edge is skipped");
+        let fewer = MeshCounts { quads: counts.quads - 1, ..counts };
+        assert_eq!(balance(&opening, fewer, &nodes, &quads, &front), [false, true], "a count is off");
+        // A node of the sampled outline that is moved by a hair: the area that was there at first isn't that of what is left.
+        let mut moved = nodes.clone();
+        moved[0][0] = moved[0][0].next_up();
+        assert_eq!(balance(&opening, counts, &moved, &quads, &front), [true, false], "a node is moved");
+    }
+}

@@ -1,4 +1,22 @@
 //! `sitjorbe draw`: a page to draw on, served to this machine alone.
+//!
+//! `GET /` is the page. The rest is POST with a map of JSON. A field is `"loops": [{"name", "points": [[x, y], ..]}, ..]`, the outer loop first; `"size"` is a number, `"eye"` is `"right"`,
+//! `"left"` or null. Loops, points and nodes count from 0; in words points count from 1. A *refusal* is `{"number", "words", "loop", "point"}`, the last two the place that it
+//! concerns, or null.
+//!
+//! | path | asked | answered |
+//! |---|---|---|
+//! | `/examples` | | `examples`: each `name`, `size`, `eye`, `loops` |
+//! | `/read` | `text` of a CSV | `loops`, `notes`; or `wrong`, words by line |
+//! | `/write` | field | `text`, which `/read` reads back bit by bit; loops without points are left out |
+//! | `/check` | field, `size` or null | `refusal` or null; `sound` (null where refused); `faults`, each `words` and `segments`, each a loop and a place in it |
+//! | `/pave` | field, `size`, `eye` | as `/check`, `seconds`, and `mesh` unless it is refused: `end`, `whole`, `verdict`, `sentences`, `figures`, `nodes`, `origins`, `quads`, `left` |
+//! | `/picture` | field, `size`, `eye`, `title` | `svg`, or `refusal` |
+//! | `/nearest` | field, `at` | `loop`, `place`, `ends`, `distance`, `inside`, or `refusal` |
+//! | `/crosses` | field, `size`, `points` | `directions`, null for a point that isn't inside; or `refusal` |
+//! | `/step` | field, `size`, `moves` (`[a, b]`, a step on that edge; or a number of passes), `look` (an edge or null) | `outcomes` (a word a step, the quads placed for passes), `nodes`, `origins`, `quads`, `front`, `books`, `preview` (`outcome`, `quad`, `new_c`, `new_d`, `front`; or `refusal`); or `refusal`, with `move`, the place of the move that is refused |
+//!
+//! `/step` is sent all moves each time: to take one back is to leave it out. Where something else is wrong, the status isn't 200 and the answer is `error`, in words.
 
 mod answers;
 mod asked;

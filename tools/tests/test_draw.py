@@ -377,7 +377,12 @@ class Page(unittest.TestCase):
         self.mode("step")
         self.waits_for_words("#look", "Nothing is placed yet")
         self.run_("document.getElementById('surface').focus()")
-        self.browser.press("Tab")
+        looked = [""]
+        for _ in range(3):
+            self.browser.press("Tab")
+            looked.append(self.browser.wait("const t = document.querySelector('#look').textContent; return t.startsWith('Edge') && t !== arguments[0] && t", looked[-1]))
+        self.assertEqual(len(set(looked)), 4, "each Tab looks at another edge")
+        self.browser.press("Escape", *3 * ["Shift+Left"])
         self.waits_for_words("#look", "a quad would come")
         self.browser.press("Enter")
         self.waits_for_words("#look", "is placed")

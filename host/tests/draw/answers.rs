@@ -124,7 +124,7 @@ fn as_the_library_paves(loops: &Loops, size: f64, mesh: &Value) {
 }
 
 #[test]
-fn sentences_of_a_mesh() {
+fn words_of_a_mesh() {
     let server = Server::start();
     let nasal = vec![
         vec![[-30.0, -30.0], [30.0, -30.0], [30.0, 30.0], [-30.0, 30.0]],
@@ -133,14 +133,17 @@ fn sentences_of_a_mesh() {
     let ask = |eye: Value| {
         let answer = server.value("/pave", &body(&nasal, &[("size", Value::Number(5.0)), ("eye", eye)]));
         let words = |words: &Value| words.as_text().expect("words").to_string();
-        list(part(&answer, "mesh"), "sentences").iter().map(words).collect::<Vec<_>>()
+        let mesh = part(&answer, "mesh");
+        assert!(text(mesh, "verdict").contains("the red part, "), "{mesh}");
+        ["sentences", "notes"].map(|name| list(mesh, name).iter().map(words).collect::<Vec<_>>())
     };
     let [plain, left, right] = [Value::Null, Value::text("left"), Value::text("right")].map(ask);
     assert_eq!(plain, left);
-    assert!(plain[0].ends_with("; size 5°."), "{plain:?}");
-    assert!(plain.iter().any(|words| words.starts_with("Paved round “loop 1”: ")), "{plain:?}");
-    assert_eq!(right.len(), plain.len() + 1);
-    assert!(right.last().is_some_and(|words| words.contains("lies to the nose")));
+    let [sentences, notes] = plain;
+    assert!(sentences[0].ends_with("; size 5°."), "{sentences:?}");
+    assert!(sentences.iter().any(|words| words.starts_with("Paved round “loop 1”: ")), "{sentences:?}");
+    assert_eq!((right[0] == sentences, notes.len(), right[1].len()), (true, 0, 1));
+    assert!(right[1][0].contains("lies to the nose"));
 }
 
 /// What /write writes /read reads, bit by bit, with the names.

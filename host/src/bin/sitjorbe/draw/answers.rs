@@ -130,14 +130,14 @@ fn pave(body: &Value) -> Result<Value, Wrong> {
 }
 
 fn mesh_value(field: &Field, paved: &Paved, figures: &Figures, eye: Option<Eye>) -> Value {
-    let mut sentences: Vec<String> = figures::stopped(paved).into_iter().collect();
-    sentences.extend(figures::sentences(figures, &paved.settings));
-    sentences.extend(eye.and_then(|eye| eye.doubt(field)));
+    let notes = figures::stopped(paved).into_iter().chain(eye.and_then(|eye| eye.doubt(field)));
+    let words = |lines: Vec<String>| Value::list(lines.iter().map(|line| Value::text(line)));
     let head = [
         ("end", Value::text(&paved.end.to_string())),
         ("whole", Value::Bool(paved.whole)),
-        ("verdict", Value::text(&figures::verdict(figures, false))),
-        ("sentences", Value::list(sentences.iter().map(|words| Value::text(words)))),
+        ("verdict", Value::text(&figures::verdict(figures, true))),
+        ("notes", words(notes.collect())),
+        ("sentences", words(figures::sentences(figures, &paved.settings))),
         ("figures", figures_value(figures)),
         ("left", left_value(paved)),
     ];

@@ -10,7 +10,7 @@
 //! | `/read` | `text` of a CSV | `loops`, `notes`; or `wrong`, words by line |
 //! | `/write` | field | `text`, which `/read` reads back bit by bit; loops without points are left out |
 //! | `/check` | field, `size` or null | `refusal` or null; `sound` (null where refused); `faults`, each `words` and `segments`, each a loop and a place in it |
-//! | `/pave` | field, `size`, `eye` | as `/check`, `seconds`, and `mesh` unless it is refused: `end`, `whole`, `verdict`, `sentences`, `figures`, `nodes`, `origins`, `quads`, `left` |
+//! | `/pave` | field, `size`, `eye` | as `/check`, `seconds`, and `mesh` unless it is refused: `end`, `whole`, `verdict`, `notes`, `sentences`, `figures`, `nodes`, `origins`, `quads`, `left` |
 //! | `/picture` | field, `size`, `eye`, `title` | `svg`, or `refusal` |
 //! | `/nearest` | field, `at` | `loop`, `place`, `ends`, `distance`, `inside`, or `refusal` |
 //! | `/crosses` | field, `size`, `points` | `directions`, null for a point that isn't inside; or `refusal` |

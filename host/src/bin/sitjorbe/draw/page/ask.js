@@ -33,7 +33,7 @@ class Asker {
     this.last = text;
     this.asked += 1;
     this.waiting = { body, number: this.asked };
-    this.timer ??= setTimeout(() => this.busy(true), NOTICED_MS);
+    this.timer ??= setTimeout(() => this.busy(true, this), NOTICED_MS);
     if (this.control === null) this.next();
     else this.hurry(this.control);
   }
@@ -69,6 +69,6 @@ class Asker {
   settle() {
     clearTimeout(this.timer);
     this.timer = null;
-    this.busy(false);
+    this.busy(false, this);
   }
 }

@@ -34,6 +34,7 @@ function addPoints(points) {
     state.draft.points.push(...points);
   });
   const [x, y] = points.at(-1);
+  hand.cursor = [x, y];
   tell(`Point ${state.draft.points.length} at ${short(x)}, ${short(y)}.`);
 }
 
@@ -65,8 +66,8 @@ function blindName() {
 async function isAccepted(loops, draft) {
   const answer = await post("/check", { loops, size: null }).catch((error) => ({ refusal: { words: error.message } }));
   if (answer.refusal === null || state.draft !== draft) return state.draft === draft;
-  shownNow.refusal = { ...answer.refusal, loop: state.loops.length };
-  put("said", html("p", { class: "wrong" }, sentence(answer.refusal.words)));
+  shownNow.refusedDraft = answer.refusal;
+  showResult(null, answer.refusal.words);
   drawMarks();
   return false;
 }

@@ -12,7 +12,7 @@ async function fetchExamples() {
   const answer = await post("/examples", {}).catch((error) => ({ examples: [], error }));
   for (const example of answer.examples) examples.set(example.name, example);
   part("example").replaceChildren(...[...examples.keys()].map((name) => html("option", { value: name }, name)));
-  if (answer.error !== undefined) showError(answer.error.message);
+  if (answer.error !== undefined) showResult(null, answer.error.message);
 }
 
 function openExample(name) {

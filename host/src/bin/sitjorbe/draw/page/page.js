@@ -12,6 +12,7 @@ let typing = null;
 function changed(isTyped = false) {
   keep();
   forgetNearest();
+  if (shownNow.refusedDraft !== null) forgetRefusedDraft();
   if (!hasField()) clearAnswers();
   showControls();
   redraw();
@@ -26,9 +27,15 @@ function forgetNearest() {
   part("nearest-said").textContent = "";
 }
 
+function forgetRefusedDraft() {
+  shownNow.refusedDraft = null;
+  showResult(shownNow.paved);
+}
+
 function clearAnswers() {
   for (const asker of [paver, stepper, crosser, finder]) asker.drop();
-  Object.assign(shownNow, { mesh: null, refusal: null, faults: [], nearest: null, crosses: null, steps: null });
+  Object.assign(shownNow, NOTHING);
+  state.mode = "outline";
   showResult(null);
 }
 
@@ -40,24 +47,26 @@ function askField() {
 }
 
 function showMesh(answer) {
-  Object.assign(shownNow, { mesh: answer.mesh ?? null, refusal: answer.refusal ?? null, faults: answer.faults ?? [] });
+  Object.assign(shownNow, { paved: answer, mesh: answer.mesh ?? null, refusal: answer.refusal ?? null, faults: answer.faults ?? [] });
   showResult(answer);
-  part("patches").classList.remove("stale");
   drawMesh();
   drawMarks();
 }
 
 function failMesh(words) {
-  Object.assign(shownNow, { mesh: null, refusal: null, faults: [] });
-  showResult(null);
-  showError(words);
+  Object.assign(shownNow, { paved: null, mesh: null, refusal: null, faults: [] });
+  showResult(null, words);
   drawMesh();
   drawMarks();
 }
 
-function showBusy(isBusy) {
-  part("busy").hidden = !isBusy;
-  part("patches").classList.toggle("stale", isBusy);
+const waitedFor = new Set();
+
+/** What is awaited for long is said, and what stands meanwhile is faint. */
+function showBusy(isBusy, asker) {
+  waitedFor[isBusy ? "add" : "delete"](asker);
+  part("busy").hidden = waitedFor.size === 0;
+  part("patches").classList.toggle("stale", waitedFor.size > 0);
 }
 
 // ---- nearest edge and crosses
@@ -110,7 +119,7 @@ function enter(mode) {
 
 function listenToControls() {
   const clicks = {
-    undo, redo, close: closeDraft, remove: removePoint, clear: clearAll, closer: () => zoom(ZOOM), farther: () => zoom(1 / ZOOM), fit: fitKey,
+    undo, redo, close: closeDraft, remove: removePoint, clear: clearAll, closer: () => zoom(ZOOM), farther: () => zoom(1 / ZOOM), fit,
     "undo-step": undoStep, "start-again": startAgain,
     "save-csv": () => saving(saveCsv), "save-svg": () => saving(saveSvg), "save-png": () => saving(savePng),
   };
@@ -128,7 +137,10 @@ function listenToBoxes() {
   part("title").addEventListener("input", (event) => change(() => { state.title = event.target.value; }, `${TYPED}title`));
   ["point-x", "point-y"].forEach((name, axis) => part(name).addEventListener("input", (event) => {
     const value = number(event.target);
-    if (value !== null && state.selected !== null) change(() => { pointAt(state.selected)[axis] = value; }, TYPED + name);
+    if (value === null || state.selected === null) return;
+    change(() => { pointAt(state.selected)[axis] = value; }, TYPED + name);
+    const point = pointAt(state.selected);
+    if (distance(within(point), point) > 0) fit();
   }));
 }
 

@@ -7,6 +7,7 @@ const HINTS = {
   step: "Point at a bold edge to see the quad that would come; press to place it.",
   nearest: "Click anywhere: the nearest edge of the outline lights up.",
 };
+const NEXT = "Drag a point to move it. Click on a line to add one. Is there a blind spot? Choose “Draw blind spot”.";
 const GOING_ON = "Go on round. Click the first point, or press Enter, to close the loop.";
 const REPLACES = "Click round the new outline; it takes the place of the old one once it is closed.";
 const NO_OUTLINE = "Draw the outline first, or open an example.";
@@ -27,7 +28,7 @@ function hint() {
   if (isDrawing() && state.draft !== null) return GOING_ON;
   if (state.mode === "outline" && isDrawn(0)) return REPLACES;
   if (state.mode !== "outline" && !hasField()) return NO_OUTLINE;
-  return HINTS[state.mode];
+  return state.mode === "move" && state.loops.length === 1 ? NEXT : HINTS[state.mode];
 }
 
 function showControls() {
@@ -52,10 +53,10 @@ function showControls() {
   showLoops();
 }
 
-/** A value into its box, unless it is being typed there. */
+/** A value into its box, unless something is being typed there. */
 function typed(name, value) {
   const box = part(name);
-  if (document.activeElement !== box || Number(box.value) !== value) box.value = value ?? "";
+  if (document.activeElement !== box) box.value = value ?? "";
 }
 
 function showPoint() {
@@ -92,20 +93,20 @@ function counted(count, one) {
 
 // ---- what came out
 
-/** Refusal, faults, verdict and figures of an answer; of none where nothing is drawn. */
-function showResult(answer) {
-  const { refusal = null, faults = [], mesh = null, notes = [] } = answer ?? {};
-  put("said", ...saidOf(refusal, faults, mesh));
+/** Refusal, faults, verdict and figures of an answer, of none where nothing is drawn; or what is wrong instead. */
+function showResult(answer, wrong = answer?.refusal?.words) {
+  const { faults = [], mesh = null } = answer ?? {};
+  put("said", ...saidOf(wrong, faults, mesh));
   put("faults", ...faults.map(({ words }) => html("li", {}, sentence(words))));
-  put("notes", ...notes.map((words) => html("li", {}, sentence(words))));
+  put("notes", ...(mesh?.notes ?? []).map((words) => html("li", {}, sentence(words))));
   const share = mesh?.figures.share ?? null;
   part("share").hidden = share === null;
   part("share-paved").style.width = `${100 * Math.min(share ?? 0, 1)}%`;
   part("figures").replaceChildren(...(mesh === null ? [] : [legend(mesh), figuresTable(mesh.figures)]));
 }
 
-function saidOf(refusal, faults, mesh) {
-  if (refusal !== null) return [html("p", { class: "wrong" }, sentence(refusal.words))];
+function saidOf(wrong, faults, mesh) {
+  if (wrong !== undefined) return [html("p", { class: "wrong" }, sentence(wrong))];
   if (mesh === null) return [html("p", {}, "Nothing is drawn yet.")];
   const unsound = faults.length > 0 ? [html("p", { class: "wrong" }, "What is wrong, numbered in the drawing:")] : [];
   return [html("p", { id: "verdict" }, mesh.verdict), ...unsound];
@@ -114,10 +115,6 @@ function saidOf(refusal, faults, mesh) {
 function sentence(words) {
   const begun = words.charAt(0).toUpperCase() + words.slice(1);
   return /[.?!]$/.test(begun) ? begun : `${begun}.`;
-}
-
-function showError(words) {
-  put("said", html("p", { class: "wrong" }, words));
 }
 
 function swatch(name) {

@@ -9,7 +9,8 @@ const CROSSES_APART = 22;
 const MOST_CROSSES = 4096;
 
 /** What was answered for what is drawn: none of it is kept. */
-const shownNow = { mesh: null, refusal: null, faults: [], nearest: null, crosses: null, steps: null };
+const NOTHING = { paved: null, mesh: null, refusal: null, faults: [], nearest: null, crosses: null, steps: null };
+const shownNow = { ...NOTHING, refusedDraft: null };
 
 function ring(points) {
   return points.length === 0 ? "" : `M${points.map(([x, y]) => `${x},${y}`).join("L")}Z`;
@@ -214,12 +215,15 @@ function nearestPlace([x, y], [[ax, ay], [bx, by]]) {
   return [ax + along * ux, ay + along * uy];
 }
 
+function refusalShown() {
+  return shownNow.refusedDraft ?? shownNow.refusal;
+}
+
 /** The point that a refusal names, or else its loop's first point. */
 function refusalPlace() {
-  const { refusal } = shownNow;
-  if (refusal === null || refusal.loop === null || refusal.loop === undefined) return null;
-  const points = state.loops[refusal.loop]?.points ?? state.draft?.points ?? [];
-  return points[refusal.point ?? 0] ?? null;
+  const { refusal, refusedDraft } = shownNow;
+  const points = refusedDraft === null ? state.loops[refusal?.loop]?.points : state.draft?.points;
+  return points?.[refusalShown().point ?? 0] ?? null;
 }
 
 function refusalMarks() {
@@ -233,7 +237,7 @@ function placeCallout() {
   const place = refusalPlace();
   callout.hidden = place === null || state.mode === "step";
   if (callout.hidden) return;
-  callout.textContent = sentence(shownNow.refusal.words);
+  callout.textContent = sentence(refusalShown().words);
   const [x, y] = toPixels(place);
   const [width, height] = [callout.offsetWidth, callout.offsetHeight];
   const left = Math.min(Math.max(x - width / 2, 4), Math.max(sheet.width - width - 4, 4));

@@ -18,9 +18,9 @@ const TYPED = "typed ";
 const UNDONE = ["loops", "draft", "eye", "size", "title", "moves"];
 const changes = { past: [], future: [], tag: null };
 
-/** Pointer and keyboard: `gesture` while a button is down, `over` the pointer's place, `cursor` that of the keyboard, which is shown while `byKeys`; `carries` while
- *  keys move a point; `edge` the front edge that is looked at; `leaves` where Tab is to leave the surface. */
-const hand = { gesture: null, over: null, cursor: [0, 0], byKeys: false, carries: false, edge: null, leaves: false };
+/** Pointer and keyboard: `gesture` while a button is down; `over` the pointer's place, which `hovers` if it isn't a finger; `cursor` the keyboard's place, shown while
+ *  `byKeys`; `carries` while keys move a point; `edge` the front edge that is looked at; `leaves` where Tab is to leave the surface. */
+const hand = { gesture: null, over: null, hovers: false, cursor: [0, 0], byKeys: false, carries: false, edge: null, leaves: false };
 
 function snapshot() {
   return JSON.stringify(UNDONE.map((name) => state[name]));
@@ -29,6 +29,7 @@ function snapshot() {
 function goBackTo(text) {
   JSON.parse(text).forEach((value, place) => { state[UNDONE[place]] = value; });
   if (!isPoint(state.selected)) state.selected = null;
+  if (state.draft !== null) state.mode = state.draft.kind;
 }
 
 /** Steps taken by hand are on the mesh of one field and size. */

@@ -28,6 +28,7 @@ function showSteps(answer) {
   drawMesh();
   drawFront();
   drawCursor();
+  if (hand.edge === null && hand.over !== null && hand.hovers) lookNear(hand.over);
 }
 
 function failSteps(words) {
@@ -100,6 +101,7 @@ function pressStep(at, kind) {
 
 function place(edge) {
   hand.edge = null;
+  tell("The quad is placed.");
   move(edge);
 }
 
@@ -115,11 +117,10 @@ function startAgain() {
   change(() => { state.moves = []; });
 }
 
-/** The next edge round the front, or the one before; false beyond the last and the first. */
+/** The edge nearest to the cursor, then the next of the front, or the one before; false beyond the last and the first. */
 function lookAlong(step) {
   const { front = [], nodes = [] } = shownNow.steps ?? {};
-  const at = hand.edge === null ? (step > 0 ? -1 : front.length) : front.findIndex(isLookedAt);
-  const edge = front[at + step];
+  const edge = hand.edge === null ? edgeNear(hand.cursor, Infinity) ?? undefined : front[front.findIndex(isLookedAt) + step];
   if (edge === undefined) return false;
   const [[ax, ay], [bx, by]] = edge.map((id) => nodes[id]);
   hand.cursor = [(ax + bx) / 2, (ay + by) / 2];

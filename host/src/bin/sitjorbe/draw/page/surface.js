@@ -24,7 +24,7 @@ function pointerDown(event) {
   event.preventDefault();
   surface.focus({ preventScroll: true });
   surface.setPointerCapture(event.pointerId);
-  Object.assign(hand, { byKeys: false, carries: false });
+  Object.assign(hand, { byKeys: false, carries: false, leaves: false });
   const at = within(eventPlace(event));
   hand.cursor = snapped(at);
   hand.gesture = { begun: at, kind: kindOf(event), stroke: null, point: null, pans: false, before: snapshot() };
@@ -45,10 +45,10 @@ function grab(at) {
 
 function pointerMove(event) {
   const at = within(eventPlace(event));
-  hand.over = at;
+  Object.assign(hand, { over: at, hovers: event.pointerType !== "touch" });
   showReadout(at);
   if (hand.gesture !== null) dragged(at, event);
-  else if (state.mode === "step" && event.pointerType !== "touch") lookNear(at);
+  else if (state.mode === "step" && hand.hovers) lookNear(at);
   else if (state.mode === "move") surface.classList.toggle("over", (pointNear(at, reachOf("mouse")) ?? segmentNear(at, reachOf("mouse"))) !== null);
   if (state.draft !== null) drawLoops();
 }
@@ -151,7 +151,7 @@ const KEYS = {
   "+": () => zoomKey(ZOOM),
   "=": () => zoomKey(ZOOM),
   "-": () => zoomKey(1 / ZOOM),
-  0: () => fitKey(),
+  0: fitKey,
 };
 
 function moveCursor(event) {
@@ -159,7 +159,7 @@ function moveCursor(event) {
   const step = event.shiftKey ? LARGE_STEP : event.ctrlKey ? SMALL_STEP : STEP;
   const [dx, dy] = ARROWS[event.key];
   const [x, y] = hand.cursor;
-  hand.byKeys = true;
+  Object.assign(hand, { byKeys: true, leaves: false });
   hand.cursor = snapped(within([x + step * dx, y + step * dy]));
   showReadout(hand.cursor);
   if (hand.carries) carry();
@@ -176,7 +176,11 @@ function carry() {
   showPoint();
 }
 
-function pressKey() {
+function pressKey(event) {
+  if (event.key === "Enter" && !hand.byKeys && state.draft !== null) {
+    closeDraft();
+    return true;
+  }
   hand.byKeys = true;
   if (state.mode === "move") pressMoveKey();
   else press(hand.cursor, "keys");
@@ -244,8 +248,7 @@ function zoomKey(factor) {
 }
 
 function fitKey() {
-  state.view = fitted();
-  redraw();
+  fit();
   return true;
 }
 

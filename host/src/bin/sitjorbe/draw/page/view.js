@@ -89,7 +89,16 @@ function zoom(factor, at = [state.view.x, state.view.y]) {
   const { view } = state;
   const radius = Math.min(Math.max(view.radius / factor, LEAST_RADIUS), FARTHEST);
   const kept = radius / view.radius;
-  state.view = { x: at[0] + (view.x - at[0]) * kept, y: at[1] + (view.y - at[1]) * kept, radius };
+  show({ x: at[0] + (view.x - at[0]) * kept, y: at[1] + (view.y - at[1]) * kept, radius });
+}
+
+function fit() {
+  show(fitted());
+}
+
+function show(view) {
+  state.view = view;
+  keep();
   redraw();
 }
 

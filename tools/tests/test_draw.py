@@ -438,6 +438,8 @@ class Page(unittest.TestCase):
             for width in (1280, 640, 400, 320):
                 self.browser.chrome("Emulation.setDeviceMetricsOverride", width=width, height=800, deviceScaleFactor=1, mobile=False)
                 self.assertLessEqual(self.run_("return document.documentElement.scrollWidth"), width, mode)
+                wide = "return [...document.querySelectorAll('main :not(.unseen)')].filter((one) => one.clientWidth > 1 && one.scrollWidth > one.clientWidth + 1 && one.tagName !== 'INPUT').map((one) => one.outerHTML)"
+                self.assertEqual(self.run_(wide), [], (mode, width))
         self.browser.chrome("Emulation.clearDeviceMetricsOverride")
 
     def test_words_are_told_from_their_ground(self):

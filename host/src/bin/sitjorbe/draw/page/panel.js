@@ -102,7 +102,7 @@ function showResult(answer, wrong = answer?.refusal?.words) {
   const share = mesh?.figures.share ?? null;
   part("share").hidden = share === null;
   part("share-paved").style.width = `${100 * Math.min(share ?? 0, 1)}%`;
-  part("figures").replaceChildren(...(mesh === null ? [] : [legend(mesh), figuresTable(mesh.figures)]));
+  part("figures").replaceChildren(...(mesh === null ? [] : [legend(mesh), figuresTable(mesh.figures), html("p", { class: "legend" }, FIGURES_READ)]));
 }
 
 function saidOf(wrong, faults, mesh) {
@@ -127,28 +127,31 @@ function legend(mesh) {
 }
 
 function percent(share) {
-  return share === null ? "–" : `${(100 * share).toFixed(1)} %`;
+  return share === null ? "–" : `${(100 * share).toFixed(1)}\u00a0%`;
 }
 
-/** A row a patch, and one for all. */
+const FIGURES = ["Nodes", "Quads", "Share", "Angle", "Sides"];
+const FIGURES_READ = "Angle: the smallest of a quad's four, the least and the median. Sides: a quad's longest side over its shortest, the most and the median.";
+
+/** Two rows a patch, its name and its figures, and two for all. */
 function figuresTable(figures) {
-  const heads = ["Patch", "Nodes", "Quads", "Share", "Angle, least and median", "Side ratio, most and median"];
-  const rows = figures.patches.map((patch, k) => figuresRow([swatch(colourOf(k)), patch.name], patch));
-  const all = figures.patches.length > 1 ? [figuresRow(["All"], figures, "all")] : [];
-  const head = html("tr", {}, ...heads.map((words) => html("th", { scope: "col" }, words)));
-  return html("div", { class: "scroll" }, html("table", {}, html("thead", {}, head), html("tbody", {}, ...rows, ...all)));
+  const patches = figures.patches.map((patch, k) => figuresRows([swatch(colourOf(k)), k === 0 ? "Paved from the outline" : `Paved round “${patch.name}”`], patch));
+  const all = figures.patches.length > 1 ? [figuresRows(["All"], figures)] : [];
+  const head = html("tr", {}, ...FIGURES.map((words) => html("th", { scope: "col" }, words)));
+  return html("table", {}, html("thead", {}, head), ...patches, ...all);
 }
 
-function figuresRow(name, { nodes, quads, share, quality }, kind = "") {
+function figuresRows(name, { nodes, quads, share, quality }) {
   const [angles, ratios] = quality === null ? ["–", "–"] : [
     `${quality.least_angle.toFixed(0)}°, ${quality.median_angle.toFixed(0)}°`, `${quality.greatest_aspect.toFixed(1)}, ${quality.median_aspect.toFixed(1)}`,
   ];
   const cells = [nodes.toLocaleString("en"), quads.toLocaleString("en"), percent(share), angles, ratios];
-  return html("tr", { class: kind }, html("th", { scope: "row" }, ...name), ...cells.map((words) => html("td", {}, words)));
+  const named = html("tr", {}, html("th", { scope: "rowgroup", colspan: FIGURES.length }, ...name));
+  return html("tbody", {}, named, html("tr", {}, ...cells.map((words) => html("td", {}, words))));
 }
 
 function showReadout(at) {
   const [x, y] = at ?? [];
   const meridian = Math.round((Math.atan2(y, x) * 180) / Math.PI + 360) % 360;
-  part("readout").textContent = at === null ? "" : `x ${x.toFixed(1)}°, y ${y.toFixed(1)}°; ${Math.hypot(x, y).toFixed(1)}° out on meridian ${meridian}°`;
+  part("readout").textContent = at === null ? "" : `x ${x.toFixed(1)}°, y ${y.toFixed(1)}°\n${Math.hypot(x, y).toFixed(1)}° out, meridian ${meridian}°`;
 }

@@ -100,7 +100,9 @@ function meshPaths({ nodes, origins, quads, left = [] }) {
   const side = sideInPixels();
   const made = patches.map((rings, k) => path(`patch patch-${k}`, rings.join("")));
   for (const patch of made) patch.style.strokeWidth = side < SIDES_SEEN ? 0 : Math.min(Math.max(side / 14, 0.3), 1.2);
-  made.push(path("open", left.map((ids) => ring(ids.map((id) => nodes[id]))).join("")));
+  const open = path("open", left.map((ids) => ring(ids.map((id) => nodes[id]))).join(""));
+  open.style.strokeWidth = Math.min(Math.max(side / 5, 0.3), 2);
+  made.push(open);
   if (side >= NODES_SEEN) made.push(path("node", nodes.map(([x, y]) => `M${x},${y}h0`).join("")));
   return made;
 }

@@ -386,15 +386,24 @@ impl<'a> Stepper<'a> {
     /// # Ok::<(), Box<dyn std::error::Error>>(())
     /// ```
     pub fn pass(&mut self) -> Pass {
+        self.pass_while(|| true).expect("it goes on")
+    }
+
+    /// The same, as long as `go_on` says so, which is asked before each edge: a pass of many edges on a large field takes long. Where it doesn't go on, none is
+    /// answered, and the quads placed so far stay.
+    pub fn pass_while(&mut self, mut go_on: impl FnMut() -> bool) -> Option<Pass> {
         let before = self.counts.quads;
         for edge in self.front() {
+            if !go_on() {
+                return None;
+            }
             // An edge that is refused isn't on the front any more.
             if let Ok(outcome @ (Outcome::Full | Outcome::Cap)) = self.step(edge) {
-                return Pass { placed: self.counts.quads - before, outcome };
+                return Some(Pass { placed: self.counts.quads - before, outcome });
             }
         }
         let placed = self.counts.quads - before;
-        Pass { placed, outcome: if placed > 0 { Outcome::Placed } else { Outcome::None } }
+        Some(Pass { placed, outcome: if placed > 0 { Outcome::Placed } else { Outcome::None } })
     }
 
     /// The counts of the mesh as it stands.

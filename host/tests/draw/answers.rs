@@ -4,9 +4,7 @@ use std::fs;
 use std::path::Path;
 use std::process::Command;
 
-use sitjorbe::{
-    contains, direction, field, is_sound, nearest_segment, Memory, Outline, Places, Refusal, Settings,
-};
+use sitjorbe::{contains, direction, field, is_sound, nearest_segment, Memory, Outline, Places, Refusal, Settings};
 
 use crate::client::Server;
 use crate::common::rng::Rng;
@@ -43,7 +41,8 @@ fn the_page() {
         assert_eq!(said.header("Referrer-Policy"), Some("no-referrer"));
         assert_eq!(said.header("Connection"), Some("close"));
         let policy = said.header("Content-Security-Policy").expect("a policy");
-        let nonce = policy.split("script-src 'nonce-").nth(1).and_then(|rest| rest.split('\'').next()).expect("a nonce");
+        let nonce =
+            policy.split("script-src 'nonce-").nth(1).and_then(|rest| rest.split('\'').next()).expect("a nonce");
         assert!(nonce.len() == 32 && nonce.bytes().all(|byte| byte.is_ascii_hexdigit()), "{nonce}");
         let rest = policy.replace(nonce, "N");
         let rules = [
@@ -79,8 +78,7 @@ fn examples_are_paved_as_the_library_paves_them() {
     let server = Server::start();
     let answer = server.value("/examples", &Value::map([]));
     let names: Vec<&str> = list(&answer, "examples").iter().map(|example| text(example, "name")).collect();
-    let wanted =
-        ["right-eye", "left-eye", "24-2", "30-2", "hemianopia", "hand-drawn", "halves/upper", "halves/lower"];
+    let wanted = ["right-eye", "left-eye", "24-2", "30-2", "hemianopia", "hand-drawn", "halves/upper", "halves/lower"];
     assert_eq!(names, wanted);
     for example in list(&answer, "examples") {
         let (name, size) = (text(example, "name"), part(example, "size").as_number().expect("a size"));
@@ -97,7 +95,10 @@ fn examples_are_paved_as_the_library_paves_them() {
 
         let (file, size) = (format!("examples/{name}.csv"), size.to_string());
         let eye = part(example, "eye").as_text().map(|eye| ["--eye", eye]);
-        let words = [&["pave", &file, "--size", &size, "--title", "A title", "-o", "-"][..], eye.as_ref().map_or(&[], |eye| eye)];
+        let words = [
+            &["pave", &file, "--size", &size, "--title", "A title", "-o", "-"][..],
+            eye.as_ref().map_or(&[], |eye| eye),
+        ];
         let written = json::parse(&command(&[words.concat(), vec!["--as", "json"]].concat())).expect("JSON");
         for part in ["end", "whole", "figures", "nodes", "origins", "quads", "left"] {
             assert_eq!(mesh.get(part).map(Value::to_string), written.get(part).map(Value::to_string), "{name}: {part}");
@@ -151,10 +152,12 @@ fn words_of_a_mesh() {
 fn written_and_read_again() {
     let server = Server::start();
     let mut rng = Rng(31);
-    let awkward = [-0.0, 0.0, 5e-324, -2.2e-308, 0.1, 1e300, -1_000.0, 1.0 / 3.0, f64::MAX, 123_456_789.123, 1e15, 1e16];
+    let awkward =
+        [-0.0, 0.0, 5e-324, -2.2e-308, 0.1, 1e300, -1_000.0, 1.0 / 3.0, f64::MAX, 123_456_789.123, 1e15, 1e16];
     for round in 0..60 {
         let mut number = || if rng.once_in(2) { rng.pick(&awkward) } else { 40.0 * rng.unit() };
-        let mut loops: Loops = (0..1 + round % 4).map(|k| (0..1 + (round + k) % 9).map(|_| [number(), number()]).collect()).collect();
+        let mut loops: Loops =
+            (0..1 + round % 4).map(|k| (0..1 + (round + k) % 9).map(|_| [number(), number()]).collect()).collect();
         if round % 3 == 0 {
             // A loop that closes by itself is kept as it is, as is one that does so twice.
             let first = loops[0][0];
@@ -165,7 +168,12 @@ fn written_and_read_again() {
         let read = server.value("/read", &written);
         assert_eq!(read.get("loops").map(Value::to_string), asked.get("loops").map(Value::to_string), "{written}");
     }
-    let name = |name: &str| Value::map([("name", Value::text(name)), ("points", Value::List(square(1.0).into_iter().map(Value::point).collect()))]);
+    let name = |name: &str| {
+        Value::map([
+            ("name", Value::text(name)),
+            ("points", Value::List(square(1.0).into_iter().map(Value::point).collect())),
+        ])
+    };
     let names = ["", "A field's edge", "spot\n5,5\r# x", "spot", "spot", "  "].map(name);
     let empty = Value::map([("name", Value::text("nothing")), ("points", Value::List(vec![]))]);
     let asked = Value::map([("loops", Value::List([names.to_vec(), vec![empty]].concat()))]);
@@ -192,7 +200,9 @@ fn texts_that_are_read() {
 }
 
 /// A refusal: its number, loop and point, and the words after the library's own.
-fn refusal(answer: &Value) -> (u32, Option<usize>, Option<usize>, String) {
+type Refused<Words> = (u32, Option<usize>, Option<usize>, Words);
+
+fn refusal(answer: &Value) -> Refused<String> {
     let refusal = part(answer, "refusal");
     let number = part(refusal, "number").as_count(99).expect("a number") as u32;
     let place = |name: &str| part(refusal, name).as_count(9_999);
@@ -209,7 +219,7 @@ fn refusals_and_where() {
     let many = vec![(0..4_097).map(|k| [f64::from(k), f64::from(k % 7)]).collect()];
     let flat = vec![vec![[0.0, 0.0], [1.0, 0.0], [2.0, 0.0]]];
     let one = Value::Number(1.0);
-    let cases: [(Loops, Value, (u32, Option<usize>, Option<usize>, &str)); 9] = [
+    let cases: [(Loops, Value, Refused<&str>); 9] = [
         (far, one.clone(), (4, Some(1), Some(2), " (point 3 of “loop 1”: 5.0,-1000.5)")),
         (short, Value::Null, (2, Some(1), None, " (“loop 1”, of 2 points)")),
         (vec![square(8.0), vec![]], one.clone(), (2, Some(1), None, " (“loop 1”, of 0 points)")),
@@ -222,7 +232,8 @@ fn refusals_and_where() {
     ];
     for (loops, size, (number, in_loop, point, words)) in cases {
         let expected = (number, in_loop, point, words.to_string());
-        let asked = body(&loops, &[("size", size.clone()), ("moves", Value::List(vec![])), ("points", Value::List(vec![]))]);
+        let asked =
+            body(&loops, &[("size", size.clone()), ("moves", Value::List(vec![])), ("points", Value::List(vec![]))]);
         let answer = server.value("/check", &asked);
         assert_eq!(refusal(&answer), expected);
         assert_eq!((part(&answer, "sound"), list(&answer, "faults")), (&Value::Null, &[][..]));
@@ -288,10 +299,14 @@ fn unsound_places() {
             assert_eq!(whole, (path == "/pave").then_some(Value::Bool(false)));
         }
     }
-    let star = (0..25).map(|k| f64::from(k) * 12.0 * std::f64::consts::TAU / 25.0).map(|angle| [angle.cos(), angle.sin()]);
+    let star =
+        (0..25).map(|k| f64::from(k) * 12.0 * std::f64::consts::TAU / 25.0).map(|angle| [angle.cos(), angle.sin()]);
     let answer = server.value("/check", &body(&vec![star.collect()], &[("size", Value::Null)]));
     let faults = list(&answer, "faults");
-    assert_eq!((faults.len(), text(&faults[5], "words"), list(&faults[5], "segments")), (6, "more is unsound", &[][..]));
+    assert_eq!(
+        (faults.len(), text(&faults[5], "words"), list(&faults[5], "segments")),
+        (6, "more is unsound", &[][..])
+    );
 }
 
 #[test]

@@ -70,8 +70,12 @@ impl Server {
     pub fn post(&self, path: &str, body: &[u8]) -> Said {
         let (host, length) = (self.host(), body.len().to_string());
         let origin = format!("http://{host}");
-        let headers =
-            [("Host", host.as_str()), ("Origin", &origin), ("Content-Type", "application/json"), ("Content-Length", &length)];
+        let headers = [
+            ("Host", host.as_str()),
+            ("Origin", &origin),
+            ("Content-Type", "application/json"),
+            ("Content-Length", &length),
+        ];
         self.ask(&format!("POST {path}"), &headers, body)
     }
 

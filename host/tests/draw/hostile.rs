@@ -53,16 +53,27 @@ fn hosts() {
     };
     let right = format!("127.0.0.1:{port}");
     for host in [right.clone(), format!("localhost:{port}"), format!("LocalHost:{port}"), format!("  {right} ")] {
-        assert_eq!(status(&[host.clone()]), 200, "{host}");
+        assert_eq!(status(std::slice::from_ref(&host)), 200, "{host}");
     }
     let wrong = [
-        "", "127.0.0.1", "localhost", "evil.example", &format!("evil.example:{port}"), &format!("{right}.evil.example"),
-        &format!("127.0.0.1:{}", port ^ 1), &format!("0.0.0.0:{port}"), &format!("[::1]:{port}"), &format!("127.0.0.2:{port}"),
-        &format!("evil@{right}"), &format!("{right}, {right}"), &format!("{right}/"), &format!("http://{right}"),
+        "",
+        "127.0.0.1",
+        "localhost",
+        "evil.example",
+        &format!("evil.example:{port}"),
+        &format!("{right}.evil.example"),
+        &format!("127.0.0.1:{}", port ^ 1),
+        &format!("0.0.0.0:{port}"),
+        &format!("[::1]:{port}"),
+        &format!("127.0.0.2:{port}"),
+        &format!("evil@{right}"),
+        &format!("{right}, {right}"),
+        &format!("{right}/"),
+        &format!("http://{right}"),
     ]
     .map(str::to_string);
     for host in wrong {
-        assert_eq!(status(&[host.clone()]), 403, "{host}");
+        assert_eq!(status(std::slice::from_ref(&host)), 403, "{host}");
     }
     assert_eq!(status(&[]), 400);
     assert_eq!(status(&[right.clone(), right.clone()]), 400);
@@ -78,10 +89,14 @@ fn the_address() {
     let listens = |file: &str| {
         let lines = fs::read_to_string(file).expect("Linux says who listens");
         let words = lines.lines().map(|line| line.split_whitespace().map(str::to_string).collect::<Vec<_>>());
-        words.filter(|words| words[3] == "0A").map(|words| words[1].clone()).filter(|at| at.ends_with(&port)).collect::<Vec<_>>()
+        words
+            .filter(|words| words[3] == "0A")
+            .map(|words| words[1].clone())
+            .filter(|at| at.ends_with(&port))
+            .collect::<Vec<_>>()
     };
     assert_eq!(listens("/proc/net/tcp"), [format!("0100007F{port}")]);
-    assert_eq!(listens("/proc/net/tcp6"), [String::new(); 0]);
+    assert_eq!(listens("/proc/net/tcp6"), Vec::<String>::new());
 }
 
 #[test]
@@ -93,7 +108,9 @@ fn the_call() {
     };
     let (status, said, _) = call(&["--help"]);
     assert!(status == 0 && said.starts_with("sitjorbe draw [--port N]: "), "{said}");
-    for words in [&["field.csv"][..], &["--port"], &["--port", "x"], &["--port", "65536"], &["--port", "-1"], &["--size", "3"]] {
+    for words in
+        [&["field.csv"][..], &["--port"], &["--port", "x"], &["--port", "65536"], &["--port", "-1"], &["--size", "3"]]
+    {
         let (status, said, wrong) = call(words);
         assert!(status == 2 && said.is_empty() && wrong.starts_with("sitjorbe: "), "{words:?}: {wrong}");
     }
@@ -119,8 +136,29 @@ fn methods_and_paths() {
     }
     let absolute = format!("http://{host}/");
     let paths = [
-        "/..", "/../", "/../../etc/passwd", "/..%2f..%2fetc/passwd", "/%2e%2e/", "/./", "//", "/index.html", "/page.js", "/?", "/?x=1",
-        "/#", "/favicon.ico", "/pave/", "/PAVE", "/step?x", "*", "x", &absolute, "/\\..\\", "/%00", "/~root", "file:///etc/passwd",
+        "/..",
+        "/../",
+        "/../../etc/passwd",
+        "/..%2f..%2fetc/passwd",
+        "/%2e%2e/",
+        "/./",
+        "//",
+        "/index.html",
+        "/page.js",
+        "/?",
+        "/?x=1",
+        "/#",
+        "/favicon.ico",
+        "/pave/",
+        "/PAVE",
+        "/step?x",
+        "*",
+        "x",
+        &absolute,
+        "/\\..\\",
+        "/%00",
+        "/~root",
+        "file:///etc/passwd",
     ];
     for path in paths {
         for method in ["GET", "POST"] {
@@ -177,6 +215,8 @@ fn heads() {
     answers(&mut server);
 }
 
+type Headers<'a> = Vec<(&'a str, &'a str)>;
+
 /// Bodies by their headers: what they are, how long, and where they come from.
 #[test]
 fn bodies_by_their_headers() {
@@ -191,7 +231,7 @@ fn bodies_by_their_headers() {
     let over = ((1 << 20) + 1).to_string();
     let longest = [b"{".to_vec(), vec![b' '; (1 << 20) - 2], b"}".to_vec()].concat();
     let chunked = ("Transfer-Encoding", "chunked");
-    let cases: Vec<(Vec<(&str, &str)>, &[u8], u16)> = vec![
+    let cases: Vec<(Headers<'_>, &[u8], u16)> = vec![
         (vec![json, two], b"{}", 200),
         (vec![json, two], b"{}and more that isn't read", 200),
         (vec![json, two, ("Origin", &origin)], b"{}", 200),
@@ -241,8 +281,22 @@ fn bodies_by_their_contents() {
     let mut server = Server::start();
     let deep = [b"{\"loops\":".to_vec(), vec![b'['; 500_000]].concat();
     let bodies: [&[u8]; 16] = [
-        b"", b" ", b"x", b"null", b"5", b"[]", b"\"text\"", b"{", b"{}}", b"{'loops':[]}", b"{\"loops\":[],}", b"\xff\xfe{}", b"{\"a\":NaN}",
-        b"{\"a\":1e999}", b"{\"a\":\"\\ud800\"}", &deep,
+        b"",
+        b" ",
+        b"x",
+        b"null",
+        b"5",
+        b"[]",
+        b"\"text\"",
+        b"{",
+        b"{}}",
+        b"{'loops':[]}",
+        b"{\"loops\":[],}",
+        b"\xff\xfe{}",
+        b"{\"a\":NaN}",
+        b"{\"a\":1e999}",
+        b"{\"a\":\"\\ud800\"}",
+        &deep,
     ];
     for path in PATHS {
         for body in bodies {
@@ -266,7 +320,11 @@ fn bodies_by_their_contents() {
         ("/check", with("loops", list(&[1.0])), "a loop has no list of points"),
         ("/check", with("loops", points(Value::text("0,0"))), "a loop has no list of points"),
         ("/check", with("loops", points(list(&[0.0, 0.0]))), "points: number 0, counted from 0, isn't one: 0"),
-        ("/check", with("loops", points(Value::List(vec![list(&[0.0; 3])]))), "points: number 0, counted from 0, isn't one: [0,0,0]"),
+        (
+            "/check",
+            with("loops", points(Value::List(vec![list(&[0.0; 3])]))),
+            "points: number 0, counted from 0, isn't one: [0,0,0]",
+        ),
         ("/check", with("size", Value::text("3")), "size isn't a number"),
         ("/pave", with("size", Value::Null), "size isn't a number"),
         ("/pave", with("eye", Value::text("both")), "eye isn't right or left"),
@@ -279,7 +337,11 @@ fn bodies_by_their_contents() {
         ("/step", with("moves", list(&[601.0])), "moves: number 0, counted from 0, isn't one: 601"),
         ("/step", with("moves", list(&[0.5])), "moves: number 0, counted from 0, isn't one: 0.5"),
         ("/step", with("moves", list(&[1.0, -1.0])), "moves: number 1, counted from 0, isn't one: -1"),
-        ("/step", with("moves", Value::List(vec![list(&[0.0, 4_294_967_296.0])])), "moves: number 0, counted from 0, isn't one: [0,4294967296]"),
+        (
+            "/step",
+            with("moves", Value::List(vec![list(&[0.0, 4_294_967_296.0])])),
+            "moves: number 0, counted from 0, isn't one: [0,4294967296]",
+        ),
         ("/step", with("look", count(1)), "look isn't two nodes"),
     ];
     for (path, body, words) in cases {
@@ -295,7 +357,22 @@ fn spoilt_bodies() {
     let mut server = Server::start();
     let mut rng = Rng(31_000);
     let whole = everything().to_string().into_bytes();
-    let values = ["null", "true", "-1", "0.5", "1e9", "1e-300", "[]", "{}", "[[]]", "\"\"", "4294967295", "[3,4]", "[[0,0],[1,0]]", "600"];
+    let values = [
+        "null",
+        "true",
+        "-1",
+        "0.5",
+        "1e9",
+        "1e-300",
+        "[]",
+        "{}",
+        "[[]]",
+        "\"\"",
+        "4294967295",
+        "[3,4]",
+        "[[0,0],[1,0]]",
+        "600",
+    ];
     let mut statuses = std::collections::BTreeMap::new();
     for round in 0..900 {
         let path = PATHS[round % PATHS.len()];
@@ -306,7 +383,7 @@ fn spoilt_bodies() {
                 0 => body[place] = rng.next() as u8,
                 1 => body.truncate(place),
                 2 => drop(body.splice(place..(place + 20).min(whole.len()).min(body.len()), [])),
-                _ => spoil(&mut rng, &mut body, rng_pick(&values, round)),
+                _ => put(&mut rng, &mut body, values[round % values.len()]),
             }
             if body.is_empty() {
                 break;
@@ -321,12 +398,8 @@ fn spoilt_bodies() {
     answers(&mut server);
 }
 
-fn rng_pick<'a>(values: &[&'a str], round: usize) -> &'a str {
-    values[round % values.len()]
-}
-
 /// Puts a value where one begins.
-fn spoil(rng: &mut Rng, body: &mut Vec<u8>, value: &str) {
+fn put(rng: &mut Rng, body: &mut Vec<u8>, value: &str) {
     let begins: Vec<usize> = (1..body.len()).filter(|k| b":,[".contains(&body[k - 1])).collect();
     if begins.is_empty() {
         return;
@@ -342,8 +415,10 @@ fn too_much() {
     let mut server = Server::start();
     let zigzag: Vec<[f64; 2]> = (0..4_000).map(|k| [f64::from(k % 2) * 900.0, f64::from(k) * 0.2]).collect();
     for path in ["/pave", "/picture"] {
-        let said = server.post(path, body(&vec![zigzag.clone()], &[("size", Value::Number(0.01))]).to_string().as_bytes());
-        assert_eq!((said.status, said.error().as_str()), (422, "there isn't memory for so many quads: set a larger size"));
+        let said =
+            server.post(path, body(&vec![zigzag.clone()], &[("size", Value::Number(0.01))]).to_string().as_bytes());
+        assert_eq!(said.status, 422);
+        assert!(said.error().starts_with("the outline has too many samples to be paved here: "), "{}", said.error());
     }
     answers(&mut server);
 }
@@ -352,7 +427,10 @@ fn too_much() {
 #[test]
 fn quiet_connections() {
     let mut server = Server::start();
-    let head = format!("POST /pave HTTP/1.1\r\nHost: {}\r\nContent-Type: application/json\r\nContent-Length: 100\r\n", server.host());
+    let head = format!(
+        "POST /pave HTTP/1.1\r\nHost: {}\r\nContent-Type: application/json\r\nContent-Length: 100\r\n",
+        server.host()
+    );
     let began = Instant::now();
     let open: Vec<_> = (0..300)
         .map(|k| {
@@ -371,7 +449,11 @@ fn quiet_connections() {
     assert!(began.elapsed() < Duration::from_secs(8), "{:?}", began.elapsed());
     // The first were cut off for the later ones; of those that stay, who began to speak is told that it took too long.
     let said: Vec<(usize, Said)> = open.into_iter().enumerate().map(|(k, stream)| (k, Said::read(stream))).collect();
-    assert!(began.elapsed() > Duration::from_secs(9) && began.elapsed() < Duration::from_secs(30), "{:?}", began.elapsed());
+    assert!(
+        began.elapsed() > Duration::from_secs(9) && began.elapsed() < Duration::from_secs(30),
+        "{:?}",
+        began.elapsed()
+    );
     for (k, said) in said {
         let late = k >= 300 - 30 && k % 4 != 0;
         assert!(said.status == 408 || (!late && [0, 400].contains(&said.status)), "{k}: {}", said.status);
@@ -393,7 +475,11 @@ fn slow_connections() {
             break;
         }
     }
-    assert!(began.elapsed() > Duration::from_secs(9) && began.elapsed() < Duration::from_secs(14), "{:?}", began.elapsed());
+    assert!(
+        began.elapsed() > Duration::from_secs(9) && began.elapsed() < Duration::from_secs(14),
+        "{:?}",
+        began.elapsed()
+    );
     let mut text = String::new();
     stream.set_read_timeout(Some(Duration::from_secs(5))).expect("a time");
     let _ = stream.read_to_string(&mut text);

@@ -90,7 +90,8 @@ fn balances(answer: &Value, sampled: usize, start: f64) {
     };
     let of_quads: f64 = ids(answer, "quads").iter().map(sides).sum();
     // An edge alone is a ring of two, there and back: half of it counts.
-    let of_front: f64 = ids(answer, "front").iter().map(|edge| sides(&vec![edge[0], edge[1]]) + half(&nodes, edge)).sum();
+    let of_front: f64 =
+        ids(answer, "front").iter().map(|edge| sides(&vec![edge[0], edge[1]]) + half(&nodes, edge)).sum();
     for (name, expected) in [("area_start", start), ("area_quads", of_quads), ("area_front", of_front)] {
         let found = part(books, name).as_number().expect("an area");
         assert!((found - expected).abs() < 1e-9 * start.abs(), "{name}: {found}, {expected}");
@@ -107,7 +108,13 @@ fn fields() -> [(Loops, f64); 4] {
         (vec![square(2.0)], 1.0),
         (vec![vec![[0.0, 0.0], [5.0, 0.5], [6.0, 4.0], [2.0, 5.5], [-1.0, 3.0]]], 0.7),
         (with_hole(), 0.9),
-        (vec![vec![[-30.0, 0.0], [0.0, -25.0], [28.0, 2.0], [1.0, 24.0]], vec![[12.0, -2.0], [12.0, 2.0], [16.0, 0.0]]], 3.6),
+        (
+            vec![
+                vec![[-30.0, 0.0], [0.0, -25.0], [28.0, 2.0], [1.0, 24.0]],
+                vec![[12.0, -2.0], [12.0, 2.0], [16.0, 0.0]],
+            ],
+            3.6,
+        ),
     ]
 }
 
@@ -173,7 +180,8 @@ fn passes_beside_runs() {
             for moves in [vec![Move::Passes(passes)], vec![Move::Passes(1); passes]] {
                 let answer = server.value("/step", &asked(&loops, size, &moves, None));
                 agrees(&answer, &mut after, None);
-                let placed: usize = list(&answer, "outcomes").iter().map(|placed| placed.as_count(9_999).unwrap()).sum();
+                let placed: usize =
+                    list(&answer, "outcomes").iter().map(|placed| placed.as_count(9_999).unwrap()).sum();
                 assert_eq!(placed, quads[passes]);
             }
         }

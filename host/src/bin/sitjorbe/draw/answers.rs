@@ -38,8 +38,10 @@ pub const PATHS: [(&str, Answer); 8] = [
 /// Sweeps of a run's field, and its passes: those of the command.
 pub const SWEEPS: usize = 400;
 pub const PASSES: usize = 600;
-/// Outlines with more samples aren't paved here: the memory of each run stays small enough for several at once.
-const MOST_SAMPLED: usize = 250_000;
+/// Outlines with more samples aren't paved here, so that no run takes minutes, or memory that several at once haven't got.
+const MOST_SAMPLED: usize = 50_000;
+const TOO_MANY_SAMPLES: &str =
+    "the outline has too many samples to be paved here: set a larger size, or use sitjorbe pave";
 /// So many crosses are asked for at once.
 const MOST_CROSSES: usize = 4_096;
 
@@ -104,7 +106,7 @@ fn paved(field: &Field, size: f64) -> Result<Result<Paved, Refusal>, Wrong> {
     match least_places(&Drawing::of(field).outline(), size) {
         Err(refusal) => return Ok(Err(refusal)),
         Ok(LeastPlaces { sampled_nodes, .. }) if sampled_nodes > MOST_SAMPLED => {
-            return Err(Wrong::too_much(refused::NO_MEMORY));
+            return Err(Wrong::too_much(TOO_MANY_SAMPLES));
         }
         Ok(_) => {}
     }

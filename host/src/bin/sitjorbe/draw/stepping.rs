@@ -26,7 +26,7 @@ const MOST_MOVES: usize = 100_000;
 /// So many requests wait for the thread.
 const MOST_WAITING: usize = 16;
 /// Moves that take longer than this are given up.
-const PATIENCE: Duration = Duration::from_secs(30);
+const PATIENCE: Duration = Duration::from_secs(60);
 
 /// A move of a sequence.
 #[derive(Clone, Copy, Debug, PartialEq, Eq)]
@@ -40,6 +40,13 @@ enum Move {
 impl Move {
     fn of(value: &Value) -> Option<Move> {
         asked::edge(value).map(Move::Edge).or_else(|| value.as_count(PASSES).map(Move::Passes))
+    }
+
+    fn passes(self) -> usize {
+        match self {
+            Move::Passes(count) => count,
+            Move::Edge(_) => 0,
+        }
     }
 }
 
@@ -64,12 +71,9 @@ impl Asked {
     /// How many moves at the beginning are passes. A run makes those faster than steps do, up to as many as it may make.
     fn leading(&self) -> usize {
         let mut total = 0;
-        let a_run_makes_it = |next: &&Move| match next {
-            Move::Passes(count) => {
-                total += count;
-                total <= PASSES
-            }
-            Move::Edge(_) => false,
+        let a_run_makes_it = |next: &&Move| {
+            total += next.passes();
+            matches!(next, Move::Passes(_)) && total <= PASSES
         };
         self.moves.iter().take_while(a_run_makes_it).count()
     }
@@ -259,13 +263,12 @@ impl<'a> Sequence<'a> {
         ground.opening = Some(opening.clone());
         let leading = asked.leading();
         let mut settings = Settings { size: asked.size, sweeps: SWEEPS, passes: 0 };
-        let mut outcomes = vec![];
+        let mut placed = vec![0];
         for next in &asked.moves[..leading] {
-            let Move::Passes(count) = next else { continue };
-            let before = lent.placed(&outline, &settings, ground)?;
-            settings.passes += count;
-            outcomes.push(Value::count(lent.placed(&outline, &settings, ground)? - before));
+            settings.passes += next.passes();
+            placed.push(lent.placed(&outline, &settings, ground)?);
         }
+        let outcomes = placed.windows(2).map(|pair| Value::count(pair[1] - pair[0])).collect();
         let may_grow = lent.quads < Places::MOST_QUADS;
         let stepper = Stepper::after(outline, &settings, &mut lent.memory)?;
         Ok(Sequence { stepper, opening, may_grow, leading, moves: asked.moves[..leading].to_vec(), outcomes })
@@ -301,12 +304,11 @@ impl<'a> Sequence<'a> {
     fn passes(&mut self, count: usize, until: Instant) -> Result<usize, Stopped> {
         let mut placed = 0;
         for _ in 0..count {
-            let pass = self.stepper.pass();
+            let pass = self.stepper.pass_while(|| Instant::now() < until).ok_or(LATE)?;
             placed += pass.placed;
             match pass.outcome {
-                Outcome::Full if self.may_grow => return Err(Stopped::Full),
-                Outcome::Placed if Instant::now() > until => return Err(LATE),
                 Outcome::Placed => {}
+                Outcome::Full if self.may_grow => return Err(Stopped::Full),
                 Outcome::None | Outcome::Cap | Outcome::Full => break,
             }
         }
@@ -356,4 +358,59 @@ fn preview_value(preview: &Preview<'_>) -> Value {
         ("new_d", point(preview.new_d)),
         ("front", edges_value(&preview.front().collect::<Vec<_>>())),
     ])
+}
+
+#[cfg(test)]
+mod tests {
+    use std::sync::mpsc;
+
+    use sitjorbe::{Memory, Places};
+
+    use super::{stopped, Asked, Ground, Job, Lent, Move, Sequence, Stopped};
+    use crate::csv::{Field, Point};
+    use crate::run::Drawing;
+
+    /// A square of side 2, of which four quads of size 1 can be placed.
+    fn asked(moves: &[Move], look: Option<[u32; 2]>) -> Asked {
+        let points = [[0.0, 0.0], [2.0, 0.0], [2.0, 2.0], [0.0, 2.0]].map(|[x, y]| Point { x, y, line: 0 });
+        let field = Field { loops: vec![points.to_vec()], names: vec![String::new()], notes: vec![] };
+        Asked { field, size: 1.0, moves: moves.to_vec(), look }
+    }
+
+    /// Whether moves end in lists that are full, where there are places for so many quads.
+    fn is_full(asked: &Asked, quads: usize) -> bool {
+        let drawing = Drawing::of(&asked.field);
+        let places = Places::for_outline(&drawing.outline(), asked.size, 1).unwrap();
+        let mut lent = Lent { memory: Memory::new(Places { quads, ..places }).unwrap(), quads };
+        let made = Sequence::begin(asked, &drawing, &mut lent, &mut Ground::default());
+        matches!(made.and_then(|mut made| made.advance(asked)), Err(Stopped::Full))
+    }
+
+    #[test]
+    fn full_lists_are_noticed() {
+        let first = Move::Edge([3, 4]);
+        assert!(!is_full(&asked(&[], None), 0));
+        for (moves, quads) in
+            [(vec![first], 1), (vec![first, Move::Passes(1)], 4), (vec![first, Move::Edge([5, 6])], 2)]
+        {
+            assert!(is_full(&asked(&moves, None), quads - 1), "{moves:?}");
+            assert!(!is_full(&asked(&moves, None), quads), "{moves:?}");
+        }
+        // Passes that come first are a run's, which says that it was full by as many quads as there are places for.
+        assert!(is_full(&asked(&[Move::Passes(1)], None), 3));
+        assert!(!is_full(&asked(&[Move::Passes(1)], None), 5));
+        assert!(is_full(&asked(&[], Some([3, 4])), 0), "a look");
+        assert!(!is_full(&asked(&[], Some([3, 4])), 1));
+    }
+
+    #[test]
+    fn a_job_that_fills_its_lists_is_done_again_in_longer_ones() {
+        let (reply, answer) = mpsc::sync_channel(1);
+        let mut ground = Ground { growth: 3, ..Ground::default() };
+        let again =
+            stopped(Job { asked: asked(&[], None), reply }, Stopped::Full, &mut ground).expect("it isn't answered");
+        assert_eq!((ground.growth, again.asked.moves.len()), (6, 0));
+        drop(again);
+        assert!(answer.recv().is_err(), "nothing was answered");
+    }
 }

@@ -86,6 +86,7 @@ class Hostile(unittest.TestCase):
         self.assertEqual(re.findall(r"(?:src|href)=\"(?!data:)[^\"]*\"", page), [], "nothing is fetched")
 
     def test_hosts_and_origins(self):
+        self.check(200, f"GET / HTTP/1.1\nHost: localhost:{self.server.port}\n\n")
         self.check(403, "GET / HTTP/1.1\nHost: example.org\n\n")
         self.check(400, "GET / HTTP/1.1\n\n")
         self.check(403, "POST /check HTTP/1.1\nHost: HOST\nOrigin: http://example.org\nContent-Type: application/json\nContent-Length: 2\n\n", b"{}")
@@ -306,6 +307,8 @@ class Page(unittest.TestCase):
         self.browser.wait("return document.querySelector('#patches .patch-0').getAttribute('d').length > 0")
         self.assertEqual(self.patches(), {0: [coming]})
         self.balances()
+        self.browser.wait("return document.querySelector('#front .coming') !== null")
+        self.assertNotEqual(self.paths("#front .coming"), [coming], "the next quad is shown under the pointer")
         self.browser.click("#undo-step")
         self.browser.wait("return document.querySelector('#patches .patch-0').getAttribute('d').length === 0")
         self.browser.click("[data-passes='1']")

@@ -122,8 +122,10 @@ function swatch(name) {
 }
 
 function legend(mesh) {
-  const parts = [mesh.left.length > 0 && ["open", "measured nowhere"], state.loops.length > 1 && ["blind", "blind spot"]];
-  return html("p", { class: "legend" }, ...parts.filter(Boolean).map(([name, words]) => html("span", {}, swatch(name), words)));
+  const isOpen = mesh.left.length > 0;
+  const parts = [isOpen && ["open", "measured nowhere"], state.loops.length > 1 && ["blind", "blind spot"]];
+  const advice = isOpen ? ["Smaller quads usually leave less open."] : [];
+  return html("p", { class: "legend" }, ...parts.filter(Boolean).map(([name, words]) => html("span", {}, swatch(name), words)), ...advice);
 }
 
 function percent(share) {

@@ -28,7 +28,7 @@ function showSteps(answer) {
   drawMesh();
   drawFront();
   drawCursor();
-  if (hand.edge === null && hand.over !== null && hand.hovers) lookNear(hand.over);
+  if (hand.edge === null && hand.over !== null && hand.hovers && !hand.byKeys) lookNear(hand.over);
 }
 
 function failSteps(words) {

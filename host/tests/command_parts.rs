@@ -6,7 +6,11 @@ mod csv;
 #[path = "../src/bin/sitjorbe/exact.rs"]
 #[allow(dead_code)]
 mod exact;
+#[path = "../src/bin/sitjorbe/naming.rs"]
+#[allow(dead_code)]
+mod naming;
 #[path = "../src/bin/sitjorbe/sound.rs"]
+#[allow(dead_code)]
 mod sound;
 
 mod common;

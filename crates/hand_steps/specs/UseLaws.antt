@@ -15,8 +15,8 @@ use Rattle.domain.specs.declared.Point.{Point}
 use Rattle.domain.specs.Outline.{Outline}
 use Rattle.domain.specs.Accepted.{first-zero}
 use Rattle.blocks.specs.BlockLaws.{drawn-none}
-use Rattle.index.specs.declared.Rect.{Rect}
-use Rattle.index.specs.Pool.{filed, Indexed}
+use Rattle.pools.specs.declared.Rect.{Rect}
+use Rattle.pools.specs.Pool.{filed, Indexed}
 use Rattle.direction.specs.declared.Grid.{Grid}
 use Rattle.direction.specs.Record.{FieldRecord}
 use Rattle.topology.specs.Links.{off, linkOf}

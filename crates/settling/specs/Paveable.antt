@@ -22,7 +22,7 @@ use Rattle.paving.specs.Advance.{withSnapshot}
 use Rattle.paving.specs.Reach.{Reaches, begin, snapshot, placed}
 use Rattle.books.specs.Answered.{answered}
 use Rattle.books.specs.Snapshot.{snapshot-frame, snapshot-sound}
-use Rattle.index.specs.Pool.{Indexed}
+use Rattle.pools.specs.Pool.{Indexed}
 use Rattle.indexed.specs.Rects.{nodeRects, edgeRects}
 use Rattle.attempts.specs.Seen.{TryLent}
 

@@ -7,9 +7,9 @@ use native.Mathlib.Omega.{arith}
 use lib.Dec.{leb}
 use lib.ListN.{length, getD}
 use lib.Ieee.{Float}
-use Rattle.index.specs.Pool.{cleared, Indexed}
-use Rattle.index.specs.Rects.{nodeRect}
-use Rattle.index.specs.FileLaws.{indexed-same, indexed-none}
+use Rattle.pools.specs.Pool.{cleared, Indexed}
+use Rattle.key_rects.specs.Rects.{nodeRect}
+use Rattle.pools.specs.FileLaws.{indexed-same, indexed-none}
 use Rattle.domain.specs.declared.Point.{Point}
 use Rattle.domain.specs.Outline.{Outline}
 use Rattle.direction.specs.declared.Grid.{Grid}

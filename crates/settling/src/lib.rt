@@ -144,8 +144,8 @@ pub fn file_all(
     ensures { λ r. ⌜ Searchable size (now (xs .entry)) (now (ys .entry)) (now (edges .entry)) k (now («node_pool» .exit)) (now («edge_pool» .exit))
         × (now (tried .exit) ≡ forgotten 0 (k .nodes) (now (tried .entry))) ⌝ }
 {
-    index::clear(node_pool);
-    index::clear(edge_pool);
+    pools::clear(node_pool);
+    pools::clear(edge_pool);
     let none = Counts {
         nodes: 0,
         quads: 0,

@@ -119,17 +119,17 @@ module _ (nodes count k u v : ℕ) (quads t : List ℕ) (r : ℕ) (e : r ≡ est
   answer-if-not q x z eq ex = rw (← e, z, ← eq, ← ex)
 
   -- what no refusal means
-  pub record Accepted : Type 0 where
+  pub record Answerable : Type 0 where
     pub here : k < quadCount count quads
     pub can : Estimable nodes t (quadIn quads k) u v
 
-  pub accepted : r ≡ 0 → Accepted
+  pub answerable : r ≡ 0 → Answerable
   unfolding estimateRefusal
-  accepted z =
+  answerable z =
       by (leb (quadCount count quads) k || not (isComplete nodes t (quadIn quads k))) (ltb 256 u || ltb 256 v) refl refl (sym e ∙ z)
     where
       by : (a b : Bool) → leb (quadCount count quads) k || not (isComplete nodes t (quadIn quads k)) ≡ a → ltb 256 u || ltb 256 v ≡ b
-          → cond {A = ℕ} a 18 (cond b 19 0) ≡ 0 → Accepted
+          → cond {A = ℕ} a 18 (cond b 19 0) ≡ 0 → Answerable
       by true b ea eb none = absurd (omega (arith, none))
       by false true ea eb none = absurd (omega (arith, none))
       by false false ea eb none =

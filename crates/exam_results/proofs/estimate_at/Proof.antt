@@ -3,7 +3,7 @@ use native.Mathlib.Omega.{arith}
 use mathlib.Core.Path.{sym, subst}
 use Rattle.lent_mesh.specs.declared.QuadIds.{QuadIds}
 use Rattle.lent_mesh.specs.Mesh.{quads-few}
-use Rattle.exam_results.specs.EstimateLaws.{Estimable, accepted, answer-if-refused, answer-if-not}
+use Rattle.exam_results.specs.EstimateLaws.{Estimable, answerable, answer-if-refused, answer-if-not}
 use borrow.Author.Needs.{needs}
 use Rattle.exam_results.proofs.estimate_at.Statement.{statement}
 use Rattle.exam_results.proofs.estimate_at.Tie as tie
@@ -23,7 +23,7 @@ quad-at-requires c κs =
     let at-refusal = c .before in
     let args = at-refusal .before .before .before .args in
     let ok =
-    accepted (args .nodes) (args .quad-count) (args .quad) (args .u) (args .v) (args .quads .now) (args .thresholds .now)
+    answerable (args .nodes) (args .quad-count) (args .quad) (args .u) (args .v) (args .quads .now) (args .thresholds .now)
     (at-refusal .estimate-refusal .result) (at-refusal .estimate-refusal .ensures) (c .if1 .left) in
     omega (arith, ok .here, quads-few (args .quad-count) (args .quads .now))
 
@@ -32,7 +32,7 @@ estimate-in-requires c κs =
     let at-refusal = c .before .before in
     let args = at-refusal .before .before .before .args in
     let ok =
-    accepted (args .nodes) (args .quad-count) (args .quad) (args .u) (args .v) (args .quads .now) (args .thresholds .now)
+    answerable (args .nodes) (args .quad-count) (args .quad) (args .u) (args .v) (args .quads .now) (args .thresholds .now)
     (at-refusal .estimate-refusal .result) (at-refusal .estimate-refusal .ensures) (c .before .if1 .left) in
     subst (λ (q : QuadIds). Estimable (args .nodes) (args .thresholds .now) q (args .u) (args .v)) (sym (c .quad-at .ensures)) (ok .can)
 

@@ -96,8 +96,8 @@ impl Call {
         let call = Call {
             settings: Settings {
                 size,
-                sweeps: args.number("--sweeps")?.unwrap_or(400),
-                passes: args.number("--passes")?.unwrap_or(600),
+                sweeps: args.number("--sweeps")?.unwrap_or(run::SWEEPS),
+                passes: args.number("--passes")?.unwrap_or(run::MOST_PASSES),
             },
             best: args.has("--best"),
             outputs: outputs(args)?,

@@ -13,7 +13,7 @@ use crate::json::Value;
 use crate::mesh_json::{figures_value, left_value, loops_value, mesh_values};
 use crate::naming::Naming;
 use crate::refused::{self, Place};
-use crate::run::{self, Drawing, NotPaved, Paved};
+use crate::run::{self, Drawing, NotPaved, Paved, MOST_PASSES, SWEEPS};
 use crate::sound::{self, Fault};
 use crate::svg::{self, Eye, Look};
 
@@ -35,9 +35,6 @@ pub const PATHS: [(&str, Answer); 8] = [
     ("/crosses", crosses),
 ];
 
-/// Sweeps of a run's field, and its passes: those of the command.
-pub const SWEEPS: usize = 400;
-pub const PASSES: usize = 600;
 /// Outlines with more samples aren't paved here, so that no run takes minutes, or memory that several at once haven't got.
 const MOST_SAMPLED: usize = 50_000;
 const TOO_MANY_SAMPLES: &str =
@@ -110,7 +107,7 @@ fn paved(field: &Field, size: f64) -> Result<Result<Paved, Refusal>, Wrong> {
         }
         Ok(_) => {}
     }
-    match run::pave(field, &Settings { size, sweeps: SWEEPS, passes: PASSES }) {
+    match run::pave(field, &Settings { size, sweeps: SWEEPS, passes: MOST_PASSES }) {
         Ok(paved) => Ok(Ok(paved)),
         Err(NotPaved::Refused(refusal)) => Ok(Err(refusal)),
         Err(NotPaved::NoMemory) => Err(Wrong::too_much(refused::NO_MEMORY)),

@@ -7,9 +7,8 @@ use sitjorbe::{MeshCounts, Stepper};
 use crate::exact::Exact;
 use crate::json::Value;
 
-/// Twice the signed area that a front runs round: its loops', each followed from edge to edge.
-pub fn front_area(nodes: &[[f64; 2]], front: &[[u32; 2]]) -> Exact {
-    // Each edge adds its own part of the sum over its loop, whatever loop that is.
+/// Twice the signed area that a front runs round, all its loops together: each edge adds its own part, whatever loop it is of.
+fn front_area(nodes: &[[f64; 2]], front: &[[u32; 2]]) -> Exact {
     front.iter().fold(Exact::ZERO, |sum, [a, b]| {
         let [a, b] = [a, b].map(|id| nodes[*id as usize]);
         sum.plus(&Exact::doubled_area(&[[0.0, 0.0], a, b]))
@@ -25,9 +24,9 @@ fn quad_area(nodes: &[[f64; 2]], quads: &[[u32; 4]]) -> Exact {
 #[derive(Clone, Debug)]
 pub struct Opening {
     /// The nodes of the sampled outline.
-    pub sampled: usize,
+    sampled: usize,
     /// Twice the area of the front that they make.
-    pub area: Exact,
+    area: Exact,
 }
 
 impl Opening {
@@ -42,19 +41,19 @@ impl Opening {
         let mut two = Exact::ZERO;
         two.add(2.0, 1.0);
         let number = |area: &Exact| Value::Number(area.over(&two));
-        let balance = of_quads.plus(&of_front).compared(&self.area) == Ordering::Equal;
-        let (edges, placed) = (counts.front + 2 * counts.quads, 2 * counts.nodes as usize);
+        let areas_balance = of_quads.plus(&of_front).compared(&self.area) == Ordering::Equal;
+        let counts_balance = counts.front + 2 * counts.quads + self.sampled == 2 * counts.nodes as usize;
         Value::map([
             ("nodes", Value::count(counts.nodes as usize)),
             ("quads", Value::count(counts.quads)),
             ("edges", Value::count(counts.edges)),
             ("front", Value::count(counts.front)),
             ("sampled", Value::count(self.sampled)),
-            ("counts_balance", Value::Bool(edges + self.sampled == placed)),
+            ("counts_balance", Value::Bool(counts_balance)),
             ("area_start", number(&self.area)),
             ("area_quads", number(&of_quads)),
             ("area_front", number(&of_front)),
-            ("areas_balance", Value::Bool(balance)),
+            ("areas_balance", Value::Bool(areas_balance)),
         ])
     }
 }
@@ -84,8 +83,8 @@ mod tests {
         let mut memory = Memory::new(Places::for_outline(&outline, 0.7, 1).unwrap()).unwrap();
         let mut stepper = Stepper::new(outline, 0.7, 400, &mut memory).unwrap();
         let opening = Opening::of(&mut stepper);
-        let at_first = [stepper.nodes(), vec![]].concat();
-        assert_eq!(balance(&opening, stepper.counts(), &at_first, &[], &stepper.front()), [true, true]);
+        let (sampled, whole) = (stepper.nodes(), stepper.front());
+        assert_eq!(balance(&opening, stepper.counts(), &sampled, &[], &whole), [true, true]);
         let placed = stepper.pass().placed;
         assert!(placed > 5);
         let (counts, nodes, quads, front) = (stepper.counts(), stepper.nodes(), stepper.quads(), stepper.front());

@@ -121,7 +121,7 @@ impl Server {
         self.quiet.leave(number);
         let answer = match request {
             Ok(None) => page::answer(),
-            Ok(Some((path, body))) => self.answered(&path, &body),
+            Ok(Some((path, body))) => answered(|| self.value(&path, &body)),
             Err(Unread::Wrong(wrong)) => wrong_answer(&wrong),
             Err(Unread::Gone) => return,
         };
@@ -135,14 +135,6 @@ impl Server {
         match rules::check(&asking.head, &self.hosts, is_path)? {
             Route::Page => Ok(None),
             Route::Post(path, length) => Ok(Some((path, asking.body(length)?))),
-        }
-    }
-
-    fn answered(&self, path: &str, body: &[u8]) -> Answer {
-        let answer = panic::catch_unwind(AssertUnwindSafe(|| self.value(path, body).map(|value| value.to_string())));
-        match answer.unwrap_or_else(|_| Err(Wrong::bug())) {
-            Ok(text) => json_answer(200, &text),
-            Err(wrong) => wrong_answer(&wrong),
         }
     }
 
@@ -162,6 +154,15 @@ impl Server {
     }
 }
 
+/// What is answered, also where the work panics.
+fn answered(work: impl FnOnce() -> Result<Value, Wrong>) -> Answer {
+    let text = panic::catch_unwind(AssertUnwindSafe(|| work().map(|value| value.to_string())));
+    match text.unwrap_or_else(|_| Err(Wrong::bug())) {
+        Ok(text) => json_answer(200, &text),
+        Err(wrong) => wrong_answer(&wrong),
+    }
+}
+
 fn json_answer(status: u16, text: &str) -> Answer {
     let headers = [
         "Content-Type: application/json; charset=utf-8".to_string(),
@@ -175,4 +176,17 @@ fn wrong_answer(wrong: &Wrong) -> Answer {
     let mut answer = json_answer(wrong.status, &text);
     answer.headers.extend(wrong.allow.map(|methods| format!("Allow: {methods}")));
     answer
+}
+
+#[cfg(test)]
+mod tests {
+    use super::{answered, Value};
+
+    #[test]
+    fn a_panic_is_answered() {
+        assert_eq!(answered(|| Ok(Value::Null)).status, 200);
+        let answer = answered(|| panic!("a test's panic, which is caught"));
+        assert_eq!(answer.status, 500);
+        assert!(String::from_utf8(answer.body).unwrap().starts_with("{\"error\":\"a bug: "));
+    }
 }

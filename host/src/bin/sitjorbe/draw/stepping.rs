@@ -6,15 +6,15 @@ use std::sync::mpsc::{self, Receiver, SyncSender};
 use std::thread;
 use std::time::{Duration, Instant};
 
-use sitjorbe::{least_places, Memory, Outcome, Outline, Places, Preview, Refusal, Settings, Stepper};
+use sitjorbe::{least_places, End, Memory, Outcome, Outline, Places, Preview, Refusal, Settings, Stepper};
 
 use crate::csv::Field;
 use crate::json::Value;
 use crate::mesh_json::{id_lists, mesh_values};
 use crate::refused::NO_MEMORY;
-use crate::run::Drawing;
+use crate::run::{Drawing, MOST_PASSES, SWEEPS};
 
-use super::answers::{refusal_value, refused, PASSES, SWEEPS};
+use super::answers::{refusal_value, refused};
 use super::asked;
 use super::books::Opening;
 use super::wrong::Wrong;
@@ -39,7 +39,7 @@ enum Move {
 
 impl Move {
     fn of(value: &Value) -> Option<Move> {
-        asked::edge(value).map(Move::Edge).or_else(|| value.as_count(PASSES).map(Move::Passes))
+        asked::edge(value).map(Move::Edge).or_else(|| value.as_count(MOST_PASSES).map(Move::Passes))
     }
 
     fn passes(self) -> usize {
@@ -73,7 +73,7 @@ impl Asked {
         let mut total = 0;
         let a_run_makes_it = |next: &&Move| {
             total += next.passes();
-            matches!(next, Move::Passes(_)) && total <= PASSES
+            matches!(next, Move::Passes(_)) && total <= MOST_PASSES
         };
         self.moves.iter().take_while(a_run_makes_it).count()
     }
@@ -129,6 +129,16 @@ struct Ground {
     opening: Option<Opening>,
     /// The quads after so many passes of a run.
     placed: HashMap<usize, usize>,
+    /// The passes after which a run places nothing more, and its quads then.
+    still: Option<(usize, usize)>,
+}
+
+impl Ground {
+    /// The quads after so many passes of a run, if that is known.
+    fn placed(&self, passes: usize) -> Option<usize> {
+        let still = self.still.filter(|(after, _)| passes >= *after).map(|(_, quads)| quads);
+        still.or_else(|| self.placed.get(&passes).copied())
+    }
 }
 
 /// Why moves weren't all made.
@@ -146,6 +156,14 @@ impl From<Refusal> for Stopped {
 }
 
 const LATE: Stopped = Stopped::TooMuch("this takes too long: ask for fewer passes, or set a larger size");
+
+fn check_time(until: Instant) -> Result<(), Stopped> {
+    if Instant::now() < until {
+        Ok(())
+    } else {
+        Err(LATE)
+    }
+}
 
 fn serve(jobs: &Receiver<Job>) {
     let (mut next, mut ground) = (None, Ground::default());
@@ -169,17 +187,19 @@ fn sequence(first: Job, jobs: &Receiver<Job>, ground: &mut Ground) -> Option<Job
         Ok(lent) => lent,
         Err(why) => return stopped(first, why, ground),
     };
-    let mut made = match Sequence::begin(&first.asked, &drawing, &mut lent, ground) {
+    let mut until = Instant::now() + PATIENCE;
+    let mut made = match Sequence::begin(&first.asked, &drawing, &mut lent, ground, until) {
         Ok(made) => made,
         Err(why) => return stopped(first, why, ground),
     };
     let mut job = first;
     loop {
-        match made.advance(&job.asked) {
+        match made.advance(&job.asked, until) {
             Ok(answer) => job.answer(Ok(answer)),
             Err(why) => return stopped(job, why, ground),
         }
         job = jobs.recv().ok()?;
+        until = Instant::now() + PATIENCE;
         if job.asked.key() != ground.key || !made.goes_on(&job.asked) {
             return Some(job);
         }
@@ -224,14 +244,18 @@ impl Lent {
 
     /// The quads that a run of so many passes places.
     fn placed(&mut self, outline: &Outline<'_>, settings: &Settings, ground: &mut Ground) -> Result<usize, Stopped> {
-        if let Some(quads) = ground.placed.get(&settings.passes) {
-            return Ok(*quads);
+        if let Some(quads) = ground.placed(settings.passes) {
+            return Ok(quads);
         }
-        let quads = self.memory.pave(outline, settings)?.quad_count();
+        let mesh = self.memory.pave(outline, settings)?;
+        let (quads, end) = (mesh.quad_count(), mesh.end());
         if self.is_full(quads) {
             return Err(Stopped::Full);
         }
         ground.placed.insert(settings.passes, quads);
+        if end == End::Still {
+            ground.still = Some((settings.passes, quads));
+        }
         Ok(quads)
     }
 }
@@ -245,6 +269,8 @@ struct Sequence<'a> {
     leading: usize,
     moves: Vec<Move>,
     outcomes: Vec<Value>,
+    /// Whether a pass has placed nothing, or stopped at the cap, and no step has placed anything since: then no pass does.
+    is_still: bool,
 }
 
 impl<'a> Sequence<'a> {
@@ -254,6 +280,7 @@ impl<'a> Sequence<'a> {
         drawing: &'a Drawing,
         lent: &'a mut Lent,
         ground: &mut Ground,
+        until: Instant,
     ) -> Result<Sequence<'a>, Stopped> {
         let outline = drawing.outline();
         let opening = match &ground.opening {
@@ -265,13 +292,15 @@ impl<'a> Sequence<'a> {
         let mut settings = Settings { size: asked.size, sweeps: SWEEPS, passes: 0 };
         let mut placed = vec![0];
         for next in &asked.moves[..leading] {
+            check_time(until)?;
             settings.passes += next.passes();
             placed.push(lent.placed(&outline, &settings, ground)?);
         }
         let outcomes = placed.windows(2).map(|pair| Value::count(pair[1] - pair[0])).collect();
-        let may_grow = lent.quads < Places::MOST_QUADS;
+        let (may_grow, moves) = (lent.quads < Places::MOST_QUADS, asked.moves[..leading].to_vec());
+        let is_still = ground.still.is_some_and(|(after, _)| settings.passes >= after);
         let stepper = Stepper::after(outline, &settings, &mut lent.memory)?;
-        Ok(Sequence { stepper, opening, may_grow, leading, moves: asked.moves[..leading].to_vec(), outcomes })
+        Ok(Sequence { stepper, opening, may_grow, leading, moves, outcomes, is_still })
     }
 
     /// Whether what is asked goes on from here.
@@ -280,22 +309,22 @@ impl<'a> Sequence<'a> {
     }
 
     /// Makes the moves that are missing, and answers the mesh that they leave.
-    fn advance(&mut self, asked: &Asked) -> Result<Value, Stopped> {
-        let until = Instant::now() + PATIENCE;
+    fn advance(&mut self, asked: &Asked, until: Instant) -> Result<Value, Stopped> {
         for (place, next) in asked.moves.iter().enumerate().skip(self.moves.len()) {
+            check_time(until)?;
             let outcome = match next {
                 Move::Passes(count) => Value::count(self.passes(*count, until)?),
                 Move::Edge(edge) => match self.stepper.step(*edge) {
                     Ok(Outcome::Full) if self.may_grow => return Err(Stopped::Full),
-                    Ok(outcome) => Value::text(&outcome.to_string()),
+                    Ok(outcome) => {
+                        self.is_still &= outcome != Outcome::Placed;
+                        Value::text(&outcome.to_string())
+                    }
                     Err(refusal) => return Ok(refused_move(&asked.field, refusal, place)),
                 },
             };
             self.moves.push(*next);
             self.outcomes.push(outcome);
-            if Instant::now() > until {
-                return Err(LATE);
-            }
         }
         self.value(asked)
     }
@@ -304,12 +333,14 @@ impl<'a> Sequence<'a> {
     fn passes(&mut self, count: usize, until: Instant) -> Result<usize, Stopped> {
         let mut placed = 0;
         for _ in 0..count {
-            let pass = self.stepper.pass_while(|| Instant::now() < until).ok_or(LATE)?;
+            if self.is_still {
+                break;
+            }
+            let pass = self.stepper.pass_while(|| check_time(until).is_ok()).ok_or(LATE)?;
             placed += pass.placed;
             match pass.outcome {
-                Outcome::Placed => {}
                 Outcome::Full if self.may_grow => return Err(Stopped::Full),
-                Outcome::None | Outcome::Cap | Outcome::Full => break,
+                outcome => self.is_still = outcome != Outcome::Placed,
             }
         }
         Ok(placed)
@@ -363,11 +394,14 @@ fn preview_value(preview: &Preview<'_>) -> Value {
 #[cfg(test)]
 mod tests {
     use std::sync::mpsc;
+    use std::thread;
+    use std::time::{Duration, Instant};
 
     use sitjorbe::{Memory, Places};
 
-    use super::{stopped, Asked, Ground, Job, Lent, Move, Sequence, Stopped};
+    use super::{stopped, Asked, Ground, Job, Lent, Move, Sequence, Stepping, Stopped, PATIENCE};
     use crate::csv::{Field, Point};
+    use crate::json;
     use crate::run::Drawing;
 
     /// A square of side 2, of which four quads of size 1 can be placed.
@@ -377,13 +411,18 @@ mod tests {
         Asked { field, size: 1.0, moves: moves.to_vec(), look }
     }
 
-    /// Whether moves end in lists that are full, where there are places for so many quads.
-    fn is_full(asked: &Asked, quads: usize) -> bool {
+    /// Why moves end where there are places for so many quads, if they do.
+    fn ends(asked: &Asked, quads: usize, time: Duration) -> Option<Stopped> {
         let drawing = Drawing::of(&asked.field);
         let places = Places::for_outline(&drawing.outline(), asked.size, 1).unwrap();
         let mut lent = Lent { memory: Memory::new(Places { quads, ..places }).unwrap(), quads };
-        let made = Sequence::begin(asked, &drawing, &mut lent, &mut Ground::default());
-        matches!(made.and_then(|mut made| made.advance(asked)), Err(Stopped::Full))
+        let until = Instant::now() + time;
+        let made = Sequence::begin(asked, &drawing, &mut lent, &mut Ground::default(), until);
+        made.and_then(|mut made| made.advance(asked, until)).err()
+    }
+
+    fn is_full(asked: &Asked, quads: usize) -> bool {
+        matches!(ends(asked, quads, PATIENCE), Some(Stopped::Full))
     }
 
     #[test]
@@ -401,6 +440,25 @@ mod tests {
         assert!(!is_full(&asked(&[Move::Passes(1)], None), 5));
         assert!(is_full(&asked(&[], Some([3, 4])), 0), "a look");
         assert!(!is_full(&asked(&[], Some([3, 4])), 1));
+    }
+
+    #[test]
+    fn what_takes_too_long_is_given_up() {
+        for moves in [vec![Move::Passes(1)], vec![Move::Edge([3, 4])], vec![Move::Edge([3, 4]), Move::Passes(600)]] {
+            assert!(ends(&asked(&moves, None), 99, PATIENCE).is_none());
+            assert!(matches!(ends(&asked(&moves, None), 99, Duration::ZERO), Some(Stopped::TooMuch(_))), "{moves:?}");
+        }
+        assert!(ends(&asked(&[], Some([3, 4])), 99, Duration::ZERO).is_none(), "nothing is to be done");
+    }
+
+    /// Where the thread drops a job, since it panicked, that is said.
+    #[test]
+    fn a_job_that_is_dropped_is_a_bug() {
+        let (jobs, asked) = mpsc::sync_channel(1);
+        let thread = thread::spawn(move || drop(asked.recv()));
+        let body = json::parse(r#"{"loops":[],"size":1,"moves":[]}"#).unwrap();
+        assert_eq!(Stepping { jobs }.answer(&body).unwrap_err().status, 500);
+        thread.join().unwrap();
     }
 
     #[test]

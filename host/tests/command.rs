@@ -765,7 +765,8 @@ fn hostile_meshes() {
 /// A call that goes on until it is ended: it says its address first.
 fn serves(line: &str, folder: &Path) {
     let mut command = Command::new("bash");
-    let mut child = command.args(["-c", &format!("exec {line}")]).current_dir(folder).stdout(Stdio::piped()).spawn().expect("bash");
+    let mut child =
+        command.args(["-c", &format!("exec {line}")]).current_dir(folder).stdout(Stdio::piped()).spawn().expect("bash");
     let mut address = String::new();
     BufReader::new(child.stdout.take().expect("it is piped")).read_line(&mut address).expect("a line");
     child.kill().expect("it runs");

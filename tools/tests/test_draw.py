@@ -269,6 +269,7 @@ class Page(unittest.TestCase):
         self.run_("document.getElementById('size').select()")
         self.browser.type("#size", "1000")
         self.waits_for_words("#said", "the element size")
+        self.assertEqual(self.run_("return document.getElementById('size').getAttribute('aria-invalid')"), "true")
         self.assertEqual(self.patches(), {})
 
     def test_unsound_places_are_marked(self):

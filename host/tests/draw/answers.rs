@@ -29,6 +29,9 @@ fn command(words: &[&str]) -> String {
     String::from_utf8(output.stdout).expect("text")
 }
 
+/// The parts of the page's script, in their order.
+const SCRIPTS: [&str; 10] = ["state", "ask", "view", "shapes", "panel", "drawing", "steps", "files", "surface", "page"];
+
 #[test]
 fn the_page() {
     let server = Server::start();
@@ -57,19 +60,22 @@ fn the_page() {
         ];
         assert_eq!(rest, rules.join("; "));
         let page = said.text();
-        assert!(page.contains(&format!("<script nonce=\"{nonce}\">")), "the script may run");
+        assert!(page.contains(&format!("<script type=\"module\" nonce=\"{nonce}\">")), "the script may run");
         assert!(page.contains(&format!("<style nonce=\"{nonce}\">")), "the style holds");
         nonce.to_string()
     });
     assert_ne!(nonces[0], nonces[1]);
     // The whole page is there: what is put into it is neither cut off nor changed.
-    let folder = root().join("host/src/bin/sitjorbe/draw");
+    let folder = root().join("host/src/bin/sitjorbe/draw/page");
     let kept = |name: &str| fs::read_to_string(folder.join(name)).expect("a part of the page");
+    let script: String = SCRIPTS.iter().map(|name| kept(&format!("{name}.js"))).collect();
     let page = kept("page.html").replace("{{nonce}}", &nonces[0]);
-    let page = page.replace("{{style}}", &kept("page.css")).replace("{{script}}", &kept("page.js"));
+    let page = page.replace("{{style}}", &kept("page.css")).replace("{{script}}", &script);
     assert!(one.text() == page);
-    assert!(!kept("page.js").contains("</script") && !kept("page.css").contains("</style"));
-    assert_eq!(page.matches("<script").count(), page.matches(&format!("<script nonce=\"{}\"", nonces[0])).count());
+    assert!(!script.contains("</script") && !kept("page.css").contains("</style"));
+    assert_eq!([page.matches("<script").count(), page.matches("<style").count()], [1, 1], "none is without a nonce");
+    let parts = fs::read_dir(&folder).expect("a folder").count();
+    assert_eq!(parts, SCRIPTS.len() + 2, "every part is in the page");
 }
 
 /// The examples are the repository's, and the mesh of each is what the library makes and the command writes.

@@ -12,6 +12,9 @@ const GOING_ON = "Go on round. Click the first point, or press Enter, to close t
 const REPLACES = "Click round the new outline; it takes the place of the old one once it is closed.";
 const NO_OUTLINE = "Draw the outline first, or open an example.";
 
+/** The refusals that concern the size. */
+const SIZE_REFUSALS = [5, 6];
+
 /** Says something to those who don't see the surface. */
 function tell(words) {
   part("live").textContent = words;
@@ -97,6 +100,7 @@ function counted(count, one) {
 function showResult(answer, wrong = answer?.refusal?.words) {
   const { faults = [], mesh = null } = answer ?? {};
   put("said", ...saidOf(wrong, faults, mesh));
+  part("size").setAttribute("aria-invalid", SIZE_REFUSALS.includes(answer?.refusal?.number));
   put("faults", ...faults.map(({ words }) => html("li", {}, sentence(words))));
   put("notes", ...(mesh?.notes ?? []).map((words) => html("li", {}, sentence(words))));
   const share = mesh?.figures.share ?? null;
@@ -124,7 +128,7 @@ function swatch(name) {
 function legend(mesh) {
   const isOpen = mesh.left.length > 0;
   const parts = [isOpen && ["open", "measured nowhere"], state.loops.length > 1 && ["blind", "blind spot"]];
-  const advice = isOpen ? ["Smaller quads usually leave less open."] : [];
+  const advice = isOpen ? [html("br"), "Smaller quads usually leave less open."] : [];
   return html("p", { class: "legend" }, ...parts.filter(Boolean).map(([name, words]) => html("span", {}, swatch(name), words)), ...advice);
 }
 

@@ -118,11 +118,20 @@ impl Stepping {
         Stepping { jobs }
     }
 
-    pub fn answer(&self, body: &Value) -> Reply {
+    pub fn ask(&self, body: &Value) -> Result<Waiting, Wrong> {
         let (reply, answer) = mpsc::sync_channel(1);
         self.jobs.try_send(Job { asked: Asked::of(body)?, reply, until: None }).map_err(|_| Wrong::busy())?;
-        // The thread drops what it was asked where something is amiss with it.
-        answer.recv().unwrap_or_else(|_| Err(Wrong::bug()))
+        Ok(Waiting(answer))
+    }
+}
+
+/// Waits for what was asked.
+pub struct Waiting(Receiver<Reply>);
+
+impl Waiting {
+    pub fn answer(self) -> Reply {
+        // The thread drops a job in which it panics.
+        self.0.recv().unwrap_or_else(|_| Err(Wrong::bug()))
     }
 }
 
@@ -274,7 +283,7 @@ struct Sequence<'a> {
     leading: usize,
     moves: Vec<Move>,
     outcomes: Vec<Value>,
-    /// Whether a pass has placed nothing, or stopped at the cap, and no step has placed anything since: then no pass does.
+    /// Whether a pass has placed nothing, having tried every edge, or has stopped at the cap: then no step and no pass places anything any more.
     is_still: bool,
 }
 
@@ -321,10 +330,7 @@ impl<'a> Sequence<'a> {
                 Move::Passes(count) => Value::count(self.passes(*count, until)?),
                 Move::Edge(edge) => match self.stepper.step(*edge) {
                     Ok(Outcome::Full) if self.may_grow => return Err(Stopped::Full),
-                    Ok(outcome) => {
-                        self.is_still &= outcome != Outcome::Placed;
-                        Value::text(&outcome.to_string())
-                    }
+                    Ok(outcome) => Value::text(&outcome.to_string()),
                     Err(refusal) => return Ok(refused_move(&asked.field, refusal, place)),
                 },
             };
@@ -462,7 +468,7 @@ mod tests {
         let (jobs, asked) = mpsc::sync_channel(1);
         let thread = thread::spawn(move || drop(asked.recv()));
         let body = json::parse(r#"{"loops":[],"size":1,"moves":[]}"#).unwrap();
-        assert_eq!(Stepping { jobs }.answer(&body).unwrap_err().status, 500);
+        assert_eq!(Stepping { jobs }.ask(&body).unwrap().answer().unwrap_err().status, 500);
         thread.join().unwrap();
     }
 

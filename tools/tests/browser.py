@@ -110,7 +110,7 @@ class Browser:
 
     def pointer(self, *steps, kind="mouse"):
         """Steps: places (x, y) in the window, "down" and "up"."""
-        down = [{"type": "pointerMove", "duration": 10, "x": round(step[0]), "y": round(step[1])} if isinstance(step, tuple)
+        down = [{"type": "pointerMove", "duration": 0, "x": round(step[0]), "y": round(step[1])} if isinstance(step, tuple)
                 else {"type": {"down": "pointerDown", "up": "pointerUp"}[step], "button": 0} for step in steps]
         self.act({"type": "pointer", "id": kind, "parameters": {"pointerType": kind}, "actions": down})
 

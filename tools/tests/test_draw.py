@@ -19,6 +19,11 @@ from common import ROOT
 COMMAND = ROOT / "host/target/release/sitjorbe"
 SQUARE = [(-10, -10), (10, -10), (10, 10), (-10, 10)]
 SPOT = [(2, -2), (2, 2), (6, 2), (6, -2)]
+# The page's colours: of words, with their ground, and of marks on the sheet.
+WORDS_ON = [("ink", "ground"), ("ink", "sheet"), ("ink", "control"), ("ink", "wrong-ground"), ("faint", "ground"), ("faint", "sheet"), ("wrong", "sheet"),
+            ("on-accent", "accent")]
+MARKS = ["lit", "preview", "wrong", "open", "accent"]
+COLOURS = sorted({*MARKS, *(name for pair in WORDS_ON for name in pair)})
 STATE = "return JSON.parse(sessionStorage.getItem('sitjorbe-draw-1')).state"
 
 
@@ -241,6 +246,15 @@ class Page(unittest.TestCase):
         self.waits_for_words("#verdict", "is paved")
         self.assertEqual(self.patches(), command_mesh([points], 3))
 
+    def test_a_stroke_goes_on_from_points(self):
+        self.press_at((-10, -10), (10, -10))
+        self.browser.pointer(self.at(12, 0), "down", self.at(12, 5), self.at(8, 12))
+        self.assertIn((12.0, 5.0), [point for line in self.paths("#loops .draft") for point in line], "it is seen while it is drawn")
+        self.browser.pointer("up")
+        self.browser.press("Enter")
+        self.waits_for_words("#verdict", "is paved")
+        self.assertEqual(self.loops(), [[(-10, -10), (10, -10), (12, 0), (12, 5), (8, 12)]])
+
     def test_size_and_eye(self):
         self.opens("24-2")
         self.assertIn("All of the field is paved.", self.text("#verdict"))
@@ -442,18 +456,19 @@ class Page(unittest.TestCase):
             for width in (1280, 640, 400, 320):
                 self.browser.chrome("Emulation.setDeviceMetricsOverride", width=width, height=800, deviceScaleFactor=1, mobile=False)
                 self.assertLessEqual(self.run_("return document.documentElement.scrollWidth"), width, mode)
-                wide = "return [...document.querySelectorAll('main :not(.unseen)')].filter((one) => one.clientWidth > 1 && one.scrollWidth > one.clientWidth + 1 && one.tagName !== 'INPUT').map((one) => one.outerHTML)"
+                wide = """return [...document.querySelectorAll('main :not(.unseen)')].filter((one) =>
+                  one.clientWidth > 1 && one.scrollWidth > one.clientWidth + 1 && one.tagName !== 'INPUT').map((one) => one.outerHTML)"""
                 self.assertEqual(self.run_(wide), [], (mode, width))
         self.browser.chrome("Emulation.clearDeviceMetricsOverride")
 
     def test_words_are_told_from_their_ground(self):
         for scheme in ("light", "dark"):
             self.browser.chrome("Emulation.setEmulatedMedia", features=[{"name": "prefers-color-scheme", "value": scheme}])
-            colours = self.run_("const style = getComputedStyle(document.documentElement); return Object.fromEntries(arguments[0].map((name) => [name, style.getPropertyValue('--' + name)]))",
-                                ["ink", "faint", "ground", "sheet", "control", "wrong", "wrong-ground", "accent", "on-accent", "lit", "preview", "open"])
-            for words, ground in [("ink", "ground"), ("ink", "sheet"), ("ink", "control"), ("ink", "wrong-ground"), ("faint", "ground"), ("faint", "sheet"), ("wrong", "sheet"), ("on-accent", "accent")]:
+            colours = self.run_("""const style = getComputedStyle(document.documentElement);
+              return Object.fromEntries(arguments[0].map((name) => [name, style.getPropertyValue('--' + name)]))""", COLOURS)
+            for words, ground in WORDS_ON:
                 self.assertGreaterEqual(contrast(colours[words], colours[ground]), 4.5, (scheme, words, ground))
-            for mark in ("lit", "preview", "wrong", "open", "accent"):
+            for mark in MARKS:
                 self.assertGreaterEqual(contrast(colours[mark], colours["sheet"]), 3, (scheme, mark))
         self.browser.chrome("Emulation.setEmulatedMedia", features=[])
 

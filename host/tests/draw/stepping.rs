@@ -217,6 +217,28 @@ fn moves_that_are_refused() {
     assert_eq!(list(&answer, "quads").len(), 1);
 }
 
+/// Where the lists that are lent at first are too short, nothing of that is seen: the moves are made again in longer ones.
+#[test]
+fn no_sequence_is_full() {
+    let server = Server::start();
+    let (loops, size) = (vec![square(54.0)], 0.2);
+    let drawing = drawing(&loops);
+    let settings = Settings { size, sweeps: 400, passes: 600 };
+    let run = |growth: usize| {
+        let mut memory = Memory::new(Places::for_outline(&drawing.outline(), size, growth).unwrap()).unwrap();
+        let mesh = memory.pave(&drawing.outline(), &settings).unwrap();
+        let edge = mesh.front().next().expect("an open mesh");
+        (mesh.end(), mesh.quad_count(), edge)
+    };
+    assert_eq!(run(1).0, End::Full);
+    let (end, quads, edge) = run(2);
+    assert_eq!(end, End::Still);
+    let answer = server.value("/step", &asked(&loops, size, &[Move::Passes(600), Move::Edge(edge)], Some(edge)));
+    assert_eq!(list(&answer, "outcomes"), [Value::count(quads), Value::text("none")]);
+    assert_eq!(text(part(&answer, "preview"), "outcome"), "none");
+    assert_eq!(list(&answer, "quads").len(), quads);
+}
+
 /// An outline of up to 20,000 samples can be stepped.
 #[test]
 fn too_much_to_be_stepped() {

@@ -121,7 +121,7 @@ impl Server {
         self.quiet.leave(number);
         let answer = match request {
             Ok(None) => page::answer(),
-            Ok(Some((path, body))) => answered(|| self.value(&path, &body)),
+            Ok(Some((path, body))) => answered(|| self.text(&path, &body)),
             Err(Unread::Wrong(wrong)) => wrong_answer(&wrong),
             Err(Unread::Gone) => return,
         };
@@ -138,25 +138,32 @@ impl Server {
         }
     }
 
-    fn value(&self, path: &str, body: &[u8]) -> Result<Value, Wrong> {
-        let text = std::str::from_utf8(body).map_err(|_| Wrong::shape("the body isn't UTF-8 text"))?;
-        let body = json::parse(text).map_err(|words| Wrong::shape(&words))?;
-        if !matches!(body, Value::Map(_)) {
-            return Err(Wrong::shape("the body isn't a map of JSON"));
+    /// The answer to a body, as text. All that takes memory is done in its turn; who waits for the thread that steps needs none.
+    fn text(&self, path: &str, body: &[u8]) -> Result<String, Wrong> {
+        let turn = self.turns.take().ok_or_else(Wrong::busy)?;
+        let body = body_value(body)?;
+        if let Some((_, answer)) = answers::PATHS.iter().find(|(other, _)| *other == path) {
+            return answer(&body).map(|value| value.to_string());
         }
-        match answers::PATHS.iter().find(|(other, _)| *other == path) {
-            Some((_, answer)) => {
-                let _turn = self.turns.take().ok_or_else(Wrong::busy)?;
-                answer(&body)
-            }
-            None => self.stepping.answer(&body),
-        }
+        let waiting = self.stepping.ask(&body)?;
+        drop((turn, body));
+        waiting.answer().map(|value| value.to_string())
+    }
+}
+
+/// The map that a body is.
+fn body_value(body: &[u8]) -> Result<Value, Wrong> {
+    let text = std::str::from_utf8(body).map_err(|_| Wrong::shape("the body isn't UTF-8 text"))?;
+    match json::parse(text) {
+        Ok(value @ Value::Map(_)) => Ok(value),
+        Ok(_) => Err(Wrong::shape("the body isn't a map of JSON")),
+        Err(words) => Err(Wrong::shape(&words)),
     }
 }
 
 /// What is answered, also where the work panics.
-fn answered(work: impl FnOnce() -> Result<Value, Wrong>) -> Answer {
-    let text = panic::catch_unwind(AssertUnwindSafe(|| work().map(|value| value.to_string())));
+fn answered(work: impl FnOnce() -> Result<String, Wrong>) -> Answer {
+    let text = panic::catch_unwind(AssertUnwindSafe(work));
     match text.unwrap_or_else(|_| Err(Wrong::bug())) {
         Ok(text) => json_answer(200, &text),
         Err(wrong) => wrong_answer(&wrong),
@@ -180,11 +187,11 @@ fn wrong_answer(wrong: &Wrong) -> Answer {
 
 #[cfg(test)]
 mod tests {
-    use super::{answered, Value};
+    use super::answered;
 
     #[test]
     fn a_panic_is_answered() {
-        assert_eq!(answered(|| Ok(Value::Null)).status, 200);
+        assert_eq!(answered(|| Ok("null".to_string())).status, 200);
         let answer = answered(|| panic!("a test's panic, which is caught"));
         assert_eq!(answer.status, 500);
         assert!(String::from_utf8(answer.body).unwrap().starts_with("{\"error\":\"a bug: "));

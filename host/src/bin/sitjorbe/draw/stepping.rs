@@ -91,9 +91,15 @@ type Reply = Result<Value, Wrong>;
 struct Job {
     asked: Asked,
     reply: SyncSender<Reply>,
+    /// When it is given up, once it has been begun.
+    until: Option<Instant>,
 }
 
 impl Job {
+    fn begin(&mut self) -> Instant {
+        *self.until.get_or_insert_with(|| Instant::now() + PATIENCE)
+    }
+
     fn answer(self, reply: Reply) {
         // Where the client has gone there is nobody to tell.
         let _ = self.reply.send(reply);
@@ -112,11 +118,20 @@ impl Stepping {
         Stepping { jobs }
     }
 
-    pub fn answer(&self, body: &Value) -> Reply {
+    pub fn ask(&self, body: &Value) -> Result<Waiting, Wrong> {
         let (reply, answer) = mpsc::sync_channel(1);
-        self.jobs.try_send(Job { asked: Asked::of(body)?, reply }).map_err(|_| Wrong::busy())?;
-        // The thread drops what it was asked where something is amiss with it.
-        answer.recv().unwrap_or_else(|_| Err(Wrong::bug()))
+        self.jobs.try_send(Job { asked: Asked::of(body)?, reply, until: None }).map_err(|_| Wrong::busy())?;
+        Ok(Waiting(answer))
+    }
+}
+
+/// Waits for what was asked.
+pub struct Waiting(Receiver<Reply>);
+
+impl Waiting {
+    pub fn answer(self) -> Reply {
+        // The thread drops a job in which it panics.
+        self.0.recv().unwrap_or_else(|_| Err(Wrong::bug()))
     }
 }
 
@@ -177,8 +192,8 @@ fn serve(jobs: &Receiver<Job>) {
 }
 
 /// Answers jobs as long as each goes on from the one before; what is next then, if that is known.
-fn sequence(first: Job, jobs: &Receiver<Job>, ground: &mut Ground) -> Option<Job> {
-    let key = first.asked.key();
+fn sequence(mut first: Job, jobs: &Receiver<Job>, ground: &mut Ground) -> Option<Job> {
+    let (key, mut until) = (first.asked.key(), first.begin());
     if ground.key != key {
         *ground = Ground { key, growth: 1, ..Ground::default() };
     }
@@ -187,7 +202,6 @@ fn sequence(first: Job, jobs: &Receiver<Job>, ground: &mut Ground) -> Option<Job
         Ok(lent) => lent,
         Err(why) => return stopped(first, why, ground),
     };
-    let mut until = Instant::now() + PATIENCE;
     let mut made = match Sequence::begin(&first.asked, &drawing, &mut lent, ground, until) {
         Ok(made) => made,
         Err(why) => return stopped(first, why, ground),
@@ -199,7 +213,7 @@ fn sequence(first: Job, jobs: &Receiver<Job>, ground: &mut Ground) -> Option<Job
             Err(why) => return stopped(job, why, ground),
         }
         job = jobs.recv().ok()?;
-        until = Instant::now() + PATIENCE;
+        until = job.begin();
         if job.asked.key() != ground.key || !made.goes_on(&job.asked) {
             return Some(job);
         }
@@ -269,7 +283,7 @@ struct Sequence<'a> {
     leading: usize,
     moves: Vec<Move>,
     outcomes: Vec<Value>,
-    /// Whether a pass has placed nothing, or stopped at the cap, and no step has placed anything since: then no pass does.
+    /// Whether a pass has placed nothing, having tried every edge, or has stopped at the cap: then no step and no pass places anything any more.
     is_still: bool,
 }
 
@@ -316,10 +330,7 @@ impl<'a> Sequence<'a> {
                 Move::Passes(count) => Value::count(self.passes(*count, until)?),
                 Move::Edge(edge) => match self.stepper.step(*edge) {
                     Ok(Outcome::Full) if self.may_grow => return Err(Stopped::Full),
-                    Ok(outcome) => {
-                        self.is_still &= outcome != Outcome::Placed;
-                        Value::text(&outcome.to_string())
-                    }
+                    Ok(outcome) => Value::text(&outcome.to_string()),
                     Err(refusal) => return Ok(refused_move(&asked.field, refusal, place)),
                 },
             };
@@ -457,7 +468,7 @@ mod tests {
         let (jobs, asked) = mpsc::sync_channel(1);
         let thread = thread::spawn(move || drop(asked.recv()));
         let body = json::parse(r#"{"loops":[],"size":1,"moves":[]}"#).unwrap();
-        assert_eq!(Stepping { jobs }.answer(&body).unwrap_err().status, 500);
+        assert_eq!(Stepping { jobs }.ask(&body).unwrap().answer().unwrap_err().status, 500);
         thread.join().unwrap();
     }
 
@@ -465,8 +476,8 @@ mod tests {
     fn a_job_that_fills_its_lists_is_done_again_in_longer_ones() {
         let (reply, answer) = mpsc::sync_channel(1);
         let mut ground = Ground { growth: 3, ..Ground::default() };
-        let again =
-            stopped(Job { asked: asked(&[], None), reply }, Stopped::Full, &mut ground).expect("it isn't answered");
+        let again = stopped(Job { asked: asked(&[], None), reply, until: None }, Stopped::Full, &mut ground)
+            .expect("it isn't answered");
         assert_eq!((ground.growth, again.asked.moves.len()), (6, 0));
         drop(again);
         assert!(answer.recv().is_err(), "nothing was answered");

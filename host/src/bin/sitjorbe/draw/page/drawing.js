@@ -141,8 +141,8 @@ function removePoint() {
   change(() => {
     const { points } = state.loops[loop];
     points.splice(place, 1);
+    state.selected = points.length > 0 ? [loop, Math.min(place, points.length - 1)] : null;
     if (points.length === 0) dropLoop(loop);
-    state.selected = isPoint([loop, Math.min(place, points.length - 1)]) && points.length > 0 ? [loop, Math.min(place, points.length - 1)] : null;
   });
   tell("The point is removed.");
 }

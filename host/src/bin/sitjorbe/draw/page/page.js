@@ -83,7 +83,8 @@ function showNearest(answer, { at }) {
   shownNow.nearest = { ...answer, at };
   const { points, name } = { ...state.loops[answer.loop] };
   const next = ((answer.place + 1) % points.length) + 1;
-  const words = `${at.map(short).join(", ")} is ${answer.inside ? "inside" : "outside"} the field, ${short(answer.distance)}° from its nearest edge: “${name}”, point ${answer.place + 1} to ${next}.`;
+  const place = `${at.map(short).join(", ")} is ${answer.inside ? "inside" : "outside"} the field`;
+  const words = `${place}, ${short(answer.distance)}° from its nearest edge: “${name}”, point ${answer.place + 1} to ${next}.`;
   part("nearest-said").textContent = words;
   drawMarks();
 }

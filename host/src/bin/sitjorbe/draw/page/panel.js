@@ -52,6 +52,7 @@ function showControls() {
   part("steps").hidden = state.mode !== "step";
   part("result").hidden = state.mode === "step";
   surface.classList.toggle("moving", state.mode === "move");
+  surface.classList.remove("over");
   showPoint();
   showLoops();
 }

@@ -27,7 +27,7 @@ function pointerDown(event) {
   Object.assign(hand, { byKeys: false, carries: false, leaves: false });
   const at = within(eventPlace(event));
   hand.cursor = snapped(at);
-  hand.gesture = { begun: at, kind: kindOf(event), stroke: null, point: null, pans: false, before: snapshot() };
+  hand.gesture = { begun: at, kind: kindOf(event), isDrag: false, stroke: null, point: null, before: snapshot() };
   if (state.mode === "move") grab(at);
   drawCursor();
 }
@@ -50,7 +50,7 @@ function pointerMove(event) {
   if (hand.gesture !== null) dragged(at, event);
   else if (state.mode === "step" && hand.hovers) lookNear(at);
   else if (state.mode === "move") surface.classList.toggle("over", (pointNear(at, reachOf("mouse")) ?? segmentNear(at, reachOf("mouse"))) !== null);
-  if (state.draft !== null) drawLoops();
+  if (state.draft !== null && hand.gesture === null) drawLoops();
 }
 
 function dragged(at, event) {

@@ -98,5 +98,7 @@ pub use queries::{contains, distance_to_boundary, nearest_segment, Outline, Segm
 pub use refusal::Refusal;
 pub use small_quads::small_quads;
 pub use sound::is_sound;
-pub use step::{preview_numbers, step_numbers, Ground, MeshCounts, MeshLists, MeshRead, Outcome, Preview, Stepper};
+pub use step::{
+    preview_numbers, step_numbers, Ground, MeshCounts, MeshLists, MeshRead, Outcome, Pass, Preview, Stepper,
+};
 pub use steps::{steps, steps_numbers, NotShown, Steps, STEPS_PER_DEGREE};

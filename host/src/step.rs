@@ -248,6 +248,15 @@ impl<'a> Preview<'a> {
     }
 }
 
+/// What an automatic pass did.
+#[derive(Clone, Copy, Debug, PartialEq, Eq)]
+pub struct Pass {
+    /// The quads that it placed.
+    pub placed: usize,
+    /// [`Outcome::Full`] or [`Outcome::Cap`] where it stopped for that; else [`Outcome::Placed`] if it placed any, and [`Outcome::None`] if it placed none.
+    pub outcome: Outcome,
+}
+
 /// A front that is stepped by hand, in the lists of a [`Memory`]: it begins with the sampled outline, and each step takes the mesh that the last one left.
 #[derive(Debug)]
 pub struct Stepper<'a> {
@@ -356,6 +365,45 @@ impl<'a> Stepper<'a> {
             new_d: is_new(d).then_some([dx, dy]),
             front: &self.list[..2 * front],
         })
+    }
+
+    /// An automatic pass: takes the front edges that are there now, by their first nodes in rising order, and steps on each that is still there when its
+    /// turn comes. It stops where there is no place for a quad, and at 250,000 quads.
+    ///
+    /// What it leaves is what one more pass of [`Memory::pave`] leaves. A run is faster at it, so begin with its passes ([`Stepper::after`]) where nothing
+    /// was placed by hand yet.
+    ///
+    /// ```
+    /// use sitjorbe::{Memory, Outcome, Outline, Places, Stepper};
+    ///
+    /// let square = Outline { outer: &[0.0, 0.0, 2.0, 0.0, 2.0, 2.0, 0.0, 2.0], holes: &[], hole_lengths: &[] };
+    /// let mut memory = Memory::new(Places::for_outline(&square, 1.0, 1)?)?;
+    /// let mut stepper = Stepper::new(square, 1.0, 400, &mut memory)?;
+    /// assert_eq!(stepper.step([3, 4])?, Outcome::Placed);
+    /// let pass = stepper.pass();
+    /// assert_eq!((pass.placed, pass.outcome, stepper.counts().front), (3, Outcome::Placed, 2));
+    /// assert_eq!(stepper.pass().outcome, Outcome::None);
+    /// # Ok::<(), Box<dyn std::error::Error>>(())
+    /// ```
+    pub fn pass(&mut self) -> Pass {
+        self.pass_while(|| true).expect("it goes on")
+    }
+
+    /// The same, as long as `go_on` says so, which is asked before each edge: a pass of many edges on a large field takes long. Where it doesn't go on, none is
+    /// answered, and the quads placed so far stay.
+    pub fn pass_while(&mut self, mut go_on: impl FnMut() -> bool) -> Option<Pass> {
+        let before = self.counts.quads;
+        for edge in self.front() {
+            if !go_on() {
+                return None;
+            }
+            // An edge that is refused isn't on the front any more.
+            if let Ok(outcome @ (Outcome::Full | Outcome::Cap)) = self.step(edge) {
+                return Some(Pass { placed: self.counts.quads - before, outcome });
+            }
+        }
+        let placed = self.counts.quads - before;
+        Some(Pass { placed, outcome: if placed > 0 { Outcome::Placed } else { Outcome::None } })
     }
 
     /// The counts of the mesh as it stands.

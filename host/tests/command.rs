@@ -2,7 +2,7 @@
 
 use std::collections::HashMap;
 use std::fs;
-use std::io::Write;
+use std::io::{BufRead, BufReader, Write};
 use std::path::{Path, PathBuf};
 use std::process::{Command, Stdio};
 
@@ -762,7 +762,19 @@ fn hostile_meshes() {
 
 // ---- the documents
 
-/// Every call that the documents show, in a folder with the examples, as it is shown.
+/// A call that goes on until it is ended: it says its address first.
+fn serves(line: &str, folder: &Path) {
+    let mut command = Command::new("bash");
+    let mut child =
+        command.args(["-c", &format!("exec {line}")]).current_dir(folder).stdout(Stdio::piped()).spawn().expect("bash");
+    let mut address = String::new();
+    BufReader::new(child.stdout.take().expect("it is piped")).read_line(&mut address).expect("a line");
+    child.kill().expect("it runs");
+    child.wait().expect("it ends");
+    assert!(address.starts_with("http://127.0.0.1:"), "{line}: {address}");
+}
+
+/// Every call that the documents show, in a folder with the examples, as it is shown; but for the port, which may be taken.
 #[test]
 fn the_calls_that_the_documents_show() {
     let folder = folder("documents");
@@ -774,9 +786,13 @@ fn the_calls_that_the_documents_show() {
     for page in ["README.md", "docs/COMMAND.md", "examples/README.md", "host/README.md", "tools/README.md"] {
         let text = read(root().join(page).to_str().expect("a name"));
         for line in text.lines().map(str::trim_start).filter(|line| line.starts_with("tools/sitjorbe ")) {
+            shown += 1;
+            if line.starts_with("tools/sitjorbe draw") {
+                serves(&line.replace("8031", "0"), &folder);
+                continue;
+            }
             let output = Command::new("bash").args(["-c", line]).current_dir(&folder).output().expect("bash");
             assert!(output.status.success(), "{page}: {line}: {}", String::from_utf8_lossy(&output.stderr));
-            shown += 1;
         }
     }
     assert!(shown >= 15, "{shown} calls are shown");

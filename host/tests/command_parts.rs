@@ -6,6 +6,9 @@ mod csv;
 #[path = "../src/bin/sitjorbe/exact.rs"]
 #[allow(dead_code)]
 mod exact;
+#[path = "../src/bin/sitjorbe/naming.rs"]
+#[allow(dead_code)]
+mod naming;
 #[path = "../src/bin/sitjorbe/sound.rs"]
 mod sound;
 
@@ -16,7 +19,9 @@ use std::cmp::Ordering;
 use common::rng::Rng;
 use csv::{Field, Point};
 use exact::Exact;
+use naming::Naming;
 use sitjorbe::{is_sound, Outline};
+use sound::Fault;
 
 /// Products of whole numbers times a power of two are summed as the whole numbers are.
 #[test]
@@ -65,7 +70,7 @@ fn field(loops: Vec<Vec<[f64; 2]>>) -> Field {
         Point { x, y, line }
     };
     let loops: Vec<Vec<Point>> = loops.into_iter().map(|points| points.into_iter().map(&mut point).collect()).collect();
-    Field { names: vec![String::new(); loops.len()], loops, notes: vec![] }
+    Field { names: (0..loops.len()).map(|k| format!("loop {k}")).collect(), loops, notes: vec![] }
 }
 
 fn library_finds_sound(field: &Field) -> bool {
@@ -74,6 +79,30 @@ fn library_finds_sound(field: &Field) -> bool {
     let lengths: Vec<usize> = field.loops[1..].iter().map(Vec::len).collect();
     is_sound(&Outline { outer: &flat(&field.loops[0]), holes: &holes, hole_lengths: &lengths })
         .expect("it isn't refused")
+}
+
+/// Both wordings name the segments that a fault is about, or the hole that they are all of.
+fn names_its_segments(field: &Field, fault: &Fault) {
+    let [by_line, by_point] = [Naming::Line, Naming::Point].map(|naming| fault.in_words(field, naming));
+    let spots = fault.segments(field);
+    let line = |[k, place]: [usize; 2]| field.loops[k][place].line;
+    match fault {
+        Fault::Folded(_) | Fault::Meet(_) => {
+            let [one, other] = spots[..] else { panic!("two segments: {spots:?}") };
+            for spot in [one, other] {
+                assert!(by_line.contains(&format!("from line {} to line ", line(spot))), "{by_line}");
+                assert!(by_point.contains(&format!("from point {} to point ", spot[1] + 1)), "{by_point}");
+                assert!(by_point.contains(&format!(" of “{}”", field.names[spot[0]])), "{by_point}");
+            }
+            assert_eq!(one[0] != other[0], by_line.contains("of two loops"));
+        }
+        Fault::Outside(k) | Fault::Within(k, _) => {
+            assert_eq!(spots, (0..field.loops[*k].len()).map(|place| [*k, place]).collect::<Vec<_>>());
+            assert!(by_line.starts_with(&format!("the blind spot at line {} ", line(spots[0]))), "{by_line}");
+            assert!(by_point.starts_with(&format!("“{}” ", field.names[*k])), "{by_point}");
+        }
+        Fault::More => assert!(spots.is_empty() && by_line == by_point),
+    }
 }
 
 /// Faults are found where the library finds an outline unsound, and only there: on a lattice, where much touches, and a hair off it.
@@ -109,6 +138,7 @@ fn faults_are_found_where_the_library_finds_one() {
         let found = sound::faults(&field);
         assert_eq!(found.is_empty(), library_finds_sound(&field), "{field:?}: {found:?}");
         assert!(found.len() <= 6);
+        found.iter().for_each(|fault| names_its_segments(&field, fault));
         sound += usize::from(found.is_empty());
     }
     assert!((2_000..28_000).contains(&sound), "{sound}");

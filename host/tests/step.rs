@@ -6,7 +6,7 @@ mod common;
 use common::rng::Rng;
 use common::{bits, Drawing, Guarded};
 use sitjorbe::{
-    preview_numbers, step_numbers, FieldRecord, Ground, Memory, MeshCounts, MeshLists, MeshRead, Outcome, Places, Refusal, Settings,
+    preview_numbers, step_numbers, End, FieldRecord, Ground, Memory, MeshCounts, MeshLists, MeshRead, Outcome, Places, Refusal, Settings,
     Stepper, OFF,
 };
 
@@ -225,21 +225,56 @@ fn new_nodes_take_the_number_of_node_a() {
     assert_eq!((&mesh.origins[..8], &mesh.origins[9..]), (&before[..8], &before[9..]));
 }
 
+/// Outlines, each with a size.
+fn drawings() -> [(Drawing, f64); 4] {
+    let hole = vec![[2.0, 2.0], [2.0, 4.0], [4.0, 4.0], [4.0, 2.0]];
+    let slanted = vec![[12.0, -2.0], [11.0, 3.0], [16.0, 1.0]];
+    [
+        (Drawing::square(4.0), 1.0),
+        (Drawing::of_loops(&[vec![[0.0, 0.0], [5.0, 0.5], [6.0, 4.0], [2.0, 5.5], [-1.0, 3.0]]]), 0.7),
+        (Drawing::of_loops(&[vec![[0.0, 0.0], [6.0, 0.0], [6.0, 6.0], [0.0, 6.0]], hole]), 0.9),
+        (Drawing::of_loops(&[vec![[-30.0, 0.0], [0.0, -25.0], [28.0, 2.0], [1.0, 24.0]], slanted]), 4.0),
+    ]
+}
+
+/// A stepper's own passes leave what a run's leave, from the sampled outline on and after passes of a run; they stop where the run does.
+#[test]
+fn passes_of_a_stepper() {
+    let mut outcomes = [0; 4];
+    for (place, (drawing, size)) in drawings().into_iter().enumerate() {
+        for (quads, first) in [(200, 0), (200, 2), (9, 0)] {
+            let places = Places { quads, ..ROOM };
+            let settings = |passes| Settings { size, sweeps: 400, passes };
+            let (mut run, mut memory) = (Memory::new(places).unwrap(), Memory::new(places).unwrap());
+            let mut stepper = Stepper::after(drawing.outline(), &settings(first), &mut memory).unwrap();
+            for passes in first + 1..12 {
+                let (before, pass) = (stepper.counts().quads, stepper.pass());
+                let mesh = run.pave(&drawing.outline(), &settings(passes)).unwrap();
+                assert_eq!(pass.placed, mesh.quad_count() - before, "drawing {place}, pass {passes}");
+                assert_eq!(stepper.quads(), mesh.quads().collect::<Vec<_>>());
+                assert_eq!(stepper.front(), mesh.front().collect::<Vec<_>>());
+                assert_eq!(stepper.edges(), mesh.edges().collect::<Vec<_>>());
+                assert_eq!(stepper.origins(), mesh.origins());
+                let at = |nodes: Vec<[f64; 2]>| nodes.into_iter().map(|node| node.map(f64::to_bits)).collect::<Vec<_>>();
+                assert_eq!(at(stepper.nodes()), at(mesh.nodes().collect()));
+                let expected = match mesh.end() {
+                    End::Passes => Outcome::Placed,
+                    End::Still => Outcome::None,
+                    End::Full => Outcome::Full,
+                    End::Cap => Outcome::Cap,
+                };
+                assert_eq!(pass.outcome, expected);
+                outcomes[expected as usize] += 1;
+            }
+        }
+    }
+    assert!(outcomes[..3].iter().all(|count| *count > 10), "placed, none, full: {outcomes:?}");
+}
+
 /// Steps in the order of the passes leave what the passes leave.
 #[test]
 fn sorted_steps_are_the_passes() {
-    let drawings = [
-        (Drawing::square(4.0), 1.0),
-        (Drawing::of_loops(&[vec![[0.0, 0.0], [5.0, 0.5], [6.0, 4.0], [2.0, 5.5], [-1.0, 3.0]]]), 0.7),
-        (
-            Drawing::of_loops(&[
-                vec![[0.0, 0.0], [6.0, 0.0], [6.0, 6.0], [0.0, 6.0]],
-                vec![[2.0, 2.0], [2.0, 4.0], [4.0, 4.0], [4.0, 2.0]],
-            ]),
-            0.9,
-        ),
-    ];
-    for (drawing, size) in drawings {
+    for (drawing, size) in drawings() {
         for passes in 0..4 {
             let (_, expected) = paved(&drawing, size, passes);
             let mut memory = Memory::new(ROOM).unwrap();

@@ -91,7 +91,7 @@ class Package(unittest.TestCase):
         listed = dict(reversed(line.split("  ")) for line in (root / "SHA256SUMS").read_text().splitlines())
         there = {str(path.relative_to(root)): path for path in root.glob("**/*") if path.is_file()}
         self.assertEqual({name: hashlib.sha256(path.read_bytes()).hexdigest() for name, path in there.items() if name != "SHA256SUMS"}, listed)
-        for name in ("NOTICE", "CHANGELOG.md", "include/sitjorbe.h", "docs/FORMATS.md", "rust/Cargo.toml", "lib/libsitjorbe.so"):
+        for name in ("NOTICE", "CHANGELOG.md", "include/sitjorbe.h", "docs/FORMATS.md", "rust/Cargo.toml", "lib/libsitjorbe.so", "examples/24-2.csv"):
             self.assertIn(name, listed)
         self.assertEqual((root / "lib/libsitjorbe.a").read_bytes(), ARCHIVE.read_bytes())
         self.assertNotIn(str(ROOT), "".join(path.read_bytes().decode("latin-1") for path in there.values()), "a path of this machine")

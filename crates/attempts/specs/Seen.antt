@@ -5,7 +5,7 @@ use lib.ListN.{length}
 use lib.Ieee.{Float}
 use Rattle.domain.specs.Outline.{Outline}
 use Rattle.blocks.specs.Blocks.{Drawn}
-use Rattle.index.specs.Pool.{Indexed}
+use Rattle.pools.specs.Pool.{Indexed}
 use Rattle.direction.specs.declared.Grid.{Grid}
 use Rattle.direction.specs.Cells.{FieldLent}
 use Rattle.front.specs.declared.Counts.{Counts}

@@ -7,7 +7,7 @@ ghost use Prim.Native.Nat.{_+_, _≤_};
 ghost use lib.ListN.{length};
 ghost use Rattle.topology.specs.Links.{linkOf};
 ghost use Rattle.domain.specs.Outline.{outline};
-ghost use Rattle.index.specs.Pool.{Indexed};
+ghost use Rattle.pools.specs.Pool.{Indexed};
 ghost use Rattle.direction.specs.Record.{fieldRecord};
 ghost use Rattle.front.specs.State.{nodeIn};
 ghost use Rattle.front.specs.Neighbours.{neighbourOf};

@@ -34,8 +34,8 @@ pub fn reach(d: usize, s: &[f64], i: usize) -> f64
     requires { ⌜ 2 * i + 1 < length (now s) ⌝ }
     ensures { λ r. ⌜ r ≡ reach d (now (s .entry)) i ⌝ }
 {
-    let u = coordinate(d, domain::point_at(s, i));
-    let v = coordinate(d, domain::point_after(s, i));
+    let u = coordinate(d, outlines::point_at(s, i));
+    let v = coordinate(d, outlines::point_after(s, i));
     let w = u + (v - u);
     if d % 2 == 1 {
         numbers::max_f64(numbers::max_f64(u, v), w)
@@ -134,13 +134,13 @@ pub fn file<'a>(outer: &'a [f64], holes: &'a [f64], lens: &[usize], blocks: &mut
     requires { ⌜ outlineRefusal (outline (now outer) (now holes) (now lens)) ≡ 0 ⌝ }
     ensures { λ r. ⌜ Drawn (outline (now (outer .entry)) (now (holes .entry)) (now (lens .entry))) (now (blocks .exit)) ⌝ }
 {
-    file_loop(domain::loop_points(outer, holes, lens, 0, 0), 0, blocks);
+    file_loop(outlines::loop_points(outer, holes, lens, 0, 0), 0, blocks);
     let mut k = 0;
     let mut start = 0;
     while k < lens.len() {
         let first = first_block(outer, k + 1, start);
         file_loop(
-            domain::loop_points(outer, holes, lens, k + 1, start),
+            outlines::loop_points(outer, holes, lens, k + 1, start),
             first,
             blocks,
         );
@@ -174,7 +174,8 @@ fn crossings(p: Point, s: &[f64], from: usize, to: usize, inside: bool) -> bool
     let mut odd = inside;
     let mut i = from;
     while i < to {
-        odd = odd != domain::ray_crosses(p, domain::point_at(s, i), domain::point_after(s, i));
+        odd = odd
+            != outlines::ray_crosses(p, outlines::point_at(s, i), outlines::point_after(s, i));
         i += 1;
     }
     odd
@@ -214,7 +215,7 @@ fn in_some_hole<'a>(
         let first = first_block(outer, k + 1, start);
         if point_in_polygon(
             p,
-            domain::loop_points(outer, holes, lens, k + 1, start),
+            outlines::loop_points(outer, holes, lens, k + 1, start),
             blocks,
             first,
         ) {
@@ -237,7 +238,12 @@ pub fn contains_point<'a>(
     requires { ⌜ Drawn (outline (now outer) (now holes) (now lens)) (now blocks) ⌝ }
     ensures { λ r. ⌜ r ≡ contains (outline (now (outer .entry)) (now (holes .entry)) (now (lens .entry))) p ⌝ }
 {
-    if point_in_polygon(p, domain::loop_points(outer, holes, lens, 0, 0), blocks, 0) {
+    if point_in_polygon(
+        p,
+        outlines::loop_points(outer, holes, lens, 0, 0),
+        blocks,
+        0,
+    ) {
         !in_some_hole(outer, holes, lens, blocks, p)
     } else {
         false

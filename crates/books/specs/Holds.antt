@@ -15,7 +15,7 @@ use Rattle.front.specs.Sampling.{loopCount, sampledCount}
 use Rattle.topology.specs.Sums.{All, Even}
 use Rattle.topology.specs.LongLoops.{LongLoops}
 use Rattle.paving.specs.Loops.{frontLoops}
-use Rattle.soundness.specs.Sound.{outlineSound}
+use Rattle.sound_outlines.specs.Sound.{outlineSound}
 use Rattle.exact.specs.Units.{units}
 use Rattle.exact.specs.Corner.{Vector, step, sineAboveThird, isShort}
 use Rattle.books.specs.Book.{Book, Quad, startBook, quadAt, bookAfter, xOf, yOf, loopEdges, frontArea, quadsArea, follow}

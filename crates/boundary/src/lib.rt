@@ -47,8 +47,8 @@ pub fn loop_parts(s: &[f64], size: f64) -> u64
     let mut sum: u64 = 0;
     let mut i = 0;
     while i < n {
-        let a = domain::point_at(s, i);
-        let b = domain::point_after(s, i);
+        let a = outlines::point_at(s, i);
+        let b = outlines::point_after(s, i);
         sum = add_counts(sum, parts_of(size, geometry::distance(a, b)));
         i += 1;
     }
@@ -75,7 +75,7 @@ pub fn sampled_count<'a>(outer: &'a [f64], holes: &'a [f64], lens: &[usize], siz
     let mut start = 0;
     let mut k = 0;
     while k <= lens.len() {
-        let parts = loop_parts(domain::loop_points(outer, holes, lens, k, start), size);
+        let parts = loop_parts(outlines::loop_points(outer, holes, lens, k, start), size);
         sum = add_counts(sum, parts + parts % 2);
         start = next_start(lens, k, start);
         k += 1;
@@ -173,8 +173,8 @@ fn sample_loop(
     let mut nodes = from;
     let mut i = 0;
     while i < n {
-        let a = domain::point_at(s, i);
-        let b = domain::point_after(s, i);
+        let a = outlines::point_at(s, i);
+        let b = outlines::point_after(s, i);
         let parts = parts_of(size, geometry::distance(a, b)) as usize;
         sample_segment(a, b, parts, xs, ys, next, prev, nodes);
         nodes += parts;
@@ -194,7 +194,7 @@ fn signed_area(xs: &[f64], ys: &[f64], base: usize, n: usize) -> f64
     let mut i = 0;
     while i < n {
         let a = front::node_at(xs, ys, (base + i) as u32);
-        let b = front::node_at(xs, ys, (base + domain::after(n, i)) as u32);
+        let b = front::node_at(xs, ys, (base + outlines::after(n, i)) as u32);
         sum = sum + (a.x * b.y - b.x * a.y);
         i += 1;
     }
@@ -218,7 +218,7 @@ fn edge_length(xs: &[f64], ys: &[f64], base: usize, n: usize, turned: bool, k: u
     let b = front::node_at(
         xs,
         ys,
-        ordered_at(base, n, turned, domain::after(n, k)) as u32,
+        ordered_at(base, n, turned, outlines::after(n, k)) as u32,
     );
     geometry::distance(a, b)
 }
@@ -301,7 +301,7 @@ fn midpoint(xs: &[f64], ys: &[f64], r: Ring) -> Point
 {
     let k = r.longest as usize;
     let a = front::node_at(xs, ys, sampled_at(r, k));
-    let b = front::node_at(xs, ys, sampled_at(r, domain::after(r.count as usize, k)));
+    let b = front::node_at(xs, ys, sampled_at(r, outlines::after(r.count as usize, k)));
     Point {
         x: (a.x + b.x) / 2.0,
         y: (a.y + b.y) / 2.0,
@@ -356,7 +356,7 @@ fn link_ring(r: Ring, next: &mut [u32], prev: &mut [u32], edges: &mut [u32], e: 
     let mut i = 0;
     while i < n {
         let u = ring_at(r, i);
-        let v = ring_at(r, domain::after(n, i));
+        let v = ring_at(r, outlines::after(n, i));
         link(next, prev, edges, u, v, e + i);
         i += 1;
     }
@@ -412,7 +412,7 @@ pub fn from_boundary<'a>(
     let mut start = 0;
     let mut k = 0;
     while k <= lens.len() {
-        let s = domain::loop_points(outer, holes, lens, k, start);
+        let s = outlines::loop_points(outer, holes, lens, k, start);
         nodes = lay_loop(k, s, size, xs, ys, next, prev, edges, nodes);
         start = next_start(lens, k, start);
         k += 1;

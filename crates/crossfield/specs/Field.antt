@@ -11,11 +11,11 @@ use Rattle.domain.specs.Queries.{answerBy}
 use Rattle.blocks.specs.Blocks.{Drawn}
 use Rattle.direction.specs.declared.Grid.{Grid}
 use Rattle.direction.specs.Record.{gridNodes, FieldLists, fieldLists, FieldRecord, fieldRecord}
+use Rattle.sweeps.specs.Sweeps.{sweeps}
 use Rattle.crossfield.specs.declared.FieldAnswer.{FieldAnswer}
 use Rattle.crossfield.specs.declared.FieldAnswer.the-variants as answer-is
 use Rattle.crossfield.specs.Grid.{bounds, gridOf, sizeRefusal, boundsRefusal, sweepsRefusal}
 use Rattle.crossfield.specs.Seeds.{seeded}
-use Rattle.crossfield.specs.Sweeps.{sweeps}
 
 -- how many field nodes are lent: of the two lists the one with the fewer places counts
 abbrev pub fieldPlaces : FieldLists → ℕ

@@ -15,10 +15,11 @@ use Rattle.domain.specs.Accepted.{cond-zero, first-zero, OutlineFits, accepted}
 use Rattle.blocks.specs.Blocks.{Drawn}
 use Rattle.direction.specs.declared.Grid.{Grid}
 use Rattle.direction.specs.Record.{gridNodes, mostFieldNodes}
+use Rattle.averages.specs.Places.{FieldRoom}
 use Rattle.crossfield.specs.declared.Bounds.{Bounds}
 use Rattle.crossfield.specs.Grid.{bounds, spacing, gridOf, sizeRefusal, boundsRefusal, sweepsRefusal}
 use Rattle.crossfield.specs.Field.{placesRefusal, refusalFor}
-use Rattle.crossfield.specs.Places.{FieldRoom, count-pos}
+use Rattle.crossfield.specs.Counts.{count-pos}
 use Rattle.crossfield.specs.Box.{Box, box}
 use Rattle.crossfield.specs.Spacing.{few-enough}
 

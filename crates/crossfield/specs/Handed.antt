@@ -22,10 +22,10 @@ use Rattle.direction.specs.Record.{gridNodes, mostFieldNodes, FieldLists, Field
 use Rattle.direction.specs.Direction.{leastSpacing, mostSpacing, mostOrigin, within, countsSound, gridSound, valueUnsound}
 use Rattle.direction.specs.Direction.{recordRefusal}
 use Rattle.direction.specs.RecordLaws.{true-of}
+use Rattle.sweeps.specs.Sweeps.{sweeps}
 use Rattle.crossfield.specs.declared.Bounds.{Bounds}
 use Rattle.crossfield.specs.Grid.{bounds, gridOf, sizeRefusal}
 use Rattle.crossfield.specs.Seeds.{seeded}
-use Rattle.crossfield.specs.Sweeps.{sweeps}
 use Rattle.crossfield.specs.Field.{fieldPlaces, fieldRefusal, fieldOf}
 use Rattle.crossfield.specs.Box.{Box, box}
 use Rattle.crossfield.specs.Spacing.{Grown, spacing-held, start-size}

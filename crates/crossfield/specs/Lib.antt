@@ -1,14 +1,11 @@
 pub mod Grid
+pub mod Counts
 pub mod Seeds
-pub mod Sweeps
-pub mod TwoRows
 pub mod Field
-pub mod Places
 pub mod Box
 pub mod Spacing
 pub mod FieldLaws
 pub mod Past
-pub mod Worst
 pub mod Unit
 pub mod Sound
 pub mod Handed

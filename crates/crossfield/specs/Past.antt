@@ -15,9 +15,9 @@ use Rattle.domain.specs.Outline.{Outline}
 use Rattle.direction.specs.declared.Grid.{Grid}
 use Rattle.direction.specs.Record.{gridNodes, FieldLists, nodeAt}
 use Rattle.direction.specs.Cells.{row-in}
+use Rattle.sweeps.specs.Sweeps.{SweptField, swept, setValue, relaxed, sweepNode, sweepRow, sweep, sweepTurn, sweeps}
 use Rattle.crossfield.specs.Grid.{bounds, gridOf}
-use Rattle.crossfield.specs.Seeds.{setValue, seedNode, seedRow, seeded}
-use Rattle.crossfield.specs.Sweeps.{SweptField, swept, relaxed, sweepNode, sweepRow, sweep, sweepTurn, sweeps}
+use Rattle.crossfield.specs.Seeds.{seedNode, seedRow, seeded}
 use Rattle.crossfield.specs.Field.{fieldOf}
 
 -- ---- what a node's visit keeps of the values, every number of sweeps keeps

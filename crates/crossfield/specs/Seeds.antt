@@ -1,7 +1,6 @@
 -- Seeds and marks: each node's value from its nearest segment, by document 01's stand-ins for the angle functions. Definitions only.
 use mathlib.Core.Bool.{Bool, _&&_, cond}
-use mathlib.Core.List.{List}
-use Prim.Native.Nat.{ℕ, _+_, _*_}
+use Prim.Native.Nat.{ℕ}
 use lib.ListN.{set}
 use lib.Ieee.{Float, le}
 use Rattle.laws.specs.Loop.{forUp}
@@ -13,6 +12,7 @@ use Rattle.domain.specs.Queries.{contains, nearestSegment}
 use Rattle.geometry.specs.Plane.{tangent}
 use Rattle.direction.specs.declared.Grid.{Grid}
 use Rattle.direction.specs.Record.{FieldLists, fieldLists, nodeAt}
+use Rattle.sweeps.specs.Sweeps.{setValue}
 
 -- where node (i, j) of the grid stands
 unfoldable pub gridPoint : Grid → ℕ → ℕ → Point
@@ -36,10 +36,6 @@ isFixed o h p found = contains o p && le (found .distance) (band ⊗ h)
 -- the mark of a node: 1 where it is fixed
 abbrev pub markOf : Bool → ℕ
 markOf fixed = cond fixed 1 0
-
--- node id's value is v, and the other places are as they were
-unfoldable pub setValue : List Float → ℕ → Point → List Float
-setValue values id v = set (set values (2 * id) (v .x)) (2 * id + 1) (v .y)
 
 -- one node is seeded from its nearest segment, and marked
 unfoldable pub seedNode : Outline → Grid → ℕ → ℕ → FieldLists → FieldLists

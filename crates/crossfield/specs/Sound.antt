@@ -24,10 +24,11 @@ use Rattle.domain.specs.Accepted.{OutlineFits, PointWithin, Accepted, LoopWithi
 use Rattle.geometry.specs.Plane.{norm, tangent}
 use Rattle.direction.specs.declared.Grid.{Grid}
 use Rattle.direction.specs.Record.{FieldLists, nodeAt}
-use Rattle.crossfield.specs.Seeds.{gridPoint, seed, setValue, seedNode, seedRow, seeded}
-use Rattle.crossfield.specs.Sweeps.{plusIf, oneIf, neighbourSum, neighbourCount, normalised, average, SweptField, relaxed}
-use Rattle.crossfield.specs.Sweeps.{sweepNode, sweeps}
-use Rattle.crossfield.specs.Places.{Node, here-in, right-in, over-in}
+use Rattle.averages.specs.Average.{plusIf, oneIf, neighbourSum, neighbourCount, normalised, average}
+use Rattle.sweeps.specs.Sweeps.{SweptField, setValue, relaxed}
+use Rattle.sweeps.specs.Sweeps.{sweepNode, sweeps}
+use Rattle.averages.specs.Places.{Node, here-in, right-in, over-in}
+use Rattle.crossfield.specs.Seeds.{gridPoint, seed, seedNode, seedRow, seeded}
 use Rattle.crossfield.specs.Box.{side, outer-near, hole-near}
 use Rattle.crossfield.specs.Past.{sweeps-keep}
 use Rattle.crossfield.specs.Unit.{Most, most-more, most-add, UnitPair, unit-lt, unit-not-le, unit-one, unit-first, unit-second}

@@ -1,21 +1,19 @@
-// The cross field of src/alt_crossfield.rs: grid, seeds, marks and sweeps.
+// The cross field of src/alt_crossfield.rs: grid, seeds, marks, and the field whole.
 ghost use mathlib.Core.Path.{_≡_};
-ghost use mathlib.Core.Bool.{true, false};
-ghost use Prim.Native.Nat.{_+_, _-_, _*_, _≤_, _<_};
+ghost use mathlib.Core.Bool.{false};
+ghost use Prim.Native.Nat.{_+_, _≤_, _<_};
 ghost use lib.ListN.{length};
 ghost use Rattle.numbers.specs.Float.{_⊘_};
 ghost use Rattle.numbers.specs.Whole.{ceilCount};
-ghost use Rattle.domain.specs.Outline.{outline, misshapen, pointAt};
+ghost use Rattle.domain.specs.Outline.{outline, misshapen};
 ghost use Rattle.domain.specs.Queries.{nearestSegment};
 ghost use Rattle.blocks.specs.Blocks.{Drawn};
 ghost use Rattle.direction.specs.Record.{mostFieldNodes, gridNodes, fieldLists, fieldRecord};
+ghost use Rattle.averages.specs.Places.{Node, Row, NodeMark, RowMarks, FieldRoom};
 ghost use Rattle.crossfield.specs.Grid.{noBounds, widened, loopBounds, bounds, gridCount, tooManyNodes, spacing, gridOf, sizeRefusal};
 ghost use Rattle.crossfield.specs.Grid.{boundsRefusal, sweepsRefusal};
 ghost use Rattle.crossfield.specs.Seeds.{gridPoint, seed, isFixed, markOf, seedNode, seedRow, seeded};
-ghost use Rattle.crossfield.specs.Sweeps.{plusIf, oneIf, neighbourSum, neighbourCount, normalised, divided, average, swept, change, relaxed};
-ghost use Rattle.crossfield.specs.Sweeps.{sweepNode, sweepRow, sweep, sweeps};
 ghost use Rattle.crossfield.specs.Field.{placesRefusal, refusalFor, fieldRefusal, fieldOf, fieldResult, fieldAnswer, FieldDraws};
-ghost use Rattle.crossfield.specs.Places.{Node, Row, NodeMark, RowMarks, FieldRoom};
 use direction::Grid;
 use domain::Near;
 use domain::Point;
@@ -65,7 +63,7 @@ fn loop_bounds(s: &[f64], b: Bounds) -> Bounds
     let mut wide = b;
     let mut i = 0;
     while i < n {
-        wide = widened(domain::point_at(s, i), wide);
+        wide = widened(outlines::point_at(s, i), wide);
         i += 1;
     }
     wide
@@ -75,11 +73,14 @@ pub fn bounds_of<'a>(outer: &'a [f64], holes: &'a [f64], lens: &[usize]) -> Boun
     requires { ⌜ misshapen (outline (now outer) (now holes) (now lens)) ≡ false ⌝ }
     ensures { λ r. ⌜ r ≡ bounds (outline (now (outer .entry)) (now (holes .entry)) (now (lens .entry))) ⌝ }
 {
-    let mut wide = loop_bounds(domain::loop_points(outer, holes, lens, 0, 0), no_bounds());
+    let mut wide = loop_bounds(outlines::loop_points(outer, holes, lens, 0, 0), no_bounds());
     let mut k = 0;
     let mut start = 0;
     while k < lens.len() {
-        wide = loop_bounds(domain::loop_points(outer, holes, lens, k + 1, start), wide);
+        wide = loop_bounds(
+            outlines::loop_points(outer, holes, lens, k + 1, start),
+            wide,
+        );
         start += lens[k];
         k += 1;
     }
@@ -291,8 +292,8 @@ fn seed_row<'a>(
 {
     let nx = g.nx;
     let mut near = Near {
-        a: domain::point_at(outer, 0),
-        b: domain::point_at(outer, 1),
+        a: outlines::point_at(outer, 0),
+        b: outlines::point_at(outer, 1),
         distance: 0.0,
         loop_index: 0,
         segment_index: 0,
@@ -344,244 +345,6 @@ fn seed_all<'a>(
     }
 }
 
-// ---- sweeps
-
-// The sum with the value of the node d places before, where there is one.
-fn plus_before(there: bool, values: &[f64], id: usize, d: usize, sum: Point) -> Point
-    requires { ⌜ (there ≡ true → d ≤ id) ⌝ }
-    requires { ⌜ 2 * id + 1 < length (now values) ⌝ }
-    ensures { λ r. ⌜ r ≡ plusIf there (pointAt (now (values .entry)) (id - d)) sum ⌝ }
-{
-    if there {
-        let v = domain::point_at(values, id - d);
-        Point {
-            x: sum.x + v.x,
-            y: sum.y + v.y,
-        }
-    } else {
-        sum
-    }
-}
-
-// The sum with the value of the node d places after, where there is one.
-fn plus_after(there: bool, values: &[f64], id: usize, d: usize, sum: Point) -> Point
-    requires { ⌜ (there ≡ true → 2 * (id + d) + 1 < length (now values)) ⌝ }
-    ensures { λ r. ⌜ r ≡ plusIf there (pointAt (now (values .entry)) (id + d)) sum ⌝ }
-{
-    if there {
-        let v = domain::point_at(values, id + d);
-        Point {
-            x: sum.x + v.x,
-            y: sum.y + v.y,
-        }
-    } else {
-        sum
-    }
-}
-
-// The sum of the neighbours' values: left, right, below, above.
-fn neighbour_sum(g: Grid, values: &[f64], j: usize, i: usize, id: usize) -> Point
-    requires { ⌜ Node (g .nx) (g .ny) j i id (length (now values)) ⌝ }
-    ensures { λ r. ⌜ r ≡ neighbourSum g (now (values .entry)) j i ⌝ }
-{
-    let nx = g.nx;
-    let ny = g.ny;
-    let left = plus_before(0 < i, values, id, 1, Point { x: 0.0, y: 0.0 });
-    let right = plus_after(i + 1 < nx, values, id, 1, left);
-    let under = plus_before(0 < j, values, id, nx, right);
-    plus_after(j + 1 < ny, values, id, nx, under)
-}
-
-fn one_if(there: bool) -> u32
-    ensures { λ r. ⌜ r ≡ oneIf there ⌝ }
-    ensures { λ r. ⌜ r ≤ 1 ⌝ }
-{
-    if there { 1 } else { 0 }
-}
-
-fn neighbour_count(g: Grid, j: usize, i: usize) -> u32
-    requires { ⌜ (i < g .nx) × (j < g .ny) ⌝ }
-    ensures { λ r. ⌜ r ≡ neighbourCount g j i ⌝ }
-{
-    let nx = g.nx;
-    let ny = g.ny;
-    one_if(0 < i) + one_if(i + 1 < nx) + one_if(0 < j) + one_if(j + 1 < ny)
-}
-
-// Divided by its norm where that is above 1e-12, else (1, 0).
-fn normalised(v: Point) -> Point
-    ensures { λ r. ⌜ r ≡ normalised v ⌝ }
-{
-    let n = geometry::norm(v.x, v.y);
-    if Settings::TOLERANCE < n {
-        Point {
-            x: v.x / n,
-            y: v.y / n,
-        }
-    } else {
-        Point { x: 1.0, y: 0.0 }
-    }
-}
-
-// The sum divided by the count. By four or two, as at nearly all nodes and the corners, it is the product with a quarter or a half.
-fn divided(sum: Point, count: u32) -> Point
-    ensures { λ r. ⌜ r ≡ divided sum count ⌝ }
-{
-    if count == 4 {
-        return Point {
-            x: sum.x * 0.25,
-            y: sum.y * 0.25,
-        };
-    }
-    if count == 2 {
-        return Point {
-            x: sum.x * 0.5,
-            y: sum.y * 0.5,
-        };
-    }
-    let n = count as f64;
-    Point {
-        x: sum.x / n,
-        y: sum.y / n,
-    }
-}
-
-// The neighbours' average, normalised, at node (i, j), whose number is id.
-fn average(g: Grid, values: &[f64], j: usize, i: usize, id: usize) -> Point
-    requires { ⌜ Node (g .nx) (g .ny) j i id (length (now values)) ⌝ }
-    ensures { λ r. ⌜ r ≡ average g (now (values .entry)) j i ⌝ }
-{
-    let sum = neighbour_sum(g, values, j, i, id);
-    normalised(divided(sum, neighbour_count(g, j, i)))
-}
-
-// How much a value changes, in sum.
-fn change(old: Point, new: Point) -> f64
-    ensures { λ r. ⌜ r ≡ change old new ⌝ }
-{
-    numbers::abs_f64(new.x - old.x) + numbers::abs_f64(new.y - old.y)
-}
-
-// A node that is not fixed takes its neighbours' average; the answer is whether the sweep is still quiet.
-fn relax(g: Grid, values: &mut [f64], quiet: bool, j: usize, i: usize, id: usize) -> bool
-    requires { ⌜ Node (g .nx) (g .ny) j i id (length (now values)) ⌝ }
-    ensures { λ r. ⌜ swept (now (values .exit)) r ≡ relaxed g j i (swept (now (values .entry)) quiet) ⌝ }
-{
-    let v = average(g, values, j, i, id);
-    let k = 2 * id;
-    let old = Point {
-        x: values[k],
-        y: values[k + 1],
-    };
-    values[k] = v.x;
-    values[k + 1] = v.y;
-    let moved = 1.0e-7 <= change(old, v);
-    if quiet { !moved } else { false }
-}
-
-fn sweep_node(
-    g: Grid,
-    marks: &[u8],
-    values: &mut [f64],
-    quiet: bool,
-    j: usize,
-    i: usize,
-    id: usize,
-) -> bool
-    requires { ⌜ Node (g .nx) (g .ny) j i id (length (now values)) ⌝ }
-    requires { ⌜ id < length (now marks) ⌝ }
-    ensures { λ r. ⌜ swept (now (values .exit)) r ≡ sweepNode g (now (marks .entry)) j i (swept (now (values .entry)) quiet) ⌝ }
-{
-    if marks[id] == 0 {
-        relax(g, values, quiet, j, i, id)
-    } else {
-        quiet
-    }
-}
-
-// Row j, whose first node's number is base.
-fn sweep_row(g: Grid, marks: &[u8], values: &mut [f64], quiet: bool, j: usize, base: usize) -> bool
-    requires { ⌜ Row (g .nx) (g .ny) j base (length (now values)) ⌝ }
-    requires { ⌜ base + g .nx ≤ length (now marks) ⌝ }
-    ensures { λ r. ⌜ swept (now (values .exit)) r ≡ sweepRow g (now (marks .entry)) j (swept (now (values .entry)) quiet) ⌝ }
-{
-    let nx = g.nx;
-    let mut still = quiet;
-    let mut i = 0;
-    while i < nx {
-        still = sweep_node(g, marks, values, still, j, i, base + i);
-        i += 1;
-    }
-    still
-}
-
-// Rows j and j + 1, the first node of row j having the number base. The upper row is a column behind, so that two roots are under way at once.
-fn sweep_two_rows(
-    g: Grid,
-    marks: &[u8],
-    values: &mut [f64],
-    quiet: bool,
-    j: usize,
-    base: usize,
-) -> bool
-    requires { ⌜ Row (g .nx) (g .ny) j base (length (now values)) ⌝ }
-    requires { ⌜ (j + 1 < g .ny) × (base + g .nx + g .nx ≤ length (now marks)) ⌝ }
-    ensures { λ r. ⌜ swept (now (values .exit)) r
-        ≡ sweepRow g (now (marks .entry)) (j + 1) (sweepRow g (now (marks .entry)) j (swept (now (values .entry)) quiet)) ⌝ }
-{
-    let nx = g.nx;
-    if nx == 0 {
-        return quiet;
-    }
-    let last = nx - 1;
-    let above = j + 1;
-    let up = base + nx;
-    let mut still = sweep_node(g, marks, values, quiet, j, 0, base);
-    let mut i = 0;
-    while i < last {
-        still = sweep_node(g, marks, values, still, j, i + 1, base + (i + 1));
-        still = sweep_node(g, marks, values, still, above, i, up + i);
-        i += 1;
-    }
-    sweep_node(g, marks, values, still, above, last, up + last)
-}
-
-// One sweep, two rows at a time; the answer is whether it was quiet.
-fn sweep(g: Grid, marks: &[u8], values: &mut [f64]) -> bool
-    requires { ⌜ FieldRoom (g .nx) (g .ny) (length (now values)) (length (now marks)) ⌝ }
-    ensures { λ r. ⌜ swept (now (values .exit)) r ≡ sweep g (now (marks .entry)) (now (values .entry)) ⌝ }
-{
-    let nx = g.nx;
-    let ny = g.ny;
-    let mut quiet = true;
-    let mut base = 0;
-    let mut j = 0;
-    while 1 < ny - j {
-        quiet = sweep_two_rows(g, marks, values, quiet, j, base);
-        base = base + nx + nx;
-        j += 2;
-    }
-    if j < ny {
-        sweep_row(g, marks, values, quiet, j, base)
-    } else {
-        quiet
-    }
-}
-
-// At most n sweeps: a quiet one is the last.
-fn sweeps(n: usize, g: Grid, marks: &[u8], values: &mut [f64])
-    requires { ⌜ FieldRoom (g .nx) (g .ny) (length (now values)) (length (now marks)) ⌝ }
-    ensures { λ r. ⌜ now (values .exit) ≡ sweeps n g (now (marks .entry)) (now (values .entry)) ⌝ }
-{
-    let mut k = 0;
-    while k < n {
-        if sweep(g, marks, values) {
-            return;
-        }
-        k += 1;
-    }
-}
-
 // ---- the field
 
 // Refusals 1 to 9.
@@ -595,7 +358,7 @@ pub fn field_refusal<'a>(
 ) -> u32
     ensures { λ r. ⌜ r ≡ refusalFor (outline (now (outer .entry)) (now (holes .entry)) (now (lens .entry))) size sweeps places ⌝ }
 {
-    let outline = domain::outline_refusal(outer, holes, lens);
+    let outline = outlines::outline_refusal(outer, holes, lens);
     if outline != 0 {
         return outline;
     }
@@ -635,7 +398,7 @@ pub fn make_field<'a>(
     let g = grid_of(bounds_of(outer, holes, lens), size);
     blocks::file(outer, holes, lens, blocks);
     seed_all(outer, holes, lens, blocks, g, values, marks);
-    sweeps(limit, g, marks, values);
+    sweeps::sweeps(limit, g, marks, values);
     g
 }
 

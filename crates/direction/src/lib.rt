@@ -156,10 +156,10 @@ fn raw_at(g: Grid, values: &[f64], p: Point) -> Point
     let tx = numbers::clamp_f64(dx / g.h - numbers::to_f64(i), 0.0, 1.0);
     let ty = numbers::clamp_f64(dy / g.h - numbers::to_f64(j), 0.0, 1.0);
     let id = j * nx + i;
-    let p00 = domain::point_at(values, id);
-    let p10 = domain::point_at(values, id + 1);
-    let p01 = domain::point_at(values, id + nx);
-    let p11 = domain::point_at(values, id + nx + 1);
+    let p00 = outlines::point_at(values, id);
+    let p10 = outlines::point_at(values, id + 1);
+    let p01 = outlines::point_at(values, id + nx);
+    let p11 = outlines::point_at(values, id + nx + 1);
     Point {
         x: weighed(tx, ty, p00.x, p10.x, p01.x, p11.x),
         y: weighed(tx, ty, p00.y, p10.y, p01.y, p11.y),
@@ -240,7 +240,7 @@ fn direction_refusal(g: Grid, values: &[f64], marks: &[u8], p: Point) -> u32
     if refusal != 0 {
         return refusal;
     }
-    domain::point_refusal(p)
+    outlines::point_refusal(p)
 }
 
 // The direction query, refusals first.

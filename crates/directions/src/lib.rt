@@ -52,7 +52,7 @@ fn point_answer(g: Grid, values: &[f64], p: Point, target: Point) -> Direction
     requires { ⌜ FieldLent g (now values) ⌝ }
     ensures { λ r. ⌜ r ≡ pointAnswer g (now (values .entry)) p target ⌝ }
 {
-    let refusal = domain::point_refusal(p);
+    let refusal = outlines::point_refusal(p);
     if refusal != 0 {
         return Direction::Refused(refusal);
     }
@@ -86,8 +86,8 @@ fn write_answers(g: Grid, values: &[f64], points: &[f64], targets: &[f64], answe
     let n = points.len() / 2;
     let mut i = 0;
     while i < n {
-        let p = domain::point_at(points, i);
-        let target = domain::point_at(targets, i);
+        let p = outlines::point_at(points, i);
+        let target = outlines::point_at(targets, i);
         let answer = point_answer(g, values, p, target);
         write_answer(answers, 3 * i, answer);
         i += 1;

@@ -1,6 +1,7 @@
 pub mod Accepted
 pub mod Examples
 pub mod Inside
+pub mod Limits
 pub mod Outline
 pub mod OutlineLaws
 pub mod Parity

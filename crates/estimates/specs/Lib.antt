@@ -3,4 +3,3 @@ pub mod Estimate
 pub mod OneOff
 pub mod Examples
 pub mod Moves
-pub mod Code

@@ -15,8 +15,7 @@ use Rattle.lent_mesh.specs.declared.QuadIds.{QuadIds}
 use Rattle.lent_mesh.specs.Mesh.{Mesh, quadOf}
 use Rattle.thresholds.specs.Figures.{noThreshold, mostThreshold, thresholdAt, stands, isComplete, names}
 use Rattle.thresholds.specs.Figures.{Results, unlessRefused, refusalAt, withThreshold, enterAnswer, withdrawAnswer}
-use Rattle.thresholds.specs.Laws.{stands-means, complete-same, four-same, other-same}
-use Rattle.thresholds.specs.Code.{taken}
+use Rattle.thresholds.specs.Laws.{stands-means, complete-same, four-same, other-same, taken}
 use Rattle.estimates.specs.declared.EstimateAnswer.{EstimateAnswer}
 use Rattle.estimates.specs.Estimate.{estimateOf, leastOf, greatestOf, estimateRefusal, estimated, estimateAnswer}
 use Rattle.estimates.specs.Moves.{estimate-moves, estimate-least, estimate-greatest}

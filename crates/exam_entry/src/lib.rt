@@ -34,14 +34,14 @@ pub extern "C" fn sitjorbe_exam(
         (results (now (thresholds .entry)) (now (count .entry)) (now (sum .entry))) role (requestNumbered operation item value u v) (now (reply .entry))
         r (now (reply .exit)) (results (now (thresholds .exit)) (now (count .exit)) (now (sum .exit))) ⌝ }
 {
-    let request = exam::request_numbered(operation, item, value, u, v);
-    if !exam::may(role, request) {
-        return exam::exam_numbers(ExamReply::Refused(20));
+    let request = exam_requests::request_numbered(operation, item, value, u, v);
+    if !exam_requests::may(role, request) {
+        return exam_requests::exam_numbers(ExamReply::Refused(20));
     }
     match request {
         ExamRequest::Changes(change) => {
-            let n = exam::nodes_lent(nodes, xs, ys, origins);
-            let refusal = exam::change_results(
+            let n = exam_requests::nodes_lent(nodes, xs, ys, origins);
+            let refusal = exam_requests::change_results(
                 change,
                 n,
                 quad_count,
@@ -50,9 +50,9 @@ pub extern "C" fn sitjorbe_exam(
                 count,
                 sum,
             );
-            exam::exam_numbers(exam::reply_or(refusal, ExamReply::Done))
+            exam_requests::exam_numbers(exam_requests::reply_or(refusal, ExamReply::Done))
         }
-        ExamRequest::ReadsMesh(read) => exam::exam_numbers(exam::read_mesh(
+        ExamRequest::ReadsMesh(read) => exam_requests::exam_numbers(exam_requests::read_mesh(
             read,
             nodes,
             xs,
@@ -65,11 +65,19 @@ pub extern "C" fn sitjorbe_exam(
             reply,
         )),
         ExamRequest::ReadsResults(read) => {
-            let n = exam::nodes_lent(nodes, xs, ys, origins);
+            let n = exam_requests::nodes_lent(nodes, xs, ys, origins);
             let c = *count;
             let s = *sum;
-            exam::exam_numbers(exam::read_results(read, n, quad_count, quads, thresholds, c, s))
+            exam_requests::exam_numbers(exam_requests::read_results(
+                read,
+                n,
+                quad_count,
+                quads,
+                thresholds,
+                c,
+                s,
+            ))
         }
-        ExamRequest::Unknown => exam::exam_numbers(ExamReply::Refused(20)),
+        ExamRequest::Unknown => exam_requests::exam_numbers(ExamReply::Refused(20)),
     }
 }

@@ -26,9 +26,9 @@ use Rattle.books.specs.Book.{Edge}
 use Rattle.books_hold.specs.Runs.{Accepted, begins}
 use Rattle.mesh_check.specs.Check.{meshRefusal, edgeRefusal}
 use Rattle.hand_placing.specs.Local.{placed-nodes}
-use Rattle.stepping.specs.declared.StepOutcome.the-variants.{Placed, None, Full, Cap}
-use Rattle.stepping.specs.Hand.{handRefusal, Handled, handled, settledOn, placeOn, stepOn}
-use Rattle.stepping.specs.UseLaws.{there-of}
+use Rattle.hand_steps.specs.declared.StepOutcome.the-variants.{Placed, None, Full, Cap}
+use Rattle.hand_steps.specs.Hand.{handRefusal, Handled, handled, settledOn, placeOn, stepOn}
+use Rattle.hand_steps.specs.UseLaws.{there-of}
 use Rattle.hand_books.specs.Moves.{withScratch, Move, named, passes, lends, moveOn, movesOn}
 use Rattle.hand_books.specs.Lending.{sampled-blind, places-in, reached-in}
 

@@ -11,7 +11,7 @@ use Rattle.direction.specs.Record.{FieldRecord}
 use Rattle.front.specs.State.{State, stateOf}
 use Rattle.paving.specs.Advance.{advance}
 use Rattle.books.specs.Book.{Edge}
-use Rattle.stepping.specs.Hand.{stepOn}
+use Rattle.hand_steps.specs.Hand.{stepOn}
 
 -- the same state with another list in the snapshot's place
 abbrev pub withScratch : List ℕ → State → State

@@ -10,8 +10,8 @@ use Rattle.laws.specs.Loop.{forUp}
 use Rattle.front.specs.declared.Corner.{Corner}
 use Rattle.front.specs.declared.Corner.the-variants.{Reused, Fresh}
 use Rattle.front.specs.Place.{added, cornerId}
-use Rattle.stepping.specs.Hand.{newOrigins}
-use Rattle.stepping.specs.UseLaws.{Below}
+use Rattle.hand_steps.specs.Hand.{newOrigins}
+use Rattle.hand_steps.specs.UseLaws.{Below}
 use Rattle.origins.specs.Writing.{pushCount, pushAt}
 
 -- a corner's push, where n nodes are numbered: nothing for one that is reused

@@ -36,11 +36,11 @@ use Rattle.books_hold.specs.Runs.{Accepted, start, reached-holds}
 use Rattle.origins.specs.Origins.{pushOrigin, quadOrigins, originsAfter, OneOrigin}
 use Rattle.origins.specs.Theorem.{origins-booked}
 use Rattle.origins.specs.Writing.{pushCount, pushAt, push-length, push-over}
-use Rattle.stepping.specs.declared.StepOutcome.the-variants.{Placed, None, Full, Cap}
-use Rattle.stepping.specs.Hand.{handRefusal, Handled, handled, settledOn, placeOn, stepOn, newOrigins, originsOn}
+use Rattle.hand_steps.specs.declared.StepOutcome.the-variants.{Placed, None, Full, Cap}
+use Rattle.hand_steps.specs.Hand.{handRefusal, Handled, handled, settledOn, placeOn, stepOn, newOrigins, originsOn}
 use Rattle.mesh_check.specs.Check.{meshRefusal, edgeRefusal}
-use Rattle.stepping.specs.UseLaws.{there-of, on-front, quad-below}
-use Rattle.stepping.specs.StepLaws.{origins-same}
+use Rattle.hand_steps.specs.UseLaws.{there-of, on-front, quad-below}
+use Rattle.hand_steps.specs.StepLaws.{origins-same}
 use Rattle.hand_books.specs.Moves.{Move, movesOn}
 use Rattle.hand_books.specs.Sequences.{sequence-holds}
 use Rattle.hand_books.specs.MoveLaws.{FromOutline, from-outline, moves-kept}

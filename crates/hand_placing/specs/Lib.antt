@@ -1,6 +1,5 @@
--- In reading order: the parts of a state that a placing changes; that changes of the parts make the placing; what the code stores in each; and
--- when a quad is full.
-pub mod Parts
+-- In reading order: what a placing asks of the lists; that changes of the parts make the placing; what the parts ask of each other, and when a quad
+-- is full.
+pub mod Room
 pub mod Local
-pub mod PartLaws
 pub mod PlaceLaws

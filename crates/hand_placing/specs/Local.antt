@@ -17,7 +17,7 @@ use Rattle.front.specs.State.{State, stateOf, counted, withFront, edgeIn, hasEd
 use Rattle.front.specs.MeshEdges.{withEdges, quad-edged}
 use Rattle.front.specs.Stores.{storeX, storeY, storeQuad}
 use Rattle.front.specs.Place.{added, cornerId, pushCorner, addEdges, takeOff, putOn, moveFront, place}
-use Rattle.hand_placing.specs.Parts.{frontIn, edgesIn, nodesIn}
+use Rattle.mesh_changes.specs.Parts.{frontIn, edgesIn, nodesIn}
 
 -- ---- parts: `over s p` is s with the part taken from p, and `bare s` has of s what a change reads and never writes
 

@@ -14,11 +14,12 @@ use Rattle.front.specs.declared.Corner.{Corner}
 use Rattle.front.specs.declared.Corner.the-variants.{Reused, Fresh}
 use Rattle.front.specs.State.{State, edgeIn, hasEdge, addEdge, quadPlaces, edgePlaces}
 use Rattle.front.specs.MeshEdges.{edged, edges-few, added-count}
-use Rattle.front.specs.Place.{added, cornerId, idC, idD, addEdges, missing, edgesAdded, isFull}
+use Rattle.front.specs.Place.{added, cornerId, idC, idD, addEdges, edgesAdded, isFull}
 use Rattle.front.specs.Stores.{unless, Ids}
 use Rattle.mesh_check.specs.Check.{lentState, beyondPlaces}
 use Rattle.mesh_check.specs.Passed.{room}
-use Rattle.hand_placing.specs.Parts.{edgesIn, NodesFit, QuadRoom}
+use Rattle.mesh_changes.specs.Parts.{edgesIn, NodesFit}
+use Rattle.hand_placing.specs.Room.{QuadRoom}
 
 -- the node of corner d, which comes after c's
 pub second-id : (n : ℕ) (c d : Corner) {x y : ℕ} → x ≡ added c → y ≡ cornerId (n + x) d → y ≡ cornerId (n + added c) d
@@ -57,21 +58,6 @@ unfolding addEdges
 second-pair edges after n m a b d c e long h = rw e (omega arith)
 
 -- ---- full
-
-module _ (edges : List ℕ) (n u v : ℕ) {found : Bool} (e : edgeIn edges n u v ≡ found) where
-  pub missing-none : found ≡ true → 0 ≡ missing (edgesIn edges n) u v
-  unfolding hasEdge
-  missing-none f = rw (e, f)
-
-  pub missing-one : found ≡ false → 1 ≡ missing (edgesIn edges n) u v
-  unfolding hasEdge
-  missing-one f = rw (e, f)
-
-module _ (edges : List ℕ) (n a b d c : ℕ) where
-  pub added-are : {x y z w : ℕ} → x ≡ missing (edgesIn edges n) a b → y ≡ missing (edgesIn edges n) b d → z ≡ missing (edgesIn edges n) d c
-      → w ≡ missing (edgesIn edges n) c a → x + y + z + w ≡ edgesAdded (edgesIn edges n) a b d c
-  unfolding edgesAdded
-  added-are p q r s = rw (p, q, r, s)
 
 -- edges are missing of a state as of its edges alone
 added-seen : (s : State) (a b d c : ℕ) → edgesAdded (edgesIn (s .edges) (s .counts .edges)) a b d c ≡ edgesAdded s a b d c

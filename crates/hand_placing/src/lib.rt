@@ -2,62 +2,27 @@
 // which edges are known.
 ghost use mathlib.Core.Path.{_≡_};
 ghost use mathlib.Core.List.{List};
-ghost use Prim.Native.Nat.{ℕ, _+_, _-_, _*_, _^_, _≤_, _<_};
+ghost use Prim.Native.Nat.{ℕ, _+_, _*_, _^_, _≤_, _<_};
 ghost use lib.ListN.{length};
-ghost use Rattle.domain.specs.Outline.{point};
-ghost use Rattle.front.specs.State.{stateOf, edgeIn, pushNode, addEdge, removeFront, addFront};
-ghost use Rattle.front.specs.Place.{added, pushCorner, addEdges, takeOff, putOn, moveFront, place, missing, edgesAdded, isFull};
-ghost use Rattle.front.specs.Stores.{unless, Ids, storeQuad};
+ghost use Rattle.front.specs.State.{stateOf, addEdge, removeFront, addFront};
+ghost use Rattle.front.specs.Place.{added, pushCorner, addEdges, takeOff, putOn, moveFront, place, isFull};
+ghost use Rattle.front.specs.Stores.{Ids};
 ghost use Rattle.mesh_check.specs.Check.{lentState};
 ghost use Rattle.mesh_check.specs.Passed.{MeshRoom};
-ghost use Rattle.hand_placing.specs.Parts.{frontIn, edgesIn, nodesIn, NodesFit, QuadRoom};
+ghost use Rattle.mesh_changes.specs.Parts.{frontIn, edgesIn, nodesIn, NodesFit};
+ghost use Rattle.hand_placing.specs.Room.{QuadRoom};
 use front::Corner;
 use front::Counts;
-use front::OFF;
 
 // ---- the mesh edges
-
-// Whether one of the first n edges joins u and v.
-fn has_edge(edges: &[u32], n: usize, u: u32, v: u32) -> bool
-    requires { ⌜ 2 * n ≤ length (now edges) ⌝ }
-    ensures { λ r. ⌜ r ≡ edgeIn (now (edges .entry)) n u v ⌝ }
-{
-    let lo = numbers::min_u32(u, v);
-    let hi = numbers::max_u32(u, v);
-    let mut k = 0;
-    while k < n {
-        if edges[2 * k] == lo {
-            if edges[2 * k + 1] == hi {
-                return true;
-            }
-        }
-        k += 1;
-    }
-    false
-}
-
-// Adds the mesh edge u to v, unless one of the first n is that edge: the count after it.
-fn add_edge(edges: &mut [u32], n: usize, u: u32, v: u32) -> usize
-    requires { ⌜ 2 * (n + unless (edgeIn (now edges) n u v)) ≤ length (now edges) ⌝ }
-    ensures { λ r. ⌜ edgesIn (now (edges .exit)) r ≡ addEdge u v (edgesIn (now (edges .entry)) n) ⌝ }
-{
-    if has_edge(edges, n, u, v) {
-        return n;
-    }
-    let lo = numbers::min_u32(u, v);
-    let hi = numbers::max_u32(u, v);
-    edges[2 * n] = lo;
-    edges[2 * n + 1] = hi;
-    n + 1
-}
 
 // Two edges of a quad, u to v and v to w: the count after them.
 fn add_two(edges: &mut [u32], n: usize, u: u32, v: u32, w: u32) -> usize
     requires { ⌜ 2 * addEdge v w (addEdge u v (edgesIn (now edges) n)) .counts .edges ≤ length (now edges) ⌝ }
     ensures { λ r. ⌜ edgesIn (now (edges .exit)) r ≡ addEdge v w (addEdge u v (edgesIn (now (edges .entry)) n)) ⌝ }
 {
-    let m = add_edge(edges, n, u, v);
-    add_edge(edges, m, v, w)
+    let m = mesh_changes::add_edge(edges, n, u, v);
+    mesh_changes::add_edge(edges, m, v, w)
 }
 
 // The mesh edges of the quad a, b, d, c.
@@ -69,56 +34,7 @@ fn add_edges(edges: &mut [u32], n: usize, a: u32, b: u32, d: u32, c: u32) -> usi
     add_two(edges, m, d, c, a)
 }
 
-// How many edges u to v adds.
-fn missing(edges: &[u32], n: usize, u: u32, v: u32) -> usize
-    requires { ⌜ 2 * n ≤ length (now edges) ⌝ }
-    ensures { λ r. ⌜ (r ≡ missing (edgesIn (now (edges .entry)) n) u v) × (r ≤ 1) ⌝ }
-{
-    if has_edge(edges, n, u, v) { 0 } else { 1 }
-}
-
-// How many distinct edges the quad a, b, d, c adds.
-fn edges_added(edges: &[u32], n: usize, a: u32, b: u32, d: u32, c: u32) -> usize
-    requires { ⌜ 2 * n ≤ length (now edges) ⌝ }
-    ensures { λ r. ⌜ (r ≡ edgesAdded (edgesIn (now (edges .entry)) n) a b d c) × (r ≤ 4) ⌝ }
-{
-    let at_a = missing(edges, n, a, b);
-    let at_b = missing(edges, n, b, d);
-    let at_d = missing(edges, n, d, c);
-    at_a + at_b + at_d + missing(edges, n, c, a)
-}
-
 // ---- the front
-
-fn one_less(f: usize) -> usize
-    ensures { λ r. ⌜ (r ≡ f - 1) × (r ≤ f) ⌝ }
-{
-    if f == 0 { 0 } else { f - 1 }
-}
-
-// Takes the front edge u to v off, where it is there: the count of front edges after it.
-fn remove_front(next: &mut [u32], prev: &mut [u32], n: u32, f: usize, u: u32, v: u32) -> usize
-    requires { ⌜ (n ≤ length (now next)) × (u < n) × (v < length (now prev)) ⌝ }
-    ensures { λ r. ⌜ (frontIn (now (next .exit)) (now (prev .exit)) n r ≡ removeFront u v (frontIn (now (next .entry)) (now (prev .entry)) n f)) × (r ≤ f) ⌝ }
-{
-    if next[u as usize] != v {
-        return f;
-    }
-    next[u as usize] = OFF;
-    prev[v as usize] = OFF;
-    one_less(f)
-}
-
-// Makes u to v a front edge: the count of front edges after it.
-fn add_front(next: &mut [u32], prev: &mut [u32], n: u32, f: usize, u: u32, v: u32) -> usize
-    requires { ⌜ (n ≤ length (now next)) × (u < n) × (v < length (now prev)) × (f < 2 ^ 63) ⌝ }
-    ensures { λ r. ⌜ (frontIn (now (next .exit)) (now (prev .exit)) n r ≡ addFront u v (frontIn (now (next .entry)) (now (prev .entry)) n f)) × (r ≤ f + 1) ⌝ }
-{
-    let was = next[u as usize];
-    next[u as usize] = v;
-    prev[v as usize] = u;
-    if was == OFF { f + 1 } else { f }
-}
 
 // The front edge at a reused corner comes off.
 fn take_off(
@@ -134,7 +50,7 @@ fn take_off(
     ensures { λ r. ⌜ (frontIn (now (next .exit)) (now (prev .exit)) n r ≡ takeOff c u v (frontIn (now (next .entry)) (now (prev .entry)) n f)) × (r ≤ f) ⌝ }
 {
     match c {
-        Corner::Reused(_) => remove_front(next, prev, n, f, u, v),
+        Corner::Reused(_) => mesh_changes::remove_front(next, prev, n, f, u, v),
         Corner::Fresh(_, _) => f,
     }
 }
@@ -146,7 +62,7 @@ fn put_on(c: Corner, next: &mut [u32], prev: &mut [u32], n: u32, f: usize, u: u3
 {
     match c {
         Corner::Reused(_) => f,
-        Corner::Fresh(_, _) => add_front(next, prev, n, f, u, v),
+        Corner::Fresh(_, _) => mesh_changes::add_front(next, prev, n, f, u, v),
     }
 }
 
@@ -167,7 +83,7 @@ fn strip(
     ensures { λ r. ⌜ (frontIn (now (next .exit)) (now (prev .exit)) n r
         ≡ takeOff d b «id_d» (takeOff c «id_c» a (removeFront a b (frontIn (now (next .entry)) (now (prev .entry)) n f)))) × (r ≤ f) ⌝ }
 {
-    let f1 = remove_front(next, prev, n, f, a, b);
+    let f1 = mesh_changes::remove_front(next, prev, n, f, a, b);
     let f2 = take_off(c, next, prev, n, f1, id_c, a);
     take_off(d, next, prev, n, f2, b, id_d)
 }
@@ -190,7 +106,7 @@ fn extend(
         ≡ putOn d «id_d» b (addFront «id_c» «id_d» (putOn c a «id_c» (frontIn (now (next .entry)) (now (prev .entry)) n f))) ⌝ }
 {
     let f1 = put_on(c, next, prev, n, f, a, id_c);
-    let f2 = add_front(next, prev, n, f1, id_c, id_d);
+    let f2 = mesh_changes::add_front(next, prev, n, f1, id_c, id_d);
     put_on(d, next, prev, n, f2, id_d, b)
 }
 
@@ -217,27 +133,6 @@ fn move_front(
 
 // ---- new nodes
 
-// Node n is new: it is off the front, whatever stood in its place.
-fn new_node(
-    xs: &mut [f64],
-    ys: &mut [f64],
-    next: &mut [u32],
-    prev: &mut [u32],
-    n: u32,
-    x: f64,
-    y: f64,
-)
-    requires { ⌜ NodesFit (now xs) (now ys) (now next) (now prev) (n + 1) ⌝ }
-    ensures { λ r. ⌜ nodesIn (now (xs .exit)) (now (ys .exit)) (now (next .exit)) (now (prev .exit)) (n + 1)
-        ≡ pushNode (point x y) (nodesIn (now (xs .entry)) (now (ys .entry)) (now (next .entry)) (now (prev .entry)) n) ⌝ }
-{
-    let i = n as usize;
-    xs[i] = x;
-    ys[i] = y;
-    next[i] = OFF;
-    prev[i] = OFF;
-}
-
 // A new corner becomes node n: the count of nodes after it.
 fn new_corner(
     c: Corner,
@@ -254,7 +149,7 @@ fn new_corner(
     match c {
         Corner::Reused(_) => n,
         Corner::Fresh(x, y) => {
-            new_node(xs, ys, next, prev, n, x, y);
+            mesh_changes::new_node(xs, ys, next, prev, n, x, y);
             n + 1
         }
     }
@@ -279,17 +174,6 @@ fn new_corners(
 }
 
 // ---- the quad
-
-// The quad a, b, d, c is quad k.
-fn store_quad(quads: &mut [u32], k: usize, a: u32, b: u32, d: u32, c: u32)
-    requires { ⌜ 4 * (k + 1) ≤ length (now quads) ⌝ }
-    ensures { λ r. ⌜ now (quads .exit) ≡ storeQuad k a b d c (now (quads .entry)) ⌝ }
-{
-    quads[4 * k] = a;
-    quads[4 * k + 1] = b;
-    quads[4 * k + 2] = d;
-    quads[4 * k + 3] = c;
-}
 
 // Places the quad a, b, d, c on the edge a to b: the counts after it.
 pub fn place_quad(
@@ -319,7 +203,7 @@ pub fn place_quad(
     let id_d = d.id(n + c.added());
     let m = new_corners(c, d, xs, ys, next, prev, n);
     let e = add_edges(edges, k.edges, a, b, id_d, id_c);
-    store_quad(quads, q, a, b, id_d, id_c);
+    mesh_changes::store_quad(quads, q, a, b, id_d, id_c);
     let after = move_front(c, d, next, prev, m, f, a, b, id_c, id_d);
     Counts {
         nodes: m,
@@ -352,7 +236,7 @@ pub fn is_full(
     let n = k.nodes;
     let more_c = c.added();
     let more_d = d.added();
-    let e = edges_added(edges, k.edges, a, b, d.id(n + more_c), c.id(n));
+    let e = mesh_changes::edges_added(edges, k.edges, a, b, d.id(n + more_c), c.id(n));
     let nodes = (n as usize) + (more_c as usize) + (more_d as usize);
     mesh_check::beyond_places(
         xs,

@@ -5,8 +5,8 @@ use mathlib.Core.Path.{_≡_}
 use Prim.Native.Nat.{ℕ, zero, suc, _+_, _-_, _<_, _≤_}
 use lib.Dec.{eqb}
 use lib.ListN.{length}
-use Rattle.index.specs.Pool.{none, cells, capacity, ownAt, chain, anyOf, cellOf, chainAt, span}
-use Rattle.index.specs.declared.Rect.{Rect}
+use Rattle.pools.specs.Pool.{none, cells, capacity, ownAt, chain, anyOf, cellOf, chainAt, span}
+use Rattle.pools.specs.declared.Rect.{Rect}
 use Rattle.index.specs.declared.Cursor.{Cursor}
 
 -- f i, f (i + 1), .., w of them, joined

@@ -10,15 +10,16 @@ use borrow.Author.Tests.{eq-eqb, ne-eqb, eqb-false}
 use lib.Dec.{eqb}
 use lib.ListN.{length, getD}
 use Rattle.laws.specs.Loop.{forUp, anyUp, any-found, any-none}
-use Rattle.index.specs.declared.Rect.{Rect}
+use Rattle.pools.specs.declared.Rect.{Rect}
 use Rattle.index.specs.declared.Cursor.{Cursor}
-use Rattle.index.specs.Pool.{none, cells, capacity, ownAt, linkAt, headAt, used, falling, chain, anyOf, cellOf, chainAt, span, filed}
-use Rattle.index.specs.Pool.{Filed, Indexed}
-use Rattle.index.specs.Rects.{Meets}
+use Rattle.pools.specs.Pool.{none, cells, capacity, ownAt, linkAt, headAt, used, falling, chain, anyOf, cellOf, chainAt, span, filed}
+use Rattle.pools.specs.Pool.{Filed, Indexed}
+use Rattle.key_rects.specs.Rects.{Meets}
 use Rattle.index.specs.Walk.{across, columns, rows, visited, over, rowAhead, ahead, At, InRow, Stands, After}
-use Rattle.index.specs.ChainLaws.{any-has, any-left, falling-high, falling-step, falling-on, falling-last, falling-keeps}
-use Rattle.index.specs.ChainLaws.{across-from, across-more, across-end, across-empty, across-none, across-some, below-or-not}
-use Rattle.index.specs.FileLaws.{filed-short, cell-in, place-small, next-column}
+use Rattle.pools.specs.ChainLaws.{any-has, any-left, falling-high, falling-step, falling-on, falling-last, falling-keeps}
+use Rattle.pools.specs.ChainLaws.{below-or-not}
+use Rattle.index.specs.AcrossLaws.{across-from, across-more, across-end, across-empty, across-none, across-some}
+use Rattle.pools.specs.FileLaws.{filed-short, cell-in, place-small, next-column}
 
 -- ---- a search by the visited owners is the scan
 

@@ -13,8 +13,8 @@ use Rattle.domain.specs.declared.Point.{Point}
 use Rattle.geometry.specs.declared.Key.{Key}
 use Rattle.geometry.specs.declared.Corners.{Corners}
 use Rattle.geometry.specs.Keys.{keyOf, edgeBucket, spansKept, clearance, isTooClose, tooCloseAt, lowest, highest, isInBox, isCandidate}
-use Rattle.index.specs.Rects.{rectOf, rectAt, edgeRect, Meets}
-use Rattle.index.specs.KeyLaws.{box-meets, candidate-meets, end-meets}
+use Rattle.key_rects.specs.Rects.{rectOf, rectAt, edgeRect, Meets}
+use Rattle.key_rects.specs.KeyLaws.{box-meets, candidate-meets, end-meets}
 use Rattle.front.specs.State.{nodeIn, edgeIs}
 use Rattle.paving.specs.Checks.{shareEnd, blocksAt, crossesAt}
 use Rattle.indexed.specs.Rects.{nodeRects, edgeRects, listed, closeAt, insideAt, crossingAt}

@@ -6,9 +6,9 @@ use lib.ListN.{length, getD}
 use lib.Ieee.{Float}
 use Rattle.domain.specs.declared.Point.{Point}
 use Rattle.geometry.specs.declared.Corners.{Corners}
-use Rattle.index.specs.declared.Rect.{Rect}
-use Rattle.index.specs.Pool.{Indexed}
-use Rattle.index.specs.Rects.{nodeRect, edgeRect}
+use Rattle.pools.specs.declared.Rect.{Rect}
+use Rattle.pools.specs.Pool.{Indexed}
+use Rattle.key_rects.specs.Rects.{nodeRect, edgeRect}
 use Rattle.front.specs.State.{State, stateOf, counted, nodeIn}
 use Rattle.paving.specs.Checks.{closeNode, blocks, crossesEdge}
 

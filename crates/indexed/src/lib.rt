@@ -5,7 +5,7 @@ ghost use mathlib.Core.List.{[]};
 ghost use Prim.Native.Nat.{_*_, _≤_, min};
 ghost use lib.ListN.{length, getD};
 ghost use Rattle.laws.specs.Loop.{anyUp, Unfound};
-ghost use Rattle.index.specs.Pool.{Indexed};
+ghost use Rattle.pools.specs.Pool.{Indexed};
 ghost use Rattle.front.specs.State.{edgeIs};
 ghost use Rattle.front.specs.Stores.{knownAcross};
 ghost use Rattle.paving.specs.Checks.{isCorner, shareEnd, blocksAt, crossesAt};
@@ -55,8 +55,8 @@ pub fn file_nodes(pool: &mut [u32], size: f64, xs: &[f64], ys: &[f64], from: u32
 {
     let mut id = from;
     while id < to {
-        let r = index::node_rect(size, front::node_at(xs, ys, id));
-        index::file(pool, r, id);
+        let r = key_rects::node_rect(size, front::node_at(xs, ys, id));
+        pools::file(pool, r, id);
         id += 1;
     }
 }
@@ -79,8 +79,8 @@ pub fn file_edges(
     while k < last {
         let c = front::node_at(xs, ys, edges[2 * k]);
         let d = front::node_at(xs, ys, edges[2 * k + 1]);
-        let r = index::edge_rect(size, c, d);
-        index::file(pool, r, k as u32);
+        let r = key_rects::edge_rect(size, c, d);
+        pools::file(pool, r, k as u32);
         k += 1;
     }
 }
@@ -255,7 +255,7 @@ pub fn any_close(pool: &[u32], size: f64, xs: &[f64], ys: &[f64], nodes: u32, p:
     let radius = Settings::CLEARANCE * size;
     let radius2 = radius * radius;
     let key = geometry::key_of(size, p);
-    let r = index::rect_around(key);
+    let r = key_rects::rect_around(key);
     let mut c = index::first(pool, r);
     while !index::is_over(c) {
         let id = index::own_at(pool, c);
@@ -264,7 +264,7 @@ pub fn any_close(pool: &[u32], size: f64, xs: &[f64], ys: &[f64], nodes: u32, p:
         }
         c = index::after(pool, r, c);
     }
-    close_from(size, xs, ys, index::filed(pool), nodes, p)
+    close_from(size, xs, ys, pools::filed(pool), nodes, p)
 }
 
 // Whether some node other than the corners a, b, d, c lies in the quad p: a walk of its key rectangle.
@@ -285,7 +285,7 @@ pub fn any_inside(
 {
     let low = geometry::key_of(size, geometry::lowest(p));
     let high = geometry::key_of(size, geometry::highest(p));
-    let r = index::rect_of(low, high);
+    let r = key_rects::rect_of(low, high);
     let mut t = index::first(pool, r);
     while !index::is_over(t) {
         let id = index::own_at(pool, t);
@@ -294,7 +294,7 @@ pub fn any_inside(
         }
         t = index::after(pool, r, t);
     }
-    inside_from(size, xs, ys, index::filed(pool), nodes, p, a, b, d, c)
+    inside_from(size, xs, ys, pools::filed(pool), nodes, p, a, b, d, c)
 }
 
 // Whether some edge crosses the new edge a to b, whose ends are the nodes u and v: a walk of its key rectangle, of no key where its spans are above 4,096.
@@ -313,7 +313,7 @@ pub fn any_crossing(
     requires { ⌜ (2 * count ≤ length (now edges)) × Indexed (now pool) (edgeRects size (now xs) (now ys) (now edges)) count ⌝ }
     ensures { λ r. ⌜ r ≡ anyUp count (crossingAt size (now (xs .entry)) (now (ys .entry)) (now (edges .entry)) a b u v) ⌝ }
 {
-    let r = index::edge_rect(size, a, b);
+    let r = key_rects::edge_rect(size, a, b);
     let mut t = index::first(pool, r);
     while !index::is_over(t) {
         let i = 2 * (index::own_at(pool, t) as usize);
@@ -324,7 +324,7 @@ pub fn any_crossing(
         }
         t = index::after(pool, r, t);
     }
-    let filed = index::filed(pool) as usize;
+    let filed = pools::filed(pool) as usize;
     crossing_from(size, xs, ys, edges, filed, count, a, b, u, v)
 }
 
@@ -349,7 +349,7 @@ pub fn is_known(
     if !geometry::spans_kept(m, n) {
         return known_from(edges, 0, count, u, v);
     }
-    let r = index::rect_at(m);
+    let r = key_rects::rect_at(m);
     let mut t = index::first(pool, r);
     while !index::is_over(t) {
         if is_edge(edges, index::own_at(pool, t), u, v) {
@@ -357,7 +357,7 @@ pub fn is_known(
         }
         t = index::after(pool, r, t);
     }
-    known_from(edges, index::filed(pool) as usize, count, u, v)
+    known_from(edges, pools::filed(pool) as usize, count, u, v)
 }
 
 // Whether the far corners are joined already. Only two reused ones can be: they alone are searched for.

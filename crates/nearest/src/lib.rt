@@ -85,9 +85,9 @@ fn search_part(
     let mut found = best;
     let mut i = from;
     while i < to {
-        let a = domain::point_at(s, i);
-        let b = domain::point_after(s, i);
-        found = domain::search_segment(p, a, b, loop_index, i, found);
+        let a = outlines::point_at(s, i);
+        let b = outlines::point_after(s, i);
+        found = outlines::search_segment(p, a, b, loop_index, i, found);
         i += 1;
     }
     found
@@ -131,7 +131,7 @@ fn search_all<'a>(
 {
     let mut found = search_loop(
         p,
-        domain::loop_points(outer, holes, lens, 0, 0),
+        outlines::loop_points(outer, holes, lens, 0, 0),
         0,
         blocks,
         0,
@@ -142,7 +142,7 @@ fn search_all<'a>(
     while k < lens.len() {
         let loop_index = k + 1;
         let first = blocks::first_block(outer, loop_index, start);
-        let s = domain::loop_points(outer, holes, lens, loop_index, start);
+        let s = outlines::loop_points(outer, holes, lens, loop_index, start);
         found = search_loop(p, s, loop_index, blocks, first, found);
         start += lens[k];
         k += 1;
@@ -161,7 +161,7 @@ pub fn search_outline<'a>(
     requires { ⌜ Drawn (outline (now outer) (now holes) (now lens)) (now blocks) × (0 < length (now blocks) → ModeratePoint p) ⌝ }
     ensures { λ r. ⌜ r ≡ nearestSegment (outline (now (outer .entry)) (now (holes .entry)) (now (lens .entry))) p ⌝ }
 {
-    let found = search_all(outer, holes, lens, blocks, p, domain::search_start());
+    let found = search_all(outer, holes, lens, blocks, p, outlines::search_start());
     found.near
 }
 
@@ -186,7 +186,7 @@ fn is_near(p: Point) -> bool
 
 // Slightly more than the squared distance of p from the segment guessed. The answer is the same with any other number, so nothing is promised of it.
 fn limit(p: Point, guess: Near) -> f64 {
-    domain::squared_distance(p, domain::foot_of(p, guess.a, guess.b)) * 1.000001
+    outlines::squared_distance(p, outlines::foot_of(p, guess.a, guess.b)) * 1.000001
         + Settings::TOLERANCE
 }
 
@@ -206,7 +206,7 @@ pub fn nearest_segment<'a>(
     if !is_near(p) {
         return search_outline(outer, holes, lens, &blocks[0..0], p);
     }
-    let start = domain::search_start();
+    let start = outlines::search_start();
     let nowhere = start.near;
     let squared = limit(p, guess);
     let guessed = Search {

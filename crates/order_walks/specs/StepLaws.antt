@@ -10,7 +10,7 @@ use lib.Dec.{eqb, ltb}
 use borrow.Author.Tests.{eqb-true}
 use Rattle.laws.specs.Loop.{anyUp, any-found, any-none, any-true, any-false, Unfound, found-before}
 use Rattle.laws.specs.Tests.{both, and-both, or-cases, or-left, or-right, same-truth}
-use Rattle.index.specs.Rects.{Meets}
+use Rattle.key_rects.specs.Rects.{Meets}
 use Rattle.lent_mesh.specs.declared.QuadIds.{QuadIds}
 use Rattle.lent_mesh.specs.Mesh.{quadIn}
 use Rattle.order.specs.Order.{isStep, lays, laysFor, needs, firstPlace, waitsFor, tooEarly}

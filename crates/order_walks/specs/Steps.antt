@@ -3,7 +3,7 @@ use Prim.Native.Nat.{ℕ, _/_, _%_}
 use mathlib.Core.Bool.{Bool, _&&_, cond}
 use mathlib.Core.List.{List}
 use lib.Dec.{eqb, ltb}
-use Rattle.index.specs.declared.Rect.{Rect}
+use Rattle.pools.specs.declared.Rect.{Rect}
 use Rattle.lent_mesh.specs.declared.QuadIds.{QuadIds}
 use Rattle.lent_mesh.specs.Mesh.{quadIn}
 use Rattle.order.specs.Order.{isStep, firstPlace}

@@ -3,13 +3,13 @@
 ghost use mathlib.Core.Path.{_≡_};
 ghost use Prim.Native.Nat.{_*_, _<_, _≤_};
 ghost use Rattle.laws.specs.Loop.{anyUp};
-ghost use Rattle.index.specs.Pool.{filed, Indexed};
+ghost use Rattle.pools.specs.Pool.{filed, Indexed};
 ghost use Rattle.order.specs.Order.{tooEarly, firstEarly, orderAnswer};
-ghost use Rattle.order.specs.Places.{FirstPlaces};
+ghost use Rattle.order_checks.specs.Places.{FirstPlaces};
 ghost use Rattle.order_walks.specs.Steps.{laidFrom, laidTo, stepKey, stepRect, keepsBack};
-use index::Rect;
 use lent_mesh::QuadIds;
 use order::OrderAnswer;
+use pools::Rect;
 
 // ---- the steps laid
 
@@ -66,12 +66,12 @@ fn file_steps(pool: &mut [u32], quads: &[u32], n: usize)
     requires { ⌜ n ≤ 250000 ⌝ }
     ensures { λ r. ⌜ Indexed (now (pool .exit)) (stepRect (now (quads .entry))) (3 * n) ⌝ }
 {
-    index::clear(pool);
+    pools::clear(pool);
     let to = 3 * n;
     let mut k = 0;
     while k < to {
         let r = step_rect(quads, k);
-        index::file(pool, r, k as u32);
+        pools::file(pool, r, k as u32);
         k += 1;
     }
 }
@@ -95,9 +95,9 @@ fn keeps_back(
     let i = k / 3;
     let q = lent_mesh::quad_at(quads, i);
     let s = k % 3;
-    if order::is_step(v, u, laid_from(q, s), laid_to(q, s)) {
+    if order_checks::is_step(v, u, laid_from(q, s), laid_to(q, s)) {
         if i < j {
-            p < order::place_at(order, places, i)
+            p < order_checks::place_at(order, places, i)
         } else {
             false
         }
@@ -157,8 +157,8 @@ fn is_early(
     if any_back(pool, quads, n, order, places, p, j, q.c, q.a) {
         return true;
     }
-    let from = index::filed(pool) as usize / 3;
-    order::early_from(quads, from, n, order, places, p)
+    let from = pools::filed(pool) as usize / 3;
+    order_checks::early_from(quads, from, n, order, places, p)
 }
 
 // ---- the answer
@@ -203,8 +203,8 @@ pub extern "C" fn sitjorbe_order(
     ensures { λ r. ⌜ r ≡ orderAnswer «quad_count» (now (quads .entry)) (now (order .entry)) ⌝ }
 {
     let n = lent_mesh::quad_count(quad_count, quads);
-    order::fill_places(order, places);
-    if !order::names_each_once(n, order, places) {
+    order_checks::fill_places(order, places);
+    if !order_checks::names_each_once(n, order, places) {
         return OrderAnswer {
             refusal: 21,
             place: 0,

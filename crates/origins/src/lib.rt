@@ -39,7 +39,7 @@ fn number_samples<'a>(
     let mut k = 0;
     while k <= lens.len() {
         let parts = boundary::loop_parts(
-            domain::loop_points(outer, holes, lens, k, start),
+            outlines::loop_points(outer, holes, lens, k, start),
             size,
         ) as usize;
         let count = parts + parts % 2;

@@ -1,9 +1,6 @@
 pub mod ByteLaws
 pub mod Enough
-pub mod Example
 pub mod File
 pub mod Lent
 pub mod ReadLaws
 pub mod RefusalLaws
-pub mod RoundTrip
-pub mod WriteLaws

@@ -19,9 +19,9 @@ use Rattle.paving.specs.declared.Attempt.the-variants.{Nothing, Quad}
 use Rattle.paving.specs.Attempt.{tryEdge}
 use Rattle.paving.specs.Advance.{mostQuads}
 use Rattle.mesh_check.specs.Check.{meshRefusal, edgeRefusal}
-use Rattle.stepping.specs.declared.StepOutcome.{StepOutcome}
-use Rattle.stepping.specs.declared.StepOutcome.the-variants.{Placed, None, Full, Cap}
-use Rattle.stepping.specs.Hand.{placeOn}
+use Rattle.hand_steps.specs.declared.StepOutcome.{StepOutcome}
+use Rattle.hand_steps.specs.declared.StepOutcome.the-variants.{Placed, None, Full, Cap}
+use Rattle.hand_steps.specs.Hand.{placeOn}
 use Rattle.previews.specs.declared.Foreseen.{Foreseen}
 use Rattle.previews.specs.declared.View.{View}
 use Rattle.previews.specs.declared.Sight.{Sight}

@@ -29,11 +29,11 @@ use Rattle.attempts.specs.Seen.{seenOf}
 use Rattle.attempts.specs.SeenLaws.{try-seen}
 use Rattle.mesh_check.specs.Check.{lentState, linkCount, meshRefusal, linksOf, edgeRefusal}
 use Rattle.mesh_check.specs.Passed.{mesh-passes, room, front-few}
-use Rattle.stepping.specs.declared.StepOutcome.{StepOutcome}
-use Rattle.stepping.specs.declared.StepOutcome.the-variants.{Placed, None, Full, Cap}
-use Rattle.stepping.specs.Hand.{handRefusal, Handled, handled, settledOn, placeOn}
-use Rattle.stepping.specs.Lent.{OnFront}
-use Rattle.stepping.specs.UseLaws.{front-room, quad-fits}
+use Rattle.hand_steps.specs.declared.StepOutcome.{StepOutcome}
+use Rattle.hand_steps.specs.declared.StepOutcome.the-variants.{Placed, None, Full, Cap}
+use Rattle.hand_steps.specs.Hand.{handRefusal, Handled, handled, settledOn, placeOn}
+use Rattle.hand_steps.specs.Lent.{OnFront}
+use Rattle.hand_steps.specs.UseLaws.{front-room, quad-fits}
 use Rattle.previews.specs.declared.Foreseen.{Foreseen}
 use Rattle.previews.specs.declared.View.{View}
 use Rattle.previews.specs.declared.Sight.the-variants.{Refused, Shown}

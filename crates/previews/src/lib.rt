@@ -11,7 +11,7 @@ ghost use Rattle.domain.specs.Outline.{outline};
 ghost use Rattle.direction.specs.Record.{fieldRecord};
 ghost use Rattle.mesh_check.specs.Check.{lentState};
 ghost use Rattle.mesh_check.specs.Passed.{MeshRoom};
-ghost use Rattle.stepping.specs.Lent.{Around, OnFront};
+ghost use Rattle.hand_steps.specs.Lent.{Around, OnFront};
 ghost use Rattle.previews.specs.Preview.{removeLink, takeLink, putLink, bareLinks, movedLinks, isOn, edgeList, frontListed, shownLinks, shownNodes};
 ghost use Rattle.previews.specs.Preview.{foreseen, foreseenOn, previewRefusal, PreviewTaken};
 use direction::Grid;
@@ -19,8 +19,8 @@ use domain::Settings;
 use front::Corner;
 use front::Counts;
 use front::OFF;
+use hand_steps::StepOutcome;
 use paving::Attempt;
-use stepping::StepOutcome;
 
 // What a placing would do, with the quad that it would place.
 pub struct Foreseen {

@@ -51,11 +51,11 @@ pub struct DistanceAnswer {
 fn query_refusal<'a>(outer: &'a [f64], holes: &'a [f64], lens: &[usize], p: Point) -> u32
     ensures { λ r. ⌜ r ≡ queryRefusal (outline (now (outer .entry)) (now (holes .entry)) (now (lens .entry))) p ⌝ }
 {
-    let refusal = domain::outline_refusal(outer, holes, lens);
+    let refusal = outlines::outline_refusal(outer, holes, lens);
     if refusal != 0 {
         return refusal;
     }
-    domain::point_refusal(p)
+    outlines::point_refusal(p)
 }
 
 pub fn query_contains<'a>(outer: &'a [f64], holes: &'a [f64], lens: &[usize], p: Point) -> Contains

@@ -24,34 +24,31 @@ use Rattle.crossfield.specs.Grid.{bounds, gridOf}
 use Rattle.crossfield.specs.Field.{fieldPlaces, refusalFor, fieldRefusal, fieldOf}
 use Rattle.crossfield.specs.FieldLaws.{unrefused, few-made, sides}
 use Rattle.topology.specs.LongLoops.{none-listed}
-use Rattle.soundness.specs.Answer.{isWhole}
+use Rattle.sound_outlines.specs.Whole.{isWhole}
 use Rattle.soundness.specs.WalkLaws.{whole-means}
 use Rattle.front.specs.State.{State, stateOf, fewest, mostNodes, nodePlaces, edgePlaces}
-use Rattle.front.specs.Sampling.{loopCount, sampledCount, sampledRefusal, frontRefusal, fromBoundary, boundaryLoops}
+use Rattle.front.specs.Sampling.{loopCount, sampledRefusal, frontRefusal, fromBoundary}
 use Rattle.paving.specs.Attempt.{tryToward, tryEdge}
 use Rattle.paving.specs.Advance.{Passed, passing, passTurn, afterPass, withSnapshot, pass, mostPasses, allUsed, advance}
 use Rattle.paving.specs.Advance as paving
-use Rattle.paving.specs.ReachLaws.{advance-reaches}
 use Rattle.paving.specs.Loops.{frontLoops}
 use Rattle.whole_run.specs.Run.{runRefusal, runOf}
-use Rattle.loops.specs.Listed.{Lists, written, Listable, listedIn}
-use Rattle.loops.specs.ListedLaws.{listed-front, sound-listable}
-use Rattle.advance.specs.Paveable.{Paveable}
-use Rattle.sampled.specs.Outlines.{outline-three}
-use Rattle.sampled.specs.Begun.{Begun, begun}
+use Rattle.loops.specs.Listed.{Lists, written, listedIn}
+use Rattle.loops.specs.ListedLaws.{listed-front}
 use Rattle.books.specs.Book.{Book, quadAt, newNode, side, bookQuad, bookAfter, quadsArea}
 use Rattle.books.specs.Net.{quadsEdges}
 use Rattle.books.specs.Holds.{BooksHold, Closes, LoopsAnswered}
-use Rattle.books_hold.specs.Stages.{Standing, standing}
 use Rattle.books_hold.specs.Runs.{accepted}
 use Rattle.books_hold.specs.Theorem.{books-hold}
 use Rattle.origins.specs.Origins.{originsAfter}
-use Rattle.origins.specs.Writing.{Numberable, advance-numberable, booked-answered}
+use Rattle.origins.specs.Writing.{booked-answered}
+use Rattle.run_refusal.specs.Lengths.{lengthsRefusal}
+use Rattle.sampled_advance.specs.Asked.{CanPave}
 use Rattle.run.specs.declared.Paved.{Paved}
 use Rattle.run.specs.Run as run-is
 use Rattle.run.specs.Run.{Lent, Ran, ran, lent, fieldPart, statePart, snapshotPlaces, narrowed, widened}
-use Rattle.run.specs.Run.{refusedAnswer, pavedAnswer, lengthsRefusal, refusalOf, acceptedIn, acceptedRun, runAnswer, PavesBooks, PavesOrigins, Paves}
-use Rattle.run.specs.Asked.{CanPave, CanRun}
+use Rattle.run.specs.Run.{refusedAnswer, pavedAnswer, refusalOf, acceptedIn, acceptedRun, runAnswer, PavesBooks, PavesOrigins, Paves}
+use Rattle.run.specs.Asked.{CanRun}
 
 -- ---- a paving doesn't read the field's marks
 
@@ -109,53 +106,6 @@ module _ (o : Outline) (set : Settings) (l : Lent) (C : CanRun o set l) where
         front = none-front;
         field = rw same (record { columns = L .columns; rows = L .rows; few = L .few; room = rw long (L .room) });
       }
-
-module _ (o : Outline) (blocks : List ℕ) (size : Float) (g : Grid) (values : List Float) (s : State) (C : CanPave o blocks size g values s) where
-  begins : Begun o (sampledCount o size) s (fromBoundary o size s) (boundaryLoops o size s)
-  begins = begun o size s (outline-three o (C .drawn .taken)) (C .front)
-
-  pub paveable : Paveable o blocks g values (fromBoundary o size s)
-  paveable =
-      record {
-        drawn = C .drawn;
-        field = C .field;
-        sampled = sampledCount o size;
-        loops = boundaryLoops o size s;
-        sound = begins .sound;
-        known = begins .known;
-      }
-
-  pub paveable-at : (t : State) → t ≡ fromBoundary o size s → Paveable o blocks g values t
-  paveable-at t e = subst (Paveable o blocks g values) (sym e) paveable
-
-  -- ---- what the numbers and the loops ask
-
-  -- every node has a place in a list as long as the snapshot
-  stands : (field : FieldRecord) (passes : ℕ)
-      → Standing (sampledCount o size) (fromBoundary o size s) (boundaryLoops o size s) (advance o size field passes (fromBoundary o size s) .state)
-  stands field passes = standing (begins .sound) (advance-reaches o size (fromBoundary o size s) field passes .by)
-
-  nodes-few : (field : FieldRecord) (passes : ℕ) → advance o size field passes (fromBoundary o size s) .state .counts .nodes ≤ length (s .snapshot)
-  unfolding nodePlaces
-  nodes-few field passes =
-      let Y = stands field passes in
-      omega (arith, Y .sound .nodes-fit, Y .frame .snapshot .long ∙ ap length (begins .snapshot))
-
-  pub can-number : (field : FieldRecord) (passes : ℕ) (end : paving.Paved) → end ≡ advance o size field passes (fromBoundary o size s)
-      → (places : ℕ) → length (s .snapshot) ≤ places → Numberable o size (end .state .quads) (end .state .counts .quads) places
-  can-number field passes end e places a =
-      advance-numberable o size s (record { doubles = C .drawn .fits; outline = C .drawn .taken; front = C .front }) field passes end e places
-      (rw e (omega (arith, nodes-few field passes)))
-
-  pub can-list : (field : FieldRecord) (passes : ℕ) (end : paving.Paved) → end ≡ advance o size field passes (fromBoundary o size s)
-      → (loops lengths : List ℕ) → length (s .snapshot) ≤ length loops → loopCount o ≤ length lengths
-      → Listable (end .state .counts) (end .state .next) (end .state .snapshot) loops lengths
-  can-list field passes end e loops lengths a b = rw e (
-      sound-listable (sampledCount o size) _ (Y .loops) (Y .sound) loops lengths (omega (arith, nodes-few field passes, a))
-      (omega (arith, Y .number, begins .loops, b)))
-    where
-      Y : Standing (sampledCount o size) (fromBoundary o size s) (boundaryLoops o size s) (advance o size field passes (fromBoundary o size s) .state)
-      Y = stands field passes
 
 -- ---- the books don't read the snapshot
 

@@ -1,9 +1,8 @@
 -- THE RUN: what is lent, what is answered, and what a caller gets. Definitions only.
-use mathlib.Core.Bool.{Bool, false, cond}
+use mathlib.Core.Bool.{Bool, false}
 use mathlib.Core.List.{List, _++_}
 use mathlib.Core.Path.{_≡_}
 use Prim.Native.Nat.{ℕ, min}
-use lib.Dec.{ltb}
 use lib.ListN.{length, take, drop}
 use lib.Ieee.{Float}
 use Rattle.laws.specs.Overlay.{overlay}
@@ -14,16 +13,17 @@ use Rattle.domain.specs.Queries.{answerBy}
 use Rattle.direction.specs.declared.Grid.{Grid}
 use Rattle.direction.specs.Record.{FieldLists, fieldLists}
 use Rattle.front.specs.declared.Counts.{Counts}
-use Rattle.front.specs.State.{State, stateOf, counted}
-use Rattle.front.specs.Sampling.{loopCount}
+use Rattle.front.specs.State.{State, stateOf}
 use Rattle.paving.specs.declared.End.{End}
 use Rattle.paving.specs.declared.End.the-variants.{Still, Passes, Cap, Full}
 use Rattle.whole_run.specs.Run.{runRefusal, runOf}
 use Rattle.loops.specs.declared.Listed.{Listed}
 use Rattle.loops.specs.Listed as loops
-use Rattle.soundness.specs.Answer.{isWhole}
+use Rattle.sound_outlines.specs.Whole.{isWhole}
 use Rattle.books.specs.Holds.{BooksAnswered}
 use Rattle.origins.specs.Origins.{originsAfter, OriginsAnswered}
+use Rattle.run_refusal.specs.Lengths.{lengthsRefusal}
+use Rattle.sampled_advance.specs.Asked.{unused}
 use Rattle.run.specs.declared.Paved.{Paved}
 
 -- ---- what is handed over
@@ -79,10 +79,6 @@ abbrev pub withSnapshot : Lent → List ℕ → Lent
 withSnapshot l snapshot =
     lent (l .values) (l .marks) (l .xs) (l .ys) (l .next) (l .prev) snapshot (l .origins) (l .quads) (l .edges) (l .loops) (l .lengths)
 
--- no node, quad or edge yet
-abbrev pub unused : Counts
-unused = counted 0 0 0 0
-
 abbrev pub fieldPart : Lent → FieldLists
 fieldPart l = fieldLists (l .values) (l .marks)
 
@@ -135,10 +131,6 @@ abbrev pub ran : Paved → Lent → Ran
 ran r l = record { answer = r; lists = l }
 
 -- ---- the run
-
--- 10: there are fewer places for the lengths of loops than the outline has loops
-abbrev pub lengthsRefusal : Outline → ℕ → ℕ
-lengthsRefusal o places = cond (ltb places (loopCount o)) 10 0
 
 -- 1 to 10, in rising number
 unfoldable pub refusalOf : Outline → Settings → Lent → ℕ

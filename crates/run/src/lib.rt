@@ -1,16 +1,8 @@
 // The run whole in one call: field, sampling, paving, the loops that nodes came from and the loops of the front, in the lists lent.
 ghost use mathlib.Core.Path.{_≡_};
-ghost use mathlib.Core.List.{[]};
-ghost use Prim.Native.Nat.{_≤_, min};
-ghost use lib.ListN.{length};
-ghost use Rattle.domain.specs.Outline.{outline, firstOf};
-ghost use Rattle.direction.specs.Record.{fieldRecord};
-ghost use Rattle.crossfield.specs.Field.{refusalFor};
-ghost use Rattle.front.specs.State.{stateOf, fewest, mostNodes};
-ghost use Rattle.front.specs.Sampling.{sampledRefusal, fromBoundary};
-ghost use Rattle.paving.specs.Advance.{paved, advance};
-ghost use Rattle.run.specs.Run.{settings, lent, scratch, ran, endNumber, refusedAnswer, pavedAnswer, unused, lengthsRefusal, acceptedIn, Paves, Spares};
-ghost use Rattle.run.specs.Asked.{CanPave, CanRun};
+ghost use Rattle.domain.specs.Outline.{outline};
+ghost use Rattle.run.specs.Run.{settings, lent, scratch, ran, endNumber, refusedAnswer, pavedAnswer, acceptedIn, Paves, Spares};
+ghost use Rattle.run.specs.Asked.{CanRun};
 use advance::Advanced;
 use direction::Grid;
 use front::Counts;
@@ -80,110 +72,7 @@ fn answer(grid: Grid, a: Advanced, listed: Listed, whole: bool) -> Paved
     }
 }
 
-// ---- refusals 1 to 10
-
-// So many places of the snapshot count.
-fn snapshot_places(snapshot: usize, loops: usize, origins: usize) -> usize
-    ensures { λ r. ⌜ r ≡ min (min snapshot loops) origins ⌝ }
-{
-    numbers::min_usize(numbers::min_usize(snapshot, loops), origins)
-}
-
-// The places of the shortest of the lists of nodes.
-fn node_places(xs: usize, ys: usize, next: usize, prev: usize, snapshot: usize) -> usize
-    ensures { λ r. ⌜ r ≡ fewest xs ys next prev snapshot ⌝ }
-{
-    let coordinates = numbers::min_usize(xs, ys);
-    let links = numbers::min_usize(next, prev);
-    numbers::min_usize(numbers::min_usize(coordinates, links), snapshot)
-}
-
-// Where there are so many places for field nodes, nodes, edges and lengths of loops.
-fn refusal<'a>(
-    outer: &'a [f64],
-    holes: &'a [f64],
-    lens: &[usize],
-    size: f64,
-    sweeps: usize,
-    field: usize,
-    nodes: usize,
-    edges: usize,
-    lengths: usize,
-) -> u32
-    ensures { λ r. ⌜ r
-        ≡ firstOf
-        (firstOf (refusalFor (outline (now (outer .entry)) (now (holes .entry)) (now (lens .entry))) size sweeps field)
-        (sampledRefusal (outline (now (outer .entry)) (now (holes .entry)) (now (lens .entry))) size (min nodes mostNodes) edges))
-        (lengthsRefusal (outline (now (outer .entry)) (now (holes .entry)) (now (lens .entry))) lengths) ⌝ }
-{
-    let number = crossfield::field_refusal(outer, holes, lens, size, sweeps, field);
-    if number != 0 {
-        return number;
-    }
-    let few = boundary::front_refusal(outer, holes, lens, size, nodes, edges);
-    if few != 0 {
-        return few;
-    }
-    if lens.len() < lengths { 0 } else { 10 }
-}
-
 // ---- the stages
-
-// Sampling and paving, where 10 doesn't refuse them.
-fn sample_and_advance<'a>(
-    outer: &'a [f64],
-    holes: &'a [f64],
-    lens: &[usize],
-    blocks: &[u32],
-    size: f64,
-    grid: Grid,
-    values: &[f64],
-    xs: &mut [f64],
-    ys: &mut [f64],
-    next: &mut [u32],
-    prev: &mut [u32],
-    snapshot: &mut [u32],
-    quads: &mut [u32],
-    edges: &mut [u32],
-    node_pool: &mut [u32],
-    edge_pool: &mut [u32],
-    tried: &mut [u32],
-    passes: usize,
-) -> Advanced
-    requires { ⌜ CanPave (outline (now outer) (now holes) (now lens)) (now blocks) size grid (now values)
-        (stateOf (now xs) (now ys) (now next) (now prev) (now snapshot) (now quads) (now edges) unused) ⌝ }
-    ensures { λ r. ⌜
-        paved
-        (stateOf (now (xs .exit)) (now (ys .exit)) (now (next .exit)) (now (prev .exit)) (now (snapshot .exit)) (now (quads .exit)) (now (edges .exit))
-        (r .counts)) (r .end)
-        ≡ advance (outline (now (outer .entry)) (now (holes .entry)) (now (lens .entry))) size (fieldRecord grid (now (values .entry)) []) passes
-        (fromBoundary (outline (now (outer .entry)) (now (holes .entry)) (now (lens .entry))) size
-        (stateOf (now (xs .entry)) (now (ys .entry)) (now (next .entry)) (now (prev .entry)) (now (snapshot .entry)) (now (quads .entry))
-        (now (edges .entry)) unused)) ⌝ }
-{
-    let k = boundary::from_boundary(outer, holes, lens, size, xs, ys, next, prev, edges);
-    advance::advance(
-        outer,
-        holes,
-        lens,
-        blocks,
-        size,
-        grid,
-        values,
-        xs,
-        ys,
-        next,
-        prev,
-        snapshot,
-        quads,
-        edges,
-        node_pool,
-        edge_pool,
-        tried,
-        k,
-        passes,
-    )
-}
 
 // A run that isn't refused, where `snapshot` is no longer than `loops` and `origins`.
 fn pave_in<'a>(
@@ -222,7 +111,7 @@ fn pave_in<'a>(
         (now (snapshot .entry)) (now (origins .entry)) (now (quads .entry)) (now (edges .entry)) (now (loops .entry)) (now (lengths .entry))) ⌝ }
 {
     let grid = crossfield::make_field(outer, holes, lens, size, sweeps, values, marks, blocks);
-    let a = sample_and_advance(
+    let a = sampled_advance::sample_and_advance(
         outer,
         holes,
         lens,
@@ -287,10 +176,10 @@ pub fn pave<'a>(
         × Spares (r .refusal) (scratch (now («node_pool» .entry)) (now («edge_pool» .entry)) (now (blocks .entry)) (now (tried .entry)))
         (scratch (now («node_pool» .exit)) (now («edge_pool» .exit)) (now (blocks .exit)) (now (tried .exit))) ⌝ }
 {
-    let m = snapshot_places(snapshot.len(), loops.len(), origins.len());
+    let m = run_refusal::snapshot_places(snapshot.len(), loops.len(), origins.len());
     let field = numbers::min_usize(values.len() / 2, marks.len());
-    let nodes = node_places(xs.len(), ys.len(), next.len(), prev.len(), m);
-    let number = refusal(
+    let nodes = run_refusal::node_places(xs.len(), ys.len(), next.len(), prev.len(), m);
+    let number = run_refusal::refusal(
         outer,
         holes,
         lens,

@@ -116,8 +116,8 @@ sets-append (a ∷ l) d s i =
     let e : i + suc (length l) ≡ suc i + length l = omega arith in
     ap (λ (n : ℕ). sets (sets (set s i a) (suc i) l) n d) e ∙ sets-append l d (set s i a) (suc i)
 
-sets-more : (l d s : List ℕ) → sets (sets s 0 l) (length l) d ≡ sets s 0 (l ++ d)
-sets-more l d s = ap (λ (n : ℕ). sets (sets s 0 l) n d) (sym (zero-add (length l))) ∙ sets-append l d s 0
+sets-first : (l d s : List ℕ) → sets (sets s 0 l) (length l) d ≡ sets s 0 (l ++ d)
+sets-first l d s = ap (λ (n : ℕ). sets (sets s 0 l) n d) (sym (zero-add (length l))) ∙ sets-append l d s 0
 
 module _ (s₀ : List ℕ) (fits : length (fours aboveThird) ≤ length s₀) where
   below-fits : (k : ℕ) → k ≤ 65536 → length (foursBelow k) ≤ length s₀
@@ -155,7 +155,7 @@ module _ (s₀ : List ℕ) (fits : length (fours aboveThird) ≤ length s₀) wh
         within = omega arith;
         written = g ∙ ap (λ (x : ℕ). x + 4) (f .written) ∙ sym (length-next k ∙ ap (λ (b : Bool). cond b (length (foursBelow k) + 4) (length (foursBelow k))) b);
         same =
-            e ∙ ap₂ (λ (x : List ℕ) (i : ℕ). sets x i (pointsOf k)) (f .same) (f .written) ∙ sets-more (foursBelow k) (pointsOf k) s₀
+            e ∙ ap₂ (λ (x : List ℕ) (i : ℕ). sets x i (pointsOf k)) (f .same) (f .written) ∙ sets-first (foursBelow k) (pointsOf k) s₀
             ∙ ap (λ (l : List ℕ). sets s₀ 0 l) (sym (below-next k ∙ ap (λ (b : Bool). cond b (foursBelow k ++ pointsOf k) (foursBelow k)) b));
       }
       go false b e g = record {

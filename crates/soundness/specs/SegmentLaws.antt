@@ -19,8 +19,8 @@ use Rattle.exact.specs.Corner.{Vector}
 use Rattle.domain.specs.declared.Point.{Point}
 use Rattle.domain.specs.Outline.{points, pointAt, pointAfter, after}
 use Rattle.orientation.specs.Orient.{place, orient, sideOf}
-use Rattle.soundness.specs.Sound.{start, end, least, greatest, overlap, parted, meets, foldsBack, foldsAt, clash, rayMeets, isInside}
-use Rattle.soundness.specs.FoldsLaws.{isExtreme, folds-extreme}
+use Rattle.sound_outlines.specs.Sound.{start, end, least, greatest, overlap, parted, meets, foldsBack, foldsAt, clash, rayMeets, isInside}
+use Rattle.sound_outlines.specs.FoldsLaws.{isExtreme, folds-extreme}
 
 or-false-right : (b : Bool) → (b || false) ≡ b
 or-false-right true = refl

@@ -1,5 +1,4 @@
--- For code that judges an outline: one walk over the holes asks all that the definition asks of them; the answer of the entry, and the word whole. Assumes
--- nothing.
+-- For code that judges an outline: one walk over the holes asks all that the definition asks of them; and the word whole. Assumes nothing.
 use mathlib.Core.Path.{_≡_, refl, sym, ap, ap₂, _∙_, fun-ext}
 use mathlib.Core.Bool.{Bool, true, false, not, _&&_, _||_, Bool·beq}
 use mathlib.Core.Logic.{_↔_}
@@ -14,9 +13,8 @@ use Rattle.laws.specs.Tests.{both, neither, and-both}
 use Rattle.laws.specs.Loop.{anyUp, any-none, none-found}
 use Rattle.domain.specs.Outline.{Outline, misshapen, outlineRefusal, holeAt, loopAt, points}
 use Rattle.domain.specs.Accepted.{OutlineFits, LoopWithin, accepted, loop-within}
-use Rattle.soundness.specs.Sound.{start, crossesItself, touch, isInside, straysOut, liesIn, outlineSound}
-use Rattle.soundness.specs.declared.SoundAnswer.{SoundAnswer}
-use Rattle.soundness.specs.Answer.{soundAnswer, isWhole}
+use Rattle.sound_outlines.specs.Sound.{start, crossesItself, touch, isInside, straysOut, liesIn, outlineSound}
+use Rattle.sound_outlines.specs.Whole.{isWhole}
 
 -- ---- one walk over the holes
 
@@ -227,20 +225,6 @@ module _ (o : Outline) {x : Bool} (e : x ≡ crossesItself (o .outer)) where
   module _ (h : x ≡ false) {y : Bool} (f : y ≡ anyUp (length (o .lens)) (unsoundAt o)) where
     pub walk-holes : not y ≡ outlineSound o
     walk-holes = ap₂ (λ (z w : Bool). not (z || w)) (sym h ∙ e) f ∙ sym (sound-walk o)
-
--- ---- the entry
-
-module _ (o : Outline) {n : ℕ} (e : n ≡ outlineRefusal o) where
-  abbrev answer : ℕ → Bool → SoundAnswer
-  answer n b = record { refusal = n; sound = b }
-
-  pub sound-refused : (n ≡ 0 → ⊥) → answer n false ≡ soundAnswer o
-  unfolding soundAnswer
-  sound-refused h = ap₂ answer e (ap (λ (b : Bool). b && outlineSound o) (sym (ne-eqb (outlineRefusal o) 0 (λ z. h (e ∙ z)))))
-
-  pub sound-judged : n ≡ 0 → {s : Bool} → s ≡ outlineSound o → answer 0 s ≡ soundAnswer o
-  unfolding soundAnswer
-  sound-judged z f = ap₂ answer (sym z ∙ e) (f ∙ ap (λ (b : Bool). b && outlineSound o) (sym (eq-eqb (outlineRefusal o) 0 (sym e ∙ z))))
 
 -- ---- the word
 

@@ -9,10 +9,10 @@ ghost use Rattle.exact.specs.Units.{units, Within};
 ghost use Rattle.domain.specs.Outline.{outline, points, holeAt, outlineRefusal};
 ghost use Rattle.domain.specs.Accepted.{PointWithin, LoopWithin};
 ghost use Rattle.orientation.specs.Orient.{place};
-ghost use Rattle.soundness.specs.Sound.{start, end, overlap, parted, meets, foldsBack, foldsAt, clash, crossesItself, touch};
-ghost use Rattle.soundness.specs.Sound.{rayMeets, isInside, outlineSound};
-ghost use Rattle.soundness.specs.Answer.{soundAnswer, isWhole};
-ghost use Rattle.soundness.specs.FoldsLaws.{isExtreme};
+ghost use Rattle.sound_outlines.specs.Sound.{start, end, overlap, parted, meets, foldsBack, foldsAt, clash, crossesItself, touch};
+ghost use Rattle.sound_outlines.specs.Sound.{rayMeets, isInside, outlineSound};
+ghost use Rattle.sound_outlines.specs.Whole.{isWhole};
+ghost use Rattle.sound_outlines.specs.FoldsLaws.{isExtreme};
 ghost use Rattle.soundness.specs.SegmentLaws.{lesserF, greaterF};
 ghost use Rattle.soundness.specs.WalkLaws.{anyPoint, holesClash, holeUnsound, Judged};
 use domain::Point;
@@ -106,12 +106,12 @@ fn folds_at(s: &[f64], i: usize, j: usize) -> bool
     requires { ⌜ LoopWithin (now s) × (i < points (now s)) × (j < points (now s)) ⌝ }
     ensures { λ r. ⌜ r ≡ foldsAt (now (s .entry)) i j ⌝ }
 {
-    if j != domain::after(s.len() / 2, i) {
+    if j != outlines::after(s.len() / 2, i) {
         return false;
     }
-    let a = domain::point_at(s, i);
-    let b = domain::point_at(s, j);
-    folds_back(a, b, domain::point_after(s, j))
+    let a = outlines::point_at(s, i);
+    let b = outlines::point_at(s, j);
+    folds_back(a, b, outlines::point_after(s, j))
 }
 
 // Whether segments i and j have in common what they may not: neighbours more than their common end, others anything.
@@ -125,16 +125,16 @@ fn clash(s: &[f64], i: usize, j: usize) -> bool
     if folds_at(s, j, i) {
         return true;
     }
-    if j == domain::after(s.len() / 2, i) {
+    if j == outlines::after(s.len() / 2, i) {
         return false;
     }
-    if i == domain::after(s.len() / 2, j) {
+    if i == outlines::after(s.len() / 2, j) {
         return false;
     }
-    let a = domain::point_at(s, i);
-    let b = domain::point_after(s, i);
-    let c = domain::point_at(s, j);
-    meets(a, b, c, domain::point_after(s, j))
+    let a = outlines::point_at(s, i);
+    let b = outlines::point_after(s, i);
+    let c = outlines::point_at(s, j);
+    meets(a, b, c, outlines::point_after(s, j))
 }
 
 // Whether some two segments of the loop clash. The search is left at the first that do.
@@ -169,8 +169,8 @@ fn meets_loop(a: Point, b: Point, t: &[f64]) -> bool
     let n = t.len() / 2;
     let mut j = 0;
     while j < n {
-        let c = domain::point_at(t, j);
-        if meets(a, b, c, domain::point_after(t, j)) {
+        let c = outlines::point_at(t, j);
+        if meets(a, b, c, outlines::point_after(t, j)) {
             return true;
         }
         j += 1;
@@ -186,8 +186,8 @@ fn touches(s: &[f64], t: &[f64]) -> bool
     let n = s.len() / 2;
     let mut i = 0;
     while i < n {
-        let a = domain::point_at(s, i);
-        if meets_loop(a, domain::point_after(s, i), t) {
+        let a = outlines::point_at(s, i);
+        if meets_loop(a, outlines::point_after(s, i), t) {
             return true;
         }
         i += 1;
@@ -221,8 +221,8 @@ fn is_inside(p: Point, s: &[f64]) -> bool
     let mut inside = false;
     let mut i = 0;
     while i < n {
-        let a = domain::point_at(s, i);
-        inside = inside != ray_meets(p, a, domain::point_after(s, i));
+        let a = outlines::point_at(s, i);
+        inside = inside != ray_meets(p, a, outlines::point_after(s, i));
         i += 1;
     }
     inside
@@ -236,7 +236,7 @@ fn any_point(s: &[f64], t: &[f64], inside: bool) -> bool
     let n = s.len() / 2;
     let mut i = 0;
     while i < n {
-        if is_inside(domain::point_at(s, i), t) == inside {
+        if is_inside(outlines::point_at(s, i), t) == inside {
             return true;
         }
         i += 1;
@@ -274,7 +274,7 @@ fn clashes_before<'a>(
     let mut l = 0;
     let mut start = 0;
     while l < k {
-        if holes_clash(s, domain::loop_points(outer, holes, lens, l + 1, start)) {
+        if holes_clash(s, outlines::loop_points(outer, holes, lens, l + 1, start)) {
             return true;
         }
         start += lens[l];
@@ -317,7 +317,7 @@ pub fn is_sound<'a>(outer: &'a [f64], holes: &'a [f64], lens: &[usize]) -> bool
     let mut k = 0;
     let mut start = 0;
     while k < lens.len() {
-        let s = domain::loop_points(outer, holes, lens, k + 1, start);
+        let s = outlines::loop_points(outer, holes, lens, k + 1, start);
         if is_hole_unsound(outer, holes, lens, s, k) {
             return false;
         }
@@ -337,32 +337,4 @@ pub fn is_whole<'a>(outer: &'a [f64], holes: &'a [f64], lens: &[usize], listed: 
         return false;
     }
     is_sound(outer, holes, lens)
-}
-
-// ---- the entry
-
-#[repr(C)]
-pub struct SoundAnswer {
-    pub refusal: u32,
-    pub sound: bool,
-}
-
-// Whether the outline is sound; refusals 1 to 4 come first, with false.
-#[no_mangle]
-pub extern "C" fn sitjorbe_sound<'a>(
-    outer: &'a [f64],
-    holes: &'a [f64],
-    lens: &[usize],
-) -> SoundAnswer
-    ensures { λ r. ⌜ r ≡ soundAnswer (outline (now (outer .entry)) (now (holes .entry)) (now (lens .entry))) ⌝ }
-{
-    let refusal = domain::outline_refusal(outer, holes, lens);
-    if refusal != 0 {
-        return SoundAnswer {
-            refusal,
-            sound: false,
-        };
-    }
-    let sound = is_sound(outer, holes, lens);
-    SoundAnswer { refusal: 0, sound }
 }

@@ -1,8 +1,8 @@
--- What the entries of hand stepping answer and leave: equations on every input, with the numbers of each case as they cross to the host. Definitions only.
+-- What the entries of hand stepping answer and leave: equations on every input. Definitions only.
 use mathlib.Core.Bool.{cond}
 use mathlib.Core.List.{List}
 use mathlib.Core.Path.{_≡_}
-use Prim.Native.Nat.{ℕ, _+_, _-_, _/_}
+use Prim.Native.Nat.{ℕ, _-_, _/_}
 use lib.Dec.{leb, eqb}
 use lib.ListN.{length}
 use lib.Ieee.{Float}
@@ -13,21 +13,14 @@ use Rattle.direction.specs.Record.{FieldRecord}
 use Rattle.direction.specs.Direction.{recordRefusal}
 use Rattle.crossfield.specs.Grid.{bounds, sizeRefusal, boundsRefusal}
 use Rattle.front.specs.declared.Counts.{Counts}
-use Rattle.front.specs.declared.Corner.{Corner}
-use Rattle.front.specs.declared.Corner.the-variants.{Reused, Fresh}
 use Rattle.front.specs.State.{State, counted, node, nextOf, quadAt}
-use Rattle.front.specs.Place.{added, cornerId}
-use Rattle.paving.specs.declared.Attempt.{Attempt}
-use Rattle.paving.specs.declared.Attempt.the-variants.{Nothing, Quad}
-use Rattle.stepping.specs.declared.HandStep.{HandStep}
-use Rattle.stepping.specs.declared.HandStep.the-variants.{Refused, Done}
-use Rattle.stepping.specs.declared.StepOutcome.{StepOutcome}
-use Rattle.stepping.specs.declared.StepOutcome.the-variants.{Placed, None, Full, Cap}
-use Rattle.stepping.specs.Hand.{handRefusal, Handled, placeOn, newOrigins}
-use Rattle.previews.specs.declared.View.{View}
+use Rattle.hand_steps.specs.declared.StepOutcome.{StepOutcome}
+use Rattle.hand_steps.specs.declared.StepOutcome.the-variants.{Placed, None, Full, Cap}
+use Rattle.hand_steps.specs.Hand.{handRefusal, Handled, placeOn, newOrigins}
 use Rattle.previews.specs.Preview.{previewRefusal, frontListed}
-use Rattle.step_entries.specs.declared.StepAnswer.{StepAnswer}
-use Rattle.step_entries.specs.declared.PreviewAnswer.{PreviewAnswer}
+use Rattle.step_answers.specs.declared.StepAnswer.{StepAnswer}
+use Rattle.step_answers.specs.declared.PreviewAnswer.{PreviewAnswer}
+use Rattle.step_answers.specs.Answers.{refusedStep, doneStep, refusedPreview, noQuad}
 
 -- ---- the refusals, in order
 
@@ -48,18 +41,6 @@ unfoldable pub sightRefusal : Outline → Float → FieldRecord → ℕ → ℕ 
 sightRefusal o size field a b s list = firstOf (givenRefusal o size field) (previewRefusal s (length list / 2) a b)
 
 -- ---- a step
-
-abbrev pub outcomeNumber : StepOutcome → ℕ
-outcomeNumber Placed = 0
-outcomeNumber None = 1
-outcomeNumber Full = 2
-outcomeNumber Cap = 3
-
-abbrev pub refusedStep : ℕ → StepAnswer
-refusedStep n = record { refusal = n; outcome = 0; nodes = 0; quads = 0; edges = 0; front = 0 }
-
-abbrev pub doneStep : StepOutcome → Counts → StepAnswer
-doneStep w k = record { refusal = 0; outcome = outcomeNumber w; nodes = k .nodes; quads = k .quads; edges = k .edges; front = k .front }
 
 -- refused, or what became of the edge, with the counts after it
 unfoldable pub stepReply : Outline → Float → FieldRecord → ℕ → ℕ → State → StepAnswer
@@ -85,41 +66,6 @@ pub record HostSteps (o : Outline) (size : Float) (field : FieldRecord) (a b : �
   pub origins : after ≡ newOrigins a (s .counts .nodes) (stepLeft o size field a b s .counts .nodes) before
 
 -- ---- a preview
-
-abbrev pub refusedPreview : ℕ → PreviewAnswer
-refusedPreview n =
-    record {
-      refusal = n;
-      outcome = 0;
-      a = 0;
-      b = 0;
-      d = 0;
-      c = 0;
-      «new_nodes» = 0;
-      cx = zeroF;
-      cy = zeroF;
-      dx = zeroF;
-      dy = zeroF;
-      front = 0;
-    }
-
--- no quad
-abbrev pub noQuad : ℕ → ℕ → PreviewAnswer
-noQuad outcome front =
-    record {
-      refusal = 0;
-      outcome = outcome;
-      a = 0;
-      b = 0;
-      d = 0;
-      c = 0;
-      «new_nodes» = 0;
-      cx = zeroF;
-      cy = zeroF;
-      dx = zeroF;
-      dy = zeroF;
-      front = front;
-    }
 
 -- a coordinate of node id in t, where it is none of the first n nodes
 abbrev pub newX : ℕ → State → ℕ → Float
@@ -174,37 +120,3 @@ pub record HostPreviews (o : Outline) (size : Float) (field : FieldRecord) (a b 
 
 abbrev pub gridGiven : Float → Float → Float → ℕ → ℕ → Grid
 gridGiven xmin ymin h nx ny = record { xmin = xmin; ymin = ymin; h = h; nx = nx; ny = ny }
-
-abbrev pub stepNumbers : HandStep → StepAnswer
-stepNumbers (Refused n) = refusedStep n
-stepNumbers (Done w k) = doneStep w k
-
--- the coordinates of a new corner
-abbrev pub freshX : Corner → Float
-freshX (Reused id) = zeroF
-freshX (Fresh x y) = x
-
-abbrev pub freshY : Corner → Float
-freshY (Reused id) = zeroF
-freshY (Fresh x y) = y
-
-abbrev pub quadNumbers : Attempt → ℕ → ℕ → ℕ → ℕ → ℕ → PreviewAnswer
-quadNumbers Nothing outcome front n a b = noQuad outcome front
-quadNumbers (Quad c d) outcome front n a b =
-    record {
-      refusal = 0;
-      outcome = outcome;
-      a = a;
-      b = b;
-      d = cornerId (n + added c) d;
-      c = cornerId n c;
-      «new_nodes» = added c + added d;
-      cx = freshX c;
-      cy = freshY c;
-      dx = freshX d;
-      dy = freshY d;
-      front = front;
-    }
-
-abbrev pub viewNumbers : View → ℕ → ℕ → ℕ → PreviewAnswer
-viewNumbers v n a b = quadNumbers (v .quad) (outcomeNumber (v .outcome)) (v .front) n a b

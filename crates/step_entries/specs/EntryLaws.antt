@@ -20,21 +20,21 @@ use Rattle.crossfield.specs.FieldLaws.{few}
 use Rattle.front.specs.declared.Counts.{Counts}
 use Rattle.front.specs.State.{State, counted, nextOf}
 use Rattle.mesh_check.specs.Check.{lentState}
-use Rattle.stepping.specs.declared.HandStep.{HandStep}
-use Rattle.stepping.specs.declared.HandStep.the-variants.{Refused, Done}
-use Rattle.stepping.specs.Hand.{handRefusal, Handled, placeOn, stepOn, stepAnswer, countsLeft, newOrigins, StepTaken}
-use Rattle.stepping.specs.Lent.{Around, OnFront}
-use Rattle.stepping.specs.UseLaws.{on-front, front-room}
-use Rattle.stepping.specs.StepLaws.{origins-same}
+use Rattle.hand_steps.specs.declared.HandStep.{HandStep}
+use Rattle.hand_steps.specs.declared.HandStep.the-variants.{Refused, Done}
+use Rattle.hand_steps.specs.Hand.{handRefusal, Handled, placeOn, stepOn, stepAnswer, countsLeft, newOrigins, StepTaken}
+use Rattle.hand_steps.specs.Lent.{Around, OnFront}
+use Rattle.hand_steps.specs.UseLaws.{on-front, front-room}
+use Rattle.hand_steps.specs.StepLaws.{origins-same}
 use Rattle.previews.specs.declared.Sight.{Sight}
 use Rattle.previews.specs.declared.Sight.the-variants.{Refused as RefusedSight, Shown}
 use Rattle.previews.specs.declared.View.{View}
 use Rattle.previews.specs.Preview.{previewRefusal, viewOn, previewAnswer, previewList, frontListed, PreviewTaken}
 use Rattle.previews.specs.PreviewSteps.{preview-passes}
-use Rattle.step_entries.specs.declared.StepAnswer.{StepAnswer}
-use Rattle.step_entries.specs.declared.PreviewAnswer.{PreviewAnswer}
-use Rattle.step_entries.specs.Entries.{drawnRefusal, givenRefusal, stepRefusal, sightRefusal, refusedStep, doneStep, stepReply, stepLeft, countsGiven}
-use Rattle.step_entries.specs.Entries.{HostSteps, refusedPreview, copyNumbers, previewReply, previewLeft, HostPreviews, stepNumbers, viewNumbers}
+use Rattle.step_answers.specs.declared.StepAnswer.{StepAnswer}
+use Rattle.step_answers.specs.declared.PreviewAnswer.{PreviewAnswer}
+use Rattle.step_answers.specs.Answers.{refusedStep, doneStep, refusedPreview, stepNumbers, viewNumbers}
+use Rattle.step_entries.specs.Entries.{drawnRefusal, givenRefusal, stepRefusal, sightRefusal, stepReply, stepLeft, countsGiven, HostSteps, copyNumbers, previewReply, previewLeft, HostPreviews}
 use Rattle.step_entries.specs.ViewLaws.{view-is}
 
 -- ---- 1 to 7 and 11

@@ -24,17 +24,18 @@ use Rattle.paving.specs.declared.Attempt.the-variants.{Nothing, Quad}
 use Rattle.paving.specs.Attempt.{tryEdge}
 use Rattle.paving.specs.Advance.{mostQuads}
 use Rattle.mesh_check.specs.Check.{lentState}
-use Rattle.hand_placing.specs.Parts.{QuadRoom}
+use Rattle.hand_placing.specs.Room.{QuadRoom}
 use Rattle.hand_placing.specs.Local.{placed-nodes, placed-quads, placed-xs, placed-ys}
-use Rattle.stepping.specs.declared.StepOutcome.{StepOutcome}
-use Rattle.stepping.specs.declared.StepOutcome.the-variants.{Placed, None, Full, Cap}
-use Rattle.stepping.specs.Hand.{Handled, handled, settledOn, placeOn}
-use Rattle.stepping.specs.Lent.{OnFront}
-use Rattle.stepping.specs.UseLaws.{Below, quad-below, quad-fits}
+use Rattle.hand_steps.specs.declared.StepOutcome.{StepOutcome}
+use Rattle.hand_steps.specs.declared.StepOutcome.the-variants.{Placed, None, Full, Cap}
+use Rattle.hand_steps.specs.Hand.{Handled, handled, settledOn, placeOn}
+use Rattle.hand_steps.specs.Lent.{OnFront}
+use Rattle.hand_steps.specs.UseLaws.{Below, quad-below, quad-fits}
 use Rattle.previews.specs.declared.View.{View}
 use Rattle.previews.specs.Preview.{foresight, foreseen, foreseenOn, viewOn}
-use Rattle.step_entries.specs.declared.PreviewAnswer.{PreviewAnswer}
-use Rattle.step_entries.specs.Entries.{outcomeNumber, newX, newY, copyNumbers, freshX, freshY, viewNumbers}
+use Rattle.step_answers.specs.declared.PreviewAnswer.{PreviewAnswer}
+use Rattle.step_answers.specs.Answers.{freshX, freshY, viewNumbers}
+use Rattle.step_entries.specs.Entries.{newX, newY, copyNumbers}
 
 -- ---- a coordinate of the new corners, in a list that stores them
 
@@ -160,25 +161,3 @@ module _ (xs ys : List Float) (next prev origins quads edges : List ℕ) (k : Co
       by true t e = refl
       by false Nothing e = refl
       by false (Quad c d) e = quad c d e (isFull s a b c d) refl
-
--- ---- what the code puts together
-
-pub view-made : (v : View) (n a b : ℕ) (c d : Corner) → v .quad ≡ Quad c d → {o C D p q : ℕ} {cx cy dx dy : Float} → o ≡ outcomeNumber (v .outcome)
-    → p ≡ added c → D ≡ cornerId (n + p) d → C ≡ cornerId n c → q ≡ added d → cx ≡ freshX c → cy ≡ freshY c → dx ≡ freshX d → dy ≡ freshY d
-    → _≡_ {A = PreviewAnswer}
-    (record {
-      refusal = 0;
-      outcome = o;
-      a = a;
-      b = b;
-      d = D;
-      c = C;
-      «new_nodes» = p + q;
-      cx = cx;
-      cy = cy;
-      dx = dx;
-      dy = dy;
-      front = v .front;
-    })
-    (viewNumbers v n a b)
-view-made v n a b c d e eo ep eD eC eq ex ey ez ew = rw (e, eo, eD, ep, eC, eq, ex, ey, ez, ew)

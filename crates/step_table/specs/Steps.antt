@@ -14,12 +14,13 @@ use Rattle.books.specs.Book.{filled}
 use Rattle.table.specs.Opened.{opened}
 use Rattle.mesh_check.specs.Check.{allOff, lentState, beyondPlaces, idsBeyond, linkUnsound, linkCount, frontUnsound, coordinateUnsound, meshUnsound}
 use Rattle.mesh_check.specs.Check.{meshRefusal, edgeRefusal}
-use Rattle.stepping.specs.declared.StepOutcome.the-variants.{Full, Cap}
-use Rattle.stepping.specs.Hand.{handRefusal, placeOn, newOrigins}
+use Rattle.hand_steps.specs.declared.StepOutcome.the-variants.{Full, Cap}
+use Rattle.hand_steps.specs.Hand.{handRefusal, placeOn, newOrigins}
 use Rattle.previews.specs.Preview.{frontListed, previewRefusal}
-use Rattle.step_entries.specs.declared.StepAnswer.{StepAnswer}
-use Rattle.step_entries.specs.declared.PreviewAnswer.{PreviewAnswer}
-use Rattle.step_entries.specs.Entries.{gridGiven, drawnRefusal, givenRefusal, stepRefusal, sightRefusal, refusedStep, noQuad, stepReply, stepLeft}
+use Rattle.step_answers.specs.declared.StepAnswer.{StepAnswer}
+use Rattle.step_answers.specs.declared.PreviewAnswer.{PreviewAnswer}
+use Rattle.step_answers.specs.Answers.{refusedStep, noQuad}
+use Rattle.step_entries.specs.Entries.{gridGiven, drawnRefusal, givenRefusal, stepRefusal, sightRefusal, stepReply, stepLeft}
 use Rattle.step_entries.specs.Entries.{previewReply, previewLeft}
 
 -- names to unfold beside `opened`

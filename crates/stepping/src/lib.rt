@@ -9,31 +9,19 @@ ghost use Rattle.front.specs.State.{stateOf};
 ghost use Rattle.paving.specs.Attempt.{tryEdge};
 ghost use Rattle.attempts.specs.Seen.{seen, TryLent};
 ghost use Rattle.mesh_check.specs.Check.{lentState, allOff};
-ghost use Rattle.stepping.specs.Hand.{handRefusal, handled, settledOn, placeOn, newOrigins, countsLeft, StepTaken};
-ghost use Rattle.stepping.specs.Lent.{Around, OnFront, Settleable};
+ghost use Rattle.hand_steps.specs.Hand.{handRefusal, handled, settledOn, placeOn, newOrigins, countsLeft, StepTaken};
+ghost use Rattle.hand_steps.specs.Lent.{Around, OnFront, Settleable};
 use direction::Grid;
 use domain::Settings;
 use front::Counts;
+use hand_steps::HandStep;
+use hand_steps::StepOutcome;
 use paving::Attempt;
-
-// What a single placing answers.
-pub enum StepOutcome {
-    Placed,
-    None,
-    Full,
-    Cap,
-}
 
 // A single placing: what it answers, and the counts after it.
 pub struct HandPlacing {
     pub outcome: StepOutcome,
     pub counts: Counts,
-}
-
-// What a step answers: the refusal, or what became of the edge, with the counts after it.
-pub enum HandStep {
-    Refused(u32),
-    Done(StepOutcome, Counts),
 }
 
 // 23, then 24: on every input.

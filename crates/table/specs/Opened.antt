@@ -16,7 +16,7 @@ use Rattle.domain.specs.Outline.{holeStart, holeAt, loopAt, pointAt, pointAfter
 use Rattle.domain.specs.Outline.{outlineRefusal, pointRefusal, queryRefusal}
 use Rattle.domain.specs.Queries.{rayCrosses, pointInPolygon, contains, squaredDistance, footOf, pointSegmentDistance, nearer, nearestInLoop}
 use Rattle.domain.specs.Queries.{nearestSegment}
-use Rattle.soundness.specs.Examples.{openedSound}
+use Rattle.sound_outlines.specs.Examples.{openedSound}
 use Rattle.geometry.specs.Plane.{distance, tangent, areaTerm, cross2, doubledArea, leftOf, pointInConvex, onSegment, opposite, touches, segmentsCross}
 use Rattle.geometry.specs.Plane.{centroid, convexCcw}
 use Rattle.geometry.specs.Keys.{keyOf, spansKept, rangesMeet, rectanglesMeet, candidateAt, isCandidate, nearKeys, tooCloseAt, isTooClose, leastOf}
@@ -24,8 +24,9 @@ use Rattle.geometry.specs.Keys.{greatestOf, lowest, highest, inBoxAt, isInBox}
 use Rattle.direction.specs.Direction.{within, countsSound, gridSound, recordRefusal, weighed, rawAt, scaled, half, directionOf, dot, closerOf}
 use Rattle.direction.specs.Direction.{nearestOf, nearestDirection, directionRefusal}
 use Rattle.crossfield.specs.Grid.{widened, loopBounds, bounds, gridCount, tooManyNodes, spacing, gridOf, sizeRefusal, boundsRefusal, sweepsRefusal}
-use Rattle.crossfield.specs.Seeds.{gridPoint, seed, isFixed, setValue, seedNode, seedRow, seeded}
-use Rattle.crossfield.specs.Sweeps.{plusIf, neighbourSum, neighbourCount, normalised, average, change, relaxed, sweepNode, sweepRow, sweep, sweeps}
+use Rattle.crossfield.specs.Seeds.{gridPoint, seed, isFixed, seedNode, seedRow, seeded}
+use Rattle.averages.specs.Average.{plusIf, neighbourSum, neighbourCount, normalised, average}
+use Rattle.sweeps.specs.Sweeps.{change, setValue, relaxed, sweepNode, sweepRow, sweep, sweeps}
 use Rattle.crossfield.specs.Field.{placesRefusal, fieldRefusal, fieldOf}
 use Rattle.front.specs.State.{nodePlaces, quadPlaces, edgePlaces, nodeIn, hasEdge, pushNode, addFront, removeFront, pushEdge, addEdge, pushQuad, cleared}
 use Rattle.front.specs.Neighbours.{neighbourOf}

@@ -7,7 +7,7 @@ use lib.ListN.{length}
 use lib.Ieee.{Float}
 use Rattle.numbers.specs.Float.{bits, zeroF, oneF}
 use Rattle.domain.specs.Outline.{Outline, outline}
-use Rattle.soundness.specs.Answer.{isWhole}
+use Rattle.sound_outlines.specs.Whole.{isWhole}
 use Rattle.front.specs.State.{State, counted}
 use Rattle.paving.specs.declared.End.the-variants.{Still}
 use Rattle.paving.specs.Advance.{paved}

@@ -7,7 +7,7 @@ use lib.ListN.{length}
 use Rattle.numbers.specs.Float.{bits, zeroF, oneF, twoF, fourF, halfF}
 use Rattle.domain.specs.Outline.{Outline, outline, point}
 use Rattle.domain.specs.declared.Settings.{Settings}
-use Rattle.soundness.specs.Answer.{isWhole}
+use Rattle.sound_outlines.specs.Whole.{isWhole}
 use Rattle.direction.specs.Record.{FieldLists, fieldLists}
 use Rattle.front.specs.State.{State, counted, node}
 use Rattle.front.specs.Sampling.{fromBoundary, boundaryLoops, sampledCount}

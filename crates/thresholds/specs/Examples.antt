@@ -20,6 +20,20 @@ twice-sum : sumAfresh (one 3 0 0 1 2) (10 ∷ 20 ∷ 30 ∷ []) ≡ 60
 unfolding sumAfresh sumUp forUp sumAt quadIn isComplete stands quadTotal
 twice-sum = refl
 
+-- and where b and d are the same node
+twice-later : sumAfresh (one 3 0 1 1 2) (10 ∷ 20 ∷ 30 ∷ []) ≡ 60
+unfolding sumAfresh sumUp forUp sumAt quadIn isComplete stands quadTotal
+twice-later = refl
+
+-- 500 stands, 501 doesn't
+most : countAfresh (one 1 0 0 0 0) (500 ∷ []) ≡ 1
+unfolding countAfresh sumUp forUp countAt quadIn isComplete stands
+most = refl
+
+over : countAfresh (one 1 0 0 0 0) (501 ∷ []) ≡ 0
+unfolding countAfresh sumUp forUp countAt quadIn isComplete stands
+over = refl
+
 -- an id that is in the list but no node
 no-node : countAfresh (one 3 0 1 2 3) (1 ∷ 2 ∷ 3 ∷ 4 ∷ []) ≡ 0
 unfolding countAfresh sumUp forUp countAt quadIn isComplete stands

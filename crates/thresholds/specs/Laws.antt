@@ -1,20 +1,20 @@
 -- Laws of the figures: what a change at one node does to a sum over the quads, and how large the figures can be.
 use Prim.Native.Nat.{ℕ, zero, suc, _+_, _-_, _*_, _≤_, _<_}
-use mathlib.Core.Path.{_≡_, refl}
+use mathlib.Core.Path.{_≡_, refl, sym, _∙_}
 use mathlib.Core.Bool.{Bool, true, false, _&&_, _||_, cond}
 use mathlib.Core.List.{List}
 use native.Mathlib.Omega.{arith}
-use lib.ListN.{set}
+use lib.ListN.{length, set}
 use lib.Seq.{getD-set-other}
 use lib.Dec.{eqb, ltb, leb}
-use borrow.Author.Tests.{eqb-false, leb-true, ltb-true}
+use borrow.Author.Tests.{eqb-false, leb-false, leb-true, ltb-false, ltb-true}
 use Rattle.laws.specs.Loop.{sumUp}
 use Rattle.laws.specs.Sums.{sum-zero, sum-suc, sum-most, sum-below}
 use Rattle.laws.specs.Tests.{neither, both}
 use Rattle.lent_mesh.specs.declared.QuadIds.{QuadIds}
 use Rattle.lent_mesh.specs.Mesh.{Mesh, quadOf}
 use Rattle.thresholds.specs.Figures.{noThreshold, mostThreshold, thresholdAt, stands, isComplete, onceOnly, quadTotal}
-use Rattle.thresholds.specs.Figures.{countAt, sumAt, countAfresh, sumAfresh, names, shareAt, shareOf, moved}
+use Rattle.thresholds.specs.Figures.{countAt, sumAt, countAfresh, sumAfresh, names, shareAt, shareOf, moved, isMissing, refusalAt}
 
 -- ---- sums and shares
 
@@ -162,3 +162,19 @@ sum-small m t h = omega (arith, sum-most (m .quads) 2000 (sumAt m t) (sum-at-mos
 pub moved-is : (x y lost won : ℕ) → y + lost ≡ x + won → lost ≤ x → x < 4294967296 → y < 4294967296 → moved x lost won ≡ y
 unfolding moved
 moved-is x y lost won e h hx hy = omega (arith, e, h, hx, hy)
+
+-- ---- what no refusal says
+
+-- a call that isn't refused has a node with its place, and a threshold
+pub record Taken (t : List ℕ) (id v : ℕ) : Type 0 where
+  pub place : id < length t
+  pub low : v ≤ mostThreshold
+
+pub taken : (n : ℕ) (t : List ℕ) (id v number r : ℕ) → 0 < number → r ≡ refusalAt n t id v number → r ≡ 0 → Taken t id v
+unfolding refusalAt isMissing
+taken n t id v number r some e none = by (leb n id || leb (length t) id) (ltb mostThreshold v) refl refl (sym e ∙ none)
+  where
+    by : (a b : Bool) → leb n id || leb (length t) id ≡ a → ltb mostThreshold v ≡ b → cond a 15 (cond b number 0) ≡ 0 → Taken t id v
+    by true b ea eb z = absurd (omega (arith, z))
+    by false true ea eb z = absurd (omega (arith, z, some))
+    by false false ea eb z = record { place = leb-false (length t) id (neither (leb n id) (leb (length t) id) ea .1); low = ltb-false mostThreshold v eb }

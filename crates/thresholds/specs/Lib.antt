@@ -3,4 +3,3 @@ pub mod Figures
 pub mod Kept
 pub mod Examples
 pub mod Laws
-pub mod Code

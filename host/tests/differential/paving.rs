@@ -17,7 +17,7 @@ use crate::blocks::{Blocks, Counts};
 use crate::cases::{self, Filed, Needs, Pools, Rng, Scratch, Setting};
 use crate::common::book::{self, Answered, Sampled};
 use crate::common::origins::{fault, origins};
-use crate::common::{bits, used, Drawing, Guarded, Lent, RunPlaces, LISTS};
+use crate::common::{bits, used, Drawing, Guarded, Lengths, Lent, RunPlaces, LISTS};
 
 /// Enough for most outlines that are generated.
 const AMPLE: Places = Places { field_nodes: 2_500, nodes: 1_500, quads: 1_500, edges: 4_500, points: 300 };
@@ -264,6 +264,8 @@ struct Tally {
     quads: usize,
     /// How far the nodes' and the edges' pools served runs that weren't refused.
     pools: BTreeMap<(Pools, [Served; 2]), usize>,
+    /// Runs that weren't refused, with a list of tries for every node lent, for some, and for none.
+    tries: BTreeMap<&'static str, usize>,
     blocks: Counts,
     faults: Vec<String>,
 }
@@ -282,6 +284,7 @@ impl Tally {
             let mut faults = self.run(asked, &expected, &mut lists, short, k == 0);
             if expected.is_ok() {
                 faults.extend(self.pools(kind.pools, &lists, &filed));
+                *self.tries.entry(tries(places, &lengths)).or_default() += 1;
                 faults.extend(self.blocks.note(kind.blocks, &asked.drawing, &asked.record(), lists.blocks()));
             }
             let asked = || format!("{:?} {:?} {lengths:?}", asked.drawing, asked.settings);
@@ -363,14 +366,16 @@ impl Tally {
         self.pools.iter().filter(|((kind, served), _)| is_counted(*kind, *served)).map(|(_, count)| count).sum()
     }
 
-    /// Prints how far the pools served; fails if a kind of pools is rare, or one that served nowhere, part of a run, or all of it.
+    /// Prints how far the pools served, and for how many nodes there was a list of tries; fails if a kind of pools is rare, or one that served nowhere, part of
+    /// a run, or all of it, or a kind of such lists.
     fn finish_pools(&self, what: &str) {
         let kinds = Pools::ALL.map(|kind| (format!("{kind:?}"), self.count_pools(|k, _| k == kind)));
         let served = [("node_pool", 0), ("edge_pool", 1)].into_iter().flat_map(|(name, k)| {
             let count = move |how| self.count_pools(|_, served| served[k] == how);
             Served::ALL.map(|how| (format!("{name} {how:?}"), count(how)))
         });
-        let counts: Vec<(String, usize)> = kinds.into_iter().chain(served).collect();
+        let tries = TRIES.map(|name| (format!("tries for {name}"), self.tries.get(name).copied().unwrap_or(0)));
+        let counts: Vec<(String, usize)> = kinds.into_iter().chain(served).chain(tries).collect();
         let texts: Vec<String> = counts.iter().map(|(name, count)| format!("{name}: {count}")).collect();
         println!("{what}, pools: {}", texts.join(", "));
         let rare = counts.iter().find(|(_, count)| *count < self.outlines / 200);
@@ -403,6 +408,18 @@ impl Tally {
         for answer in expected {
             assert!(answers.get(*answer).is_some_and(|&count| count >= outlines / 200), "{what}: {answer} is rare");
         }
+    }
+}
+
+const TRIES: [&str; 3] = ["all nodes", "some", "none"];
+
+/// For how many of the nodes lent the list of tries has places.
+fn tries(places: &Places, lengths: &Lengths) -> &'static str {
+    let [.., tried] = *lengths;
+    match tried {
+        _ if tried >= places.tried() => TRIES[0],
+        0..3 => TRIES[2],
+        _ => TRIES[1],
     }
 }
 

@@ -10,10 +10,10 @@ use Rattle.direction.specs.Record.{FieldRecord, fieldRecord}
 use Rattle.front.specs.State.{State, stateOf}
 use Rattle.paving.specs.Advance.{passesTurn, allUsed}
 use Rattle.advance.specs.Laws.{in-advance, pass-on, pass-over, advance-whole}
-use Rattle.advance.specs.declared.Swept.{Swept}
-use Rattle.advance.specs.Answers.{passedCounts}
-use Rattle.advance.specs.Paveable.{Later, held}
-use Rattle.advance.specs.Searchable.{Pools, all-forgotten, helped-at}
+use Rattle.ends.specs.declared.Swept.{Swept}
+use Rattle.ends.specs.Answers.{passedCounts}
+use Rattle.settling.specs.Paveable.{Later, held}
+use Rattle.settling.specs.Searchable.{Pools, all-forgotten, helped-at}
 use Rattle.advance.proofs.advance.Statement.{statement}
 use Rattle.advance.proofs.advance.Tie as tie
 

@@ -1,9 +1,9 @@
 -- `advance::pass` meets its contract: the snapshot is taken, and the loop is the run over the turns of a pass.
-use Rattle.advance.specs.Searchable.{Pools, helped-at, counts-passed}
-use Rattle.advance.specs.Paveable.{held}
+use Rattle.settling.specs.Searchable.{Pools, helped-at, counts-passed}
+use Rattle.settling.specs.Paveable.{held}
 use Rattle.advance.specs.Laws.{in-begun, went-same, went-put, went-over, pass-ends, pass-whole}
-use Rattle.advance.specs.Answers.{settledCounts}
-use Rattle.advance.specs.declared.Settled.{Settled}
+use Rattle.ends.specs.Answers.{settledCounts}
+use Rattle.ends.specs.declared.Settled.{Settled}
 use Rattle.paving.specs.Advance.{passing, passTurn, afterPass}
 use Rattle.front.specs.State.{State, stateOf}
 use Rattle.direction.specs.Record.{FieldRecord, fieldRecord}

@@ -1,6 +1,6 @@
 -- `crossfield::grid_of` meets its contract. Assumes nothing.
 use borrow.Author.Needs.{needs}
-use Rattle.crossfield.specs.Places.{few-columns, few-rows}
+use Rattle.crossfield.specs.Counts.{few-columns, few-rows}
 use Rattle.crossfield.specs.Grid.{gridOf}
 use Rattle.crossfield.proofs.grid_of.Statement.{statement}
 use Rattle.crossfield.proofs.grid_of.Tie as tie

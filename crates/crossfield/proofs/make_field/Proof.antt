@@ -3,8 +3,8 @@ use mathlib.Core.Path.{sym, subst}
 use borrow.Author.Needs.{needs}
 use lib.Dec.{T}
 use Rattle.domain.specs.Accepted.{accepted}
+use Rattle.averages.specs.Places.{room-of}
 use Rattle.crossfield.specs.FieldLaws.{unrefused, few-made, room-made, seeds-ask}
-use Rattle.crossfield.specs.Places.{room-of}
 use Rattle.crossfield.specs.Field.{fieldRefusal, fieldOf}
 use Rattle.crossfield.proofs.make_field.Statement.{statement}
 use Rattle.crossfield.proofs.make_field.Tie as tie

@@ -7,8 +7,8 @@ use Rattle.laws.specs.Loop.{Loop, loop-start, loop-next, loop-end}
 use Rattle.domain.specs.Outline.{outline}
 use Rattle.direction.specs.Record.{fieldLists}
 use Rattle.direction.specs.Cells.{row-in}
+use Rattle.averages.specs.Places.{row-of, row-marks}
 use Rattle.crossfield.specs.Seeds.{seedRow, seeded}
-use Rattle.crossfield.specs.Places.{row-of, row-marks}
 use Rattle.crossfield.proofs.seed_all.Statement.{statement}
 use Rattle.crossfield.proofs.seed_all.Tie as tie
 

@@ -4,8 +4,9 @@ use Prim.Native.Nat.{_*_}
 use native.Mathlib.Omega.{arith}
 use borrow.Author.Needs.{needs}
 use lib.ListN.{length-set}
-use Rattle.crossfield.specs.Seeds.{seedNode, setValue}
-use Rattle.crossfield.specs.Places.{here-in}
+use Rattle.averages.specs.Places.{here-in}
+use Rattle.sweeps.specs.Sweeps.{setValue}
+use Rattle.crossfield.specs.Seeds.{seedNode}
 use Rattle.crossfield.proofs.seed_node.Statement.{statement}
 use Rattle.crossfield.proofs.seed_node.Tie as tie
 

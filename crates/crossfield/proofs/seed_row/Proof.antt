@@ -6,8 +6,8 @@ use lib.ListN.{length}
 use Rattle.laws.specs.Loop.{Loop, loop-start, loop-next, loop-end}
 use Rattle.domain.specs.Outline.{outline}
 use Rattle.direction.specs.Record.{fieldLists}
+use Rattle.averages.specs.Places.{node-of, mark-of}
 use Rattle.crossfield.specs.Seeds.{seedNode, seedRow}
-use Rattle.crossfield.specs.Places.{node-of, mark-of}
 use Rattle.crossfield.specs.FieldLaws.{two-points}
 use Rattle.crossfield.proofs.seed_row.Statement.{statement}
 use Rattle.crossfield.proofs.seed_row.Tie as tie

@@ -4,7 +4,7 @@ use native.Mathlib.Nat.{mul-le-mul}
 use native.Mathlib.Omega.{arith}
 use borrow.Author.Tests.{lt-ltb}
 use borrow.Author.Needs.{needs}
-use Rattle.crossfield.specs.Places.{wide-many, high-many}
+use Rattle.crossfield.specs.Counts.{wide-many, high-many}
 use Rattle.crossfield.specs.Grid.{tooManyNodes}
 use Rattle.crossfield.proofs.too_many_nodes.Statement.{statement}
 use Rattle.crossfield.proofs.too_many_nodes.Tie as tie

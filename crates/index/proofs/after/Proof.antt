@@ -5,9 +5,9 @@ use Prim.Native.Nat.{ℕ, _+_, _-_, _<_}
 use native.Mathlib.Omega.{arith}
 use borrow.Author.Tests.{not-true, not-false}
 use lib.ListN.{length}
-use Rattle.index.specs.Pool.{linkPlace}
+use Rattle.pools.specs.Pool.{linkPlace}
 use Rattle.index.specs.Walk.{rows}
-use Rattle.index.specs.FileLaws.{place-fits}
+use Rattle.pools.specs.FileLaws.{place-fits}
 use Rattle.index.specs.WalkLaws.{row-stands, row-over, stands-same, after-link, after-chain}
 use borrow.Author.Needs.{needs}
 use Rattle.index.proofs.after.Statement.{statement}

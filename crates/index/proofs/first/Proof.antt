@@ -4,9 +4,9 @@ use mathlib.Core.Path.{_≡_, sym, ap, _∙_}
 use Prim.Native.Nat.{ℕ, _+_, _-_}
 use native.Mathlib.Omega.{arith}
 use borrow.Author.Tests.{not-true, not-false}
-use Rattle.index.specs.Pool.{span}
+use Rattle.pools.specs.Pool.{span}
 use Rattle.index.specs.Walk.{columns, rows, visited}
-use Rattle.index.specs.ChainLaws.{across-from, across-end}
+use Rattle.index.specs.AcrossLaws.{across-from, across-end}
 use Rattle.index.specs.WalkLaws.{visited-short, row-stands, row-over, stands-none, stands-same}
 use borrow.Author.Needs.{needs}
 use Rattle.index.proofs.first.Statement.{statement}

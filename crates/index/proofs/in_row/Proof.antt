@@ -3,10 +3,10 @@ use mathlib.Core.Path.{_≡_, refl, sym, ap, _∙_}
 use Prim.Native.Nat.{ℕ, _+_, _-_, _<_}
 use native.Mathlib.Omega.{arith}
 use lib.ListN.{length}
-use Rattle.index.specs.Pool.{cells, cellOf, chainAt}
+use Rattle.pools.specs.Pool.{cells, cellOf, chainAt}
 use Rattle.index.specs.Walk.{columns}
-use Rattle.index.specs.ChainLaws.{across-from, across-end}
-use Rattle.index.specs.FileLaws.{some-cell, cell-in, cells-fit}
+use Rattle.index.specs.AcrossLaws.{across-from, across-end}
+use Rattle.pools.specs.FileLaws.{some-cell, cell-in, cells-fit}
 use Rattle.index.specs.WalkLaws.{row-hit, row-miss, row-none, row-same}
 use borrow.Author.Needs.{needs}
 use Rattle.index.proofs.in_row.Statement.{statement}

@@ -4,9 +4,9 @@ use Prim.Native.Nat.{ℕ, _+_, _-_, _%_, _<_}
 use native.Mathlib.Omega.{arith}
 use borrow.Author.Needs.{needs}
 use lib.ListN.{length}
-use Rattle.index.specs.Pool.{cells, capacity, cellOf}
-use Rattle.index.specs.ChainLaws.{across-end}
-use Rattle.index.specs.FileLaws.{cell-in, cells-fit}
+use Rattle.pools.specs.Pool.{cells, capacity, cellOf}
+use Rattle.index.specs.AcrossLaws.{across-end}
+use Rattle.pools.specs.FileLaws.{cell-in, cells-fit}
 use Rattle.index.specs.WalkLaws.{Seeking, seeking-cell, seeking-hit, seeking-next, row-none}
 use Rattle.index.proofs.later_columns.Statement.{statement}
 use Rattle.index.proofs.later_columns.Tie as tie

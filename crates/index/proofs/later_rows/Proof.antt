@@ -5,9 +5,9 @@ use mathlib.Core.Path.{_≡_, refl, sym, ap, _∙_}
 use Prim.Native.Nat.{ℕ, _+_, _-_}
 use native.Mathlib.Omega.{arith}
 use borrow.Author.Tests.{not-true, not-false}
-use Rattle.index.specs.Pool.{span}
+use Rattle.pools.specs.Pool.{span}
 use Rattle.index.specs.Walk.{columns, rows}
-use Rattle.index.specs.ChainLaws.{across-more, across-end}
+use Rattle.index.specs.AcrossLaws.{across-more, across-end}
 use Rattle.index.specs.WalkLaws.{row-stands, row-over, stands-none, stands-same}
 use Rattle.index.proofs.later_rows.Statement.{statement}
 use Rattle.index.proofs.later_rows.Tie as tie

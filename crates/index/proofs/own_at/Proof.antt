@@ -2,8 +2,8 @@
 use Prim.Native.Nat.{_<_}
 use native.Mathlib.Omega.{arith}
 use lib.ListN.{length}
-use Rattle.index.specs.Pool.{linkPlace}
-use Rattle.index.specs.FileLaws.{place-fits}
+use Rattle.pools.specs.Pool.{linkPlace}
+use Rattle.pools.specs.FileLaws.{place-fits}
 use borrow.Author.Needs.{needs}
 use Rattle.index.proofs.own_at.Statement.{statement}
 use Rattle.index.proofs.own_at.Tie as tie

@@ -6,11 +6,11 @@ use borrow.Author.Tests.{not-true, not-false}
 use lib.ListN.{length}
 use Rattle.laws.specs.Loop.{anyUp, found-before}
 use Rattle.front.specs.State.{nodeIn}
-use Rattle.index.specs.Pool.{filed, ownAt}
+use Rattle.pools.specs.Pool.{filed, ownAt}
 use Rattle.index.specs.Walk.{over, ahead}
-use Rattle.index.specs.Filing.{unfound}
+use Rattle.pools.specs.Filing.{unfound}
 use Rattle.index.specs.WalkLaws.{Walk, walk-start, walk-next, walk-hit, walk-none, walk-less}
-use Rattle.index.specs.KeyLaws.{close-meets}
+use Rattle.key_rects.specs.KeyLaws.{close-meets}
 use Rattle.indexed.specs.Rects.{closeAt}
 use Rattle.indexed.specs.Laws.{close-is}
 use Rattle.indexed.proofs.any_close.Statement.{statement}

@@ -5,9 +5,9 @@ use borrow.Author.Needs.{needs}
 use borrow.Author.Tests.{not-true, not-false}
 use lib.ListN.{length}
 use Rattle.laws.specs.Loop.{anyUp, found-before}
-use Rattle.index.specs.Pool.{filed, ownAt}
+use Rattle.pools.specs.Pool.{filed, ownAt}
 use Rattle.index.specs.Walk.{over, ahead}
-use Rattle.index.specs.Filing.{unfound}
+use Rattle.pools.specs.Filing.{unfound}
 use Rattle.index.specs.WalkLaws.{Walk, walk-start, walk-next, walk-hit, walk-none, walk-less}
 use Rattle.indexed.specs.Rects.{insideAt}
 use Rattle.indexed.specs.Laws.{inside-is, inside-meets}

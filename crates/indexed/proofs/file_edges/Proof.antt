@@ -3,9 +3,9 @@ use mathlib.Core.Path.{refl, ap₂, _∙_}
 use Prim.Native.Nat.{_-_}
 use native.Mathlib.Omega.{arith}
 use borrow.Author.Needs.{needs}
-use Rattle.index.specs.Rects.{edgeRect}
+use Rattle.key_rects.specs.Rects.{edgeRect}
 use Rattle.indexed.specs.Rects.{edgeRects}
-use Rattle.index.specs.Filing.{Filing, filing-next, filing-end}
+use Rattle.pools.specs.Filing.{Filing, filing-next, filing-end}
 use Rattle.indexed.proofs.file_edges.Statement.{statement}
 use Rattle.indexed.proofs.file_edges.Tie as tie
 

@@ -3,9 +3,9 @@ use mathlib.Core.Path.{refl, ap, _∙_}
 use Prim.Native.Nat.{_-_}
 use native.Mathlib.Omega.{arith}
 use borrow.Author.Needs.{needs}
-use Rattle.index.specs.Rects.{nodeRect}
+use Rattle.key_rects.specs.Rects.{nodeRect}
 use Rattle.indexed.specs.Rects.{nodeRects}
-use Rattle.index.specs.Filing.{Filing, filing-next, filing-end}
+use Rattle.pools.specs.Filing.{Filing, filing-next, filing-end}
 use Rattle.indexed.proofs.file_nodes.Statement.{statement}
 use Rattle.indexed.proofs.file_nodes.Tie as tie
 

@@ -7,9 +7,9 @@ use lib.ListN.{length}
 use Rattle.laws.specs.Loop.{anyUp, found-before, unfound-none}
 use Rattle.geometry.specs.TestLaws.{passed}
 use Rattle.geometry.specs.Keys.{keyOf, edgeBucket, spansKept}
-use Rattle.index.specs.Pool.{filed, ownAt}
+use Rattle.pools.specs.Pool.{filed, ownAt}
 use Rattle.index.specs.Walk.{over, ahead}
-use Rattle.index.specs.Filing.{unfound}
+use Rattle.pools.specs.Filing.{unfound}
 use Rattle.index.specs.WalkLaws.{Walk, walk-start, walk-next, walk-hit, walk-none, walk-less}
 use Rattle.front.specs.State.{nodeIn, edgeIs}
 use Rattle.indexed.specs.Laws.{known-meets}

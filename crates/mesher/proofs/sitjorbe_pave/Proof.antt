@@ -5,8 +5,9 @@ use Rattle.domain.specs.declared.Settings.{Settings}
 use Rattle.run.specs.declared.Paved.{Paved}
 use Rattle.run.specs.Run.{Lent, Scratch, Paves, Spares}
 use borrow.Author.Needs.{needs}
-use Rattle.mesher.specs.declared.PaveAnswer.{PaveAnswer}
-use Rattle.mesher.specs.Answers.{paveNumbers, ranNumbers, HostPaves}
+use Rattle.pave_answer.specs.declared.PaveAnswer.{PaveAnswer}
+use Rattle.pave_answer.specs.Numbers.{paveNumbers}
+use Rattle.mesher.specs.Answers.{ranNumbers, HostPaves}
 use Rattle.mesher.proofs.sitjorbe_pave.Statement.{statement}
 use Rattle.mesher.proofs.sitjorbe_pave.Tie as tie
 

@@ -3,7 +3,7 @@ use borrow.Author.Needs.{needs}
 use Rattle.order_walks.specs.StepLaws.{back-is, back-meets}
 use Rattle.order_walks.specs.Steps.{keepsBack}
 use Rattle.index.specs.WalkLaws.{Walk, walk-start, walk-next, walk-hit, walk-none, walk-less}
-use Rattle.index.specs.Pool.{filed}
+use Rattle.pools.specs.Pool.{filed}
 use Rattle.index.specs.Walk.{ahead}
 use Rattle.laws.specs.Loop.{anyUp}
 use lib.ListN.{length}

@@ -1,6 +1,6 @@
 -- `order_walks::file_steps` meets its contract: one item more a turn.
 use borrow.Author.Needs.{needs}
-use Rattle.index.specs.Filing.{Filing, filing-start, filing-next, filing-end}
+use Rattle.pools.specs.Filing.{Filing, filing-start, filing-next, filing-end}
 use Rattle.order_walks.specs.Steps.{stepRect}
 use native.Mathlib.Omega.{arith}
 use Prim.Native.Nat.{_-_}

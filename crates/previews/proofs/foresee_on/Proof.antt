@@ -4,7 +4,7 @@ use mathlib.Core.List.{[]}
 use Rattle.domain.specs.Outline.{Outline, outline}
 use Rattle.front.specs.State.{State}
 use Rattle.mesh_check.specs.Check.{lentState}
-use Rattle.stepping.specs.UseLaws.{front-room, try-lent}
+use Rattle.hand_steps.specs.UseLaws.{front-room, try-lent}
 use Rattle.previews.specs.PreviewSteps.{foreseen-cap, foreseen-tried}
 use Rattle.previews.proofs.foresee_on.Statement.{statement}
 use Rattle.previews.proofs.foresee_on.Tie as tie

@@ -8,7 +8,7 @@ use Rattle.domain.specs.Outline.{Outline, outline}
 use Rattle.direction.specs.Record.{FieldRecord, fieldRecord}
 use Rattle.front.specs.State.{State}
 use Rattle.mesh_check.specs.Check.{lentState}
-use Rattle.stepping.specs.UseLaws.{on-front, front-room}
+use Rattle.hand_steps.specs.UseLaws.{on-front, front-room}
 use Rattle.previews.specs.PreviewSteps.{preview-passes, shown, shown-fits, preview-refused, preview-shown}
 use borrow.Author.Needs.{needs}
 use Rattle.previews.proofs.preview.Statement.{statement}

@@ -3,8 +3,9 @@ use mathlib.Core.Path.{_∙_, sym, subst}
 use lib.Dec.{T}
 use Rattle.domain.specs.Outline.{Outline, outline}
 use Rattle.domain.specs.declared.Settings.{Settings}
+use Rattle.sampled_advance.specs.Laws.{can-number, can-list}
 use Rattle.run.specs.Run.{settings, Lent, lent, statePart}
-use Rattle.run.specs.Laws.{none-field, can-pave, can-number, can-list, run-whole}
+use Rattle.run.specs.Laws.{none-field, can-pave, run-whole}
 use borrow.Author.Needs.{needs}
 use Rattle.run.proofs.pave_in.Statement.{statement}
 use Rattle.run.proofs.pave_in.Tie as tie

@@ -6,7 +6,7 @@ use native.Mathlib.Omega.{arith}
 use lib.ListN.{length}
 use Rattle.soundness.specs.SegmentLaws.{point-in}
 use Rattle.soundness.specs.WalkLaws.{anyPoint}
-use Rattle.soundness.specs.Sound.{start, isInside}
+use Rattle.sound_outlines.specs.Sound.{start, isInside}
 use Rattle.laws.specs.Loop.{Scan, scan-start, scan-next, scan-hit, scan-none}
 use Rattle.soundness.proofs.any_point.Statement.{statement}
 use Rattle.soundness.proofs.any_point.Tie as tie

@@ -2,7 +2,7 @@
 use mathlib.Core.Path.{refl}
 use borrow.Author.Needs.{needs}
 use Rattle.soundness.specs.SegmentLaws.{clash-next, clash-last, clash-other}
-use Rattle.soundness.specs.Sound.{clash}
+use Rattle.sound_outlines.specs.Sound.{clash}
 use Rattle.domain.specs.Accepted.{after-within}
 use Rattle.soundness.proofs.clash.Statement.{statement}
 use Rattle.soundness.proofs.clash.Tie as tie

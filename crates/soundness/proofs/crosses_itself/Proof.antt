@@ -4,7 +4,7 @@ use mathlib.Core.Bool.{false}
 use Prim.Native.Nat.{_-_, _/_}
 use native.Mathlib.Omega.{arith}
 use lib.ListN.{length}
-use Rattle.soundness.specs.Sound.{clash, crossesItself}
+use Rattle.sound_outlines.specs.Sound.{clash, crossesItself}
 use Rattle.laws.specs.Loop.{anyUp, Scan, scan-start, scan-next, scan-hit, scan-none}
 use Rattle.soundness.proofs.crosses_itself.Statement.{statement}
 use Rattle.soundness.proofs.crosses_itself.Tie as tie

@@ -5,7 +5,7 @@ use Prim.Native.Nat.{_-_, _/_}
 use native.Mathlib.Omega.{arith}
 use lib.ListN.{length}
 use Rattle.soundness.specs.SegmentLaws.{ray-at}
-use Rattle.soundness.specs.Sound.{start, end, rayMeets, isInside}
+use Rattle.sound_outlines.specs.Sound.{start, end, rayMeets, isInside}
 use Rattle.orientation.specs.Orient.{place}
 use Rattle.domain.specs.Parity.{oddTurn}
 use Rattle.domain.specs.Accepted.{after-within}

@@ -2,7 +2,7 @@
 use mathlib.Core.Path.{refl}
 use borrow.Author.Tests.{not-true, not-false}
 use borrow.Author.Needs.{needs}
-use Rattle.soundness.specs.Sound.{meets}
+use Rattle.sound_outlines.specs.Sound.{meets}
 use Rattle.soundness.proofs.meets.Statement.{statement}
 use Rattle.soundness.proofs.meets.Tie as tie
 

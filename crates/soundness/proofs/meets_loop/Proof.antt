@@ -4,7 +4,7 @@ use Prim.Native.Nat.{_-_, _/_}
 use native.Mathlib.Omega.{arith}
 use lib.ListN.{length}
 use Rattle.soundness.specs.SegmentLaws.{meets-at}
-use Rattle.soundness.specs.Sound.{start, end, meets}
+use Rattle.sound_outlines.specs.Sound.{start, end, meets}
 use Rattle.orientation.specs.Orient.{place}
 use Rattle.domain.specs.Accepted.{after-within}
 use Rattle.laws.specs.Loop.{Scan, scan-start, scan-next, scan-hit, scan-none}

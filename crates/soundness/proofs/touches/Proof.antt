@@ -5,7 +5,7 @@ use native.Mathlib.Omega.{arith}
 use denote.Ref.{now}
 use lib.ListN.{length}
 use Rattle.soundness.specs.SegmentLaws.{segment-at}
-use Rattle.soundness.specs.Sound.{start, end, meets, touch}
+use Rattle.sound_outlines.specs.Sound.{start, end, meets, touch}
 use Rattle.domain.specs.Accepted.{after-within}
 use Rattle.domain.specs.Outline.{points}
 use Rattle.laws.specs.Loop.{anyUp, Scan, scan-start, scan-next, scan-hit, scan-none}

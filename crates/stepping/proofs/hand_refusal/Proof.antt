@@ -1,5 +1,5 @@
 -- `stepping::hand_refusal` meets its contract.
-use Rattle.stepping.specs.StepLaws.{hand-mesh, hand-edge, next-long}
+use Rattle.hand_steps.specs.StepLaws.{hand-mesh, hand-edge, next-long}
 use borrow.Author.Needs.{needs}
 use Rattle.stepping.proofs.hand_refusal.Statement.{statement}
 use Rattle.stepping.proofs.hand_refusal.Tie as tie

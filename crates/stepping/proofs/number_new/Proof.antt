@@ -2,8 +2,8 @@
 use Prim.Native.Nat.{_-_}
 use native.Mathlib.Omega.{arith}
 use Rattle.laws.specs.Loop.{loop-end}
-use Rattle.stepping.specs.Hand.{newOrigins}
-use Rattle.stepping.specs.StepLaws.{NewNumbered, new-start, new-next}
+use Rattle.hand_steps.specs.Hand.{newOrigins}
+use Rattle.hand_steps.specs.StepLaws.{NewNumbered, new-start, new-next}
 use borrow.Author.Needs.{needs}
 use Rattle.stepping.proofs.number_new.Statement.{statement}
 use Rattle.stepping.proofs.number_new.Tie as tie

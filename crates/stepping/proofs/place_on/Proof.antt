@@ -4,8 +4,8 @@ use mathlib.Core.List.{[]}
 use Rattle.domain.specs.Outline.{Outline, outline}
 use Rattle.front.specs.State.{State}
 use Rattle.mesh_check.specs.Check.{lentState}
-use Rattle.stepping.specs.UseLaws.{try-lent}
-use Rattle.stepping.specs.StepLaws.{place-cap, place-tried, settleable}
+use Rattle.hand_steps.specs.UseLaws.{try-lent}
+use Rattle.hand_steps.specs.StepLaws.{place-cap, place-tried, settleable}
 use borrow.Author.Needs.{needs}
 use Rattle.stepping.proofs.place_on.Statement.{statement}
 use Rattle.stepping.proofs.place_on.Tie as tie

@@ -1,6 +1,6 @@
 -- `stepping::settle` meets its contract.
 use mathlib.Core.Path.{refl, sym, _∙_}
-use Rattle.stepping.specs.StepLaws.{settle-full, settle-placed}
+use Rattle.hand_steps.specs.StepLaws.{settle-full, settle-placed}
 use borrow.Author.Needs.{needs}
 use Rattle.stepping.proofs.settle.Statement.{statement}
 use Rattle.stepping.proofs.settle.Tie as tie

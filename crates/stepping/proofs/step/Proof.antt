@@ -9,9 +9,9 @@ use Rattle.direction.specs.Record.{FieldRecord, fieldRecord}
 use Rattle.front.specs.State.{State, nodePlaces}
 use Rattle.mesh_check.specs.Check.{lentState}
 use Rattle.mesh_check.specs.CheckLaws.{length-off}
-use Rattle.stepping.specs.Hand.{Handled}
-use Rattle.stepping.specs.UseLaws.{on-front, front-room, place-grown}
-use Rattle.stepping.specs.StepLaws.{step-refused, step-done}
+use Rattle.hand_steps.specs.Hand.{Handled}
+use Rattle.hand_steps.specs.UseLaws.{on-front, front-room, place-grown}
+use Rattle.hand_steps.specs.StepLaws.{step-refused, step-done}
 use borrow.Author.Needs.{needs}
 use Rattle.stepping.proofs.step.Statement.{statement}
 use Rattle.stepping.proofs.step.Tie as tie

@@ -4,9 +4,11 @@ use sitjorbe::is_sound;
 
 use crate::args::{Args, Known};
 use crate::files::{self, named, Failure};
+use crate::naming::Naming;
 use crate::pave::read_field;
 use crate::progress::Progress;
 use crate::run::Drawing;
+use crate::sound::Fault;
 use crate::words::counted;
 use crate::{refused, sound, Status, DONE, REFUSED};
 
@@ -42,11 +44,12 @@ fn check(file: &str, size: Option<f64>) -> Result<Status, Failure> {
     let field = read_field(file)?;
     refused::check(&field, size)?;
     let sound = is_sound(&Drawing::of(&field).outline())
-        .map_err(|refusal| Failure::Refused(refused::in_words(&field, refusal)))?;
+        .map_err(|refusal| Failure::Refused(refused::in_words(&field, refusal, Naming::Line)))?;
     let faults = if sound { vec![] } else { sound::faults(&field) };
     drop(progress);
     if !sound {
-        let lines: Vec<String> = faults.iter().map(|fault| format!("{}: unsound: {fault}\n", named(file))).collect();
+        let line = |fault: &Fault| format!("{}: unsound: {}\n", named(file), fault.in_words(&field, Naming::Line));
+        let lines: Vec<String> = faults.iter().map(line).collect();
         return files::print(&lines.concat()).map(|()| REFUSED);
     }
     let loops = field

@@ -42,6 +42,23 @@ pub fn parse(text: &str) -> Result<Field, Vec<String>> {
     reader.closed()
 }
 
+/// A field as a text that is read back bit by bit. Names are comments before their loops; a loop without points isn't written.
+pub fn write(field: &Field) -> String {
+    let mut loops = vec![];
+    for (name, points) in field.names.iter().zip(&field.loops) {
+        let row = |point: &Point| format!("{:?},{:?}\n", point.x, point.y);
+        let plain: String = name.chars().map(|c| if c.is_control() { ' ' } else { c }).collect();
+        let mut text = if plain.trim().is_empty() { String::new() } else { format!("# {}\n", plain.trim()) };
+        text.extend(points.iter().map(row));
+        // A reader leaves out a last point that repeats the first: where this one does, another is written for that.
+        if let [first, .., last] = points[..] {
+            text += &if (first.x, first.y) == (last.x, last.y) { row(&first) } else { String::new() };
+        }
+        loops.extend((!points.is_empty()).then_some(text));
+    }
+    loops.join("\n")
+}
+
 /// What a line tells, and the comment after it.
 fn halves(line: &str) -> (&str, Option<&str>) {
     line.split_once('#').map_or((line, None), |(told, comment)| (told, Some(comment)))
@@ -211,7 +228,7 @@ fn name_in(comment: &str) -> Option<String> {
 }
 
 /// A name for each loop; those that would be alike are numbered.
-fn names(named: Vec<Option<String>>) -> Vec<String> {
+pub fn names(named: Vec<Option<String>>) -> Vec<String> {
     let usual =
         |(k, name): (usize, Option<String>)| name.unwrap_or(if k == 0 { "outline" } else { "blind spot" }.to_string());
     let names: Vec<String> = named.into_iter().enumerate().map(usual).collect();

@@ -6,7 +6,7 @@ use sitjorbe::{is_sound, End, Outline, Settings};
 
 use crate::csv::Field;
 use crate::exact::Exact;
-use crate::run::Paved;
+use crate::run::{Paved, MOST_PASSES};
 use crate::words::{counted, short};
 
 /// How good quads are. A quad's angle is the smallest of its four, its aspect its longest side over its shortest.
@@ -204,6 +204,7 @@ fn capital(words: &str) -> String {
 pub fn stopped(paved: &Paved) -> Option<String> {
     let why = match paved.end {
         End::Still => return None,
+        End::Passes if paved.settings.passes >= MOST_PASSES => "600 passes were made, and no run makes more",
         End::Passes => "every pass allowed was used: allow more with --passes",
         End::Cap => "it has 250,000 quads, and no mesh has more: set a larger size",
         End::Full => "there was no place left for another quad",

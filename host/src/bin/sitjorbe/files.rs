@@ -86,12 +86,12 @@ pub fn read_text(path: &str) -> Result<String, Failure> {
     }
     let text = String::from_utf8(bytes);
     let text = text.map_err(|_| Failure::Named(format!("{}: this isn't text: save it as CSV UTF-8", named(path))))?;
-    Ok(lines_fed(text.strip_prefix('\u{feff}').unwrap_or(&text)))
+    Ok(lines_fed(&text))
 }
 
-/// A text with a line feed for every end of a line.
+/// A text with a line feed for every end of a line, and without a byte order mark.
 pub fn lines_fed(text: &str) -> String {
-    text.replace("\r\n", "\n").replace('\r', "\n")
+    text.strip_prefix('\u{feff}').unwrap_or(text).replace("\r\n", "\n").replace('\r', "\n")
 }
 
 /// Writes a file, or standard output for `-`.

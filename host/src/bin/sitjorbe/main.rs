@@ -8,6 +8,7 @@ mod args;
 mod best;
 mod check;
 mod csv;
+mod draw;
 mod exact;
 mod figures;
 mod files;
@@ -15,6 +16,7 @@ mod formats;
 mod hill;
 mod json;
 mod mesh_json;
+mod naming;
 mod pave;
 mod polar;
 mod progress;
@@ -47,6 +49,7 @@ sitjorbe: paves the outline of a visual field with quads
     sitjorbe pave FIELD.csv .. --size DEGREES [-o FILE ..]   pave, say the figures, write meshes and pictures
     sitjorbe check FIELD.csv ..                              say what would be refused or is unsound, by line
     sitjorbe quality MESH.json ..                            say the figures of meshes that pave wrote
+    sitjorbe draw                                            serve a page to draw on, to this machine alone
     sitjorbe COMMAND --help                                  say more about a command
     sitjorbe --version
 
@@ -76,6 +79,7 @@ fn dispatch(words: &[String]) -> Status {
         "pave" => pave::command(rest),
         "check" => check::command(rest),
         "quality" => quality::command(rest),
+        "draw" => draw::command(rest),
         _ => Err(Failure::Cant(format!("there is no command {command}; sitjorbe --help names them"))),
     };
     answer.unwrap_or_else(|failure| failure.said())

@@ -14,9 +14,6 @@ const FARTHEST: f64 = 1_001.0;
 
 /// A mesh as JSON, a line for each of its parts.
 pub fn write(field: &Field, paved: &Paved, figures: &Figures, look: &Look) -> String {
-    let points = |points: &[Point]| Value::list(points.iter().map(|point| Value::point([point.x, point.y])));
-    let loops = field.names.iter().zip(&field.loops);
-    let ids = |ids: &[u32]| Value::list(ids.iter().map(|id| Value::count(*id as usize)));
     let eye = look.eye.map_or(Value::Null, |eye| Value::text(eye.name()));
     let parts = [
         ("format", Value::text(FORMAT)),
@@ -29,19 +26,38 @@ pub fn write(field: &Field, paved: &Paved, figures: &Figures, look: &Look) -> St
         ("whole", Value::Bool(paved.whole)),
         ("sound", Value::Bool(paved.sound)),
         ("figures", figures_value(figures)),
-        (
-            "loops",
-            Value::list(
-                loops.map(|(name, loop_)| Value::map([("name", Value::text(name)), ("points", points(loop_))])),
-            ),
-        ),
-        ("nodes", Value::list(paved.nodes.iter().map(|node| Value::point(*node)))),
-        ("origins", Value::list(paved.origins.iter().map(|origin| Value::count((*origin).into())))),
-        ("quads", Value::list(paved.quads.iter().map(|quad| ids(quad)))),
-        ("left", Value::list(paved.left.iter().map(|ring| ids(ring)))),
+        ("loops", loops_value(field)),
     ];
-    let lines: Vec<String> = parts.iter().map(|(name, value)| format!("\"{name}\":{value}")).collect();
+    let mesh = mesh_values(&paved.nodes, &paved.origins, &paved.quads);
+    let parts = parts.into_iter().chain(mesh).chain([("left", left_value(paved))]);
+    let lines: Vec<String> = parts.map(|(name, value)| format!("\"{name}\":{value}")).collect();
     format!("{{{}}}\n", lines.join(",\n"))
+}
+
+/// The loops with their names and points.
+pub fn loops_value(field: &Field) -> Value {
+    let points = |points: &[Point]| Value::list(points.iter().map(|point| Value::point([point.x, point.y])));
+    let loops = field.names.iter().zip(&field.loops);
+    Value::list(loops.map(|(name, loop_)| Value::map([("name", Value::text(name)), ("points", points(loop_))])))
+}
+
+/// A list of ids for each ring, quad or edge.
+pub fn id_lists<'a>(lists: impl Iterator<Item = &'a [u32]>) -> Value {
+    Value::list(lists.map(|ids| Value::list(ids.iter().map(|id| Value::count(*id as usize)))))
+}
+
+/// The nodes, the loop of each, and the quads.
+pub fn mesh_values(nodes: &[[f64; 2]], origins: &[u16], quads: &[[u32; 4]]) -> [(&'static str, Value); 3] {
+    [
+        ("nodes", Value::list(nodes.iter().map(|node| Value::point(*node)))),
+        ("origins", Value::list(origins.iter().map(|origin| Value::count((*origin).into())))),
+        ("quads", id_lists(quads.iter().map(<[u32; 4]>::as_slice))),
+    ]
+}
+
+/// The rings round what is left open.
+pub fn left_value(paved: &Paved) -> Value {
+    id_lists(paved.left.iter().map(Vec::as_slice))
 }
 
 fn quality_value(quality: Option<Quality>) -> Value {
@@ -107,7 +123,7 @@ pub fn read(text: &str) -> Result<Read, String> {
     if part("format")?.as_text() != Some(FORMAT) {
         return Err(format!("it isn't a mesh that pave wrote: its format isn't {FORMAT}"));
     }
-    let field = field_of(list("loops")?)?;
+    let field = field_of(part("loops")?)?;
     let nodes =
         all(list("nodes")?, "nodes", |node| node.as_point().filter(|at| at.iter().all(|x| x.abs() <= FARTHEST)))?;
     let loops = field.loops.len();
@@ -137,7 +153,7 @@ pub fn read(text: &str) -> Result<Read, String> {
 }
 
 /// Every value of a list, or which isn't one.
-fn all<T>(values: &[Value], name: &str, read: impl Fn(&Value) -> Option<T>) -> Result<Vec<T>, String> {
+pub fn all<T>(values: &[Value], name: &str, read: impl Fn(&Value) -> Option<T>) -> Result<Vec<T>, String> {
     let one = |(place, value): (usize, &Value)| {
         read(value).ok_or(format!("{name}: number {place}, counted from 0, isn't one: {}", short(value)))
     };
@@ -153,9 +169,10 @@ fn short(value: &Value) -> String {
     }
 }
 
-fn field_of(loops: &[Value]) -> Result<Field, String> {
+/// The field whose loops are a value.
+pub fn field_of(loops: &Value) -> Result<Field, String> {
     let mut field = Field::default();
-    for loop_ in loops {
+    for loop_ in loops.as_list().ok_or("loops isn't a list")? {
         let points = loop_.get("points").and_then(Value::as_list).ok_or("a loop has no list of points")?;
         let points = all(points, "points", |point| point.as_point().map(|[x, y]| Point { x, y, line: 0 }))?;
         field.names.push(loop_.get("name").and_then(Value::as_text).ok_or("a loop has no name")?.to_string());

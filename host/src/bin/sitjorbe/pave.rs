@@ -12,6 +12,7 @@ use crate::csv::{self, Field};
 use crate::figures::{self, Figures};
 use crate::files::{self, named, Failure};
 use crate::formats::Format;
+use crate::naming::Naming;
 use crate::progress::Progress;
 use crate::run::{self, Paved};
 use crate::svg::{Eye, Look};
@@ -95,8 +96,8 @@ impl Call {
         let call = Call {
             settings: Settings {
                 size,
-                sweeps: args.number("--sweeps")?.unwrap_or(400),
-                passes: args.number("--passes")?.unwrap_or(600),
+                sweeps: args.number("--sweeps")?.unwrap_or(run::SWEEPS),
+                passes: args.number("--passes")?.unwrap_or(run::MOST_PASSES),
             },
             best: args.has("--best"),
             outputs: outputs(args)?,
@@ -159,11 +160,8 @@ impl Call {
             files::write(&target(output, file), &format.text(&field, &paved, &figures, &look))?;
         }
         drop(progress);
-        if self.eye.is_some_and(|eye| eye.blind_spot_is_nasal(&field)) {
-            files::say(&format!(
-                "{}: its blind spot lies to the nose, where no eye has one: is it the other eye, or is x turned?",
-                named(file)
-            ));
+        if let Some(doubt) = self.eye.and_then(|eye| eye.doubt(&field)) {
+            files::say(&format!("{}: {doubt}", named(file)));
         }
         self.report(file, &field, &paved, &figures, &tried)
     }
@@ -195,7 +193,7 @@ impl Call {
             return self.say(&mesh_json::report(file, paved, figures).to_string());
         }
         for fault in if paved.sound { vec![] } else { sound::faults(field) } {
-            files::say(&format!("{}: unsound: {fault}", named(file)));
+            files::say(&format!("{}: unsound: {}", named(file), fault.in_words(field, Naming::Line)));
         }
         let mut lines = vec![format!("{}: {}", named(file), figures::verdict(figures, false))];
         lines.extend(tried.iter().cloned());

@@ -4,6 +4,11 @@ use sitjorbe::{is_sound, End, Memory, Outline, Places, Refusal, Settings};
 
 use crate::csv::Field;
 
+/// Sweeps of a field, unless others are asked for.
+pub const SWEEPS: usize = 400;
+/// No run makes more passes.
+pub const MOST_PASSES: usize = 600;
+
 /// A field's coordinates, as the library takes them.
 #[derive(Clone, Debug)]
 pub struct Drawing {

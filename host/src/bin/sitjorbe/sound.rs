@@ -1,12 +1,58 @@
-//! What is unsound about an outline, in words by line, judged exactly. Whether it is sound the library says; this finds where it isn't.
+//! What is unsound about an outline, and where, judged exactly. Whether it is sound the library says; this finds where it isn't.
 
 use std::cmp::Ordering;
 
 use crate::csv::{Field, Point};
 use crate::exact::Exact;
+use crate::naming::{Naming, Spot};
 
-/// No more than these are said.
+/// No more than these are found.
 const MOST_FAULTS: usize = 5;
+
+/// Something that is unsound.
+#[derive(Clone, Debug, PartialEq)]
+pub enum Fault {
+    /// Two neighbours lie on each other.
+    Folded([Spot; 2]),
+    /// Two segments meet, of one loop or of two.
+    Meet([Spot; 2]),
+    /// A hole isn't inside the outer loop.
+    Outside(usize),
+    /// A hole lies in another.
+    Within(usize, usize),
+    /// There is more than was looked for.
+    More,
+}
+
+impl Fault {
+    pub fn in_words(&self, field: &Field, naming: Naming) -> String {
+        let pair = |pair: &[Spot; 2]| {
+            let [one, other] = pair.map(|spot| naming.segment(field, spot));
+            format!("the segments {one} and {other}")
+        };
+        let blind_spot = |k: usize| naming.blind_spot(field, k, "the blind spot");
+        match self {
+            Fault::Folded(spots) => pair(spots) + " lie on each other",
+            Fault::Meet(spots) => {
+                pair(spots) + if spots[0][0] == spots[1][0] { " meet" } else { ", of two loops, meet" }
+            }
+            Fault::Outside(k) => format!("{} isn't inside the outer outline", blind_spot(*k)),
+            Fault::Within(k, other) => {
+                format!("{} lies in {}", blind_spot(*k), naming.blind_spot(field, *other, "that"))
+            }
+            Fault::More => "more is unsound".to_string(),
+        }
+    }
+
+    /// The segments that it is about: all those of a hole that lies where it may not.
+    pub fn segments(&self, field: &Field) -> Vec<Spot> {
+        match self {
+            Fault::Folded(spots) | Fault::Meet(spots) => spots.to_vec(),
+            Fault::Outside(k) | Fault::Within(k, _) => (0..field.loops[*k].len()).map(|place| [*k, place]).collect(),
+            Fault::More => vec![],
+        }
+    }
+}
 
 fn at(point: &Point) -> [f64; 2] {
     [point.x, point.y]
@@ -52,21 +98,16 @@ fn folds_back(a: [f64; 2], b: [f64; 2], c: [f64; 2]) -> bool {
     turn(a, b, c) == Ordering::Equal && along.sign() == Ordering::Less
 }
 
-/// A loop: its points and segments.
-struct Ring<'a> {
-    points: &'a [Point],
+/// A loop's segments, and its number.
+struct Ring {
+    number: usize,
     segments: Vec<Segment>,
 }
 
-impl<'a> Ring<'a> {
-    fn of(points: &'a Vec<Point>) -> Ring<'a> {
+impl Ring {
+    fn of((number, points): (usize, &Vec<Point>)) -> Ring {
         let ends = points.iter().zip(points.iter().cycle().skip(1));
-        Ring { points, segments: ends.map(|(a, b)| [at(a), at(b)]).collect() }
-    }
-
-    /// A segment in words, by the lines of its ends.
-    fn named(&self, k: usize) -> String {
-        format!("from line {} to line {}", self.points[k].line, self.points[(k + 1) % self.points.len()].line)
+        Ring { number, segments: ends.map(|(a, b)| [at(a), at(b)]).collect() }
     }
 
     /// Whether the ray from a point to the right meets an odd number of the segments.
@@ -77,17 +118,17 @@ impl<'a> Ring<'a> {
         self.segments.iter().filter(met).count() % 2 == 1
     }
 
-    fn faults_within(&self, faults: &mut Vec<String>) {
+    fn faults_within(&self, faults: &mut Vec<Fault>) {
         let n = self.segments.len();
         for j in 0..n {
             for i in 0..j {
                 let ([a, b], [c, d]) = (self.segments[i], self.segments[j]);
                 let (after, before) = (j == i + 1, (j + 1) % n == i);
-                let which = || format!("the segments {} and {}", self.named(i), self.named(j));
+                let spots = [[self.number, i], [self.number, j]];
                 if (after && folds_back(a, b, d)) || (before && folds_back(c, d, b)) {
-                    faults.push(which() + " lie on each other");
+                    faults.push(Fault::Folded(spots));
                 } else if !after && !before && meet([a, b], [c, d]) {
-                    faults.push(which() + " meet");
+                    faults.push(Fault::Meet(spots));
                 }
                 if faults.len() > MOST_FAULTS {
                     return;
@@ -96,50 +137,47 @@ impl<'a> Ring<'a> {
         }
     }
 
-    /// Segments of two loops that meet, in words.
-    fn touching(&self, other: &Ring<'_>) -> Option<String> {
+    /// The first segments of two loops that meet.
+    fn touching(&self, other: &Ring) -> Option<Fault> {
         let pairs = (0..self.segments.len()).flat_map(|i| (0..other.segments.len()).map(move |j| (i, j)));
         let mut met = pairs.filter(|(i, j)| meet(self.segments[*i], other.segments[*j]));
-        met.next().map(|(i, j)| format!("the segments {} and {}, of two loops, meet", self.named(i), other.named(j)))
+        met.next().map(|(i, j)| Fault::Meet([[self.number, i], [other.number, j]]))
     }
 }
 
-/// Of a hole and another loop that touch nothing of each other, so that any one point decides: what is wrong, in words.
-fn misplaced(hole: &Ring<'_>, other: &Ring<'_>, is_outer: bool) -> Option<String> {
-    let (line, of_other) = (hole.points[0].line, other.points[0].line);
+/// Of a hole and another loop that touch nothing of each other, so that any one point decides: what is wrong.
+fn misplaced(hole: &Ring, other: &Ring) -> Option<Fault> {
+    let is_outer = other.number == 0;
     match (other.holds(hole.segments[0][0]), is_outer) {
         (true, true) => None,
-        (false, true) => Some(format!("the blind spot at line {line} isn't inside the outer outline")),
-        (true, false) => Some(format!("the blind spot at line {line} lies in that at line {of_other}")),
-        (false, false) => hole
-            .holds(other.segments[0][0])
-            .then(|| format!("the blind spot at line {of_other} lies in that at line {line}")),
+        (false, true) => Some(Fault::Outside(hole.number)),
+        (true, false) => Some(Fault::Within(hole.number, other.number)),
+        (false, false) => hole.holds(other.segments[0][0]).then_some(Fault::Within(other.number, hole.number)),
     }
 }
 
-/// What makes an outline unsound, in words by line: nothing where it is sound. One more than are said tells that there are more. The loops must have passed the
-/// refusals 2 to 4.
-fn found(field: &Field) -> Vec<String> {
-    let rings: Vec<Ring<'_>> = field.loops.iter().map(Ring::of).collect();
+/// What makes an outline unsound: nothing where it is sound. One more than are told says that there are more.
+fn found(field: &Field) -> Vec<Fault> {
+    let rings: Vec<Ring> = field.loops.iter().enumerate().map(Ring::of).collect();
     let mut faults = vec![];
     for (k, ring) in rings.iter().enumerate() {
         ring.faults_within(&mut faults);
-        for (place, other) in rings[..k].iter().enumerate() {
+        for other in &rings[..k] {
             if faults.len() > MOST_FAULTS {
                 return faults;
             }
-            faults.extend(other.touching(ring).or_else(|| misplaced(ring, other, place == 0)));
+            faults.extend(other.touching(ring).or_else(|| misplaced(ring, other)));
         }
     }
     faults
 }
 
-/// What is unsound, a line each.
-pub fn faults(field: &Field) -> Vec<String> {
-    let mut lines = found(field);
-    if lines.len() > MOST_FAULTS {
-        lines.truncate(MOST_FAULTS);
-        lines.push("more is unsound".to_string());
+/// What is unsound. The loops must have passed the refusals 2 to 4.
+pub fn faults(field: &Field) -> Vec<Fault> {
+    let mut faults = found(field);
+    if faults.len() > MOST_FAULTS {
+        faults.truncate(MOST_FAULTS);
+        faults.push(Fault::More);
     }
-    lines
+    faults
 }

@@ -31,8 +31,13 @@ impl Eye {
         }
     }
 
-    /// Whether a field has a loop where this eye has no blind spot and the other has: 10 to 20 degrees to the nose, about the horizontal.
-    pub fn blind_spot_is_nasal(self, field: &Field) -> bool {
+    /// What is to be asked of a field that has a loop where this eye has no blind spot and the other has: 10 to 20 degrees to the nose, about the horizontal.
+    pub fn doubt(self, field: &Field) -> Option<String> {
+        let words = "its blind spot lies to the nose, where no eye has one: is it the other eye, or is x turned?";
+        self.blind_spot_is_nasal(field).then(|| words.to_string())
+    }
+
+    fn blind_spot_is_nasal(self, field: &Field) -> bool {
         let nasal = |points: &Vec<Point>| {
             let mean = |sum: f64| sum / points.len() as f64;
             let (x, y) =

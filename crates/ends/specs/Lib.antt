@@ -1,0 +1,3 @@
+-- What is decided in a pass without trying an edge: what the answers of the code say, and the snapshot.
+pub mod Answers
+pub mod SnapshotLaws

@@ -1,0 +1,2 @@
+pub mod Rects
+pub mod KeyLaws

@@ -1,0 +1,3 @@
+-- The answer of `sitjorbe_sound`, and laws for the entry.
+pub mod Answer
+pub mod Laws

@@ -1,5 +1,0 @@
--- In reading order: a placing and a step; what the code asks; what it may use of a mesh that 23 and 24 let pass; what it answers.
-pub mod Hand
-pub mod Lent
-pub mod UseLaws
-pub mod StepLaws

@@ -21,7 +21,7 @@ use Rattle.outline_file.specs.declared.FileAnswer.{FileAnswer}
 use Rattle.outline_file.specs.declared.FileAnswer.the-variants.{Refused, Read}
 use Rattle.outline_file.specs.File.{blockAt, headLoops, headLength, headPoints, coordinateAt, filePoints, fileRefusal, Request, requestOf, outlineOf}
 use Rattle.outline_file.specs.File.{headOf, Reading, reading, readAs, readFile}
-use Rattle.outline_file.specs.ReadLaws.{accepted}
+use Rattle.outline_file.specs.ReadLaws.{accepted-file}
 use Rattle.outline_file.specs.Lent.{lent-outline}
 use Rattle.outline_file.specs.Enough.{enough}
 use Rattle.listing.specs.declared.Heading.{Heading}
@@ -103,7 +103,7 @@ unfolding requestOf headPoints
 asked file e =
     let h = blockAt file 0 in
     let n = filePoints file in
-    let sound = accepted file e .head .sound in
+    let sound = accepted-file file e .head .sound in
     let coordinates = tabulate-length (2 * n) (coordinateAt file) in
     let lengths = tabulate-length (headLoops h) (headLength h) in
     let first = tabulate-at (headLoops h) (headLength h) 0 0 (sound .some) in

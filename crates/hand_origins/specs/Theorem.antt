@@ -32,7 +32,7 @@ use Rattle.books.specs.Holds.{BooksHold}
 use Rattle.books.specs.BookLaws.{frame-quad}
 use Rattle.books.specs.Step.{Stepped, step}
 use Rattle.books_hold.specs.Stages.{standing}
-use Rattle.books_hold.specs.Runs.{Accepted, start, reached-holds}
+use Rattle.books_hold.specs.Runs.{AcceptedRun, start, reached-holds}
 use Rattle.origins.specs.Origins.{pushOrigin, quadOrigins, originsAfter, OneOrigin}
 use Rattle.origins.specs.Theorem.{origins-booked}
 use Rattle.origins.specs.Writing.{pushCount, pushAt, push-length, push-over}
@@ -49,7 +49,7 @@ use Rattle.hand_origins.specs.Pushed.{push-counts, new-pushed}
 -- ---- NO FRONT LOOP AND NO QUAD OF A SEQUENCE HAS NODES OF TWO NUMBERS
 
 -- of every outline, size and lists that document 01 doesn't refuse, any field, and any list of moves: before the first quad, after each one and as it stops
-pub sequence-origins : (o : Outline) (size : Float) (lent : State) → Accepted o size lent → (field : FieldRecord) (ms : List Move) (k : ℕ)
+pub sequence-origins : (o : Outline) (size : Float) (lent : State) → AcceptedRun o size lent → (field : FieldRecord) (ms : List Move) (k : ℕ)
     → k ≤ movesOn o size field ms (fromBoundary o size lent) .counts .quads
     → OneOrigin o size (movesOn o size field ms (fromBoundary o size lent)) k
 sequence-origins o size lent A field ms =

@@ -27,7 +27,7 @@ use Rattle.sampled.specs.Outlines.{outline-three}
 use Rattle.sampled.specs.Begun.{refusal-places}
 use Rattle.boundary.specs.Counting.{most, evenUp}
 use Rattle.boundary.specs.Progress.{outline-shaped, Progress, nodes-of, progress-none, progress-fits, progress-next}
-use Rattle.books_hold.specs.Runs.{Accepted, advance-holds, advance-facts}
+use Rattle.books_hold.specs.Runs.{AcceptedRun, advance-holds, advance-facts}
 use Rattle.origins.specs.Origins.{originOf, sampledOrigins, pushOrigin, quadOrigins, originsAfter, OriginsAnswered}
 use Rattle.origins.specs.Start.{firstOrigins, first-length, sampled-length}
 use Rattle.origins.specs.Theorem.{booked-after, origins-booked}
@@ -327,7 +327,7 @@ module _ (o : Outline) (size : Float) (lent s : State) (fine : outlineRefusal o 
       }
 
 -- of a paving, from a sampled outline that isn't refused
-pub advance-numberable : (o : Outline) (size : Float) (lent : State) → Accepted o size lent → (field : FieldRecord) (passes : ℕ) (end : Paved)
+pub advance-numberable : (o : Outline) (size : Float) (lent : State) → AcceptedRun o size lent → (field : FieldRecord) (passes : ℕ) (end : Paved)
     → end ≡ advance o size field passes (fromBoundary o size lent) → (places : ℕ) → end .state .counts .nodes ≤ places
     → Numberable o size (end .state .quads) (end .state .counts .quads) places
 advance-numberable o size lent A field passes end e places room =

@@ -39,13 +39,13 @@ blocks-reach file n (suc m) long e =
     omega (arith, block-reach file (m + 1) (block-long (blockAt file (m + 1)) (sym (b .0))))
 
 -- what a file says that isn't refused
-pub record Accepted (file : List ℕ) : Type 0 where
+pub record AcceptedFile (file : List ℕ) : Type 0 where
   pub head : Headed (blockAt file 0)
   pub long : fileLength (filePoints file) ≤ length file
 
-pub accepted : (file : List ℕ) → fileRefusal file ≡ 0 → Accepted file
+pub accepted-file : (file : List ℕ) → fileRefusal file ≡ 0 → AcceptedFile file
 unfolding fileRefusal blocksRefusal
-accepted file e =
+accepted-file file e =
     let z = first-zero (headRefusal (blockAt file 0)) _ e in
     let b = first-zero (blocksRefusal file (filePoints file)) (endRefusal file (filePoints file)) (z .1) in
     let h = headed (blockAt file 0) (z .0) in
@@ -101,16 +101,16 @@ head-of file h =
 
 module _ (file : List ℕ) (points : List Float) (lens : List ℕ) {r : ℕ} (e : r ≡ fileRefusal file) (z : r ≡ 0) where
   pub read-headed : {h : List ℕ} → h ≡ blockAt file 0 → Headed h
-  read-headed at = rw at (accepted file (sym e ∙ z) .head)
+  read-headed at = rw at (accepted-file file (sym e ∙ z) .head)
 
   module _ {h : List ℕ} (at : h ≡ blockAt file 0) {head : Head} (f : head ≡ headAt h) where
     pub read-loops : (head .loops ≤ 8) × (510 ≤ length h)
     unfolding headAt
-    read-loops = let d = accepted file (sym e ∙ z) .head in rw (f, at) (d .sound .few, omega (arith, d .long))
+    read-loops = let d = accepted-file file (sym e ∙ z) .head in rw (f, at) (d .sound .few, omega (arith, d .long))
 
     pub read-count : (head .points ≤ 248) × (fileLength (head .points) ≤ length file)
     unfolding headAt
-    read-count = let d = accepted file (sym e ∙ z) in rw (f, at) (d .head .sound .points, d .long)
+    read-count = let d = accepted-file file (sym e ∙ z) in rw (f, at) (d .head .sound .points, d .long)
 
     pub read-whole : {points′ : List Float} {lens′ : List ℕ} → lens′ ≡ overlay (tabulate (head .loops) (headLength h)) lens
         → points′ ≡ overlay (tabulate (2 * head .points) (coordinateAt file)) points → reading (Read head) points′ lens′ ≡ readFile file points lens
@@ -118,5 +118,5 @@ module _ (file : List ℕ) (points : List Float) (lens : List ℕ) {r : ℕ} (e 
     read-whole p q =
         rw (p, q, f, at)
         (ap (λ (k : Head). reading (Read k) (overlay (requestOf file .coordinates) points) (overlay (requestOf file .lengths) lens))
-        (head-of file (accepted file (sym e ∙ z) .head))
+        (head-of file (accepted-file file (sym e ∙ z) .head))
         ∙ sym (ap (λ (k : ℕ). readAs k (requestOf file) points lens) (sym e ∙ z)))

@@ -38,7 +38,7 @@ use Rattle.loops.specs.ListedLaws.{listed-front}
 use Rattle.books.specs.Book.{Book, quadAt, newNode, side, bookQuad, bookAfter, quadsArea}
 use Rattle.books.specs.Net.{quadsEdges}
 use Rattle.books.specs.Holds.{BooksHold, Closes, LoopsAnswered}
-use Rattle.books_hold.specs.Runs.{accepted}
+use Rattle.books_hold.specs.Runs.{accepted-run}
 use Rattle.books_hold.specs.Theorem.{books-hold}
 use Rattle.origins.specs.Origins.{originsAfter}
 use Rattle.origins.specs.Writing.{booked-answered}
@@ -208,7 +208,7 @@ module _ (o : Outline) (set : Settings) (l : Lent) (m : ℕ) (e : m ≡ snapshot
       let snapshot = after .snapshot ++ drop m (l .snapshot) in
       let part = statePart (narrowed l) in
       let s = runOf o set (fieldPart l) part .paving .state in
-      let A = accepted o set (fieldPart l) part doubles (none-of z .0) in
+      let A = accepted-run o set (fieldPart l) part doubles (none-of z .0) in
       let B = books-unread o (set .size) s snapshot (books-hold o set (fieldPart l) part doubles (none-of z .0)) in
       record {
         equal = rw (z, e) (ap (λ (w : Ran). ran (w .answer) (widened l (w .lists))) same);

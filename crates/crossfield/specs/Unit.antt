@@ -122,8 +122,8 @@ record Length (l : Float) (a b : ℕ) : Type 0 where
 same-rel : (a : ℕ) → Rel a a
 same-rel a = (omega arith, omega arith)
 
-square : {x : Float} (p : Within 4000 x) → (n : ℕ) × (Val (x ⊗ x) false n) × (n ≤ 2 ^ 200 * W) × RelAnd (n * W) (p .size * p .size) W
-square {x} p =
+square-near : {x : Float} (p : Within 4000 x) → (n : ℕ) × (Val (x ⊗ x) false n) × (n ≤ 2 ^ 200 * W) × RelAnd (n * W) (p .size * p .size) W
+square-near {x} p =
     let r = mul-law p p tt tt in
     let l = le-trans (mul-le-mul (p .small) (p .small)) (le-of-eq (mul-mul-mul-comm 4000 W 4000 W)) in (
       r .size,
@@ -136,8 +136,8 @@ norm-length : {x y : Float} (p : Within 4000 x) (q : Within 4000 y) → ((L : �
     → Length (norm x y) (p .size) (q .size)
 unfolding norm
 norm-length {x} {y} p q above =
-    let a = square p in
-    let b = square q in
+    let a = square-near p in
+    let b = square-near q in
     let s = add-law-pos (x ⊗ x) (y ⊗ y) (a .0) (b .0) (a .1) (b .1) (a .2) (b .2) in
     let r = root-law (x ⊗ x ⊕ y ⊗ y) (add-fits binary64 (x ⊗ x) (y ⊗ y)) (s .size) (s .val) in
     let l = long-of (r .L) (above (r .L) (r .val)) in

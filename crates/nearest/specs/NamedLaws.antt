@@ -34,8 +34,8 @@ use Rattle.nearest.specs.Named.{segmentDistance, ComesBefore, Own, Named
 abbrev Counted : Float → Type 0
 Counted x = (n : ℕ) × Val x false n
 
-square : {K : ℕ} {x : Float} → Moderate K → Moderate (2 * (K * K) + 1) → Within K x → (n : ℕ) × (Val (x ⊗ x) false n) × (n ≤ 2 ^ 200 * W)
-square {K} {x} k l p =
+square-value : {K : ℕ} {x : Float} → Moderate K → Moderate (2 * (K * K) + 1) → Within K x → (n : ℕ) × (Val (x ⊗ x) false n) × (n ≤ 2 ^ 200 * W)
+square-value {K} {x} k l p =
     let r = mul-law p p k k in
     let w = product-within (K * K) r (le-trans (mul-le-mul (p .small) (p .small)) (le-of-eq (mul-mul-mul-comm K W K W))) in (
       r .size,
@@ -47,8 +47,8 @@ distance-counted : (p a b : Point) → ModeratePoint p → EndsWithin a b → Co
 unfolding pointSegmentDistance squaredDistance
 distance-counted p a b m e =
     let q = foot-lies p a b m e in
-    let u = square tt tt (sub-within tt tt (m .x) (q .x .within)) in
-    let v = square tt tt (sub-within tt tt (m .y) (q .y .within)) in
+    let u = square-value tt tt (sub-within tt tt (m .x) (q .x .within)) in
+    let v = square-value tt tt (sub-within tt tt (m .y) (q .y .within)) in
     let s = add-law-pos _ _ (u .0) (v .0) (u .1) (v .1) (u .2) (v .2) in
     let r = root-law _ (add-fits binary64 _ _) (s .size) (s .val) in
     (r .L, r .val)

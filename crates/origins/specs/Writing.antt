@@ -59,16 +59,16 @@ pub record Sampleable (o : Outline) (size : Float) (places : ℕ) : Type 0 where
 
 -- ---- a run of one number
 
-pub fill-next : (before : List ℕ) {after : List ℕ} (from number i : ℕ) → after ≡ sets before from (replicate i number)
+pub repeat-next : (before : List ℕ) {after : List ℕ} (from number i : ℕ) → after ≡ sets before from (replicate i number)
     → set after (from + i) number ≡ sets before from (replicate (i + 1) number)
-fill-next before from number i e =
+repeat-next before from number i e =
     ap (λ (l : List ℕ). set l (from + i) number) e
     ∙ sets-more (replicate i number) number before from (from + i) (omega (arith, length-replicate i number))
     ∙ ap (sets before from) (replicate-append-replicate i 1 number)
 
-pub fill-end : (before : List ℕ) {after : List ℕ} (from number i count : ℕ) → after ≡ sets before from (replicate i number) → i ≤ count → count ≤ i
+pub repeat-end : (before : List ℕ) {after : List ℕ} (from number i count : ℕ) → after ≡ sets before from (replicate i number) → i ≤ count → count ≤ i
     → after ≡ sets before from (replicate count number)
-fill-end before from number i count e h q =
+repeat-end before from number i count e h q =
     let all : i ≡ count = omega arith in e ∙ ap (λ (k : ℕ). sets before from (replicate k number)) all
 
 -- ---- the samples

@@ -13,9 +13,10 @@ use Rattle.domain.specs.Outline.{outline, holeStart, holeAt, loopAt, pointAt, p
 use Rattle.domain.specs.Outline.{farRefusal, outlineRefusal}
 use Rattle.geometry.specs.Plane.{distance}
 use Rattle.crossfield.specs.Grid.{widened, loopBounds, bounds, gridCount, tooManyNodes, spacing, gridOf, sizeRefusal, boundsRefusal}
+use Rattle.crossfield.specs.Field.{drawnRefusal}
 use Rattle.front.specs.Sampling.{partsOf, parts, loopParts, loopNodes, sampledCount}
 use Rattle.whole_run.specs.Worked.{workedSquare, workedTriangle}
-use Rattle.places.specs.Needed.{drawnRefusal, placesAnswered, placesAnswer}
+use Rattle.places.specs.Needed.{placesAnswered, placesAnswer}
 
 unfoldable openedFloats : Unit {0}
 unfolding trailingZeros span climb size odd units round neg sum add sub mul div lt eq le ofInt ofFields ofBits isNan isFinite absF minF maxF isqrtIn rootUnits

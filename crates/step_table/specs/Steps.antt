@@ -8,6 +8,7 @@ use lib.Ieee.{Float}
 use Rattle.numbers.specs.Float.{zeroF, oneF, twoF, fourF}
 use Rattle.domain.specs.Outline.{outline}
 use Rattle.direction.specs.Record.{FieldRecord, fieldRecord}
+use Rattle.crossfield.specs.Field.{drawnRefusal}
 use Rattle.topology.specs.Links.{off}
 use Rattle.front.specs.declared.Counts.{Counts}
 use Rattle.front.specs.State.{State, counted}
@@ -22,7 +23,7 @@ use Rattle.previews.specs.Preview.{frontListed, previewRefusal}
 use Rattle.step_answers.specs.declared.StepAnswer.{StepAnswer}
 use Rattle.step_answers.specs.declared.PreviewAnswer.{PreviewAnswer}
 use Rattle.step_answers.specs.Answers.{refusedStep, noQuad}
-use Rattle.step_entries.specs.Entries.{gridGiven, drawnRefusal, givenRefusal, stepRefusal, sightRefusal, stepReply, stepLeft}
+use Rattle.step_entries.specs.Entries.{gridGiven, givenRefusal, stepRefusal, sightRefusal, stepReply, stepLeft}
 use Rattle.step_entries.specs.Entries.{previewReply, previewLeft}
 
 -- names to unfold beside `opened`

@@ -16,13 +16,13 @@ use Rattle.lent_mesh.specs.Mesh.{quadIn}
 use Rattle.mesh_check.specs.Check.{allOff, lentState, beyondPlaces, idsBeyond, linkUnsound, linkCount, frontUnsound, coordinateUnsound, meshUnsound, meshRefusal}
 use Rattle.nearest_step.specs.Step.{nearestWhole, nearestStep}
 use Rattle.bowl.specs.declared.StepsAnswer.{StepsAnswer}
-use Rattle.bowl.specs.Steps.{isLeft, isShown, stepsGiven, meshUnstepped, hiddenAt, lowestHidden, stepsAnswer, storeTurn, stored, stepsLeft}
+use Rattle.bowl.specs.Steps.{turnsLeft, isShown, stepsGiven, meshUnstepped, hiddenAt, lowestHidden, stepsAnswer, storeTurn, storedSteps, stepsLeft}
 
 -- what computes here
 unfoldable stepping : Unit {0}
 unfolding ofBits isFinite absF le eq lt forUp run anyUp sumUp W sizeOf cross linkOf within nodePlaces quadPlaces edgePlaces quadIn allOff beyondPlaces idsBeyond
-    linkUnsound linkCount frontUnsound coordinateUnsound meshUnsound meshRefusal nearestWhole nearestStep isLeft isShown lowestHidden stepsAnswer storeTurn stored
-    stepsLeft
+    linkUnsound linkCount frontUnsound coordinateUnsound meshUnsound meshRefusal nearestWhole nearestStep turnsLeft isShown lowestHidden stepsAnswer storeTurn
+    storedSteps stepsLeft
 stepping = tt
 
 -- four nodes off the front, and q of the quads 0 1 2 3, 1 2 3 0 and 0 3 2 1
@@ -47,7 +47,7 @@ straight = fourNodes (zeroF ∷ oneF ∷ twoF ∷ zeroF ∷ []) (zeroF ∷ zeroF
 abbrev stepBuffer : List ℤ
 stepBuffer = pos 7 ∷ pos 7 ∷ pos 7 ∷ pos 7 ∷ pos 7 ∷ pos 7 ∷ pos 7 ∷ pos 7 ∷ negsuc 8 ∷ []
 
-pub record Answers : Type 0 where
+pub record ExampleAnswers : Type 0 where
   pub shown : stepsAnswer (squareMesh 1) 8 ≡ stepsGiven
   -- the same nodes from another corner, then the other way round
   pub lowest : stepsAnswer (squareMesh 3) 8 ≡ hiddenAt 2
@@ -58,9 +58,9 @@ pub record Answers : Type 0 where
   -- 23 comes before 25
   pub both : stepsAnswer straight 7 ≡ meshUnstepped
 
-pub answers : Answers
+pub example-answers : ExampleAnswers
 unfolding stepping
-answers = record { shown = refl; lowest = refl; none = refl; short = refl; same-step = refl; no-turn = refl; both = refl }
+example-answers = record { shown = refl; lowest = refl; none = refl; short = refl; same-step = refl; no-turn = refl; both = refl }
 
 -- places past the nodes' keep their contents, and on a refusal all do
 pub buffer-left : stepsLeft (squareMesh 1) stepsGiven stepBuffer

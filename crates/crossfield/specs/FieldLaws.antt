@@ -23,16 +23,16 @@ use Rattle.crossfield.specs.Counts.{count-pos}
 use Rattle.crossfield.specs.Box.{Box, box}
 use Rattle.crossfield.specs.Spacing.{few-enough}
 
-pub record Unrefused (o : Outline) (s : Float) (n places : ℕ) : Type 0 where
+pub record FieldUnrefused (o : Outline) (s : Float) (n places : ℕ) : Type 0 where
   pub outline : outlineRefusal o ≡ 0
   pub size : sizeRefusal s ≡ 0
   pub box : boundsRefusal (bounds o) ≡ 0
   pub sweeps : sweepsRefusal n ≡ 0
   pub room : gridNodes (gridOf (bounds o) s) ≤ places
 
-pub unrefused : (o : Outline) (size : Float) (n places : ℕ) → refusalFor o size n places ≡ 0 → Unrefused o size n places
+pub field-unrefused : (o : Outline) (size : Float) (n places : ℕ) → refusalFor o size n places ≡ 0 → FieldUnrefused o size n places
 unfolding placesRefusal
-unrefused o size n places e =
+field-unrefused o size n places e =
     let places-none = placesRefusal (gridOf (bounds o) size) places in
     let one = first-zero (outlineRefusal o)
     (firstOf (sizeRefusal size) (firstOf (boundsRefusal (bounds o)) (firstOf (sweepsRefusal n) places-none))) e in
@@ -104,7 +104,7 @@ short-sides b size g e h =
 pub few-made : (o : Outline) (size : Float) (n places : ℕ) {b : Bounds} → OutlineFits o → T (fits binary64 size)
     → refusalFor o size n places ≡ 0 → b ≡ bounds o → gridNodes (gridOf b size) ≤ mostFieldNodes
 few-made o size n places {b} doubles held none same =
-    let u = unrefused o size n places none in
+    let u = field-unrefused o size n places none in
     few o size b doubles held (u .outline) (u .size) same (ap boundsRefusal same ∙ u .box)
 
 pub room-made : (o : Outline) (size : Float) (n floats bytes : ℕ) {b : Bounds} {g : Grid} → refusalFor o size n (min (floats / 2) bytes) ≡ 0
@@ -112,7 +112,7 @@ pub room-made : (o : Outline) (size : Float) (n floats bytes : ℕ) {b : Bounds}
 room-made o size n floats bytes {b} {g} none same made =
     room-for g floats bytes
     (le-trans (le-of-eq (ap gridNodes (made ∙ ap (λ (b : Bounds). gridOf b size) same)))
-    (unrefused o size n (min (floats / 2) bytes) none .room))
+    (field-unrefused o size n (min (floats / 2) bytes) none .room))
 
 -- what the seeds ask besides
 pub seeds-ask : (o : Outline) (size : Float) (n floats bytes : ℕ) {b : Bounds} {g : Grid} → OutlineFits o → T (fits binary64 size)

@@ -5,12 +5,12 @@ use mathlib.Core.List.{List, [], _∷_, _++_}
 use Prim.Native.Nat.{ℕ}
 use lib.Ieee.{Float, binary64, ofBits, toBits}
 use Rattle.listing.specs.Text.{ascii}
-use Rattle.listing.specs.Listing.{decimalOf, decimal, hexDigit, hexOf, hexBits, spaced, row, rows, nodeLine, nodeLines, quadLines, loopLines}
+use Rattle.listing.specs.Listing.{decimalOf, decimal, hexDigit, hexOf, hexBits, spaced, row, rowLines, nodeLine, nodeLines, quadLines, loopLines}
 use Rattle.listing.specs.Listing.{heading, endWord, wholeWord, headLine, refusedListing, meshListing, listing}
 
 -- all that computes
 unfoldable opened : Unit {0}
-unfolding listing meshListing refusedListing headLine endWord wholeWord loopLines quadLines nodeLines nodeLine rows row spaced hexBits hexOf hexDigit
+unfolding listing meshListing refusedListing headLine endWord wholeWord loopLines quadLines nodeLines nodeLine rowLines row spaced hexBits hexOf hexDigit
     decimal decimalOf toBits ofBits
 opened = tt
 

@@ -165,18 +165,18 @@ module _ (o : Outline) (held : OutlineFits o) (taken : Accepted o) (p : Point) (
       within k' i' (inr (e, h)) there = absurd (omega arith)
 
   -- nothing is asked yet, or there is a best one
-  abbrev Begun : ℕ → Near → Type 0
-  Begun i n = ((i ≡ 0) × (n ≡ nowhere)) ⊎ Best 0 i n
+  abbrev BegunLoop : ℕ → Near → Type 0
+  BegunLoop i n = ((i ≡ 0) × (n ≡ nowhere)) ⊎ Best 0 i n
 
   best-outer : Best 1 0 (nearestInLoop p (loopAt o 0) 0 nowhere)
   unfolding nearestInLoop
-  best-outer = best-loop 0 _ (last (forUp-keeps Begun (points (loopAt o 0)) (segmentTurn p (loopAt o 0) 0) nowhere (inl (refl, refl)) next))
+  best-outer = best-loop 0 _ (last (forUp-keeps BegunLoop (points (loopAt o 0)) (segmentTurn p (loopAt o 0) 0) nowhere (inl (refl, refl)) next))
     where
-      next : (i : ℕ) (n : Near) → i < points (loopAt o 0) → Begun i n → Begun (suc i) (segmentTurn p (loopAt o 0) 0 i n)
+      next : (i : ℕ) (n : Near) → i < points (loopAt o 0) → BegunLoop i n → BegunLoop (suc i) (segmentTurn p (loopAt o 0) 0 i n)
       next i n l (inl (x, y)) = inr (rw (x, y) best-first)
       next i n l (inr best) = inr (best-next 0 i (omega arith) l n best)
 
-      last : {n : Near} → Begun (points (loopAt o 0)) n → Best 0 (points (loopAt o 0)) n
+      last : {n : Near} → BegunLoop (points (loopAt o 0)) n → Best 0 (points (loopAt o 0)) n
       last (inl (x, y)) = absurd (omega (arith, taken .three 0 (omega arith)))
       last (inr best) = best
 

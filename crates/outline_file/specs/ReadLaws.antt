@@ -54,8 +54,8 @@ accepted-file file e =
 -- ---- the head
 
 -- what stands in a head
-unfoldable pub headAt : List ℕ → Head
-headAt h =
+unfoldable pub blockHead : List ℕ → Head
+blockHead h =
     record {
       settings = record { size = floatAt h 0; sweeps = numberAt 2 h 8; passes = numberAt 2 h 10 };
       loops = headLoops h;
@@ -65,8 +65,8 @@ headAt h =
 
 pub head-made : (h : List ℕ) {size : Float} {sweeps passes loops outer points : ℕ}
     → size ≡ floatAt h 0 → NumberOf 2 h 8 sweeps → NumberOf 2 h 10 passes → NumberOf 2 h 12 loops → NumberOf 2 h 14 outer → points ≡ headPoints h loops
-    → record { settings = record { size = size; sweeps = sweeps; passes = passes }; loops = loops; outer = outer; points = points } ≡ headAt h
-unfolding headAt
+    → record { settings = record { size = size; sweeps = sweeps; passes = passes }; loops = loops; outer = outer; points = points } ≡ blockHead h
+unfolding blockHead
 head-made h e s p l o c = rw (e, s .same, p .same, o .same, c, l .same)
 
 -- ---- coordinates
@@ -91,8 +91,8 @@ read-refused file points lens {r} e n = go r n ∙ ap (λ (k : ℕ). readAs k (r
     go (suc k) n = refl
 
 -- the head is the request's
-head-of : (file : List ℕ) → Headed (blockAt file 0) → headAt (blockAt file 0) ≡ headOf (requestOf file)
-unfolding headAt headOf requestOf
+head-of : (file : List ℕ) → Headed (blockAt file 0) → blockHead (blockAt file 0) ≡ headOf (requestOf file)
+unfolding blockHead headOf requestOf
 head-of file h =
     let b = blockAt file 0 in
     let n = filePoints file in
@@ -103,18 +103,18 @@ module _ (file : List ℕ) (points : List Float) (lens : List ℕ) {r : ℕ} (e 
   pub read-headed : {h : List ℕ} → h ≡ blockAt file 0 → Headed h
   read-headed at = rw at (accepted-file file (sym e ∙ z) .head)
 
-  module _ {h : List ℕ} (at : h ≡ blockAt file 0) {head : Head} (f : head ≡ headAt h) where
+  module _ {h : List ℕ} (at : h ≡ blockAt file 0) {head : Head} (f : head ≡ blockHead h) where
     pub read-loops : (head .loops ≤ 8) × (510 ≤ length h)
-    unfolding headAt
+    unfolding blockHead
     read-loops = let d = accepted-file file (sym e ∙ z) .head in rw (f, at) (d .sound .few, omega (arith, d .long))
 
     pub read-count : (head .points ≤ 248) × (fileLength (head .points) ≤ length file)
-    unfolding headAt
+    unfolding blockHead
     read-count = let d = accepted-file file (sym e ∙ z) in rw (f, at) (d .head .sound .points, d .long)
 
     pub read-whole : {points′ : List Float} {lens′ : List ℕ} → lens′ ≡ overlay (tabulate (head .loops) (headLength h)) lens
         → points′ ≡ overlay (tabulate (2 * head .points) (coordinateAt file)) points → reading (Read head) points′ lens′ ≡ readFile file points lens
-    unfolding readFile headAt requestOf
+    unfolding readFile blockHead requestOf
     read-whole p q =
         rw (p, q, f, at)
         (ap (λ (k : Head). reading (Read k) (overlay (requestOf file .coordinates) points) (overlay (requestOf file .lengths) lens))

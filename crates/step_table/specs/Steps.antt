@@ -57,7 +57,7 @@ abbrev after : StepAnswer
 after = record { refusal = 0; outcome = 0; nodes = 9; quads = 1; edges = 10; front = 8 }
 
 -- the quad 3 4 5 8, with one new node (1, 1)
-pub record Placed : Type 0 where
+pub record SquareStepped : Type 0 where
   pub step : stepReply workedSquare oneF field 3 4 sampled ≡ after
   pub left : stepLeft workedSquare oneF field 3 4 sampled
       ≡ lentState (zeroF ∷ oneF ∷ twoF ∷ twoF ∷ twoF ∷ oneF ∷ zeroF ∷ zeroF ∷ oneF ∷ []) (zeroF ∷ zeroF ∷ zeroF ∷ oneF ∷ twoF ∷ twoF ∷ twoF ∷ oneF ∷ oneF ∷ [])
@@ -83,9 +83,9 @@ pub record Placed : Type 0 where
   pub list : previewLeft workedSquare oneF field 3 4 sampled (filled 22 7)
       ≡ 0 ∷ 1 ∷ 1 ∷ 2 ∷ 2 ∷ 3 ∷ 3 ∷ 8 ∷ 5 ∷ 6 ∷ 6 ∷ 7 ∷ 7 ∷ 0 ∷ 8 ∷ 5 ∷ 7 ∷ 7 ∷ 7 ∷ 7 ∷ 7 ∷ 7 ∷ []
 
-pub placed : Placed
+pub square-stepped : SquareStepped
 unfolding opened steps-opened
-placed = record { step = refl; left = refl; number = refl; preview = refl; list = refl }
+square-stepped = record { step = refl; left = refl; number = refl; preview = refl; list = refl }
 
 -- nothing placed
 pub record Others : Type 0 where

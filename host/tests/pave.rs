@@ -237,7 +237,8 @@ fn a_mesh_does_not_depend_on_the_pools() {
     }
 }
 
-/// Lists for tries that are empty, too short for a node, for some nodes, for all, and longer; of zeros, of ids, of marks, and as another run left them.
+/// Lists for tries that are empty, too short for a node, for some nodes, for all, and longer; of zeros, of ids, of marks, of stretches past the last node, and as
+/// another run left them. The snapshot, which is copied by stretches, is the same too.
 #[test]
 fn a_mesh_does_not_depend_on_the_tries() {
     let settings = Settings { size: 0.4, ..USUAL };
@@ -245,15 +246,17 @@ fn a_mesh_does_not_depend_on_the_tries() {
     let mut memory = Memory::new(PROGRAM).unwrap();
     let mesh = memory.pave(&drawing.outline(), &settings).unwrap();
     let (expected, nodes) = (said(&mesh), mesh.node_count());
+    let snapshot = memory.lists().snapshot[..nodes].to_vec();
     let mut left = RunPlaces::new(list_lengths(PROGRAM));
     left.pave(&drawing.outline(), &Settings { size: 0.5, ..USUAL }).unwrap();
     let left = left.lists().tried.to_vec();
-    let junk: [fn(usize, &[u32]) -> u32; 6] = [
+    let junk: [fn(usize, &[u32]) -> u32; 7] = [
         |_, _| 0,
         |i, _| (i % 40) as u32,
         |i, _| (i / 3 + 1) as u32,
         |i, _| (i / 3) as u32,
         |_, _| u32::MAX,
+        |i, _| if i % 3 == 0 { u32::MAX } else { 1_000_000 },
         |i, left| left[i],
     ];
     for length in [0, 2, 3, 7, 90, nodes, 3 * nodes - 1, 3 * nodes, 2_400] {
@@ -268,6 +271,7 @@ fn a_mesh_does_not_depend_on_the_tries() {
             assert_eq!(said(&mesh), expected, "{length} numbers");
             let used = used(&mesh);
             assert_eq!(places.written_past(used), [""; 0], "{length} numbers");
+            assert_eq!(places.lists().snapshot[..nodes], snapshot, "{length} numbers");
         }
     }
     assert_eq!([0, 7, usize::MAX].map(|nodes| Places { nodes, ..PROGRAM }.tried()), [0, 21, usize::MAX]);

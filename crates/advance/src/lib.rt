@@ -1,16 +1,12 @@
-// The passes of the paving (src/alt_crossfield.rs): a pass over the front edges present at its start, and `advance` with its four ends.
-// The lists lent are those of `settling`; the counts go in and come back by value.
+// `advance` of the paving (src/alt_crossfield.rs): pass after pass, with its four ends. The lists lent are those of `passes`.
 ghost use mathlib.Core.Path.{_≡_};
 ghost use mathlib.Core.List.{[]};
 ghost use Rattle.domain.specs.Outline.{outline};
 ghost use Rattle.direction.specs.Record.{fieldRecord};
 ghost use Rattle.front.specs.State.{stateOf};
-ghost use Rattle.paving.specs.Advance.{pass, paved, advance};
-ghost use Rattle.ends.specs.Answers.{passed, passedCounts};
+ghost use Rattle.paving.specs.Advance.{paved, advance};
 ghost use Rattle.settling.specs.Paveable.{Paveable};
-ghost use Rattle.settling.specs.Searchable.{Helped};
 use direction::Grid;
-use ends::Settled;
 use ends::Swept;
 use front::Counts;
 use paving::End;
@@ -20,88 +16,6 @@ pub struct Advanced {
     pub end: End,
     pub counts: Counts,
 }
-
-// ---- a pass
-
-// A pass: the snapshot is taken, and its edges are tried in the order of their first nodes.
-fn pass<'a>(
-    outer: &'a [f64],
-    holes: &'a [f64],
-    lens: &[usize],
-    blocks: &[u32],
-    size: f64,
-    grid: Grid,
-    values: &[f64],
-    xs: &mut [f64],
-    ys: &mut [f64],
-    next: &mut [u32],
-    prev: &mut [u32],
-    snapshot: &mut [u32],
-    quads: &mut [u32],
-    edges: &mut [u32],
-    node_pool: &mut [u32],
-    edge_pool: &mut [u32],
-    tried: &mut [u32],
-    k: Counts,
-) -> Swept
-    requires { ⌜ Paveable (outline (now outer) (now holes) (now lens)) (now blocks) grid (now values)
-        (stateOf (now xs) (now ys) (now next) (now prev) (now snapshot) (now quads) (now edges) k)
-        × Helped (outline (now outer) (now holes) (now lens)) size (fieldRecord grid (now values) []) (now xs) (now ys) (now edges) k
-        (now «node_pool») (now «edge_pool») (now tried) ⌝ }
-    ensures { λ r. ⌜
-        (passed r
-        (stateOf (now (xs .exit)) (now (ys .exit)) (now (next .exit)) (now (prev .exit)) (now (snapshot .exit)) (now (quads .exit)) (now (edges .exit))
-        (passedCounts r))
-        ≡ pass (outline (now (outer .entry)) (now (holes .entry)) (now (lens .entry))) size (fieldRecord grid (now (values .entry)) [])
-        (stateOf (now (xs .entry)) (now (ys .entry)) (now (next .entry)) (now (prev .entry)) (now (snapshot .entry)) (now (quads .entry))
-        (now (edges .entry)) k))
-        × Helped (outline (now (outer .entry)) (now (holes .entry)) (now (lens .entry))) size (fieldRecord grid (now (values .entry)) [])
-        (now (xs .exit)) (now (ys .exit)) (now (edges .exit)) (passedCounts r) (now («node_pool» .exit)) (now («edge_pool» .exit)) (now (tried .exit)) ⌝ }
-{
-    ends::copy_links(next, snapshot, k.nodes);
-    let n = k.nodes;
-    let mut j = k;
-    let mut some = false;
-    let mut a: u32 = 0;
-    while a < n {
-        let i = a;
-        a += 1;
-        let t = settling::settle(
-            outer,
-            holes,
-            lens,
-            blocks,
-            size,
-            grid,
-            values,
-            xs,
-            ys,
-            next,
-            prev,
-            snapshot,
-            quads,
-            edges,
-            node_pool,
-            edge_pool,
-            tried,
-            j,
-            i,
-        );
-        match t {
-            Settled::Same => {}
-            Settled::Put(m) => {
-                j = m;
-                some = true;
-            }
-            Settled::Over(e, m) => {
-                return Swept::Over(e, m);
-            }
-        }
-    }
-    ends::after_pass(some, j)
-}
-
-// ---- `advance`
 
 // The pools and `tried` are scratch of any length: nothing is said of what they hold, before or after.
 // Pass after pass, until one places nothing, the cap is reached, the places lent are full, or as many are done as asked for, at most 600.
@@ -142,7 +56,7 @@ pub fn advance<'a>(
     let mut i = 0;
     while i < most {
         i += 1;
-        let p = pass(
+        let p = passes::pass(
             outer,
             holes,
             lens,

@@ -82,13 +82,13 @@ module _ (o : Outline) (size : Float) (field : FieldRecord) (s : State) (ls : Li
         (a : ℕ) → a < i → isThere first a (follower first a) ≡ true → tryEdge o size field first a (follower first a) ≡ Nothing
 
     -- what the pass has done before turn i: it has placed something, or the state is still the first
-    abbrev Progress : ℕ → State → Bool → Type 0
-    Progress i u true = t .counts .quads < u .counts .quads
-    Progress i u false = (u ≡ first) × Tried i
+    abbrev PassProgress : ℕ → State → Bool → Type 0
+    PassProgress i u true = t .counts .quads < u .counts .quads
+    PassProgress i u false = (u ≡ first) × Tried i
 
     record InPass (i : ℕ) (p : Passing) : Type 0 where
       between : Between (p .state)
-      progress : Progress i (p .state) (p .placed)
+      progress : PassProgress i (p .state) (p .placed)
 
     -- what the pass leaves
     abbrev Leaves : Passed → Type 0
@@ -99,13 +99,13 @@ module _ (o : Outline) (size : Float) (field : FieldRecord) (s : State) (ls : Li
     unfolding withSnapshot
     first-quads = refl
 
-    no-fewer : (i : ℕ) (u : State) (some : Bool) → Progress i u some → t .counts .quads ≤ u .counts .quads
+    no-fewer : (i : ℕ) (u : State) (some : Bool) → PassProgress i u some → t .counts .quads ≤ u .counts .quads
     no-fewer i u true g = omega arith
     no-fewer i u false g = omega (arith, first-quads, ap (λ (v : State). v .counts .quads) (g .0))
 
     -- one turn more that placed nothing
-    one-more : (a : ℕ) (u : State) (some : Bool) → Progress a u some
-        → (isThere u a (follower u a) ≡ true → tryEdge o size field u a (follower u a) ≡ Nothing) → Progress (suc a) u some
+    one-more : (a : ℕ) (u : State) (some : Bool) → PassProgress a u some
+        → (isThere u a (follower u a) ≡ true → tryEdge o size field u a (follower u a) ≡ Nothing) → PassProgress (suc a) u some
     one-more a u true g nothing = g
     one-more a u false g nothing = (
       g .0,
@@ -130,7 +130,7 @@ module _ (o : Outline) (size : Float) (field : FieldRecord) (s : State) (ls : Li
 
     -- the front edge a to b was tried
     settled : (a b : ℕ) (p : Passing) → InPass a p → isThere (p .state) a b ≡ true → (t : Attempt) → tryEdge o size field (p .state) a b ≡ t
-        → (t ≡ Nothing → Progress (suc a) (p .state) (p .placed)) → Kept (InPass (suc a)) Leaves (settle a b t p)
+        → (t ≡ Nothing → PassProgress (suc a) (p .state) (p .placed)) → Kept (InPass (suc a)) Leaves (settle a b t p)
     settled a b p I there Nothing e on = record { between = I .between; progress = on refl }
     settled a b p I there (Quad c d) e on = choose (isFull (p .state) a b c d) refl
       where
@@ -184,7 +184,7 @@ module _ (o : Outline) (size : Float) (field : FieldRecord) (s : State) (ls : Li
             let f = follower-next a on in
             rw (← f .1) (nothing a (f .0) (rw (f .1, ne-eqb (nextOf first a) off on, eq-eqb (nextOf first a) (nextOf first a) refl)))
 
-    ended : (u : State) (some : Bool) → Between u → Progress (t .counts .nodes) u some → Leaves (afterPass (passing u some))
+    ended : (u : State) (some : Bool) → Between u → PassProgress (t .counts .nodes) u some → Leaves (afterPass (passing u some))
     ended u true W g = (W, g)
     ended u false W g =
         subst (StillAt o size field) (sym (g .0))

@@ -29,16 +29,16 @@ use Rattle.sampled.specs.Starts.{sum-loops}
 -- ---- following edges
 
 -- from u, `follow` takes an edge that is there, or there is none
-data Found (es : List Edge) (u : ℕ) : Type 0 where
-  taken : 0 < edgesSum (at u (follow es u)) es → Found es u
-  none : follow es u ≡ off → ((v : ℕ) → edgesSum (at u v) es ≡ 0) → Found es u
+data FoundEdge (es : List Edge) (u : ℕ) : Type 0 where
+  taken : 0 < edgesSum (at u (follow es u)) es → FoundEdge es u
+  none : follow es u ≡ off → ((v : ℕ) → edgesSum (at u v) es ≡ 0) → FoundEdge es u
 
-found : (es : List Edge) (u : ℕ) → Found es u
+found : (es : List Edge) (u : ℕ) → FoundEdge es u
 unfolding follow edgesSum
 found [] u = none refl (λ v. refl)
 found (e ∷ es) u = by (eqb (e .from) u) refl (found es u)
   where
-    by : (b : Bool) → eqb (e .from) u ≡ b → Found es u → Found (e ∷ es) u
+    by : (b : Bool) → eqb (e .from) u ≡ b → FoundEdge es u → FoundEdge (e ∷ es) u
     by true q later = taken (rw (q, eqb-true (e .from) u q) (omega (arith, at-self u (e .to))))
     by false q (taken h) = taken (rw q (omega arith))
     by false q (none f z) =
@@ -90,7 +90,7 @@ module _ (n : ℕ) (s : State) (ls : List (List ℕ)) (b : Book) (S : Sound n s 
   follows : (u : ℕ) → Follows ls (follow (b .front)) u
   follows u = by (found (b .front) u)
     where
-      by : Found (b .front) u → Follows ls (follow (b .front)) u
+      by : FoundEdge (b .front) u → Follows ls (follow (b .front)) u
       by (taken h) = topology.edge (rw (M .sums (at u (follow (b .front) u))) at h)
       by (none f z) = topology.none f (λ v. sym (M .sums (at u v)) ∙ z v)
 

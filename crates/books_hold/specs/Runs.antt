@@ -38,7 +38,7 @@ use Rattle.books_hold.specs.EndLaws.{advance-ends}
 -- ---- definitions
 
 -- what is asked of a run: the outline's floats are doubles, as those of a slice of f64 are; and no refusal stops it
-pub record Accepted (o : Outline) (size : Float) (lent : State) : Type 0 where
+pub record AcceptedRun (o : Outline) (size : Float) (lent : State) : Type 0 where
   pub doubles : OutlineFits o
   pub outline : outlineRefusal o ≡ 0
   pub front : frontRefusal o size lent ≡ 0
@@ -63,7 +63,7 @@ ended-few o size field n s t Passes E = omega (arith, E .below)
 ended-few o size field n s t Cap E = omega (arith, E .0)
 ended-few o size field n s t Full E = omega (arith, E .0 .below)
 
-module _ (o : Outline) (size : Float) (lent : State) (A : Accepted o size lent) where
+module _ (o : Outline) (size : Float) (lent : State) (A : AcceptedRun o size lent) where
   abbrev sampled : State
   sampled = fromBoundary o size lent
 
@@ -110,12 +110,12 @@ module _ (o : Outline) (size : Float) (lent : State) (A : Accepted o size lent) 
 -- ---- the run
 
 module _ (o : Outline) (set : Settings) (f : FieldLists) (lent : State) (doubles : OutlineFits o) (none : runRefusal o set f lent ≡ 0) where
-  pub accepted : Accepted o (set .size) lent
+  pub accepted-run : AcceptedRun o (set .size) lent
   unfolding runRefusal fieldRefusal
-  accepted =
+  accepted-run =
       let both = first-zero _ _ none in
       record { doubles = doubles; outline = first-zero _ _ (both .0) .0; front = both .1 }
 
   pub run-facts : RunFacts o (set .size) (runOf o set f lent .field) (set .passes) lent (runOf o set f lent .paving)
   unfolding runOf
-  run-facts = advance-facts o (set .size) lent accepted (fieldOf o (set .size) (set .sweeps) f) (set .passes)
+  run-facts = advance-facts o (set .size) lent accepted-run (fieldOf o (set .size) (set .sweeps) f) (set .passes)

@@ -46,7 +46,7 @@ abbrev pub Turns : Corners → Type 0
 Turns p = (b : Book) (q : Quad) → cornersIn b q ≡ p → QuadHolds b q
 
 -- a quad of the run's answer: its ids are below n, and its points turn left
-pub record Answers (n : ℕ) (final : State) (q : Quad) : Type 0 where
+pub record AnsweredQuad (n : ℕ) (final : State) (q : Quad) : Type 0 where
   pub a : q .a < n
   pub b : q .b < n
   pub d : q .d < n
@@ -74,12 +74,12 @@ pub record Stage (o : Outline) (size : Float) (s : State) (ls : List (List ℕ))
   pub matches : Matches t loops book
   -- whatever changes its sign with the direction of an edge: the start's front is the quads and the front left
   pub balance : (w : ℕ → ℕ → ℤ) → Antisymmetric w → frontSumℤ w ls ≡ edgesSumℤ w (quadsEdges final k) +ℤ frontSumℤ w loops
-  pub each : (i : ℕ) → i < k → Answers (t .counts .nodes) final (quadAt final i)
+  pub each : (i : ℕ) → i < k → AnsweredQuad (t .counts .nodes) final (quadAt final i)
 
 -- ---- from one stage to the next
 
-answers-more : (m n : ℕ) (final : State) (q : Quad) → m ≤ n → Answers m final q → Answers n final q
-answers-more m n final q h A =
+answered-more : (m n : ℕ) (final : State) (q : Quad) → m ≤ n → AnsweredQuad m final q → AnsweredQuad n final q
+answered-more m n final q h A =
     record { a = omega (arith, A .a); b = omega (arith, A .b); d = omega (arith, A .d); c = omega (arith, A .c); turns = A .turns }
 
 module _ (o : Outline) (size : Float) (s : State) (ls : List (List ℕ)) (final : State) where
@@ -149,8 +149,8 @@ module _ (o : Outline) (size : Float) (s : State) (ls : List (List ℕ)) (final 
           after .at-d,
         )
 
-    last-answers : Answers (place a b c d t .counts .nodes) final (quadAt final k)
-    last-answers =
+    last-answered : AnsweredQuad (place a b c d t .counts .nodes) final (quadAt final k)
+    last-answered =
         let more = after .frame .nodes in
         rw last-quad
         (record {
@@ -161,14 +161,14 @@ module _ (o : Outline) (size : Float) (s : State) (ls : List (List ℕ)) (final 
           turns = rw last-points turns;
         })
 
-    each-answers : (i : ℕ) → i < suc k → Answers (place a b c d t .counts .nodes) final (quadAt final i)
-    each-answers i h = by (leb (suc i) k) refl
+    each-answered : (i : ℕ) → i < suc k → AnsweredQuad (place a b c d t .counts .nodes) final (quadAt final i)
+    each-answered i h = by (leb (suc i) k) refl
       where
-        by : (old : Bool) → leb (suc i) k ≡ old → Answers (place a b c d t .counts .nodes) final (quadAt final i)
-        by true e = answers-more _ _ final (quadAt final i) (after .frame .nodes) (S .each i (leb-true (suc i) k e))
+        by : (old : Bool) → leb (suc i) k ≡ old → AnsweredQuad (place a b c d t .counts .nodes) final (quadAt final i)
+        by true e = answered-more _ _ final (quadAt final i) (after .frame .nodes) (S .each i (leb-true (suc i) k e))
         by false e =
             let last : k ≡ i = omega (arith, leb-false (suc i) k e) in
-            subst (λ (j : ℕ). Answers (place a b c d t .counts .nodes) final (quadAt final j)) last last-answers
+            subst (λ (j : ℕ). AnsweredQuad (place a b c d t .counts .nodes) final (quadAt final j)) last last-answered
 
     placed-stage : Stage o size s ls final (suc k) (place a b c d t)
     unfolding bookAfter quadsEdges forUp
@@ -192,7 +192,7 @@ module _ (o : Outline) (size : Float) (s : State) (ls : List (List ℕ)) (final 
               (after .balance w anti ∙ ap (λ (z : ℤ). z +ℤ frontSumℤ w (after .loops)) (last-sum w))
               ∙ (sym (+ℤ-assoc (edgesSumℤ w (quadsEdges final k)) (edgesSumℤ w (quadEdges (quadAt final k))) (frontSumℤ w (after .loops)))
               ∙ ap (λ (z : ℤ). z +ℤ frontSumℤ w (after .loops)) (sym (sum-joined w (quadsEdges final k) (quadEdges (quadAt final k))))));
-          each = each-answers;
+          each = each-answered;
         }
 
 -- ---- every state of a run

@@ -10,7 +10,7 @@ use Rattle.front.specs.State.{State}
 use Rattle.whole_run.specs.Run.{runRefusal, runOf}
 use Rattle.books.specs.Holds.{BooksHold}
 use Rattle.books_hold.specs.Demanded.{Demanded, as-demanded}
-use Rattle.books_hold.specs.Runs.{accepted, advance-holds}
+use Rattle.books_hold.specs.Runs.{accepted-run, advance-holds}
 
 -- THE EXACT BOOKS OF EVERY RUN HOLD. Take any outline o, any settings (the size, the sweeps and the passes allowed) and any lists f and
 -- lent, of whatever lengths and contents, that document 01 refuses none of. The reference's run on them, `runOf`, leaves a state; and
@@ -22,7 +22,7 @@ pub books-hold : (o : Outline) (set : Settings) (f : FieldLists) (lent : State) 
     → BooksHold o (set .size) (runOf o set f lent .paving .state)
 unfolding runOf
 books-hold o set f lent doubles none =
-    advance-holds o (set .size) lent (accepted o set f lent doubles none) (fieldOf o (set .size) (set .sweeps) f) (set .passes)
+    advance-holds o (set .size) lent (accepted-run o set f lent doubles none) (fieldOf o (set .size) (set .sweeps) f) (set .passes)
 
 -- In the demand's own words, with its exception for sides shorter than 1e-150, which is never used.
 pub demand-met : (o : Outline) (set : Settings) (f : FieldLists) (lent : State) → OutlineFits o → runRefusal o set f lent ≡ 0

@@ -23,7 +23,7 @@ use Rattle.mesh_check.specs.Passed.{MeshPasses, mesh-passes, MeshRoom, room}
 use Rattle.nearest_step.specs.Step.{nearestStep}
 use Rattle.nearest_step.specs.StepLaws.{step-near}
 use Rattle.bowl.specs.declared.StepsAnswer.{StepsAnswer}
-use Rattle.bowl.specs.Steps.{stepsGiven, meshUnstepped, lowestHidden, stepsAnswer, stored, stepsLeft}
+use Rattle.bowl.specs.Steps.{stepsGiven, meshUnstepped, lowestHidden, stepsAnswer, storedSteps, stepsLeft}
 use Rattle.bowl.specs.Stepped.{NodeWithin, NodesWithin, QuadsWithin, Near, MeshStepped}
 use Rattle.bowl.specs.StepsLaws.{stored-x, stored-y, stored-past}
 
@@ -102,7 +102,7 @@ near-of : (x : Float) (z : ℤ) → z ≡ nearestStep x → Near x z
 near-of x z e = rw e (step-near x)
 
 module _ (s : State) (lent : List ℤ) (r : StepsAnswer) (answer : r ≡ stepsAnswer s (length lent)) where
-  pub mesh-stored : r .refusal ≡ 0 → (left : List ℤ) → left ≡ stored (s .xs) (s .ys) (s .counts .nodes) lent → MeshStepped s lent r left
+  pub mesh-stored : r .refusal ≡ 0 → (left : List ℤ) → left ≡ storedSteps (s .xs) (s .ys) (s .counts .nodes) lent → MeshStepped s lent r left
   unfolding stepsLeft
   mesh-stored none left e =
       let n = s .counts .nodes in

@@ -34,21 +34,21 @@ pub data StepsMean (s : State) (places : ℕ) (r : StepsAnswer) : Type 0 where
 -- ---- the search
 
 -- of the first n quads
-data Searched (s : State) (n : ℕ) (r : StepsAnswer) : Type 0 where
-  all-shown : r ≡ stepsGiven → ((k : ℕ) → k < n → shownIn s k ≡ true) → Searched s n r
-  found : (k : ℕ) → r ≡ hiddenAt k → k < n → shownIn s k ≡ false → ((j : ℕ) → j < k → shownIn s j ≡ true) → Searched s n r
+data StepsSearched (s : State) (n : ℕ) (r : StepsAnswer) : Type 0 where
+  all-shown : r ≡ stepsGiven → ((k : ℕ) → k < n → shownIn s k ≡ true) → StepsSearched s n r
+  found : (k : ℕ) → r ≡ hiddenAt k → k < n → shownIn s k ≡ false → ((j : ℕ) → j < k → shownIn s j ≡ true) → StepsSearched s n r
 
-searched : (s : State) (n : ℕ) → Searched s n (lowestHidden (s .xs) (s .ys) (s .quads) n)
+searched : (s : State) (n : ℕ) → StepsSearched s n (lowestHidden (s .xs) (s .ys) (s .quads) n)
 unfolding lowestHidden
 searched s n =
-    run-keeps-at (λ i u. Before i) (Searched s n) n (hiddenTurn (s .xs) (s .ys) (s .quads)) (λ u. stepsGiven) tt (λ k h. absurd (omega arith))
+    run-keeps-at (λ i u. Before i) (StepsSearched s n) n (hiddenTurn (s .xs) (s .ys) (s .quads)) (λ u. stepsGiven) tt (λ k h. absurd (omega arith))
     (λ i u h below. next i u h below (shownIn s i) refl) (λ u below. all-shown refl below)
   where
     Before : ℕ → Type 0
     Before i = (k : ℕ) → k < i → shownIn s k ≡ true
 
     next : (i : ℕ) (u : Unit {0}) → i < n → Before i → (t : Bool) → shownIn s i ≡ t
-        → Kept {S = Unit {0}} (λ u. Before (suc i)) (Searched s n) (cond t (go u) (out (hiddenAt i)))
+        → Kept {S = Unit {0}} (λ u. Before (suc i)) (StepsSearched s n) (cond t (go u) (out (hiddenAt i)))
     next i u h below true e = λ k less. ⊎-elim (λ same. ap (shownIn s) same ∙ e) (below k) (eq-or-lt-of-le (le-of-suc-le-suc less))
     next i u h below false e = found i refl h e below
 
@@ -58,7 +58,7 @@ pub steps-mean : (s : State) (places : ℕ) → StepsMean s places (stepsAnswer 
 unfolding stepsAnswer
 steps-mean s places = by (eqb (meshRefusal s) 0) refl (leb (2 * s .counts .nodes) places) refl
   where
-    last : Steppable s places → {r : StepsAnswer} → Searched s (s .counts .quads) r → StepsMean s places r
+    last : Steppable s places → {r : StepsAnswer} → StepsSearched s (s .counts .quads) r → StepsMean s places r
     last S (all-shown e all) = is-given e S all
     last S (found k e h hid below) = is-hidden k e S h hid below
 

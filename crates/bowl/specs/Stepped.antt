@@ -26,13 +26,13 @@ pub record NodeWithin (xs ys : List Float) (id : ℕ) : Type 0 where
   pub y : Within 1001 (getD ys id nan)
 
 -- at most m steps either way
-pub record Few (m : ℕ) (p : Steps) : Type 0 where
+pub record FewSteps (m : ℕ) (p : Steps) : Type 0 where
   pub x : natAbs (p .x) ≤ m
   pub y : natAbs (p .y) ≤ m
 
 pub record IsVector (m : ℕ) (p : Steps) (v : Vector) : Type 0 where
   pub same : vector p ≡ v
-  pub few : Few m p
+  pub few : FewSteps m p
 
 -- ---- the mesh
 

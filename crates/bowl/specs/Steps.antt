@@ -25,8 +25,8 @@ abbrev pub stepsAt : List Float → List Float → ℕ → Vector
 stepsAt xs ys id = record { x = nearestStep (getD xs id nan); y = nearestStep (getD ys id nan) }
 
 -- the way p and then the way q turn left: their cross product is above 0
-unfoldable pub isLeft : Vector → Vector → Bool
-isLeft p q = ltZ (pos 0) (cross p q)
+unfoldable pub turnsLeft : Vector → Vector → Bool
+turnsLeft p q = ltZ (pos 0) (cross p q)
 
 -- a quad, run a, b, d, c, turns left at all four corners
 unfoldable pub isShown : List Float → List Float → QuadIds → Bool
@@ -35,7 +35,7 @@ isShown xs ys q =
     let b = stepsAt xs ys (q .b) in
     let d = stepsAt xs ys (q .d) in
     let c = stepsAt xs ys (q .c) in
-    isLeft (way c a) (way a b) && (isLeft (way a b) (way b d) && (isLeft (way b d) (way d c) && isLeft (way d c) (way c a)))
+    turnsLeft (way c a) (way a b) && (turnsLeft (way a b) (way b d) && (turnsLeft (way b d) (way d c) && turnsLeft (way d c) (way c a)))
 
 -- ---- the answer
 
@@ -68,9 +68,9 @@ unfoldable pub storeTurn : List Float → List Float → ℕ → List ℤ → Li
 storeTurn xs ys i steps = set (set steps (2 * i) (nearestStep (getD xs i nan))) (2 * i + 1) (nearestStep (getD ys i nan))
 
 -- those of n nodes
-unfoldable pub stored : List Float → List Float → ℕ → List ℤ → List ℤ
-stored xs ys n steps = forUp n (storeTurn xs ys) steps
+unfoldable pub storedSteps : List Float → List Float → ℕ → List ℤ → List ℤ
+storedSteps xs ys n steps = forUp n (storeTurn xs ys) steps
 
 -- as the answer leaves it: unwritten on a refusal
 unfoldable pub stepsLeft : State → StepsAnswer → List ℤ → List ℤ
-stepsLeft s r steps = cond (eqb (r .refusal) 0) (stored (s .xs) (s .ys) (s .counts .nodes) steps) steps
+stepsLeft s r steps = cond (eqb (r .refusal) 0) (storedSteps (s .xs) (s .ys) (s .counts .nodes) steps) steps

@@ -24,8 +24,8 @@ use Rattle.orientation.specs.Orient.{way}
 use Rattle.nearest_step.specs.Step.{nearestStep}
 use Rattle.nearest_step.specs.StepLaws.{natAbs-neg, apart, step-few}
 use Rattle.bowl.specs.declared.Steps.{Steps}
-use Rattle.bowl.specs.Steps.{stepsAt, isLeft, isShown, storeTurn, stored}
-use Rattle.bowl.specs.Stepped.{vector, NodeWithin, Few, IsVector, ids}
+use Rattle.bowl.specs.Steps.{stepsAt, turnsLeft, isShown, storeTurn, storedSteps}
+use Rattle.bowl.specs.Stepped.{vector, NodeWithin, FewSteps, IsVector, ids}
 
 -- ---- sizes
 
@@ -73,8 +73,8 @@ module _ (a b : ℤ) where
   less-apart : ltZ a b ≡ ltZ (pos 0) (b -ℤ a)
   less-apart = T-ext (ltZ a b) (ltZ (pos 0) (b -ℤ a)) one-way other-way
 
-pub left-compared : (p q : Vector) → ltZ (p .y *ℤ q .x) (p .x *ℤ q .y) ≡ isLeft p q
-unfolding isLeft cross
+pub left-compared : (p q : Vector) → ltZ (p .y *ℤ q .x) (p .x *ℤ q .y) ≡ turnsLeft p q
+unfolding turnsLeft cross
 left-compared p q = less-apart (p .y *ℤ q .x) (p .x *ℤ q .y)
 
 -- ---- with numbers as they are held
@@ -133,7 +133,7 @@ module _ (xs ys : List Float) (id : ℕ) (N : NodeWithin xs ys id) (x y : ℤ) (
 
 -- a way and a turn
 module _ (a b : Steps) where
-  pub way-is : Few 64064 a → Few 64064 b
+  pub way-is : FewSteps 64064 a → FewSteps 64064 b
       → IsVector 128128
       (record {
         x = toZ w64 (ofZ w64 (toZ w64 (ofZ w64 (b .x)) -ℤ toZ w64 (ofZ w64 (a .x))));
@@ -152,9 +152,9 @@ module _ (a b : Steps) where
             };
       })
 
-  pub left-is : Few 128128 a → Few 128128 b
+  pub left-is : FewSteps 128128 a → FewSteps 128128 b
       → ltZ (toZ w64 (ofZ w64 (toZ w64 (ofZ w64 (a .y)) *ℤ toZ w64 (ofZ w64 (b .x)))))
-      (toZ w64 (ofZ w64 (toZ w64 (ofZ w64 (a .x)) *ℤ toZ w64 (ofZ w64 (b .y))))) ≡ isLeft (vector a) (vector b)
+      (toZ w64 (ofZ w64 (toZ w64 (ofZ w64 (a .x)) *ℤ toZ w64 (ofZ w64 (b .y))))) ≡ turnsLeft (vector a) (vector b)
   left-is A B =
       let small : 128128 ≤ 2 ^ 30 = omega arith in
       ap₂ ltZ (times-held 128128 small (a .y) (b .x) (A .y) (B .x)) (times-held 128128 small (a .x) (b .y) (A .x) (B .y))
@@ -165,7 +165,7 @@ module _ (xs ys : List Float) (a b d c : ℕ) (pa pb pd pc ab bd dc ca : Steps)
     (A : IsVector 64064 pa (stepsAt xs ys a)) (B : IsVector 64064 pb (stepsAt xs ys b)) (D : IsVector 64064 pd (stepsAt xs ys d))
     (C : IsVector 64064 pc (stepsAt xs ys c)) (AB : IsVector 128128 ab (way (vector pa) (vector pb))) (BD : IsVector 128128 bd (way (vector pb) (vector pd)))
     (DC : IsVector 128128 dc (way (vector pd) (vector pc))) (CA : IsVector 128128 ca (way (vector pc) (vector pa))) where
-  pub shown-is : isLeft (vector ca) (vector ab) && (isLeft (vector ab) (vector bd) && (isLeft (vector bd) (vector dc) && isLeft (vector dc) (vector ca)))
+  pub shown-is : turnsLeft (vector ca) (vector ab) && (turnsLeft (vector ab) (vector bd) && (turnsLeft (vector bd) (vector dc) && turnsLeft (vector dc) (vector ca)))
       ≡ isShown xs ys (ids a b d c)
   unfolding isShown
   shown-is = rw (AB .same, BD .same, DC .same, CA .same, A .same, B .same, D .same, C .same) refl
@@ -231,14 +231,14 @@ module _ (xs ys : List Float) (lent : List ℤ) (n : ℕ) (room : 2 * n ≤ leng
           last-or-less : (j : ℕ) → j < suc i → (j ≡ i) ⊎ (j < i)
           last-or-less j less = eq-or-lt-of-le (le-of-suc-le-suc less)
 
-  pub stored-x : (i : ℕ) → i < n → getD (stored xs ys n lent) (2 * i) (pos 0) ≡ nearestStep (getD xs i nan)
-  unfolding stored
+  pub stored-x : (i : ℕ) → i < n → getD (storedSteps xs ys n lent) (2 * i) (pos 0) ≡ nearestStep (getD xs i nan)
+  unfolding storedSteps
   stored-x i h = up-to n (omega arith) .x-at i h
 
-  pub stored-y : (i : ℕ) → i < n → getD (stored xs ys n lent) (2 * i + 1) (pos 0) ≡ nearestStep (getD ys i nan)
-  unfolding stored
+  pub stored-y : (i : ℕ) → i < n → getD (storedSteps xs ys n lent) (2 * i + 1) (pos 0) ≡ nearestStep (getD ys i nan)
+  unfolding storedSteps
   stored-y i h = up-to n (omega arith) .y-at i h
 
-  pub stored-past : drop (2 * n) (stored xs ys n lent) ≡ drop (2 * n) lent
-  unfolding stored
+  pub stored-past : drop (2 * n) (storedSteps xs ys n lent) ≡ drop (2 * n) lent
+  unfolding storedSteps
   stored-past = up-to n (omega arith) .past

@@ -5,8 +5,8 @@ ghost use lib.ListN.{length};
 ghost use Rattle.orientation.specs.Orient.{way};
 ghost use Rattle.front.specs.State.{counted};
 ghost use Rattle.mesh_check.specs.Check.{lentState};
-ghost use Rattle.bowl.specs.Steps.{stepsAt, isLeft, isShown, lowestHidden, stepsAnswer, stored};
-ghost use Rattle.bowl.specs.Stepped.{vector, NodeWithin, Few, IsVector, ids, QuadsWithin, NodesWithin, MeshStepped};
+ghost use Rattle.bowl.specs.Steps.{stepsAt, turnsLeft, isShown, lowestHidden, stepsAnswer, storedSteps};
+ghost use Rattle.bowl.specs.Stepped.{vector, NodeWithin, FewSteps, IsVector, ids, QuadsWithin, NodesWithin, MeshStepped};
 use front::Counts;
 
 // `refusal` is 23 or 25, 0 where nothing is refused; `quad` is the lowest quad that the bowl can't show, where 25 says so.
@@ -40,7 +40,7 @@ fn steps_at(xs: &[f64], ys: &[f64], id: u32) -> Steps
 
 // The way from a to b.
 fn way(a: Steps, b: Steps) -> Steps
-    requires { ⌜ Few 64064 a × Few 64064 b ⌝ }
+    requires { ⌜ FewSteps 64064 a × FewSteps 64064 b ⌝ }
     ensures { λ r. ⌜ IsVector 128128 r (way (vector a) (vector b)) ⌝ }
 {
     Steps {
@@ -51,8 +51,8 @@ fn way(a: Steps, b: Steps) -> Steps
 
 // Whether the way p and then the way q turn left.
 fn is_left(p: Steps, q: Steps) -> bool
-    requires { ⌜ Few 128128 p × Few 128128 q ⌝ }
-    ensures { λ r. ⌜ r ≡ isLeft (vector p) (vector q) ⌝ }
+    requires { ⌜ FewSteps 128128 p × FewSteps 128128 q ⌝ }
+    ensures { λ r. ⌜ r ≡ turnsLeft (vector p) (vector q) ⌝ }
 {
     p.y * q.x < p.x * q.y
 }
@@ -115,7 +115,7 @@ fn lowest_hidden(xs: &[f64], ys: &[f64], quads: &[u32], n: usize) -> StepsAnswer
 // The steps of n nodes, two places a node.
 fn store_steps(xs: &[f64], ys: &[f64], n: usize, steps: &mut [i32])
     requires { ⌜ NodesWithin (now xs) (now ys) n × (2 * n ≤ length (now steps)) ⌝ }
-    ensures { λ r. ⌜ now (steps .exit) ≡ stored (now (xs .entry)) (now (ys .entry)) n (now (steps .entry)) ⌝ }
+    ensures { λ r. ⌜ now (steps .exit) ≡ storedSteps (now (xs .entry)) (now (ys .entry)) n (now (steps .entry)) ⌝ }
 {
     let mut i = 0;
     while i < n {

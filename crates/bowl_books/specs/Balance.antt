@@ -19,7 +19,7 @@ use Rattle.whole_run.specs.Run.{runRefusal, runOf}
 use Rattle.books.specs.Book.{Book, startBook, bookAfter, placeOf, frontArea, quadsArea}
 use Rattle.books.specs.Holds.{HoldsAfter, Closes, BooksHold}
 use Rattle.books.specs.Areas.{areas-balance}
-use Rattle.books_hold.specs.Runs.{Accepted, accepted, sampled-joins}
+use Rattle.books_hold.specs.Runs.{AcceptedRun, accepted-run, sampled-joins}
 use Rattle.books_hold.specs.Theorem.{books-hold}
 use Rattle.hand_books.specs.Moves.{Move, movesOn}
 use Rattle.hand_books.specs.Sequences.{sequence-holds}
@@ -34,7 +34,7 @@ pub record StepsBalance (o : Outline) (size : Float) (s : State) (k : ℕ) : Typ
   pub areas : frontArea nearestStep (startBook o size) ≡ quadsArea nearestStep book s k +ℤ frontArea nearestStep book
 
 -- Of every state that has the exact books of a sampled outline.
-pub books-balance : (o : Outline) (size : Float) (lent : State) → Accepted o size lent → (s : State) → BooksHold o size s → (k : ℕ) → k ≤ s .counts .quads
+pub books-balance : (o : Outline) (size : Float) (lent : State) → AcceptedRun o size lent → (s : State) → BooksHold o size s → (k : ℕ) → k ≤ s .counts .quads
     → StepsBalance o size s k
 books-balance o size lent A s B k h =
     let H = B .each k h in
@@ -48,10 +48,10 @@ books-balance o size lent A s B k h =
 pub run-balance : (o : Outline) (set : Settings) (f : FieldLists) (lent : State) → OutlineFits o → runRefusal o set f lent ≡ 0
     → (k : ℕ) → k ≤ runOf o set f lent .paving .state .counts .quads → StepsBalance o (set .size) (runOf o set f lent .paving .state) k
 run-balance o set f lent doubles none =
-    books-balance o (set .size) lent (accepted o set f lent doubles none) (runOf o set f lent .paving .state) (books-hold o set f lent doubles none)
+    books-balance o (set .size) lent (accepted-run o set f lent doubles none) (runOf o set f lent .paving .state) (books-hold o set f lent doubles none)
 
 -- THE BALANCE OF EVERY HAND-STEPPED SEQUENCE that begins with a sampled outline, passes between the steps included.
-pub sequence-balance : (o : Outline) (size : Float) (lent : State) → Accepted o size lent → (field : FieldRecord) (ms : List Move) (k : ℕ)
+pub sequence-balance : (o : Outline) (size : Float) (lent : State) → AcceptedRun o size lent → (field : FieldRecord) (ms : List Move) (k : ℕ)
     → k ≤ movesOn o size field ms (fromBoundary o size lent) .counts .quads → StepsBalance o size (movesOn o size field ms (fromBoundary o size lent)) k
 sequence-balance o size lent A field ms =
     books-balance o size lent A (movesOn o size field ms (fromBoundary o size lent)) (sequence-holds o size lent A field ms)

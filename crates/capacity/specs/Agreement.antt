@@ -31,7 +31,7 @@ use Rattle.capacity.specs.Starts.{starts-alike}
 -- ---- definitions
 
 -- the nodes and quads of s are the first of those of t, in the same order
-pub record Begins (s t : State) : Type 0 where
+pub record BeginsWith (s t : State) : Type 0 where
   pub nodes : s .counts .nodes ≤ t .counts .nodes
   pub quads : s .counts .quads ≤ t .counts .quads
   pub points : (id : ℕ) → id < s .counts .nodes → node t id ≡ node s id
@@ -39,7 +39,7 @@ pub record Begins (s t : State) : Type 0 where
 
 -- s and t have the same nodes, quads and front
 pub record SameAnswer (s t : State) : Type 0 where
-  pub begins : Begins s t
+  pub begins : BeginsWith s t
   pub nodes : t .counts .nodes ≡ s .counts .nodes
   pub quads : t .counts .quads ≡ s .counts .quads
   pub edges : t .counts .edges ≡ s .counts .edges
@@ -49,7 +49,7 @@ pub record SameAnswer (s t : State) : Type 0 where
 -- two runs end the same way with the same answer, or the first is full and stopped on the way of the second
 pub data Agreement (r e : Paved) : Type 0 where
   same : e .end ≡ r .end → SameAnswer (r .state) (e .state) → Agreement r e
-  full : r .end ≡ Full → Begins (r .state) (e .state) → Agreement r e
+  full : r .end ≡ Full → BeginsWith (r .state) (e .state) → Agreement r e
 
 -- ---- laws
 
@@ -65,7 +65,7 @@ same-answer n s t W =
       next = next-alike n s t (W .ls) (W .ms) (W .first) (W .second) A;
     }
 
-begins-behind : (o : Outline) (size : Float) (field : FieldRecord) (n : ℕ) (s t : State) → Behind o size field n s t → Begins s t
+begins-behind : (o : Outline) (size : Float) (field : FieldRecord) (n : ℕ) (s t : State) → Behind o size field n s t → BeginsWith s t
 begins-behind o size field n s t B =
     let A = B .twins .alike in
     let F = standing (B .twins .second) (B .onward .by) .frame in

@@ -32,13 +32,13 @@ both-up R (suc n) turn other a b start keeps =
     keeps n (forUp n turn a) (forUp n other b) (omega arith) (both-up R n turn other a b start (λ i s t h. keeps i s t (omega arith)))
 
 -- the state of a pass, and of a run
-abbrev pub stateOf : Passed → State
-stateOf (go u) = u
-stateOf (out r) = r .state
+abbrev pub passedState : Passed → State
+passedState (go u) = u
+passedState (out r) = r .state
 
 abbrev stateIn : Turn Passing Passed → State
 stateIn (go p) = p .state
-stateIn (out x) = stateOf x
+stateIn (out x) = passedState x
 
 module _ (o : Outline) (size : Float) (field : FieldRecord) (n : ℕ) where
   -- ---- definitions
@@ -60,7 +60,7 @@ module _ (o : Outline) (size : Float) (field : FieldRecord) (n : ℕ) where
   pub data Agree : Passed → Passed → Type 0 where
     both : {u v : State} → Twins n u v → Agree (go u) (go v)
     ended : {r e : Paved} → e .end ≡ r .end → Twins n (r .state) (e .state) → Agree (out r) (out e)
-    full : {r : Paved} {y : Passed} → r .end ≡ Full → Behind (r .state) (stateOf y) → Agree (out r) y
+    full : {r : Paved} {y : Passed} → r .end ≡ Full → Behind (r .state) (passedState y) → Agree (out r) y
 
   -- ---- the second run alone
 
@@ -69,7 +69,7 @@ module _ (o : Outline) (size : Float) (field : FieldRecord) (n : ℕ) where
   kept-state v (out (go u)) r = r
   kept-state v (out (out e)) r = r
 
-  passed-state : (v : State) (x : Passed) → AtPassed o size v x → Reached o size v (stateOf x)
+  passed-state : (v : State) (x : Passed) → AtPassed o size v x → Reached o size v (passedState x)
   passed-state v (go u) r = r
   passed-state v (out e) r = r
 
@@ -78,7 +78,7 @@ module _ (o : Outline) (size : Float) (field : FieldRecord) (n : ℕ) where
   turn-on v i (go q) r = kept-state v (passTurn o size field i q) (turn-kept o size v field i q r)
   turn-on v i (out x) r = r
 
-  pass-on : (v : State) (i : ℕ) (y : Passed) → Reached o size v (stateOf y) → Reached o size v (stateOf (onwards (passesTurn o size field) i y))
+  pass-on : (v : State) (i : ℕ) (y : Passed) → Reached o size v (passedState y) → Reached o size v (passedState (onwards (passesTurn o size field) i y))
   pass-on v i (go u) r = passed-state v (pass o size field u) (pass-kept o size v field u r)
   pass-on v i (out e) r = r
 
@@ -177,10 +177,10 @@ module _ (o : Outline) (size : Float) (field : FieldRecord) (n : ℕ) where
   after-step m x y (ended e W) = ended e W
   after-step m x y (full e B) = full e (record { there = B .there; twins = B .twins; onward = end y (B .onward) })
     where
-      end : (y : Turn Passing Passed) → Reached o size (B .there) (stateIn y) → Reached o size (B .there) (stateOf (answer afterPass y))
+      end : (y : Turn Passing Passed) → Reached o size (B .there) (stateIn y) → Reached o size (B .there) (passedState (answer afterPass y))
       end (go q) r = by (q .placed)
         where
-          by : (c : Bool) → Reached o size (B .there) (stateOf (cond c (go (q .state)) (out (paved (q .state) Still))))
+          by : (c : Bool) → Reached o size (B .there) (passedState (cond c (go (q .state)) (out (paved (q .state) Still))))
           by true = r
           by false = r
       end (out z) r = r
@@ -213,7 +213,7 @@ module _ (o : Outline) (size : Float) (field : FieldRecord) (n : ℕ) where
   used-up x y (ended e W) = same e W
   used-up x y (full e B) = full e (record { there = B .there; twins = B .twins; onward = end y (B .onward) })
     where
-      end : (y : Passed) → Reached o size (B .there) (stateOf y) → Reached o size (B .there) (answer allUsed y .state)
+      end : (y : Passed) → Reached o size (B .there) (passedState y) → Reached o size (B .there) (answer allUsed y .state)
       end (go u) r = r
       end (out z) r = r
 

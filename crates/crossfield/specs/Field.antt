@@ -25,6 +25,10 @@ fieldPlaces f = min (length (f .values) / 2) (length (f .marks))
 unfoldable pub placesRefusal : Grid → ℕ → ℕ
 placesRefusal g places = cond (ltb places (gridNodes g)) 9 0
 
+-- 1 to 7: those that depend on the outline and the size alone, in rising number
+unfoldable pub drawnRefusal : Outline → Float → ℕ
+drawnRefusal o size = firstOf (outlineRefusal o) (firstOf (sizeRefusal size) (boundsRefusal (bounds o)))
+
 -- 1 to 9, in rising number, for so many places
 abbrev pub refusalFor : Outline → Float → ℕ → ℕ → ℕ
 refusalFor o size n places =

@@ -1,11 +1,11 @@
 -- What refusals 1 to 9 leave of an outline, a size and the places lent: a grid of at most 250,000 nodes, with room for each. Assumes
 -- nothing.
 use mathlib.Core.List.{List}
-use mathlib.Core.Path.{_≡_, sym, ap, _∙_, subst}
-use Prim.Native.Nat.{ℕ, _*_, _/_, _≤_, _<_, min, zero-le}
+use mathlib.Core.Path.{_≡_, refl, sym, ap, _∙_, subst}
+use Prim.Native.Nat.{ℕ, zero, suc, _*_, _/_, _≤_, _<_, min, zero-le}
 use native.Mathlib.Nat.{le-trans, le-of-eq, mul-comm, mul-le-mul-left, mul-le-mul-right}
 use native.Mathlib.Omega.{arith}
-use borrow.Author.Tests.{ltb-false}
+use borrow.Author.Tests.{le-ltb, ltb-false}
 use lib.Dec.{T, ltb}
 use lib.ListN.{length}
 use lib.Ieee.{Float, binary64, fits}
@@ -18,21 +18,21 @@ use Rattle.direction.specs.Record.{gridNodes, mostFieldNodes}
 use Rattle.averages.specs.Places.{FieldRoom}
 use Rattle.crossfield.specs.declared.Bounds.{Bounds}
 use Rattle.crossfield.specs.Grid.{bounds, spacing, gridOf, sizeRefusal, boundsRefusal, sweepsRefusal}
-use Rattle.crossfield.specs.Field.{placesRefusal, refusalFor}
+use Rattle.crossfield.specs.Field.{placesRefusal, drawnRefusal, refusalFor}
 use Rattle.crossfield.specs.Counts.{count-pos}
 use Rattle.crossfield.specs.Box.{Box, box}
 use Rattle.crossfield.specs.Spacing.{few-enough}
 
-pub record Unrefused (o : Outline) (s : Float) (n places : ℕ) : Type 0 where
+pub record FieldUnrefused (o : Outline) (s : Float) (n places : ℕ) : Type 0 where
   pub outline : outlineRefusal o ≡ 0
   pub size : sizeRefusal s ≡ 0
   pub box : boundsRefusal (bounds o) ≡ 0
   pub sweeps : sweepsRefusal n ≡ 0
   pub room : gridNodes (gridOf (bounds o) s) ≤ places
 
-pub unrefused : (o : Outline) (size : Float) (n places : ℕ) → refusalFor o size n places ≡ 0 → Unrefused o size n places
+pub field-unrefused : (o : Outline) (size : Float) (n places : ℕ) → refusalFor o size n places ≡ 0 → FieldUnrefused o size n places
 unfolding placesRefusal
-unrefused o size n places e =
+field-unrefused o size n places e =
     let places-none = placesRefusal (gridOf (bounds o) size) places in
     let one = first-zero (outlineRefusal o)
     (firstOf (sizeRefusal size) (firstOf (boundsRefusal (bounds o)) (firstOf (sweepsRefusal n) places-none))) e in
@@ -52,6 +52,22 @@ pub few : (o : Outline) (size : Float) (b : Bounds) → OutlineFits o → T (fit
     → outlineRefusal o ≡ 0 → sizeRefusal size ≡ 0 → b ≡ bounds o → boundsRefusal b ≡ 0 → gridNodes (gridOf b size) ≤ mostFieldNodes
 few o size b doubles held outline e same none =
     few-enough b size (subst Box (sym same) (box o doubles (accepted o outline) (ap boundsRefusal (sym same) ∙ none))) held e
+
+-- with no sweeps and room for every field, 8 and 9 never refuse
+pub drawn-is : (o : Outline) (size : Float) → OutlineFits o → T (fits binary64 size) → refusalFor o size 0 mostFieldNodes ≡ drawnRefusal o size
+unfolding drawnRefusal sweepsRefusal placesRefusal
+drawn-is o size doubles held = by (outlineRefusal o) refl (sizeRefusal size) refl (boundsRefusal (bounds o)) refl
+  where
+    last : ℕ
+    last = firstOf (sweepsRefusal 0) (placesRefusal (gridOf (bounds o) size) mostFieldNodes)
+
+    by : (p : ℕ) → outlineRefusal o ≡ p → (q : ℕ) → sizeRefusal size ≡ q → (r : ℕ) → boundsRefusal (bounds o) ≡ r
+        → firstOf p (firstOf q (firstOf r last)) ≡ firstOf p (firstOf q r)
+    by (suc p) e q f r g = refl
+    by zero e (suc q) f r g = refl
+    by zero e zero f (suc r) g = refl
+    by zero e zero f zero g =
+        rw (le-ltb mostFieldNodes (gridNodes (gridOf (bounds o) size)) (few o size (bounds o) doubles held e f refl g)) refl
 
 -- room for each node in both lists
 pub room-for : (g : Grid) (floats bytes : ℕ) → gridNodes g ≤ min (floats / 2) bytes → FieldRoom (g .nx) (g .ny) floats bytes
@@ -88,7 +104,7 @@ short-sides b size g e h =
 pub few-made : (o : Outline) (size : Float) (n places : ℕ) {b : Bounds} → OutlineFits o → T (fits binary64 size)
     → refusalFor o size n places ≡ 0 → b ≡ bounds o → gridNodes (gridOf b size) ≤ mostFieldNodes
 few-made o size n places {b} doubles held none same =
-    let u = unrefused o size n places none in
+    let u = field-unrefused o size n places none in
     few o size b doubles held (u .outline) (u .size) same (ap boundsRefusal same ∙ u .box)
 
 pub room-made : (o : Outline) (size : Float) (n floats bytes : ℕ) {b : Bounds} {g : Grid} → refusalFor o size n (min (floats / 2) bytes) ≡ 0
@@ -96,7 +112,7 @@ pub room-made : (o : Outline) (size : Float) (n floats bytes : ℕ) {b : Bounds}
 room-made o size n floats bytes {b} {g} none same made =
     room-for g floats bytes
     (le-trans (le-of-eq (ap gridNodes (made ∙ ap (λ (b : Bounds). gridOf b size) same)))
-    (unrefused o size n (min (floats / 2) bytes) none .room))
+    (field-unrefused o size n (min (floats / 2) bytes) none .room))
 
 -- what the seeds ask besides
 pub seeds-ask : (o : Outline) (size : Float) (n floats bytes : ℕ) {b : Bounds} {g : Grid} → OutlineFits o → T (fits binary64 size)

@@ -28,8 +28,8 @@ use Rattle.crossfield.specs.Grid.{bounds, gridOf, sizeRefusal}
 use Rattle.crossfield.specs.Seeds.{seeded}
 use Rattle.crossfield.specs.Field.{fieldPlaces, fieldRefusal, fieldOf}
 use Rattle.crossfield.specs.Box.{Box, box}
-use Rattle.crossfield.specs.Spacing.{Grown, spacing-held, start-size}
-use Rattle.crossfield.specs.FieldLaws.{unrefused, few-made, sides}
+use Rattle.crossfield.specs.Spacing.{GrownSpacing, spacing-held, start-size}
+use Rattle.crossfield.specs.FieldLaws.{field-unrefused, few-made, sides}
 use Rattle.crossfield.specs.Unit.{Most}
 use Rattle.crossfield.specs.Sound.{seeds-sound, SoundList, sweeps-sound}
 
@@ -80,7 +80,7 @@ unfolding W ofBits
 most-origin-val = (refl, refl)
 
 -- moved by a spacing of at most 200
-origin-within : (x h : Float) → Within 1000 x → Grown 0 h → within mostOrigin (x ⊖ h) ≡ true
+origin-within : (x h : Float) → Within 1000 x → GrownSpacing 0 h → within mostOrigin (x ⊖ h) ≡ true
 origin-within x h p g =
     let r = sub-law {K = 1000} {L = 200} p (record { sign = false; size = g .size; val = g .val; small = g .high }) tt tt in
     within-true mostOrigin (x ⊖ h) 2000 (r .sign) (r .size) most-origin-val (r .val)
@@ -89,7 +89,7 @@ origin-within x h p g =
     bound : (n m a b w : ℕ) → 10000 * n ≤ 10001 * m → m ≤ a + b → a ≤ 1000 * w → b ≤ 200 * w → n ≤ 2000 * w
     bound n m a b w h l p q = omega arith
 
-least-true : (h : Float) → Grown 0 h → le leastSpacing h ≡ true
+least-true : (h : Float) → GrownSpacing 0 h → le leastSpacing h ≡ true
 least-true h g = true-of (le leastSpacing h)
     (le-val leastSpacing h false false least-spacing-units (g .size) least-spacing-val (g .val) .1
     (record { le = le→leb least-spacing-units (g .size) (bound least-spacing-units (g .size) W least-spacing-small (g .floor)) }))
@@ -97,7 +97,7 @@ least-true h g = true-of (le leastSpacing h)
     bound : (u b w : ℕ) → 1000 * u ≤ 2 * w → 4000 * w ≤ b * 1000000 → u ≤ b
     bound u b w h l = omega arith
 
-most-true : (h : Float) → Grown 0 h → le h mostSpacing ≡ true
+most-true : (h : Float) → GrownSpacing 0 h → le h mostSpacing ≡ true
 most-true h g = true-of (le h mostSpacing)
     (le-val h mostSpacing false false (g .size) (1000 * W) (g .val) most-spacing-val .1
     (record { le = le→leb (g .size) (1000 * W) (bound (g .size) W (g .high)) }))
@@ -133,7 +133,7 @@ unfolding fieldRefusal fieldOf
 field-handed o size n f held double none values marks =
     let b = bounds o in
     let g = gridOf b size in
-    let u = unrefused o size n (fieldPlaces f) none in
+    let u = field-unrefused o size n (fieldPlaces f) none in
     let a = accepted o (u .outline) in
     let two = sides b size in
     let turned = mul-comm (g .nx) (g .ny) in

@@ -30,25 +30,25 @@ module _ (P : List Float → Type 0) (g : Grid) (marks : List ℕ)
       forUp-keeps (λ (j : ℕ) (s : SweptField). P (s .values)) (g .ny) (sweepRow g marks) (swept values true) p
       (λ j s l p. forUp-keeps (λ (i : ℕ) (s : SweptField). P (s .values)) (g .nx) (sweepNode g marks j) s p (λ i s h p. visit j i s h l p))
 
-  abbrev Held : Turn (List Float) (List Float) → Type 0
-  Held (go values) = P values
-  Held (out values) = P values
+  abbrev SweepHeld : Turn (List Float) (List Float) → Type 0
+  SweepHeld (go values) = P values
+  SweepHeld (out values) = P values
 
   pub sweeps-keep : (n : ℕ) (values : List Float) → P values → P (sweeps n g marks values)
   unfolding sweeps run
   sweeps-keep n values p =
       last (forUp n (onwards (sweepTurn g marks)) (go values))
-      (forUp-keeps (λ (k : ℕ) (t : Turn (List Float) (List Float)). Held t) n (onwards (sweepTurn g marks)) (go values) p keeps)
+      (forUp-keeps (λ (k : ℕ) (t : Turn (List Float) (List Float)). SweepHeld t) n (onwards (sweepTurn g marks)) (go values) p keeps)
     where
-      after : (s : SweptField) (quiet : Bool) → P (s .values) → Held (cond quiet (out (s .values)) (go (s .values)))
+      after : (s : SweptField) (quiet : Bool) → P (s .values) → SweepHeld (cond quiet (out (s .values)) (go (s .values)))
       after s true p = p
       after s false p = p
 
-      keeps : (k : ℕ) (t : Turn (List Float) (List Float)) → k < n → Held t → Held (onwards (sweepTurn g marks) k t)
+      keeps : (k : ℕ) (t : Turn (List Float) (List Float)) → k < n → SweepHeld t → SweepHeld (onwards (sweepTurn g marks) k t)
       keeps k (go v) h p = after (sweep g marks v) (sweep g marks v .quiet) (sweep-keeps v p)
       keeps k (out v) h p = p
 
-      last : (t : Turn (List Float) (List Float)) → Held t → P (answer (λ (v : List Float). v) t)
+      last : (t : Turn (List Float) (List Float)) → SweepHeld t → P (answer (λ (v : List Float). v) t)
       last (go v) p = p
       last (out v) p = p
 

@@ -110,7 +110,7 @@ pub least : ℕ → ℕ
 least zero = 4000
 least (suc k) = least k * 6 / 5
 
-pub record Grown (k : ℕ) (h : Float) : Type 0 where
+pub record GrownSpacing (k : ℕ) (h : Float) : Type 0 where
   pub size : ℕ
   pub val : Val h false size
   pub low : least k * W ≤ size * 1000000
@@ -172,12 +172,12 @@ module _ (width height : Float) (p : Within 4000 width) (q : Within 4000 height)
   small-many h b v many = le-of-lt (lt-of-not-le (λ (low : 11 * W ≤ b). true≢false (sym many ∙ large-few h b v low)))
 
   -- what the loop has: a spacing that it still grows, or one with few nodes
-  abbrev Held : ℕ → Turn Float Float → Type 0
-  Held k (go h) = Grown k h
-  Held k (out h) = Grown 0 h × (tooManyNodes width height h ≡ false)
+  abbrev GrowthHeld : ℕ → Turn Float Float → Type 0
+  GrowthHeld k (go h) = GrownSpacing k h
+  GrowthHeld k (out h) = GrownSpacing 0 h × (tooManyNodes width height h ≡ false)
 
-  one-more : (k : ℕ) (h : Float) (many : Bool) → tooManyNodes width height h ≡ many → Grown k h
-      → Held (suc k) (cond many (go (h ⊗ growth)) (out h))
+  one-more : (k : ℕ) (h : Float) (many : Bool) → tooManyNodes width height h ≡ many → GrownSpacing k h
+      → GrowthHeld (suc k) (cond many (go (h ⊗ growth)) (out h))
   unfolding least
   one-more k h false few g = (record { size = g .size; val = g .val; low = g .floor; floor = g .floor; high = g .high }, few)
   one-more k h true many g =
@@ -206,30 +206,30 @@ module _ (width height : Float) (p : Within 4000 width) (q : Within 4000 height)
           let c = mul-assoc 5 m w in
           let d = mul-assoc 6 l w in omega arith
 
-  start-held : (h : Float) → Grown 0 h → Held growths (forUp growths (onwards (growTurn width height)) (go h))
-  start-held h g = forUp-keeps Held growths (onwards (growTurn width height)) (go h) g keeps
+  start-held : (h : Float) → GrownSpacing 0 h → GrowthHeld growths (forUp growths (onwards (growTurn width height)) (go h))
+  start-held h g = forUp-keeps GrowthHeld growths (onwards (growTurn width height)) (go h) g keeps
     where
-      keeps : (k : ℕ) (t : Turn Float Float) → k < growths → Held k t → Held (suc k) (onwards (growTurn width height) k t)
+      keeps : (k : ℕ) (t : Turn Float Float) → k < growths → GrowthHeld k t → GrowthHeld (suc k) (onwards (growTurn width height) k t)
       keeps k (go h) l g = one-more k h (tooManyNodes width height h) refl g
       keeps k (out h) l g = g
 
   -- after all growths the spacing is 11 or more
-  last-large : (h : Float) → Grown growths h → tooManyNodes width height h ≡ false
+  last-large : (h : Float) → GrownSpacing growths h → tooManyNodes width height h ≡ false
   unfolding least
   last-large h g = large-few h (g .size) (g .val) (reaches W (g .size) (g .low))
     where
       reaches : (w b : ℕ) → least growths * w ≤ b * 1000000 → 11 * w ≤ b
       reaches w b l = let m = mul-le-mul-right w (lit≤ {m = 11000000} {n = least growths} tt) in omega arith
 
-  last-held : (t : Turn Float Float) → Held growths t
-      → Grown 0 (answer (λ (h : Float). h) t) × (tooManyNodes width height (answer (λ (h : Float). h) t) ≡ false)
+  last-held : (t : Turn Float Float) → GrowthHeld growths t
+      → GrownSpacing 0 (answer (λ (h : Float). h) t) × (tooManyNodes width height (answer (λ (h : Float). h) t) ≡ false)
   unfolding least
   last-held (go h) g = (record { size = g .size; val = g .val; low = g .floor; floor = g .floor; high = g .high }, last-large h g)
   last-held (out h) g = g
 
   -- the definition's spacing is grown from h, is at most 200, and has few nodes
-  pub spacing-held : (h : Float) → Grown 0 h
-      → Grown 0 (spacing width height h) × (tooManyNodes width height (spacing width height h) ≡ false)
+  pub spacing-held : (h : Float) → GrownSpacing 0 h
+      → GrownSpacing 0 (spacing width height h) × (tooManyNodes width height (spacing width height h) ≡ false)
   unfolding spacing run
   spacing-held h g = last-held (forUp growths (onwards (growTurn width height)) (go h)) (start-held h g)
 
@@ -305,7 +305,7 @@ sized size held e =
     over : (w u a : ℕ) → 99 * w ≤ 10000 * u → u ≤ a → 99 * w ≤ 10000 * a
     over w u a h l = omega arith
 
-pub start-size : (size : Float) → T (fits binary64 size) → sizeRefusal size ≡ 0 → Grown 0 (halfF ⊗ size)
+pub start-size : (size : Float) → T (fits binary64 size) → sizeRefusal size ≡ 0 → GrownSpacing 0 (halfF ⊗ size)
 unfolding half-within least
 start-size size held e =
     let from = sized size held e in

@@ -113,7 +113,7 @@ most-sub {x = x} {y = y} e tc td h p q = sum-most e (units x -ℤ units y) p q h
 -- ---- the norm, where it is above 1e-12
 
 -- l is near the length of the pair whose sizes are a and b
-record Length (l : Float) (a b : ℕ) : Type 0 where
+record NormLength (l : Float) (a b : ℕ) : Type 0 where
   L : ℕ
   val : Val l false L
   long : Long L
@@ -122,8 +122,8 @@ record Length (l : Float) (a b : ℕ) : Type 0 where
 same-rel : (a : ℕ) → Rel a a
 same-rel a = (omega arith, omega arith)
 
-square : {x : Float} (p : Within 4000 x) → (n : ℕ) × (Val (x ⊗ x) false n) × (n ≤ 2 ^ 200 * W) × RelAnd (n * W) (p .size * p .size) W
-square {x} p =
+square-near : {x : Float} (p : Within 4000 x) → (n : ℕ) × (Val (x ⊗ x) false n) × (n ≤ 2 ^ 200 * W) × RelAnd (n * W) (p .size * p .size) W
+square-near {x} p =
     let r = mul-law p p tt tt in
     let l = le-trans (mul-le-mul (p .small) (p .small)) (le-of-eq (mul-mul-mul-comm 4000 W 4000 W)) in (
       r .size,
@@ -133,11 +133,11 @@ square {x} p =
     )
 
 norm-length : {x y : Float} (p : Within 4000 x) (q : Within 4000 y) → ((L : ℕ) → Val (norm x y) false L → tolerance-units < L)
-    → Length (norm x y) (p .size) (q .size)
+    → NormLength (norm x y) (p .size) (q .size)
 unfolding norm
 norm-length {x} {y} p q above =
-    let a = square p in
-    let b = square q in
+    let a = square-near p in
+    let b = square-near q in
     let s = add-law-pos (x ⊗ x) (y ⊗ y) (a .0) (b .0) (a .1) (b .1) (a .2) (b .2) in
     let r = root-law (x ⊗ x ⊕ y ⊗ y) (add-fits binary64 (x ⊗ x) (y ⊗ y)) (s .size) (s .val) in
     let l = long-of (r .L) (above (r .L) (r .val)) in
@@ -234,7 +234,7 @@ unit-squares s t a b L above near hs ht =
     last : (x y p q z : ℕ) → 100000000 * x ≤ p → 100000000 * y ≤ q → p + q ≤ 100300000 * z → 1000 * (x + y) ≤ 1003 * z
     last x y p q z a b h = omega arith
 
-unit-of : {x y : Float} (p : Within 4000 x) (q : Within 4000 y) → Length (norm x y) (p .size) (q .size)
+unit-of : {x y : Float} (p : Within 4000 x) (q : Within 4000 y) → NormLength (norm x y) (p .size) (q .size)
     → UnitPair (x ⊘ norm x y) (y ⊘ norm x y)
 unit-of {x} {y} p q l =
     let L = l .L in

@@ -1,3 +1,2 @@
--- What is decided in a pass without trying an edge: what the answers of the code say, and the snapshot.
+-- What is decided in a pass without trying an edge: what the answers of the code say.
 pub mod Answers
-pub mod SnapshotLaws

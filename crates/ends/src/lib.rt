@@ -1,8 +1,7 @@
 // What is decided in a pass of the paving (src/alt_crossfield.rs) without trying an edge: which edges its snapshot has, and where the paving ends.
 ghost use mathlib.Core.Path.{_≡_};
-ghost use Prim.Native.Nat.{_≤_, _<_, min};
+ghost use Prim.Native.Nat.{_<_, min};
 ghost use lib.ListN.{length, getD};
-ghost use Rattle.paving.specs.Advance.{copied};
 ghost use Rattle.ends.specs.Answers.{snapshotEdge, quadSettled, passAnswer};
 use domain::Settings;
 use front::Counts;
@@ -24,19 +23,6 @@ pub enum Swept {
 }
 
 // ---- the snapshot
-
-// Copies the links of the first n nodes.
-pub fn copy_links(next: &[u32], snapshot: &mut [u32], n: u32)
-    requires { ⌜ (n ≤ length (now next)) × (n ≤ length (now snapshot)) ⌝ }
-    ensures { λ r. ⌜ now (snapshot .exit) ≡ copied n (now (next .entry)) (now (snapshot .entry)) ⌝ }
-{
-    let m = n as usize;
-    let mut i = 0;
-    while i < m {
-        snapshot[i] = next[i];
-        i += 1;
-    }
-}
 
 // Where the snapshot's edge from node a leads; nowhere if it is on the front no more.
 pub fn snapshot_edge(next: &[u32], snapshot: &[u32], a: u32) -> Neighbour

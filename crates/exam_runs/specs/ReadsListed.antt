@@ -19,7 +19,7 @@ use Rattle.sampled.specs.Outlines.{outline-three}
 use Rattle.sampled.specs.Begun.{begun}
 use Rattle.books_hold.specs.Stages.{Standing, standing}
 use Rattle.run.specs.declared.Paved.{Paved}
-use Rattle.run.specs.Run.{Lent, narrowed, fieldPart, statePart, Ran, ran, answered, refusedAnswer, refusalOf, acceptedIn, acceptedRun, runAnswer}
+use Rattle.run.specs.Run.{Lent, narrowed, fieldPart, statePart, Ran, ran, answeredState, refusedAnswer, refusalOf, acceptedIn, acceptedRun, runAnswer}
 use Rattle.lent_mesh.specs.Mesh.{nodeCount}
 use Rattle.exam.specs.Exam.{nodesLent}
 use Rattle.exam_loops.specs.Loops.{linkedLoops, loopNumbered, readInto, readLoop}
@@ -69,10 +69,10 @@ module _ (o : Outline) (set : Settings) (l : Lent) (r : Paved) (after : Lent) (e
   unstopped = first-zero _ _ none .0
 
   -- what is read are the loops listed
-  loops-read : linkedLoops (r .counts .nodes) (after .next) (after .prev) ≡ frontLoops (answered r after)
+  loops-read : linkedLoops (r .counts .nodes) (after .next) (after .prev) ≡ frontLoops (answeredState r after)
   unfolding acceptedRun acceptedIn frontLoops
   loops-read =
-      subst (λ (w : Ran). linkedLoops (w .answer .counts .nodes) (w .lists .next) (w .lists .prev) ≡ frontLoops (answered (w .answer) (w .lists))) (sym same)
+      subst (λ (w : Ran). linkedLoops (w .answer .counts .nodes) (w .lists .next) (w .lists .prev) ≡ frontLoops (answeredState (w .answer) (w .lists))) (sym same)
       (run-listed o set (fieldPart l) (statePart (narrowed l)) unstopped)
 
   nodes-fit : (r .counts .nodes ≤ length (after .xs)) × (r .counts .nodes ≤ length (after .ys))
@@ -89,12 +89,12 @@ module _ (o : Outline) (set : Settings) (l : Lent) (r : Paved) (after : Lent) (e
   -- READS LISTED: loop k of the exam is the k-th that `front_loops` lists
   pub reads-listed : (origins : List ℕ) → r .counts .nodes ≤ length origins → (k : ℕ) (list : List ℕ)
       → readLoop (nodesLent (r .counts .nodes) (after .xs) (after .ys) origins) (after .next) (after .prev) k list
-      ≡ readInto (loopNumbered (frontLoops (answered r after)) k) list
+      ≡ readInto (loopNumbered (frontLoops (answeredState r after)) k) list
   unfolding readLoop
   reads-listed origins long k list =
       ap (λ (n : ℕ). readInto (loopNumbered (linkedLoops n (after .next) (after .prev)) k) list) (nodes-read origins long)
       ∙ ap (λ (ls : List (List ℕ)). readInto (loopNumbered ls k) list) loops-read
 
   -- and past those it is empty
-  pub reads-past : (k : ℕ) → length (frontLoops (answered r after)) ≤ k → loopNumbered (frontLoops (answered r after)) k ≡ []
-  reads-past k h = numbered-past (frontLoops (answered r after)) k h
+  pub reads-past : (k : ℕ) → length (frontLoops (answeredState r after)) ≤ k → loopNumbered (frontLoops (answeredState r after)) k ≡ []
+  reads-past k h = numbered-past (frontLoops (answeredState r after)) k h

@@ -1,4 +1,4 @@
--- Laws of what the program prints: `lists-whole` (what a buffer holds that has places for the listing), `read-listed` (the listing is that of what was
+-- Laws of what the program prints: `given-whole` (what a buffer holds that has places for the listing), `read-listed` (the listing is that of what was
 -- read) and `start-decides` (of endless input the first 4,609 bytes decide). Assumes nothing.
 use mathlib.Core.Path.{_≡_, refl, sym, ap, _∙_, subst}
 use mathlib.Core.Bool.{false}
@@ -21,36 +21,36 @@ use Rattle.outline_file.specs.declared.FileAnswer.{FileAnswer}
 use Rattle.outline_file.specs.declared.FileAnswer.the-variants.{Refused, Read}
 use Rattle.outline_file.specs.File.{blockAt, headLoops, headLength, headPoints, coordinateAt, filePoints, fileRefusal, Request, requestOf, outlineOf}
 use Rattle.outline_file.specs.File.{headOf, Reading, reading, readAs, readFile}
-use Rattle.outline_file.specs.ReadLaws.{accepted}
+use Rattle.outline_file.specs.ReadLaws.{accepted-file}
 use Rattle.outline_file.specs.Lent.{lent-outline}
 use Rattle.outline_file.specs.Enough.{enough}
 use Rattle.listing.specs.declared.Heading.{Heading}
 use Rattle.listing.specs.Listing.{heading, refusedListing, listing}
-use Rattle.listing.specs.Buffer.{Buffer, buffer, written}
+use Rattle.listing.specs.Buffer.{Buffer, buffer, bufferWritten}
 use Rattle.listing.specs.Fits.{listing-fits, written-front}
-use Rattle.file_listing.specs.Program.{programLent, headingOf, ranListing, outlineListing, programListing, Lists}
+use Rattle.file_listing.specs.Program.{programLent, headingOf, ranListing, outlineListing, programListing, ListingGiven}
 
 -- ---- the buffer
 
 -- the same listing by another name
-pub lists-as : {l m before after : List ℕ} {n : ℕ} → l ≡ m → Lists l before after n → Lists m before after n
-lists-as {before = before} {after = after} {n = n} e = subst (λ (k : List ℕ). Lists k before after n) e
+pub given-as : {l m before after : List ℕ} {n : ℕ} → l ≡ m → ListingGiven l before after n → ListingGiven m before after n
+given-as {before = before} {after = after} {n = n} e = subst (λ (k : List ℕ). ListingGiven k before after n) e
 
-within : (l before after : List ℕ) (n : ℕ) → buffer after n ≡ written l before → n ≤ length after
-unfolding written
+within : (l before after : List ℕ) (n : ℕ) → buffer after n ≡ bufferWritten l before → n ≤ length after
+unfolding bufferWritten
 within l before after n e =
     let cut = take (length before) l in
     rw (ap (λ (b : Buffer). b .used) e, ap (λ (b : Buffer). b .bytes) e, length-append cut (drop (length cut) before)) (omega arith)
 
-pub lists-whole : {l before after : List ℕ} {n : ℕ} → buffer after n ≡ written l before → length l ≤ 117681 → Lists l before after n
-lists-whole {l} {before} {after} {n} e h =
+pub given-whole : {l before after : List ℕ} {n : ℕ} → buffer after n ≡ bufferWritten l before → length l ≤ 117681 → ListingGiven l before after n
+given-whole {l} {before} {after} {n} e h =
     let w = within l before after n e in
     record { same = e; whole = λ room. written-front l before after n (omega arith) e; counts = (w, sym (length-take-le n after w)) }
 
 -- ---- the run
 
 -- the lists that are listed are as long as the program's
-pub record Long (l : Lent) : Type 0 where
+pub record ProgramLengths (l : Lent) : Type 0 where
   pub xs : length (l .xs) ≡ 800
   pub quads : length (l .quads) ≡ 3200
   pub loops : length (l .loops) ≡ 800
@@ -66,17 +66,17 @@ module _ (o : Outline) (set : Settings) (r : Paved) (after : Lent) (p : Paves o 
       ap (λ (k : Heading). listing (r .refusal) k (after .xs) (after .ys) (after .quads) (after .loops) (after .lengths)) e
       ∙ ap ranListing (p .equal)
 
-  pub run-listed : Long after → {s t : List ℕ} {n : ℕ} → buffer t n ≡ written listed s → Lists (outlineListing o set) s t n
+  pub run-listed : ProgramLengths after → {s t : List ℕ} {n : ℕ} → buffer t n ≡ bufferWritten listed s → ListingGiven (outlineListing o set) s t n
   run-listed long f =
-      lists-as listed-is
-      (lists-whole f
+      given-as listed-is
+      (given-whole f
       (listing-fits h (after .xs) (after .ys) (after .quads) (after .loops) (after .lengths) (r .refusal) (omega (arith, long .xs))
       (omega (arith, long .quads)) (omega (arith, long .loops)) (omega (arith, long .lengths))))
 
 -- ---- the request
 
 -- what was read lies within the lists
-pub record Held (points : List Float) (lens : List ℕ) (head : Head) : Type 0 where
+pub record RequestHeld (points : List Float) (lens : List ℕ) (head : Head) : Type 0 where
   pub outer : head .outer ≤ head .points
   pub few : head .points ≤ 248
   pub some : 1 ≤ head .loops
@@ -103,7 +103,7 @@ unfolding requestOf headPoints
 asked file e =
     let h = blockAt file 0 in
     let n = filePoints file in
-    let sound = accepted file e .head .sound in
+    let sound = accepted-file file e .head .sound in
     let coordinates = tabulate-length (2 * n) (coordinateAt file) in
     let lengths = tabulate-length (headLoops h) (headLength h) in
     let first = tabulate-at (headLoops h) (headLength h) 0 0 (sound .some) in
@@ -117,7 +117,7 @@ asked file e =
     }
 
 module _ (q : Request) (a : Asked q) (points : List Float) (lens : List ℕ) where
-  held : length points ≡ 496 → length lens ≡ 8 → Held (overlay (q .coordinates) points) (overlay (q .lengths) lens) (headOf q)
+  held : length points ≡ 496 → length lens ≡ 8 → RequestHeld (overlay (q .coordinates) points) (overlay (q .lengths) lens) (headOf q)
   unfolding headOf
   held long longs = record {
     outer = omega (arith, a .even, a .outer);
@@ -138,7 +138,7 @@ readListing r =
 
 -- what it tells of the lists, by its number
 abbrev ToldBy : ℕ → Reading → Type 0
-ToldBy zero r = Held (r .points) (r .lens) (r .numbers .head)
+ToldBy zero r = RequestHeld (r .points) (r .lens) (r .numbers .head)
 ToldBy (suc n) r = Unit {0}
 
 abbrev Told : Reading → Type 0
@@ -179,7 +179,7 @@ module _ (file : List ℕ) (points : List Float) (lens : List ℕ) where
     listed-as case = ap (λ (a : FileAnswer). readListing (reading a points′ lens′)) (sym case) ∙ (ap readListing e ∙ listing-read)
 
     -- where it is read
-    pub read-held : {head : Head} → r ≡ Read head → Held points′ lens′ head
+    pub read-held : {head : Head} → r ≡ Read head → RequestHeld points′ lens′ head
     read-held case = told case
 
     pub read-listed : {head : Head} → r ≡ Read head → outlineListing (heldOutline points′ lens′ head) (head .settings) ≡ programListing file
@@ -196,10 +196,10 @@ module _ (file : List ℕ) (points : List Float) (lens : List ℕ) where
 
 -- ---- a refusal
 
-pub refused-listed : {number : ℕ} → (number ≡ 0 → ⊥) → {s t : List ℕ} {n : ℕ} → buffer t n ≡ written (refusedListing number) s
-    → Lists (refusedListing number) s t n
+pub refused-listed : {number : ℕ} → (number ≡ 0 → ⊥) → {s t : List ℕ} {n : ℕ} → buffer t n ≡ bufferWritten (refusedListing number) s
+    → ListingGiven (refusedListing number) s t n
 unfolding listing
-refused-listed {number} h e = lists-whole e (short number h)
+refused-listed {number} h e = given-whole e (short number h)
   where
     none : Heading
     none = heading 0 0 0 0 false 0

@@ -13,7 +13,7 @@ use Rattle.run.specs.Run.{Lent, lent, Ran, runAnswer}
 use Rattle.outline_file.specs.File.{outlineOf, fileRefusal, requestOf}
 use Rattle.listing.specs.declared.Heading.{Heading}
 use Rattle.listing.specs.Listing.{heading, refusedListing, listing}
-use Rattle.listing.specs.Buffer.{buffer, written}
+use Rattle.listing.specs.Buffer.{buffer, bufferWritten}
 
 -- ---- what the program lends: 1,600 field nodes, 800 nodes, 800 quads, 2,400 edges
 
@@ -55,9 +55,9 @@ programListing file =
 
 -- ---- what a caller gets: a buffer as it was and as it is left, with n bytes written
 
-pub record Lists (l before after : List ℕ) (n : ℕ) : Type 0 where
+pub record ListingGiven (l before after : List ℕ) (n : ℕ) : Type 0 where
   -- as much of the listing l as the buffer has places for; the other places keep their contents
-  pub same : buffer after n ≡ written l before
+  pub same : buffer after n ≡ bufferWritten l before
   -- a buffer so long has places for any listing
   pub whole : 117681 ≤ length before → take n after ≡ l
   -- so the first n bytes can be lent

@@ -1,8 +1,8 @@
 // The program on slices: from the bytes of an outline's file to the bytes of its listing.
 ghost use mathlib.Core.Path.{_≡_};
 ghost use Rattle.domain.specs.Outline.{outline};
-ghost use Rattle.file_listing.specs.Program.{headingOf, outlineListing, programListing, Lists};
-ghost use Rattle.file_listing.specs.Laws.{Held, heldOutline};
+ghost use Rattle.file_listing.specs.Program.{headingOf, outlineListing, programListing, ListingGiven};
+ghost use Rattle.file_listing.specs.Laws.{RequestHeld, heldOutline};
 use domain::Settings;
 use listing::Heading;
 use outline_file::FileAnswer;
@@ -34,7 +34,7 @@ fn list_outline<'a>(
     settings: Settings,
     out: &mut [u8],
 ) -> usize
-    ensures { λ r. ⌜ Lists (outlineListing (outline (now (outer .entry)) (now (holes .entry)) (now (lens .entry))) settings)
+    ensures { λ r. ⌜ ListingGiven (outlineListing (outline (now (outer .entry)) (now (holes .entry)) (now (lens .entry))) settings)
         (now (out .entry)) (now (out .exit)) r ⌝ }
 {
     let mut values = [0.0; 3200];
@@ -91,8 +91,8 @@ fn list_outline<'a>(
 
 // The listing of what was read from a file.
 fn list_request(points: &[f64], lens: &[usize], head: Head, out: &mut [u8]) -> usize
-    requires { ⌜ Held (now points) (now lens) head ⌝ }
-    ensures { λ r. ⌜ Lists (outlineListing (heldOutline (now (points .entry)) (now (lens .entry)) head) (head .settings))
+    requires { ⌜ RequestHeld (now points) (now lens) head ⌝ }
+    ensures { λ r. ⌜ ListingGiven (outlineListing (heldOutline (now (points .entry)) (now (lens .entry)) head) (head .settings))
         (now (out .entry)) (now (out .exit)) r ⌝ }
 {
     let loops = head.loops;
@@ -111,7 +111,7 @@ fn list_request(points: &[f64], lens: &[usize], head: Head, out: &mut [u8]) -> u
 // Writes the listing of an outline's file into `out`, as far as it goes, and answers how many bytes are written. No listing is longer than
 // 117,681 bytes.
 pub fn list_file(file: &[u8], out: &mut [u8]) -> usize
-    ensures { λ r. ⌜ Lists (programListing (now (file .entry))) (now (out .entry)) (now (out .exit)) r ⌝ }
+    ensures { λ r. ⌜ ListingGiven (programListing (now (file .entry))) (now (out .entry)) (now (out .exit)) r ⌝ }
 {
     let mut points = [0.0; 496];
     let mut lens = [0usize; 8];

@@ -19,7 +19,7 @@ use Rattle.laws.specs.Tabulate.{tabulate, tabulate-same, tabulate-take, tabulat
 use Rattle.numbers.specs.Float.{bits}
 use Rattle.domain.specs.declared.Settings.{Settings}
 use Rattle.domain.specs.Accepted.{AllFit}
-use Rattle.outline_file.specs.File.{Request, numberAt, floatAt, blockAt, weighed, checkOf, blockRefusal, filled, zeroFrom, headLoops, headLength}
+use Rattle.outline_file.specs.File.{Request, numberAt, floatAt, blockAt, weightedByte, checkOf, blockRefusal, nonzeroByte, zeroFrom, headLoops, headLength}
 use Rattle.outline_file.specs.File.{headPoints, headSound, headRefusal, pointBlocks, pointsRefusal, pointsTurn, blocksRefusal, coordinateAt}
 use Rattle.outline_file.specs.File.{filePoints, fileLength, endRefusal, fileRefusal, requestOf, numberBytes, floatBytes, blockOf, lengthBytes}
 use Rattle.outline_file.specs.File.{headBytes, pointBytes, pointBlock, blocksOf, fileOf, totalPoints, fileable}
@@ -104,7 +104,7 @@ pub check-same : (p q : List ℕ) → length p ≡ 510 → checkOf (p ++ q) ≡ 
 unfolding checkOf sumUp
 check-same p q e =
     ap (λ (n : ℕ). n % 65521)
-    (forUp-same 510 (sumTurn (weighed (p ++ q))) (sumTurn (weighed p)) 0 (λ i s h. rw (List·getD-append p q 0 i (omega arith))))
+    (forUp-same 510 (sumTurn (weightedByte (p ++ q))) (sumTurn (weightedByte p)) 0 (λ i s h. rw (List·getD-append p q 0 i (omega arith))))
 
 check-small : (b : List ℕ) → checkOf b < 65536
 unfolding checkOf
@@ -152,7 +152,7 @@ module _ (contents : List ℕ) where
 
     pub block-zeros : zeroFrom (blockOf contents) (length contents) ≡ true
     unfolding zeroFrom blockOf
-    block-zeros = ap not (none-found (filled (blockOf contents) (length contents)) (510 - length contents) (λ i h. ap not (eq-eqb _ 0 (zero-at i h))))
+    block-zeros = ap not (none-found (nonzeroByte (blockOf contents) (length contents)) (510 - length contents) (λ i h. ap not (eq-eqb _ 0 (zero-at i h))))
       where
         zero-at : (i : ℕ) → i < 510 - length contents → getD (blockOf contents) (length contents + i) 0 ≡ 0
         zero-at i h =

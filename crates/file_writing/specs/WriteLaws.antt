@@ -18,7 +18,7 @@ use Rattle.laws.specs.Sums.{sum-term}
 use Rattle.laws.specs.Tabulate.{tabulate, tabulate-suc}
 use Rattle.domain.specs.declared.Settings.{Settings}
 use Rattle.outline_file.specs.File.{checkOf, numberBytes, floatBytes, blockOf, lengthBytes, headBytes, pointBytes}
-use Rattle.outline_file.specs.File.{Request, request, fileLength, pointBlocks, pointBlock, blocksOf, fileOf, totalPoints, fileable, writing, writeFile}
+use Rattle.outline_file.specs.File.{Request, request, fileLength, pointBlocks, pointBlock, blocksOf, fileOf, totalPoints, fileable, fileWritten, writeFile}
 use Rattle.file_writing.specs.RoundTrip.{bytes-length, pieces-length, block-wide, check-same, point-block-wide, Fileable, fileable-is}
 use Rattle.file_writing.specs.RoundTrip.{head-wide, file-length}
 
@@ -308,15 +308,15 @@ module _ (points : List Float) where
 -- ---- what a file can hold
 
 -- the loop that adds up the lengths
-pub record Few (lens : List ℕ) (k sum : ℕ) : Type 0 where
+pub record FewPoints (lens : List ℕ) (k sum : ℕ) : Type 0 where
   pub same : Loop (sumTurn (λ j. getD lens j 0)) 0 (length lens) k sum
   pub small : sum ≤ 248
 
-pub few-start : (lens : List ℕ) → Few lens 0 0
+pub few-start : (lens : List ℕ) → FewPoints lens 0 0
 few-start lens = record { same = loop-start (sumTurn (λ j. getD lens j 0)) 0 (length lens); small = omega arith }
 
-module _ {lens : List ℕ} {k sum : ℕ} (l : Few lens k sum) where
-  pub few-next : k < length lens → getD lens k 0 ≤ 248 - sum → Few lens (k + 1) (sum + getD lens k 0)
+module _ {lens : List ℕ} {k sum : ℕ} (l : FewPoints lens k sum) where
+  pub few-next : k < length lens → getD lens k 0 ≤ 248 - sum → FewPoints lens (k + 1) (sum + getD lens k 0)
   few-next h le = record { same = loop-next (sumTurn (λ j. getD lens j 0)) 0 (l .same) h; small = omega (arith, l .small) }
 
   pub few-out : k < length lens → 248 - sum < getD lens k 0 → 249 ≡ min (totalPoints lens) 249
@@ -378,7 +378,7 @@ module _ (s : Settings) (points : List Float) (lens : List ℕ) where
 -- ---- what `write_file` answers
 
 module _ (r : Request) (file : List ℕ) {f : Bool} (e : f ≡ fileable r) where
-  pub write-refused : not f ≡ true → writing 0 file ≡ writeFile r file
+  pub write-refused : not f ≡ true → fileWritten 0 file ≡ writeFile r file
   unfolding writeFile
   write-refused h = rw (← e, not-true f h)
 
@@ -393,7 +393,7 @@ module _ (r : Request) (file : List ℕ) {f : Bool} (e : f ≡ fileable r) where
       bytes : length (fileOf r) ≡ n
       bytes = file-length r within ∙ sym g
 
-      pub write-short : length file < n → writing 0 file ≡ writeFile r file
+      pub write-short : length file < n → fileWritten 0 file ≡ writeFile r file
       unfolding writeFile
       write-short lt = rw (← e, not-false f h, bytes, lt-leb n (length file) lt)
 
@@ -404,9 +404,9 @@ module _ (r : Request) (file : List ℕ) {f : Bool} (e : f ≡ fileable r) where
           (omega (arith, within .points, within .adds), omega arith)
 
       pub write-whole : {b₁ b₂ : List ℕ} → n ≤ length file → b₁ ≡ sets file 0 (blockOf (headBytes (r .settings) (r .lengths)))
-          → b₂ ≡ sets b₁ 512 (blocksOf (r .coordinates)) → writing n b₂ ≡ writeFile r file
+          → b₂ ≡ sets b₁ 512 (blocksOf (r .coordinates)) → fileWritten n b₂ ≡ writeFile r file
       unfolding writeFile fileOf
-      write-whole {b₁} {b₂} le p q = rw (← e, not-false f h, bytes, le-leb n (length file) le) (ap (writing n) whole)
+      write-whole {b₁} {b₂} le p q = rw (← e, not-false f h, bytes, le-leb n (length file) le) (ap (fileWritten n) whole)
         where
           head : List ℕ
           head = blockOf (headBytes (r .settings) (r .lengths))

@@ -5,7 +5,7 @@ ghost use lib.ListN.{length, take, replicate};
 ghost use lib.Seq.{sets};
 ghost use lib.Ieee.{binary64, toBits};
 ghost use Rattle.outline_file.specs.File.{request, numberBytes, blockOf, lengthBytes, headBytes, pointBytes, blocksOf};
-ghost use Rattle.outline_file.specs.File.{fileLength, totalPoints, fileable, writing, writeFile};
+ghost use Rattle.outline_file.specs.File.{fileLength, totalPoints, fileable, fileWritten, writeFile};
 use domain::Settings;
 
 // `f64::to_bits`, where every NaN gives the same pattern.
@@ -157,7 +157,7 @@ fn can_file(settings: Settings, points: &[f64], lens: &[usize]) -> bool
 // Writes the file of a request, and answers its length. Where a file can't hold the request or the list lent is too short for it, the answer
 // is 0 and nothing is written. Places after the file keep their contents.
 pub fn write_file(settings: Settings, points: &[f64], lens: &[usize], file: &mut [u8]) -> usize
-    ensures { λ r. ⌜ writing r (now (file .exit)) ≡ writeFile (request «settings» (now (points .entry)) (now (lens .entry))) (now (file .entry)) ⌝ }
+    ensures { λ r. ⌜ fileWritten r (now (file .exit)) ≡ writeFile (request «settings» (now (points .entry)) (now (lens .entry))) (now (file .entry)) ⌝ }
 {
     if !can_file(settings, points, lens) {
         return 0;

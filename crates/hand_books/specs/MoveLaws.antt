@@ -23,7 +23,7 @@ use Rattle.paving.specs.Advance.{mostQuads, isThere, withSnapshot, advance}
 use Rattle.paving.specs.Reach.{Reaches, begin, snapshot, placed}
 use Rattle.paving.specs.ReachLaws.{Reached, tried, advance-reaches}
 use Rattle.books.specs.Book.{Edge}
-use Rattle.books_hold.specs.Runs.{Accepted, begins}
+use Rattle.books_hold.specs.Runs.{AcceptedRun, begins}
 use Rattle.mesh_check.specs.Check.{meshRefusal, edgeRefusal}
 use Rattle.hand_placing.specs.Local.{placed-nodes}
 use Rattle.hand_steps.specs.declared.StepOutcome.the-variants.{Placed, None, Full, Cap}
@@ -85,15 +85,15 @@ reached-nodes (placed {t = t} {a = a} {b = b} {c = c} {d = d} r P) = omega (arit
 -- t is reached from the sampled outline, in some lists
 pub record FromOutline (o : Outline) (size : Float) (t : State) : Type 0 where
   pub lent : State
-  pub accepted : Accepted o size lent
+  pub accepted : AcceptedRun o size lent
   pub reached : Reached o size (fromBoundary o size lent) t
 
-pub from-outline : (o : Outline) (size : Float) (lent : State) → Accepted o size lent → FromOutline o size (fromBoundary o size lent)
+pub from-outline : (o : Outline) (size : Float) (lent : State) → AcceptedRun o size lent → FromOutline o size (fromBoundary o size lent)
 from-outline o size lent A = record { lent = lent; accepted = A; reached = record { quads = 0; by = begin } }
 
 module _ (o : Outline) (size : Float) where
   -- the outline isn't refused in lists of which another has a place for each point sampled
-  accepted-in : (l : List ℕ) (lent : State) → Accepted o size lent → sampledCount o size ≤ length l → Accepted o size (withScratch l lent)
+  accepted-in : (l : List ℕ) (lent : State) → AcceptedRun o size lent → sampledCount o size ≤ length l → AcceptedRun o size (withScratch l lent)
   unfolding frontRefusal edgePlaces
   accepted-in l lent A h =
       record { doubles = A .doubles; outline = A .outline; front = by (ltb (nodePlaces lent) n) refl (ltb (edgePlaces lent) n) refl (A .front) }

@@ -8,7 +8,7 @@ use Rattle.front.specs.State.{State}
 use Rattle.front.specs.Sampling.{fromBoundary}
 use Rattle.books.specs.Holds.{BooksHold}
 use Rattle.books_hold.specs.Demanded.{Demanded, as-demanded}
-use Rattle.books_hold.specs.Runs.{Accepted, reached-holds}
+use Rattle.books_hold.specs.Runs.{AcceptedRun, reached-holds}
 use Rattle.mesh_check.specs.Check.{meshRefusal}
 use Rattle.hand_books.specs.Moves.{Move, movesOn}
 use Rattle.hand_books.specs.Unrefused.{reached-unrefused}
@@ -17,7 +17,7 @@ use Rattle.hand_books.specs.MoveLaws.{FromOutline, from-outline, moves-k
 -- Take any outline, any size and any lists that document 01 doesn't refuse, any field, and any list of moves: steps on named edges, be they on the front or
 -- not, and automatic passes between them. A sequence of hand steps is one whose moves are all `named`. Since it holds for every list, it holds after every
 -- move; and `BooksHold` itself speaks of the moment before the first quad, of that after each, and of where the sequence stops.
-module _ (o : Outline) (size : Float) (lent : State) (A : Accepted o size lent) (field : FieldRecord) (ms : List Move) where
+module _ (o : Outline) (size : Float) (lent : State) (A : AcceptedRun o size lent) (field : FieldRecord) (ms : List Move) where
   abbrev left : State
   left = movesOn o size field ms (fromBoundary o size lent)
 

@@ -29,7 +29,7 @@ use Rattle.paving.specs.Reach.{Reaches, begin, snapshot, placed}
 use Rattle.books.specs.Answered.{answered}
 use Rattle.bounded.specs.Run.{run-bounded}
 use Rattle.books_hold.specs.Stages.{standing, stage-at}
-use Rattle.books_hold.specs.Runs.{Accepted, begins, start, turns}
+use Rattle.books_hold.specs.Runs.{AcceptedRun, begins, start, turns}
 use Rattle.bounded.specs.Point.{Bounded}
 use Rattle.bounded.specs.Nodes.{AllNodes}
 use Rattle.mesh_check.specs.Check.{beyondPlaces, countsBeyond, beyondNodes, idsBeyond, linkUnsound, linkCount, farthestNode, coordinateUnsound}
@@ -153,7 +153,7 @@ module _ (n : ℕ) (s : State) (ls : List (List ℕ)) (S : Sound n s ls) (joined
 
 -- ---- every state that is reached from a sampled outline
 
-module _ (o : Outline) (size : Float) (lent : State) (A : Accepted o size lent) where
+module _ (o : Outline) (size : Float) (lent : State) (A : AcceptedRun o size lent) where
   known-reached : {k : ℕ} {t : State} → Reaches o size (fromBoundary o size lent) k t → Known t
   unfolding withSnapshot
   known-reached begin = begins o size lent A .known

@@ -32,7 +32,7 @@ use Rattle.books.specs.Holds.{BooksHold}
 use Rattle.books.specs.BookLaws.{frame-quad}
 use Rattle.books.specs.Step.{Stepped, step}
 use Rattle.books_hold.specs.Stages.{standing}
-use Rattle.books_hold.specs.Runs.{Accepted, start, reached-holds}
+use Rattle.books_hold.specs.Runs.{AcceptedRun, start, reached-holds}
 use Rattle.origins.specs.Origins.{pushOrigin, quadOrigins, originsAfter, OneOrigin}
 use Rattle.origins.specs.Theorem.{origins-booked}
 use Rattle.origins.specs.Writing.{pushCount, pushAt, push-length, push-over}
@@ -49,7 +49,7 @@ use Rattle.hand_origins.specs.Pushed.{push-counts, new-pushed}
 -- ---- NO FRONT LOOP AND NO QUAD OF A SEQUENCE HAS NODES OF TWO NUMBERS
 
 -- of every outline, size and lists that document 01 doesn't refuse, any field, and any list of moves: before the first quad, after each one and as it stops
-pub sequence-origins : (o : Outline) (size : Float) (lent : State) → Accepted o size lent → (field : FieldRecord) (ms : List Move) (k : ℕ)
+pub sequence-origins : (o : Outline) (size : Float) (lent : State) → AcceptedRun o size lent → (field : FieldRecord) (ms : List Move) (k : ℕ)
     → k ≤ movesOn o size field ms (fromBoundary o size lent) .counts .quads
     → OneOrigin o size (movesOn o size field ms (fromBoundary o size lent)) k
 sequence-origins o size lent A field ms =
@@ -60,8 +60,8 @@ sequence-origins o size lent A field ms =
 -- ---- a step keeps the numbers written
 
 -- the list l has the numbers of the nodes of s on its first places, and past them what stood in `before`: as a run leaves it (`OriginsAnswered`)
-abbrev pub Numbered : Outline → Float → State → List ℕ → List ℕ → Type 0
-Numbered o size s before l = l ≡ overlay (originsAfter o size (s .quads) (s .counts .quads)) before
+abbrev pub NodesNumbered : Outline → Float → State → List ℕ → List ℕ → Type 0
+NodesNumbered o size s before l = l ≡ overlay (originsAfter o size (s .quads) (s .counts .quads)) before
 
 -- as many numbers as nodes
 numbers-length : (o : Outline) (size : Float) (s : State) → FromOutline o size s → length (originsAfter o size (s .quads) (s .counts .quads)) ≡ s .counts .nodes
@@ -77,7 +77,7 @@ unfolding originsAfter forUp
 after-more o size quads k = refl
 
 module _ (o : Outline) (size : Float) (field : FieldRecord) (s : State) (F : FromOutline o size s) (a b : ℕ) (before l : List ℕ)
-    (room : nodePlaces s ≤ length before) (N : Numbered o size s before l) where
+    (room : nodePlaces s ≤ length before) (N : NodesNumbered o size s before l) where
   abbrev n : ℕ
   n = s .counts .nodes
 
@@ -85,10 +85,10 @@ module _ (o : Outline) (size : Float) (field : FieldRecord) (s : State) (F : Fro
   L = originsAfter o size (s .quads) (s .counts .quads)
 
   -- t has its numbers, once those of its new nodes are written
-  abbrev Kept : State → Type 0
-  Kept t = Numbered o size t before (newOrigins a n (t .counts .nodes) l)
+  abbrev NumbersKept : State → Type 0
+  NumbersKept t = NodesNumbered o size t before (newOrigins a n (t .counts .nodes) l)
 
-  same-kept : Kept s
+  same-kept : NumbersKept s
   same-kept = sym (origins-same a n l) ∙ N
 
   module _ (passes : handRefusal s a b ≡ 0) (c d : Corner) (e : tryEdge o size field s a b ≡ Quad c d) (full : isFull s a b c d ≡ false) where
@@ -122,7 +122,7 @@ module _ (o : Outline) (size : Float) (field : FieldRecord) (s : State) (F : Fro
         ∙ (ap (λ (x : List ℕ). quadOrigins (quadIn (t .quads) q) x) earlier
         ∙ ap (λ (x : QuadIds). quadOrigins x L) (quad-same t q ∙ ap idsOf (placed .quad))))
 
-    placed-kept : Kept t
+    placed-kept : NumbersKept t
     placed-kept =
         let S = on-front s a b passes in
         let B = quad-below o size field s a b S c d e in
@@ -143,27 +143,27 @@ module _ (o : Outline) (size : Float) (field : FieldRecord) (s : State) (F : Fro
         ∙ (new-pushed a n l (S .id-a) c d (B .0) (B .1)
         ∙ (ap (pushAt a D m) first ∙ (second ∙ ap (λ (x : List ℕ). overlay x before) (sym numbers-after))))
 
-  settled-kept : handRefusal s a b ≡ 0 → (r : Attempt) → tryEdge o size field s a b ≡ r → Kept (settledOn a b r s .state)
+  settled-kept : handRefusal s a b ≡ 0 → (r : Attempt) → tryEdge o size field s a b ≡ r → NumbersKept (settledOn a b r s .state)
   settled-kept passes Nothing e = same-kept
   settled-kept passes (Quad c d) e = by (isFull s a b c d) refl
     where
-      by : (full : Bool) → isFull s a b c d ≡ full → Kept (cond full (handled s Full) (handled (place a b c d s) Placed) .state)
+      by : (full : Bool) → isFull s a b c d ≡ full → NumbersKept (cond full (handled s Full) (handled (place a b c d s) Placed) .state)
       by true f = same-kept
       by false f = placed-kept passes c d e f
 
-  place-kept : handRefusal s a b ≡ 0 → Kept (placeOn o size field a b s .state)
+  place-kept : handRefusal s a b ≡ 0 → NumbersKept (placeOn o size field a b s .state)
   unfolding placeOn
   place-kept passes = by (leb mostQuads (s .counts .quads))
     where
-      by : (cap : Bool) → Kept (cond cap (handled s Cap) (settledOn a b (tryEdge o size field s a b) s) .state)
+      by : (cap : Bool) → NumbersKept (cond cap (handled s Cap) (settledOn a b (tryEdge o size field s a b) s) .state)
       by true = same-kept
       by false = settled-kept passes (tryEdge o size field s a b) refl
 
   -- a step keeps the numbers of the mesh written, refused or not
-  pub step-numbered : Numbered o size (stepOn o size field a b s) before (originsOn o size field a b s l)
+  pub step-numbered : NodesNumbered o size (stepOn o size field a b s) before (originsOn o size field a b s l)
   unfolding stepOn
   step-numbered = by (eqb (handRefusal s a b) 0) refl
     where
-      by : (done : Bool) → eqb (handRefusal s a b) 0 ≡ done → Kept (cond done (placeOn o size field a b s .state) s)
+      by : (done : Bool) → eqb (handRefusal s a b) 0 ≡ done → NumbersKept (cond done (placeOn o size field a b s .state) s)
       by true e = place-kept (eqb-true _ _ e)
       by false e = same-kept

@@ -28,5 +28,5 @@ pub record Wrote (l : List ℕ) (p q : Buffer) : Type 0 where
   pub same : q ≡ puts l p
 
 -- As much of l as s has places for, on its first places, and how much that is; the other places keep their contents.
-unfoldable pub written : List ℕ → List ℕ → Buffer
-written l s = let cut = take (length s) l in buffer (cut ++ drop (length cut) s) (length cut)
+unfoldable pub bufferWritten : List ℕ → List ℕ → Buffer
+bufferWritten l s = let cut = take (length s) l in buffer (cut ++ drop (length cut) s) (length cut)

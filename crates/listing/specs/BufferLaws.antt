@@ -9,7 +9,7 @@ use lib.Dec.{ltb}
 use lib.ListN.{length, take, drop, set, length-set, length-take}
 use lib.Seq.{sets, sets-eq, take-all}
 use borrow.Author.Tests.{lt-ltb, le-ltb}
-use Rattle.listing.specs.Buffer.{Buffer, buffer, put, puts, Wrote, written}
+use Rattle.listing.specs.Buffer.{Buffer, buffer, put, puts, Wrote, bufferWritten}
 
 -- ---- pieces
 
@@ -80,8 +80,8 @@ puts-cut (suc k) (b ∷ l) s at h =
     ∙ puts-cut k l (set s at b) (suc at) (omega (arith, length-set s at b))
     ∙ ap (buffer (sets (set s at b) (suc at) (take k l))) (omega arith)
 
-puts-written : (l s : List ℕ) → puts l (buffer s 0) ≡ written l s
-unfolding written
+puts-written : (l s : List ℕ) → puts l (buffer s 0) ≡ bufferWritten l s
+unfolding bufferWritten
 puts-written l s =
     let cut : List ℕ = take (length s) l in
     let room : 0 + length cut ≤ length s = simp length-take (omega arith) in
@@ -89,10 +89,10 @@ puts-written l s =
     puts-cut (length s) l s 0 (omega arith)
     ∙ ap₂ buffer (sets-eq cut s 0 room ∙ ap (λ (n : ℕ). cut ++ drop n s) start) start
 
-pub wrote-written : {l s : List ℕ} {p : Buffer} → Wrote l (buffer s 0) p → p ≡ written l s
+pub wrote-written : {l s : List ℕ} {p : Buffer} → Wrote l (buffer s 0) p → p ≡ bufferWritten l s
 wrote-written {l} {s} w = w .same ∙ puts-written l s
 
 -- where there is room, all of l is in front
-pub written-whole : (l s : List ℕ) → length l ≤ length s → written l s ≡ buffer (l ++ drop (length l) s) (length l)
-unfolding written
+pub written-whole : (l s : List ℕ) → length l ≤ length s → bufferWritten l s ≡ buffer (l ++ drop (length l) s) (length l)
+unfolding bufferWritten
 written-whole l s h = rw (take-all (length s) l h)

@@ -5,12 +5,12 @@ use mathlib.Core.List.{List, [], _∷_, _++_}
 use Prim.Native.Nat.{ℕ}
 use lib.Ieee.{Float, binary64, ofBits, toBits}
 use Rattle.listing.specs.Text.{ascii}
-use Rattle.listing.specs.Listing.{decimalOf, decimal, hexDigit, hexOf, hexBits, spaced, row, rows, nodeLine, nodeLines, quadLines, loopLines}
+use Rattle.listing.specs.Listing.{decimalOf, decimal, hexDigit, hexOf, hexBits, spaced, row, rowLines, nodeLine, nodeLines, quadLines, loopLines}
 use Rattle.listing.specs.Listing.{heading, endWord, wholeWord, headLine, refusedListing, meshListing, listing}
 
 -- all that computes
 unfoldable opened : Unit {0}
-unfolding listing meshListing refusedListing headLine endWord wholeWord loopLines quadLines nodeLines nodeLine rows row spaced hexBits hexOf hexDigit
+unfolding listing meshListing refusedListing headLine endWord wholeWord loopLines quadLines nodeLines nodeLine rowLines row spaced hexBits hexOf hexDigit
     decimal decimalOf toBits ofBits
 opened = tt
 
@@ -28,7 +28,7 @@ abbrev f : Float
 f = ofBits binary64 0x4010_0000_0000_0000
 
 -- Document 01's square as the run leaves it, in lists of ten nodes and five quads.
-square : listing 0 (heading 9 4 2 0 true 0)
+square-listed : listing 0 (heading 9 4 2 0 true 0)
     (o ∷ i ∷ t ∷ t ∷ t ∷ i ∷ o ∷ o ∷ i ∷ f ∷ []) (o ∷ o ∷ o ∷ i ∷ t ∷ t ∷ t ∷ i ∷ i ∷ f ∷ [])
     (0 ∷ 1 ∷ 8 ∷ 7 ∷ 1 ∷ 2 ∷ 3 ∷ 8 ∷ 3 ∷ 4 ∷ 5 ∷ 8 ∷ 5 ∷ 6 ∷ 7 ∷ 8 ∷ 7 ∷ 7 ∷ 7 ∷ 7 ∷ []) (7 ∷ []) (7 ∷ [])
     ≡ ascii "mesh 9 4 2 still whole\n"
@@ -46,7 +46,7 @@ square : listing 0 (heading 9 4 2 0 true 0)
     ++ ascii "q 3 4 5 8\n"
     ++ ascii "q 5 6 7 8\n"
 unfolding opened
-square = refl
+square-listed = refl
 
 -- One node, no quad, and two loops, of four ids and three.
 loops : listing 0 (heading 1 0 1234567 3 false 2) (i ∷ o ∷ []) (t ∷ o ∷ []) (1 ∷ 2 ∷ 3 ∷ 4 ∷ [])

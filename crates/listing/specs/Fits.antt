@@ -11,9 +11,9 @@ use lib.ListN.{length, take, drop, replicate, length-append, length-take, length
 use lib.Seq.{take-append-seam}
 use Rattle.listing.specs.declared.Heading.{Heading}
 use Rattle.listing.specs.Text.{ascii}
-use Rattle.listing.specs.Listing.{decimalOf, decimal, hexOf, hexDigit, hexBits, spaced, row, rows, nodeLine, nodeLines, quadLines, loopLines}
+use Rattle.listing.specs.Listing.{decimalOf, decimal, hexOf, hexDigit, hexBits, spaced, row, rowLines, nodeLine, nodeLines, quadLines, loopLines}
 use Rattle.listing.specs.Listing.{endWord, wholeWord, headLine, refusedListing, meshListing, listing}
-use Rattle.listing.specs.Buffer.{Buffer, buffer, written}
+use Rattle.listing.specs.Buffer.{Buffer, buffer, bufferWritten}
 use Rattle.listing.specs.BufferLaws.{written-whole}
 
 -- ---- numbers
@@ -44,8 +44,8 @@ unfolding spaced
 spaced-length [] = omega arith
 spaced-length (v ∷ l) = rw length-append (omega (arith, decimal-length v, spaced-length l))
 
-rows-length : (letter : ℕ) (ns ids : List ℕ) → length (rows letter ns ids) ≤ 2 * length ns + 21 * length ids
-unfolding rows row
+rows-length : (letter : ℕ) (ns ids : List ℕ) → length (rowLines letter ns ids) ≤ 2 * length ns + 21 * length ids
+unfolding rowLines row
 rows-length letter [] ids = omega arith
 rows-length letter (n ∷ ns) ids =
     simp length-append
@@ -118,6 +118,6 @@ module _ (h : Heading) (xs ys : List Float) (quads loops lengths : List ℕ) whe
 -- ---- the buffer
 
 -- what was written stands in front
-pub written-front : (l s t : List ℕ) (r : ℕ) → length l ≤ length s → buffer t r ≡ written l s → take r t ≡ l
+pub written-front : (l s t : List ℕ) (r : ℕ) → length l ≤ length s → buffer t r ≡ bufferWritten l s → take r t ≡ l
 written-front l s t r h e =
     ap (λ (b : Buffer). take (b .used) (b .bytes)) (e ∙ written-whole l s h) ∙ take-append-seam l (drop (length l) s)

@@ -12,7 +12,7 @@ use lib.Seq.{take-nil, drop-nil, drop-cons, drop-drop, getD-take}
 use Rattle.listing.specs.Text.{ascii}
 use Rattle.listing.specs.Buffer.{Buffer, puts, Wrote}
 use Rattle.listing.specs.BufferLaws.{puts-append, puts-length}
-use Rattle.listing.specs.Listing.{decimal, spaced, row, rows, nodeLine, nodeLines, quadLines, loopLines}
+use Rattle.listing.specs.Listing.{decimal, spaced, row, rowLines, nodeLine, nodeLines, quadLines, loopLines}
 
 -- ---- a loop that writes: with the rest written too, the buffer p is as if all had been written from the start on
 
@@ -79,17 +79,17 @@ module _ (xs ys : List Float) (n i : ℕ) where
 
 -- ---- rows: the first of those left, and the others
 
-rows-first : (letter n : ℕ) (ns ids : List ℕ) → rows letter (n ∷ ns) ids ≡ row letter (take n ids) ++ rows letter ns (drop n ids)
-unfolding rows
+rows-first : (letter n : ℕ) (ns ids : List ℕ) → rowLines letter (n ∷ ns) ids ≡ row letter (take n ids) ++ rowLines letter ns (drop n ids)
+unfolding rowLines
 rows-first letter n ns ids = refl
 
-rows-end : (letter : ℕ) (ns ids : List ℕ) → ns ≡ [] → rows letter ns ids ≡ []
-unfolding rows
-rows-end letter ns ids e = ap (λ (l : List ℕ). rows letter l ids) e
+rows-end : (letter : ℕ) (ns ids : List ℕ) → ns ≡ [] → rowLines letter ns ids ≡ []
+unfolding rowLines
+rows-end letter ns ids e = ap (λ (l : List ℕ). rowLines letter l ids) e
 
 -- the lines of count quads from quad k on
 abbrev pub quadsFrom : List ℕ → ℕ → ℕ → List ℕ
-quadsFrom quads count k = rows (code "q") (replicate (count - k) 4) (drop (4 * k) quads)
+quadsFrom quads count k = rowLines (code "q") (replicate (count - k) 4) (drop (4 * k) quads)
 
 pub quads-start : (n : ℕ) (quads : List ℕ) (count : ℕ) (p : Buffer) → count ≡ min n (length quads / 4)
     → Left (quadsFrom quads count 0) (quadLines n quads) p p
@@ -120,7 +120,7 @@ drop-min (suc n) (x ∷ l) = rw suc-min-suc (drop-min n l)
 
 -- the lines of n loops from loop k on, whose ids begin at a
 abbrev pub loopsFrom : List ℕ → List ℕ → ℕ → ℕ → ℕ → List ℕ
-loopsFrom lengths loops n k a = rows (code "l") (drop k (take n lengths)) (drop a loops)
+loopsFrom lengths loops n k a = rowLines (code "l") (drop k (take n lengths)) (drop a loops)
 
 pub loops-start : (lengths loops : List ℕ) (n : ℕ) (p : Buffer) → Left (loopsFrom lengths loops n 0 0) (loopLines (take n lengths) loops) p p
 unfolding loopLines
@@ -138,7 +138,7 @@ loops-next lengths loops n k a e h hk end =
     ap (λ (j : ℕ). drop j loops) (end ∙ ap (λ (j : ℕ). a + min m j) (sym (length-drop a loops)))
     ∙ sym (drop-drop (min m (length (drop a loops))) a loops)
     ∙ drop-min m (drop a loops) in
-    ap (λ (l : List ℕ). rows (code "l") l (drop a loops)) (taken-next lengths n k 0 h hk)
+    ap (λ (l : List ℕ). rowLines (code "l") l (drop a loops)) (taken-next lengths n k 0 h hk)
     ∙ rows-first (code "l") m _ _
-    ∙ ap₂ (λ (u v : List ℕ). row (code "l") u ++ rows (code "l") (drop (k + 1) (take n lengths)) v)
+    ∙ ap₂ (λ (u v : List ℕ). row (code "l") u ++ rowLines (code "l") (drop (k + 1) (take n lengths)) v)
     (sym (ap (λ (j : ℕ). take j (drop a loops)) cut ∙ take-min m (drop a loops))) (sym past)

@@ -50,9 +50,9 @@ unfoldable pub row : ℕ → List ℕ → List ℕ
 row letter ids = letter ∷ spaced ids ++ ascii "\n"
 
 -- a row for each length, with so many of the numbers, one after the other
-unfoldable pub rows : ℕ → List ℕ → List ℕ → List ℕ
-rows letter [] ids = []
-rows letter (n ∷ ns) ids = row letter (take n ids) ++ rows letter ns (drop n ids)
+unfoldable pub rowLines : ℕ → List ℕ → List ℕ → List ℕ
+rowLines letter [] ids = []
+rowLines letter (n ∷ ns) ids = row letter (take n ids) ++ rowLines letter ns (drop n ids)
 
 -- after "n" a node's x and y
 unfoldable pub nodeLine : Float → Float → List ℕ
@@ -65,11 +65,11 @@ nodeLines (x ∷ xs) (y ∷ ys) = nodeLine x y ++ nodeLines xs ys
 
 -- after "q" each quad a b d c, which is how the quads stand in their list; of n counted, those that the list holds
 unfoldable pub quadLines : ℕ → List ℕ → List ℕ
-quadLines n quads = rows (code "q") (replicate (min n (length quads / 4)) 4) quads
+quadLines n quads = rowLines (code "q") (replicate (min n (length quads / 4)) 4) quads
 
 -- after "l" each listed loop: the loops' ids stand one after the other, and their lengths in a list of their own
 unfoldable pub loopLines : List ℕ → List ℕ → List ℕ
-loopLines lengths loops = rows (code "l") lengths loops
+loopLines lengths loops = rowLines (code "l") lengths loops
 
 -- ---- the first line
 

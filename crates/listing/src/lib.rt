@@ -6,7 +6,7 @@ ghost use Prim.Native.Nat.{_<_};
 ghost use lib.ListN.{take};
 ghost use lib.Ieee.{binary64, toBits};
 ghost use Rattle.listing.specs.Text.{ascii};
-ghost use Rattle.listing.specs.Buffer.{buffer, Wrote, written};
+ghost use Rattle.listing.specs.Buffer.{buffer, Wrote, bufferWritten};
 ghost use Rattle.listing.specs.Listing.{decimal, hexDigit, hexOf, spaced, row, nodeLine, nodeLines, quadLines, loopLines};
 ghost use Rattle.listing.specs.Listing.{endWord, wholeWord, headLine, refusedListing, meshListing, listing};
 
@@ -225,7 +225,7 @@ fn put_heading(out: &mut [u8], at: usize, h: Heading) -> usize
 
 // The listing of a refusal. The answer is how many bytes are written, as of the two below.
 pub fn write_refused(out: &mut [u8], number: u32) -> usize
-    ensures { λ r. ⌜ buffer (now (out .exit)) r ≡ written (refusedListing number) (now (out .entry)) ⌝ }
+    ensures { λ r. ⌜ buffer (now (out .exit)) r ≡ bufferWritten (refusedListing number) (now (out .entry)) ⌝ }
 {
     let first = put_all(out, 0, b"refused");
     let last = put_number(out, first, number as usize);
@@ -243,7 +243,7 @@ pub fn write_mesh(
     lengths: &[u32],
 ) -> usize
     ensures { λ r. ⌜ buffer (now (out .exit)) r
-        ≡ written (meshListing h (now (xs .entry)) (now (ys .entry)) (now (quads .entry)) (now (loops .entry)) (now (lengths .entry)))
+        ≡ bufferWritten (meshListing h (now (xs .entry)) (now (ys .entry)) (now (quads .entry)) (now (loops .entry)) (now (lengths .entry)))
         (now (out .entry)) ⌝ }
 {
     let nodes = h.nodes as usize;
@@ -265,7 +265,7 @@ pub fn write_listing(
     lengths: &[u32],
 ) -> usize
     ensures { λ r. ⌜ buffer (now (out .exit)) r
-        ≡ written (listing refusal h (now (xs .entry)) (now (ys .entry)) (now (quads .entry)) (now (loops .entry)) (now (lengths .entry)))
+        ≡ bufferWritten (listing refusal h (now (xs .entry)) (now (ys .entry)) (now (quads .entry)) (now (loops .entry)) (now (lengths .entry)))
         (now (out .entry)) ⌝ }
 {
     if refusal == 0 {

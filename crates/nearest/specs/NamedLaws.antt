@@ -34,8 +34,8 @@ use Rattle.nearest.specs.Named.{segmentDistance, ComesBefore, Own, Named
 abbrev Counted : Float → Type 0
 Counted x = (n : ℕ) × Val x false n
 
-square : {K : ℕ} {x : Float} → Moderate K → Moderate (2 * (K * K) + 1) → Within K x → (n : ℕ) × (Val (x ⊗ x) false n) × (n ≤ 2 ^ 200 * W)
-square {K} {x} k l p =
+square-value : {K : ℕ} {x : Float} → Moderate K → Moderate (2 * (K * K) + 1) → Within K x → (n : ℕ) × (Val (x ⊗ x) false n) × (n ≤ 2 ^ 200 * W)
+square-value {K} {x} k l p =
     let r = mul-law p p k k in
     let w = product-within (K * K) r (le-trans (mul-le-mul (p .small) (p .small)) (le-of-eq (mul-mul-mul-comm K W K W))) in (
       r .size,
@@ -47,8 +47,8 @@ distance-counted : (p a b : Point) → ModeratePoint p → EndsWithin a b → Co
 unfolding pointSegmentDistance squaredDistance
 distance-counted p a b m e =
     let q = foot-lies p a b m e in
-    let u = square tt tt (sub-within tt tt (m .x) (q .x .within)) in
-    let v = square tt tt (sub-within tt tt (m .y) (q .y .within)) in
+    let u = square-value tt tt (sub-within tt tt (m .x) (q .x .within)) in
+    let v = square-value tt tt (sub-within tt tt (m .y) (q .y .within)) in
     let s = add-law-pos _ _ (u .0) (v .0) (u .1) (v .1) (u .2) (v .2) in
     let r = root-law _ (add-fits binary64 _ _) (s .size) (s .val) in
     (r .L, r .val)
@@ -165,18 +165,18 @@ module _ (o : Outline) (held : OutlineFits o) (taken : Accepted o) (p : Point) (
       within k' i' (inr (e, h)) there = absurd (omega arith)
 
   -- nothing is asked yet, or there is a best one
-  abbrev Begun : ℕ → Near → Type 0
-  Begun i n = ((i ≡ 0) × (n ≡ nowhere)) ⊎ Best 0 i n
+  abbrev BegunLoop : ℕ → Near → Type 0
+  BegunLoop i n = ((i ≡ 0) × (n ≡ nowhere)) ⊎ Best 0 i n
 
   best-outer : Best 1 0 (nearestInLoop p (loopAt o 0) 0 nowhere)
   unfolding nearestInLoop
-  best-outer = best-loop 0 _ (last (forUp-keeps Begun (points (loopAt o 0)) (segmentTurn p (loopAt o 0) 0) nowhere (inl (refl, refl)) next))
+  best-outer = best-loop 0 _ (last (forUp-keeps BegunLoop (points (loopAt o 0)) (segmentTurn p (loopAt o 0) 0) nowhere (inl (refl, refl)) next))
     where
-      next : (i : ℕ) (n : Near) → i < points (loopAt o 0) → Begun i n → Begun (suc i) (segmentTurn p (loopAt o 0) 0 i n)
+      next : (i : ℕ) (n : Near) → i < points (loopAt o 0) → BegunLoop i n → BegunLoop (suc i) (segmentTurn p (loopAt o 0) 0 i n)
       next i n l (inl (x, y)) = inr (rw (x, y) best-first)
       next i n l (inr best) = inr (best-next 0 i (omega arith) l n best)
 
-      last : {n : Near} → Begun (points (loopAt o 0)) n → Best 0 (points (loopAt o 0)) n
+      last : {n : Near} → BegunLoop (points (loopAt o 0)) n → Best 0 (points (loopAt o 0)) n
       last (inl (x, y)) = absurd (omega (arith, taken .three 0 (omega arith)))
       last (inr best) = best
 

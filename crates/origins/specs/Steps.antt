@@ -32,7 +32,7 @@ pub record Numbered (n : ℕ) (l : List ℕ) (b : Book) : Type 0 where
   pub fronts : SameAlong l (b .front)
 
 -- m has the numbers of l, and perhaps more
-pub record Extends (l m : List ℕ) : Type 0 where
+pub record ExtendsOrigins (l m : List ℕ) : Type 0 where
   pub more : length l ≤ length m
   pub kept : (u : ℕ) → u < length l → originOf m u ≡ originOf l u
 
@@ -47,7 +47,7 @@ same-back S = record { left = S .right; right = S .left; equal = sym (S .equal) 
 pub same-join : {l : List ℕ} {u v w : ℕ} → SameOrigin l u v → SameOrigin l v w → SameOrigin l u w
 same-join S T = record { left = S .left; right = T .right; equal = S .equal ∙ T .equal }
 
-same-kept : {l m : List ℕ} {u v : ℕ} → Extends l m → SameOrigin l u v → SameOrigin m u v
+same-kept : {l m : List ℕ} {u v : ℕ} → ExtendsOrigins l m → SameOrigin l u v → SameOrigin m u v
 same-kept {l} {m} {u} {v} E S =
     record {
       left = omega (arith, E .more, S .left);
@@ -55,22 +55,22 @@ same-kept {l} {m} {u} {v} E S =
       equal = E .kept u (S .left) ∙ S .equal ∙ sym (E .kept v (S .right));
     }
 
-along-kept : {l m : List ℕ} → Extends l m → (es : List Edge) → SameAlong l es → SameAlong m es
+along-kept : {l m : List ℕ} → ExtendsOrigins l m → (es : List Edge) → SameAlong l es → SameAlong m es
 along-kept E [] A = tt
 along-kept E (e ∷ es) A = (same-kept E (A .0), along-kept E es (A .1))
 
-quad-kept : {l m : List ℕ} {q : QuadIds} → Extends l m → SameInQuad l q → SameInQuad m q
+quad-kept : {l m : List ℕ} {q : QuadIds} → ExtendsOrigins l m → SameInQuad l q → SameInQuad m q
 quad-kept E Q = record { b = same-kept E (Q .b); d = same-kept E (Q .d); c = same-kept E (Q .c) }
 
-extends-same : (l : List ℕ) → Extends l l
-extends-same l = record { more = omega arith; kept = λ u h. refl }
+extended-same : (l : List ℕ) → ExtendsOrigins l l
+extended-same l = record { more = omega arith; kept = λ u h. refl }
 
-extends-trans : {l m r : List ℕ} → Extends l m → Extends m r → Extends l r
-extends-trans E F =
+extended-trans : {l m r : List ℕ} → ExtendsOrigins l m → ExtendsOrigins m r → ExtendsOrigins l r
+extended-trans E F =
     record { more = omega (arith, E .more, F .more); kept = λ u h. F .kept u (omega (arith, E .more)) ∙ E .kept u h }
 
-extends-append : (l m : List ℕ) → Extends l (l ++ m)
-extends-append l m = record { more = omega (arith, length-append l m); kept = λ u h. List·getD-append l m 0 u h }
+extended-append : (l m : List ℕ) → ExtendsOrigins l (l ++ m)
+extended-append l m = record { more = omega (arith, length-append l m); kept = λ u h. List·getD-append l m 0 u h }
 
 -- ---- edges of a front
 
@@ -127,7 +127,7 @@ push-new a id l h = rw (eq-eqb id (length l) h)
 -- what a side leaves: node id has the number of a
 record SideNumbered (n a id : ℕ) (l m : List ℕ) (b : Book) : Type 0 where
   numbered : Numbered n m b
-  extends : Extends l m
+  extends : ExtendsOrigins l m
   same : SameOrigin m a id
 
 -- the side from u to v, between id and the node w, which has a's number
@@ -137,7 +137,7 @@ module _ (n a id w u v : ℕ) (s : State) (b : Book) (l : List ℕ) (N : Numbere
       → SideNumbered n a id l (pushOrigin a id l) (book (b .xs) (b .ys) (without (edge u v) (b .front)))
   side-old F =
       let S = same-join A (there (F .same)) in
-      rw (push-old a id l (S .right)) (record { numbered = F .numbered; extends = extends-same l; same = S })
+      rw (push-old a id l (S .right)) (record { numbered = F .numbered; extends = extended-same l; same = S })
 
   side-new : (x y : Float) → id ≡ length (b .xs)
       → SideNumbered n a id l (pushOrigin a id l) (goesOn (edge v u) (book (b .xs ++ x ∷ []) (b .ys ++ y ∷ []) (b .front)))
@@ -156,8 +156,8 @@ module _ (n a id w u v : ℕ) (s : State) (b : Book) (l : List ℕ) (N : Numbere
       m : List ℕ
       m = l ++ originOf l a ∷ []
 
-      E : Extends l m
-      E = extends-append l (originOf l a ∷ [])
+      E : ExtendsOrigins l m
+      E = extended-append l (originOf l a ∷ [])
 
       longer : length m ≡ length l + 1
       longer = length-append l (originOf l a ∷ [])
@@ -194,7 +194,7 @@ module _ (n a id w u v : ℕ) (s : State) (b : Book) (l : List ℕ) (N : Numbere
 -- what it leaves
 pub record QuadNumbered (n : ℕ) (q : Quad) (l : List ℕ) (b : Book) : Type 0 where
   pub numbered : Numbered n (quadOrigins (idsOf q) l) b
-  pub extends : Extends l (quadOrigins (idsOf q) l)
+  pub extends : ExtendsOrigins l (quadOrigins (idsOf q) l)
   pub quad : SameInQuad (quadOrigins (idsOf q) l) (idsOf q)
   -- its first node had a number before
   pub old : q .a < length l
@@ -207,7 +207,7 @@ quad-step n s q b0 l N =
     (at-side n (q .a) (q .c) (q .a) (q .c) (q .a) s b1 l (F .numbered) (same-self (F .same .left)) (λ S. same-back S) (λ m S. S)) λ b2 C.
     gives-then _ (QuadNumbered n q l) _ (side s (q .d) (edge (q .b) (q .d)) (edge (q .d) (q .b)) b2)
     (at-side n (q .a) (q .d) (q .b) (q .b) (q .d) s b2 _ (C .numbered) (same-kept (C .extends) (F .same)) (λ S. S) (λ m S. same-back S)) λ b3 D.
-    let E = extends-trans (C .extends) (D .extends) in
+    let E = extended-trans (C .extends) (D .extends) in
     let with-c = same-kept (D .extends) (C .same) in
     record {
       numbered = record {

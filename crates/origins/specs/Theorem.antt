@@ -22,7 +22,7 @@ use Rattle.books.specs.Net.{countEdge}
 use Rattle.books.specs.Holds.{BooksHold}
 use Rattle.books.specs.BookLaws.{count-sum, has-edge, Gives}
 use Rattle.sampled.specs.Outlines.{outline-three}
-use Rattle.books_hold.specs.Runs.{accepted}
+use Rattle.books_hold.specs.Runs.{accepted-run}
 use Rattle.books_hold.specs.Theorem.{books-hold}
 use Rattle.origins.specs.Origins.{originsAfter, SameOrigin, SameAlong, SameInLoop, OneOrigin}
 use Rattle.origins.specs.Steps.{NumberedAfter, same-self, same-join, along-has, numbered-after}
@@ -96,5 +96,5 @@ module _ (o : Outline) (size : Float) (lent s : State) (fine : outlineRefusal o 
 pub origins-hold : (o : Outline) (set : Settings) (f : FieldLists) (lent : State) → OutlineFits o → runRefusal o set f lent ≡ 0
     → (k : ℕ) → k ≤ runOf o set f lent .paving .state .counts .quads → OneOrigin o (set .size) (runOf o set f lent .paving .state) k
 origins-hold o set f lent doubles none =
-    let A = accepted o set f lent doubles none in
+    let A = accepted-run o set f lent doubles none in
     origins-booked o (set .size) lent (runOf o set f lent .paving .state) (A .outline) (A .front) (books-hold o set f lent doubles none)

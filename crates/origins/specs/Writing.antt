@@ -27,7 +27,7 @@ use Rattle.sampled.specs.Outlines.{outline-three}
 use Rattle.sampled.specs.Begun.{refusal-places}
 use Rattle.boundary.specs.Counting.{most, evenUp}
 use Rattle.boundary.specs.Progress.{outline-shaped, Progress, nodes-of, progress-none, progress-fits, progress-next}
-use Rattle.books_hold.specs.Runs.{Accepted, advance-holds, advance-facts}
+use Rattle.books_hold.specs.Runs.{AcceptedRun, advance-holds, advance-facts}
 use Rattle.origins.specs.Origins.{originOf, sampledOrigins, pushOrigin, quadOrigins, originsAfter, OriginsAnswered}
 use Rattle.origins.specs.Start.{firstOrigins, first-length, sampled-length}
 use Rattle.origins.specs.Theorem.{booked-after, origins-booked}
@@ -59,16 +59,16 @@ pub record Sampleable (o : Outline) (size : Float) (places : ℕ) : Type 0 where
 
 -- ---- a run of one number
 
-pub fill-next : (before : List ℕ) {after : List ℕ} (from number i : ℕ) → after ≡ sets before from (replicate i number)
+pub repeat-next : (before : List ℕ) {after : List ℕ} (from number i : ℕ) → after ≡ sets before from (replicate i number)
     → set after (from + i) number ≡ sets before from (replicate (i + 1) number)
-fill-next before from number i e =
+repeat-next before from number i e =
     ap (λ (l : List ℕ). set l (from + i) number) e
     ∙ sets-more (replicate i number) number before from (from + i) (omega (arith, length-replicate i number))
     ∙ ap (sets before from) (replicate-append-replicate i 1 number)
 
-pub fill-end : (before : List ℕ) {after : List ℕ} (from number i count : ℕ) → after ≡ sets before from (replicate i number) → i ≤ count → count ≤ i
+pub repeat-end : (before : List ℕ) {after : List ℕ} (from number i count : ℕ) → after ≡ sets before from (replicate i number) → i ≤ count → count ≤ i
     → after ≡ sets before from (replicate count number)
-fill-end before from number i count e h q =
+repeat-end before from number i count e h q =
     let all : i ≡ count = omega arith in e ∙ ap (λ (k : ℕ). sets before from (replicate k number)) all
 
 -- ---- the samples
@@ -327,7 +327,7 @@ module _ (o : Outline) (size : Float) (lent s : State) (fine : outlineRefusal o 
       }
 
 -- of a paving, from a sampled outline that isn't refused
-pub advance-numberable : (o : Outline) (size : Float) (lent : State) → Accepted o size lent → (field : FieldRecord) (passes : ℕ) (end : Paved)
+pub advance-numberable : (o : Outline) (size : Float) (lent : State) → AcceptedRun o size lent → (field : FieldRecord) (passes : ℕ) (end : Paved)
     → end ≡ advance o size field passes (fromBoundary o size lent) → (places : ℕ) → end .state .counts .nodes ≤ places
     → Numberable o size (end .state .quads) (end .state .counts .quads) places
 advance-numberable o size lent A field passes end e places room =

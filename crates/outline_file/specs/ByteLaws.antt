@@ -15,7 +15,7 @@ use lib.Ieee.Bits.{nanBits-above, nanBits-is}
 use Rattle.laws.specs.Loop.{Loop, loop-end, sumUp, sumTurn}
 use Rattle.laws.specs.Sums.{sum-zero, sum-suc}
 use Rattle.numbers.specs.Float.{bits, zeroF, _⊘_}
-use Rattle.outline_file.specs.File.{numberAt, blockAt, weighed, checkOf}
+use Rattle.outline_file.specs.File.{numberAt, blockAt, weightedByte, checkOf}
 
 -- what owning a slice of bytes tells
 abbrev pub AreBytes : List ℕ → Type 0
@@ -122,12 +122,12 @@ module _ (file : List ℕ) (k : ℕ) where
 
 -- the loop that adds it up
 abbrev pub Adding : List ℕ → ℕ → ℕ → Type 0
-Adding b i sum = Loop (sumTurn (weighed b)) 0 510 i sum
+Adding b i sum = Loop (sumTurn (weightedByte b)) 0 510 i sum
 
-pub weight : (b : List ℕ) (i : ℕ) → AreBytes b → i < 510 → weighed b i ≤ 510 * 255
+pub weight : (b : List ℕ) (i : ℕ) → AreBytes b → i < 510 → weightedByte b i ≤ 510 * 255
 weight b i h lt = mul-le-mul {n₁ = i + 1} {m₁ = getD b i 0} {n₂ = 510} {m₂ = 255} (omega arith) (omega (arith, h i))
 
-pub sum-small : (b : List ℕ) (n : ℕ) → AreBytes b → n ≤ 510 → sumUp n (weighed b) ≤ 130050 * n
+pub sum-small : (b : List ℕ) (n : ℕ) → AreBytes b → n ≤ 510 → sumUp n (weightedByte b) ≤ 130050 * n
 sum-small b zero h le = rw sum-zero (omega arith)
 sum-small b (suc n) h le = rw sum-suc (omega (arith, sum-small b n h (omega arith), weight b n h (omega arith)))
 

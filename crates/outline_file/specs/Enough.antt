@@ -16,7 +16,7 @@ use Rattle.domain.specs.Outline.{firstOf}
 use Rattle.outline_file.specs.File.{blockAt, headRefusal, pointBlocks, pointsRefusal, pointsTurn, blocksRefusal, coordinateAt}
 use Rattle.outline_file.specs.File.{filePoints, fileLength, endRefusal, fileRefusal, Request, requestOf, readAs, readFile}
 use Rattle.outline_file.specs.RefusalLaws.{headed}
-use Rattle.outline_file.specs.ReadLaws.{accepted}
+use Rattle.outline_file.specs.ReadLaws.{accepted-file}
 
 -- one byte more than the longest file has
 abbrev pub decisive : ℕ
@@ -80,5 +80,5 @@ module _ (file : List ℕ) where
   enough points lens = rw refusal-same (go (fileRefusal file) refl)
     where
       go : (r : ℕ) → fileRefusal file ≡ r → readAs r (requestOf start) points lens ≡ readAs r (requestOf file) points lens
-      go zero e = ap (λ (q : Request). readAs 0 q points lens) (request-same (accepted file e .head .sound .points))
+      go zero e = ap (λ (q : Request). readAs 0 q points lens) (request-same (accepted-file file e .head .sound .points))
       go (suc k) e = refl

@@ -50,23 +50,23 @@ unfoldable pub blockAt : List ℕ → ℕ → List ℕ
 blockAt file k = take 512 (drop (512 * k) file)
 
 -- the check: the sum of (position + 1) × byte over bytes 0 to 509, modulo 65,521
-abbrev pub weighed : List ℕ → ℕ → ℕ
-weighed b i = (i + 1) * getD b i 0
+abbrev pub weightedByte : List ℕ → ℕ → ℕ
+weightedByte b i = (i + 1) * getD b i 0
 
 unfoldable pub checkOf : List ℕ → ℕ
-checkOf b = sumUp 510 (weighed b) % 65521
+checkOf b = sumUp 510 (weightedByte b) % 65521
 
 -- of a block: absent or shorter than 512 bytes 13, then the check in bytes 510 and 511, 12
 unfoldable pub blockRefusal : List ℕ → ℕ
 blockRefusal b = cond (ltb (length b) 512) 13 (cond (eqb (checkOf b) (numberAt 2 b 510)) 0 12)
 
 -- whether byte `at` + i isn't 0
-abbrev pub filled : List ℕ → ℕ → ℕ → Bool
-filled b at i = not (eqb (getD b (at + i) 0) 0)
+abbrev pub nonzeroByte : List ℕ → ℕ → ℕ → Bool
+nonzeroByte b at i = not (eqb (getD b (at + i) 0) 0)
 
 -- whether the bytes from place `at` to 509 are 0
 unfoldable pub zeroFrom : List ℕ → ℕ → Bool
-zeroFrom b at = not (anyUp (510 - at) (filled b at))
+zeroFrom b at = not (anyUp (510 - at) (nonzeroByte b at))
 
 -- ---- the head block: size in 8 bytes, then sweeps, passes, the number of loops and each loop's length in 2 bytes each, then zeros
 
@@ -222,15 +222,15 @@ fileable r =
     && (leb (totalPoints (r .lengths)) 248 && (eqb (length (r .coordinates)) (2 * totalPoints (r .lengths))
     && (ltb (r .settings .sweeps) 65536 && ltb (r .settings .passes) 65536))))
 
-pub record Writing : Type 0 where
+pub record FileWritten : Type 0 where
   pub count : ℕ
   pub file : List ℕ
 
-abbrev pub writing : ℕ → List ℕ → Writing
-writing count file = record { count = count; file = file }
+abbrev pub fileWritten : ℕ → List ℕ → FileWritten
+fileWritten count file = record { count = count; file = file }
 
 -- The file on the first places, and its length; or 0 and nothing written, where a file can't hold the request or the list is too short.
-unfoldable pub writeFile : Request → List ℕ → Writing
+unfoldable pub writeFile : Request → List ℕ → FileWritten
 writeFile r file =
     let bytes = fileOf r in
-    cond (fileable r && leb (length bytes) (length file)) (writing (length bytes) (overlay bytes file)) (writing 0 file)
+    cond (fileable r && leb (length bytes) (length file)) (fileWritten (length bytes) (overlay bytes file)) (fileWritten 0 file)

@@ -12,7 +12,7 @@ use Rattle.laws.specs.Tabulate.{tabulate-length, tabulate-at}
 use Rattle.domain.specs.Outline.{Outline, outline}
 use Rattle.outline_file.specs.File.{blockAt, headLoops, headLength, headPoints, coordinateAt, filePoints, fileRefusal, Request, outlineOf, requestOf}
 use Rattle.outline_file.specs.File.{headOf}
-use Rattle.outline_file.specs.ReadLaws.{accepted}
+use Rattle.outline_file.specs.ReadLaws.{accepted-file}
 
 -- a part of what was put on the first places
 module _ {A : Type 0} (l s : List A) where
@@ -36,7 +36,7 @@ module _ (file : List ℕ) (unrefused : fileRefusal file ≡ 0) where
   unfolding requestOf headPoints
   request-lengths =
       let b = blockAt file 0 in
-      let s = accepted file unrefused .head .sound in
+      let s = accepted-file file unrefused .head .sound in
       let n = tabulate-length (headLoops b) (headLength b) in (
         rw n (s .some),
         tabulate-length (2 * filePoints file) (coordinateAt file),

@@ -39,13 +39,13 @@ blocks-reach file n (suc m) long e =
     omega (arith, block-reach file (m + 1) (block-long (blockAt file (m + 1)) (sym (b .0))))
 
 -- what a file says that isn't refused
-pub record Accepted (file : List ℕ) : Type 0 where
+pub record AcceptedFile (file : List ℕ) : Type 0 where
   pub head : Headed (blockAt file 0)
   pub long : fileLength (filePoints file) ≤ length file
 
-pub accepted : (file : List ℕ) → fileRefusal file ≡ 0 → Accepted file
+pub accepted-file : (file : List ℕ) → fileRefusal file ≡ 0 → AcceptedFile file
 unfolding fileRefusal blocksRefusal
-accepted file e =
+accepted-file file e =
     let z = first-zero (headRefusal (blockAt file 0)) _ e in
     let b = first-zero (blocksRefusal file (filePoints file)) (endRefusal file (filePoints file)) (z .1) in
     let h = headed (blockAt file 0) (z .0) in
@@ -54,8 +54,8 @@ accepted file e =
 -- ---- the head
 
 -- what stands in a head
-unfoldable pub headAt : List ℕ → Head
-headAt h =
+unfoldable pub blockHead : List ℕ → Head
+blockHead h =
     record {
       settings = record { size = floatAt h 0; sweeps = numberAt 2 h 8; passes = numberAt 2 h 10 };
       loops = headLoops h;
@@ -65,8 +65,8 @@ headAt h =
 
 pub head-made : (h : List ℕ) {size : Float} {sweeps passes loops outer points : ℕ}
     → size ≡ floatAt h 0 → NumberOf 2 h 8 sweeps → NumberOf 2 h 10 passes → NumberOf 2 h 12 loops → NumberOf 2 h 14 outer → points ≡ headPoints h loops
-    → record { settings = record { size = size; sweeps = sweeps; passes = passes }; loops = loops; outer = outer; points = points } ≡ headAt h
-unfolding headAt
+    → record { settings = record { size = size; sweeps = sweeps; passes = passes }; loops = loops; outer = outer; points = points } ≡ blockHead h
+unfolding blockHead
 head-made h e s p l o c = rw (e, s .same, p .same, o .same, c, l .same)
 
 -- ---- coordinates
@@ -91,8 +91,8 @@ read-refused file points lens {r} e n = go r n ∙ ap (λ (k : ℕ). readAs k (r
     go (suc k) n = refl
 
 -- the head is the request's
-head-of : (file : List ℕ) → Headed (blockAt file 0) → headAt (blockAt file 0) ≡ headOf (requestOf file)
-unfolding headAt headOf requestOf
+head-of : (file : List ℕ) → Headed (blockAt file 0) → blockHead (blockAt file 0) ≡ headOf (requestOf file)
+unfolding blockHead headOf requestOf
 head-of file h =
     let b = blockAt file 0 in
     let n = filePoints file in
@@ -101,22 +101,22 @@ head-of file h =
 
 module _ (file : List ℕ) (points : List Float) (lens : List ℕ) {r : ℕ} (e : r ≡ fileRefusal file) (z : r ≡ 0) where
   pub read-headed : {h : List ℕ} → h ≡ blockAt file 0 → Headed h
-  read-headed at = rw at (accepted file (sym e ∙ z) .head)
+  read-headed at = rw at (accepted-file file (sym e ∙ z) .head)
 
-  module _ {h : List ℕ} (at : h ≡ blockAt file 0) {head : Head} (f : head ≡ headAt h) where
+  module _ {h : List ℕ} (at : h ≡ blockAt file 0) {head : Head} (f : head ≡ blockHead h) where
     pub read-loops : (head .loops ≤ 8) × (510 ≤ length h)
-    unfolding headAt
-    read-loops = let d = accepted file (sym e ∙ z) .head in rw (f, at) (d .sound .few, omega (arith, d .long))
+    unfolding blockHead
+    read-loops = let d = accepted-file file (sym e ∙ z) .head in rw (f, at) (d .sound .few, omega (arith, d .long))
 
     pub read-count : (head .points ≤ 248) × (fileLength (head .points) ≤ length file)
-    unfolding headAt
-    read-count = let d = accepted file (sym e ∙ z) in rw (f, at) (d .head .sound .points, d .long)
+    unfolding blockHead
+    read-count = let d = accepted-file file (sym e ∙ z) in rw (f, at) (d .head .sound .points, d .long)
 
     pub read-whole : {points′ : List Float} {lens′ : List ℕ} → lens′ ≡ overlay (tabulate (head .loops) (headLength h)) lens
         → points′ ≡ overlay (tabulate (2 * head .points) (coordinateAt file)) points → reading (Read head) points′ lens′ ≡ readFile file points lens
-    unfolding readFile headAt requestOf
+    unfolding readFile blockHead requestOf
     read-whole p q =
         rw (p, q, f, at)
         (ap (λ (k : Head). reading (Read k) (overlay (requestOf file .coordinates) points) (overlay (requestOf file .lengths) lens))
-        (head-of file (accepted file (sym e ∙ z) .head))
+        (head-of file (accepted-file file (sym e ∙ z) .head))
         ∙ sym (ap (λ (k : ℕ). readAs k (requestOf file) points lens) (sym e ∙ z)))

@@ -53,12 +53,12 @@ module _ {r a : ℕ} (next : ℕ) (e : r ≡ a) where
 -- ---- the head
 
 -- the loop that adds up the lengths
-pub record Counting (h : List ℕ) (n k sum : ℕ) : Type 0 where
+pub record HeadCounting (h : List ℕ) (n k sum : ℕ) : Type 0 where
   pub same : Loop (sumTurn (headLength h)) 0 n k sum
   pub small : sum ≤ 65535 * k
 
-module _ {h : List ℕ} {n k sum : ℕ} (l : Counting h n k sum) where
-  pub counting-next : {x : ℕ} → k < n → NumberOf 2 h (14 + 2 * k) x → Counting h n (k + 1) (sum + x)
+module _ {h : List ℕ} {n k sum : ℕ} (l : HeadCounting h n k sum) where
+  pub counting-next : {x : ℕ} → k < n → NumberOf 2 h (14 + 2 * k) x → HeadCounting h n (k + 1) (sum + x)
   counting-next {x} lt e = record {
     same = subst (λ (y : ℕ). Loop (sumTurn (headLength h)) 0 n (k + 1) (sum + y)) (sym (e .same)) (loop-next (sumTurn (headLength h)) 0 (l .same) lt);
     small = omega (arith, l .small, e .small);
@@ -68,7 +68,7 @@ module _ {h : List ℕ} {n k sum : ℕ} (l : Counting h n k sum) where
   unfolding headPoints sumUp
   counting-end le = loop-end (sumTurn (headLength h)) 0 (l .same) le
 
-pub counting-start : (h : List ℕ) (n : ℕ) → Counting h n 0 0
+pub counting-start : (h : List ℕ) (n : ℕ) → HeadCounting h n 0 0
 counting-start h n = record { same = loop-start (sumTurn (headLength h)) 0 n; small = omega arith }
 
 module _ (h : List ℕ) {n : ℕ} (l : NumberOf 2 h 12 n) where
@@ -170,26 +170,26 @@ module _ (file : List ℕ) (n k : ℕ) {b : List ℕ} (at : b ≡ blockAt file (
 -- ---- all blocks of points: the loop's invariant is that none so far is refused
 
 module _ (file : List ℕ) (n : ℕ) where
-  abbrev pub Unrefused : ℕ → Type 0
-  Unrefused k = Loop (pointsTurn file n) 0 (pointBlocks n) k 0
+  abbrev pub BlocksUnrefused : ℕ → Type 0
+  BlocksUnrefused k = Loop (pointsTurn file n) 0 (pointBlocks n) k 0
 
-  module _ {k r : ℕ} (l : Unrefused k) (h : 31 * k < n) (e : r ≡ pointsRefusal file n k) where
+  module _ {k r : ℕ} (l : BlocksUnrefused k) (h : 31 * k < n) (e : r ≡ pointsRefusal file n k) where
     within : k < pointBlocks n
     within = omega arith
 
-    pub unrefused-next : r ≡ 0 → Unrefused (k + 1)
-    unrefused-next z = subst (Loop (pointsTurn file n) 0 (pointBlocks n) (k + 1)) (sym e ∙ z) (loop-next (pointsTurn file n) 0 l within)
+    pub blocks-unrefused-next : r ≡ 0 → BlocksUnrefused (k + 1)
+    blocks-unrefused-next z = subst (Loop (pointsTurn file n) 0 (pointBlocks n) (k + 1)) (sym e ∙ z) (loop-next (pointsTurn file n) 0 l within)
 
-    pub unrefused-out : (r ≡ 0 → ⊥) → r ≡ blocksRefusal file n
+    pub blocks-unrefused-out : (r ≡ 0 → ⊥) → r ≡ blocksRefusal file n
     unfolding blocksRefusal
-    unrefused-out z =
+    blocks-unrefused-out z =
         let next = loop-next (pointsTurn file n) 0 l within in
         sym (forUp-stays (pointBlocks n) (k + 1) (pointsTurn file n) 0 r (next .within) (sym (next .same) ∙ sym e)
         (λ j. first-stays r (pointsRefusal file n j) z))
 
-  pub unrefused-end : {k : ℕ} → Unrefused k → n ≤ 31 * k → 0 ≡ blocksRefusal file n
+  pub blocks-unrefused-end : {k : ℕ} → BlocksUnrefused k → n ≤ 31 * k → 0 ≡ blocksRefusal file n
   unfolding blocksRefusal
-  unrefused-end {k} l h = loop-end (pointsTurn file n) 0 l (omega arith)
+  blocks-unrefused-end {k} l h = loop-end (pointsTurn file n) 0 l (omega arith)
 
 -- ---- the file
 

@@ -9,7 +9,7 @@ ghost use Rattle.outline_file.specs.File.{floatAt, blockAt, checkOf, blo
 ghost use Rattle.outline_file.specs.File.{pointsRefusal, blocksRefusal, coordinateAt, fileLength, fileRefusal, reading, readFile};
 ghost use Rattle.outline_file.specs.ByteLaws.{NumberOf};
 ghost use Rattle.outline_file.specs.RefusalLaws.{Headed};
-ghost use Rattle.outline_file.specs.ReadLaws.{headAt};
+ghost use Rattle.outline_file.specs.ReadLaws.{blockHead};
 use domain::Settings;
 
 // What a file's head says: the settings, how many loops, and how many points the outer loop and all loops have.
@@ -259,7 +259,7 @@ fn read_lengths(h: &[u8], n: usize, lens: &mut [usize])
 
 fn read_head(h: &[u8]) -> Head
     requires { ⌜ Headed (now h) ⌝ }
-    ensures { λ r. ⌜ r ≡ headAt (now (h .entry)) ⌝ }
+    ensures { λ r. ⌜ r ≡ blockHead (now (h .entry)) ⌝ }
 {
     let loops = number_at(2, h, 12) as usize;
     let settings = Settings {

@@ -9,12 +9,14 @@ use Rattle.numbers.specs.Float.{zeroF, oneF, twoF, toFloat, isFinite, absF, min
 use Rattle.numbers.specs.Root.{isqrtIn, rootUnits, root}
 use Rattle.numbers.specs.Whole.{ceilCount}
 use Rattle.exact.specs.Corner.{norm}
-use Rattle.domain.specs.Outline.{Outline, outline, holeStart, holeAt, loopAt, pointAt, pointAfter, anyFloat, misshapen, loopRefusal, loopsRefusal}
+use Rattle.domain.specs.Outline.{outline, holeStart, holeAt, loopAt, pointAt, pointAfter, anyFloat, misshapen, loopRefusal, loopsRefusal}
 use Rattle.domain.specs.Outline.{farRefusal, outlineRefusal}
 use Rattle.geometry.specs.Plane.{distance}
 use Rattle.crossfield.specs.Grid.{widened, loopBounds, bounds, gridCount, tooManyNodes, spacing, gridOf, sizeRefusal, boundsRefusal}
+use Rattle.crossfield.specs.Field.{drawnRefusal}
 use Rattle.front.specs.Sampling.{partsOf, parts, loopParts, loopNodes, sampledCount}
-use Rattle.places.specs.Needed.{drawnRefusal, placesAnswered, placesAnswer}
+use Rattle.whole_run.specs.Worked.{workedSquare, workedTriangle}
+use Rattle.places.specs.Needed.{placesAnswered, placesAnswer}
 
 unfoldable openedFloats : Unit {0}
 unfolding trailingZeros span climb size odd units round neg sum add sub mul div lt eq le ofInt ofFields ofBits isNan isFinite absF minF maxF isqrtIn rootUnits
@@ -30,21 +32,13 @@ opened = tt
 abbrev threeF : Float
 threeF = toFloat 3
 
--- (0, 0) (2, 0) (2, 2) (0, 2)
-abbrev square : Outline
-square = outline (zeroF ∷ zeroF ∷ twoF ∷ zeroF ∷ twoF ∷ twoF ∷ zeroF ∷ twoF ∷ []) [] []
-
--- (0, 0) (2, 0) (1, 2)
-abbrev triangle : Outline
-triangle = outline (zeroF ∷ zeroF ∷ twoF ∷ zeroF ∷ oneF ∷ twoF ∷ []) [] []
-
 -- document 01's square: nodes half a unit apart, with one more outside on one side and two on the other; two parts a side
-of-square : placesAnswer square oneF ≡ placesAnswered 0 49 8
+of-square : placesAnswer workedSquare oneF ≡ placesAnswered 0 49 8
 unfolding opened
 of-square = refl
 
 -- its triangle at size 3: an odd loop gets one node more
-of-triangle : placesAnswer triangle threeF ≡ placesAnswered 0 25 4
+of-triangle : placesAnswer workedTriangle threeF ≡ placesAnswered 0 25 4
 unfolding opened
 of-triangle = refl
 
@@ -58,6 +52,6 @@ unfolding opened
 flat = refl
 
 -- 2 of a hole
-short-hole : placesAnswer (outline (square .outer) (oneF ∷ oneF ∷ []) (1 ∷ [])) zeroF ≡ placesAnswered 2 0 0
+short-hole : placesAnswer (outline (workedSquare .outer) (oneF ∷ oneF ∷ []) (1 ∷ [])) zeroF ≡ placesAnswered 2 0 0
 unfolding opened
 short-hole = refl

@@ -47,8 +47,8 @@ apart p q =
     go : (a b x n w : ℕ) → 10000 * n ≤ 10001 * x → x ≤ a + b → a ≤ 1000 * w → b ≤ 1000 * w → n ≤ 2001 * w
     go a b x n w h l m k = omega arith
 
-square : {x : Float} → Within 2001 x → UpTo 8008003 (x ⊗ x)
-square {x} p =
+square-small : {x : Float} → Within 2001 x → UpTo 8008003 (x ⊗ x)
+square-small {x} p =
     let q = mul-law p p tt tt in
     let t = product-within (2001 * 2001) q (le-trans (mul-le-mul (p .small) (p .small)) (le-of-eq (mul-mul-mul-comm 2001 W 2001 W))) in
     record { units = q .size; val = subst (λ (s : Bool). Val (x ⊗ x) s (q .size)) (unlike-self (p .sign)) (q .val); small = t .small }
@@ -56,8 +56,8 @@ square {x} p =
 norm-small : {x y : Float} → Within 2001 x → Within 2001 y → UpTo 5661 (norm x y)
 unfolding norm
 norm-small {x} {y} p q =
-    let a = square p in
-    let b = square q in
+    let a = square-small p in
+    let b = square-small q in
     let s = add-law-pos (x ⊗ x) (y ⊗ y) (a .units) (b .units) (a .val) (b .val) (moderate (a .units) (a .small)) (moderate (b .units) (b .small)) in
     let r = root-law (x ⊗ x ⊕ y ⊗ y) (add-fits binary64 (x ⊗ x) (y ⊗ y)) (s .size) (s .val) in
     let few = sum (a .units) (b .units) (s .size) W (rel (s .size) (a .units + b .units) (s .near) .0) (a .small) (b .small) in

@@ -16,15 +16,15 @@ use Rattle.direction.specs.declared.Grid.{Grid}
 use Rattle.direction.specs.Record.{gridNodes, mostFieldNodes, FieldLists}
 use Rattle.crossfield.specs.declared.Bounds.{Bounds}
 use Rattle.crossfield.specs.Grid.{bounds, gridOf, sizeRefusal, boundsRefusal, sweepsRefusal}
-use Rattle.crossfield.specs.Field.{fieldPlaces, placesRefusal, refusalFor, fieldRefusal}
-use Rattle.crossfield.specs.FieldLaws.{few}
+use Rattle.crossfield.specs.Field.{fieldPlaces, placesRefusal, drawnRefusal, refusalFor, fieldRefusal}
+use Rattle.crossfield.specs.FieldLaws.{few, drawn-is}
 use Rattle.crossfield.specs.Spacing.{sized}
 use Rattle.front.specs.State.{State, mostNodes, nodePlaces, edgePlaces}
 use Rattle.front.specs.Sampling.{sampledCount, frontRefusal}
 use Rattle.boundary.specs.Counting.{most}
 use Rattle.whole_run.specs.Run.{runRefusal}
 use Rattle.places.specs.declared.PlacesAnswer.{PlacesAnswer}
-use Rattle.places.specs.Needed.{drawnRefusal, placesAnswered, placesAnswer, PlacesGiven}
+use Rattle.places.specs.Needed.{placesAnswered, placesAnswer, PlacesGiven}
 use Rattle.places.specs.Few.{sampled-few}
 
 -- 1 to 7, then 8 and 9
@@ -67,17 +67,8 @@ module _ (o : Outline) (size : Float) (doubles : OutlineFits o) (held : T (fits 
 
   -- ---- the code
 
-  -- with no sweeps and all places 8 and 9 don't refuse
-  none-later : refusalFor o size 0 mostFieldNodes ≡ drawnRefusal o size
-  unfolding sweepsRefusal placesRefusal
-  none-later = for-split o size 0 mostFieldNodes ∙ go (drawnRefusal o size) refl
-    where
-      go : (n : ℕ) → drawnRefusal o size ≡ n → firstOf n (firstOf (sweepsRefusal 0) (placesRefusal (gridOf (bounds o) size) mostFieldNodes)) ≡ n
-      go zero e = rw (le-ltb mostFieldNodes (gridNodes (gridOf (bounds o) size)) (field-few e refl)) refl
-      go (suc n) e = refl
-
-  pub drawn-none : {n : ℕ} → n ≡ refusalFor o size 0 mostFieldNodes → n ≡ 0 → drawnRefusal o size ≡ 0
-  drawn-none e passed = sym none-later ∙ sym e ∙ passed
+  pub drawn-unrefused : {n : ℕ} → n ≡ refusalFor o size 0 mostFieldNodes → n ≡ 0 → drawnRefusal o size ≡ 0
+  drawn-unrefused e passed = sym (drawn-is o size doubles held) ∙ sym e ∙ passed
 
   pub counted : {b : Bounds} {g : Grid} {n : ℕ} → drawnRefusal o size ≡ 0 → b ≡ bounds o → g ≡ gridOf b size → n ≡ min (sampledCount o size) most
       → placesAnswered 0 (gridNodes g) n ≡ placesAnswer o size
@@ -120,7 +111,7 @@ module _ (o : Outline) (size : Float) (doubles : OutlineFits o) (held : T (fits 
 
   pub given-refused : {n : ℕ} → n ≡ refusalFor o size 0 mostFieldNodes → (n ≡ 0 → ⊥) → PlacesGiven o size (placesAnswered n 0 0)
   given-refused {n} e h =
-      let same : n ≡ drawnRefusal o size = e ∙ none-later in
+      let same : n ≡ drawnRefusal o size = e ∙ drawn-is o size doubles held in
       let some : drawnRefusal o size ≡ 0 → ⊥ = λ z. h (same ∙ z) in
       record {
         equal = ap (λ (n : ℕ). placesAnswered n 0 0) same ∙ refused-is some;
@@ -138,7 +129,7 @@ module _ (o : Outline) (size : Float) (doubles : OutlineFits o) (held : T (fits 
   pub given-counted : {n : ℕ} {r : PlacesAnswer} → n ≡ refusalFor o size 0 mostFieldNodes → n ≡ 0 → r ≡ placesAnswer o size → PlacesGiven o size r
   unfolding frontRefusal
   given-counted asked passed e =
-      let none = drawn-none asked passed in
+      let none = drawn-unrefused asked passed in
       subst (PlacesGiven o size) (sym (e ∙ answered-is none))
       (record {
         equal = sym (answered-is none);

@@ -5,19 +5,15 @@ use Prim.Native.Nat.{ℕ, _≤_}
 use lib.Dec.{ltb}
 use lib.Ieee.{Float}
 use Rattle.domain.specs.declared.Settings.{Settings}
-use Rattle.domain.specs.Outline.{Outline, firstOf, outlineRefusal}
+use Rattle.domain.specs.Outline.{Outline}
 use Rattle.domain.specs.Queries.{answerBy}
 use Rattle.direction.specs.Record.{gridNodes, mostFieldNodes, FieldLists}
-use Rattle.crossfield.specs.Grid.{bounds, gridOf, sizeRefusal, boundsRefusal, sweepsRefusal}
-use Rattle.crossfield.specs.Field.{fieldPlaces, fieldRefusal}
+use Rattle.crossfield.specs.Grid.{bounds, gridOf, sweepsRefusal}
+use Rattle.crossfield.specs.Field.{fieldPlaces, drawnRefusal, fieldRefusal}
 use Rattle.front.specs.State.{State, mostNodes, nodePlaces, edgePlaces}
 use Rattle.front.specs.Sampling.{sampledCount, frontRefusal}
 use Rattle.whole_run.specs.Run.{runRefusal}
 use Rattle.places.specs.declared.PlacesAnswer.{PlacesAnswer}
-
--- 1 to 7: those that depend on the outline and the size alone, in rising number
-unfoldable pub drawnRefusal : Outline → Float → ℕ
-drawnRefusal o size = firstOf (outlineRefusal o) (firstOf (sizeRefusal size) (boundsRefusal (bounds o)))
 
 abbrev pub placesAnswered : ℕ → ℕ → ℕ → PlacesAnswer
 placesAnswered refusal fieldNodes sampledNodes = record { refusal = refusal; «field_nodes» = fieldNodes; «sampled_nodes» = sampledNodes }

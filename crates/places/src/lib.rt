@@ -1,7 +1,8 @@
 // How much to lend: the nodes of the field and of the sampled outline, as refusals 9 and 10 count them.
 ghost use mathlib.Core.Path.{_≡_};
 ghost use Rattle.domain.specs.Outline.{outline};
-ghost use Rattle.places.specs.Needed.{drawnRefusal, placesAnswer, PlacesGiven};
+ghost use Rattle.crossfield.specs.Field.{drawnRefusal};
+ghost use Rattle.places.specs.Needed.{placesAnswer, PlacesGiven};
 use domain::Settings;
 
 // `refusal` is document 01's number, 0 where nothing is refused; on a refusal both counts are 0.

@@ -51,14 +51,14 @@ compared-as {l} {m} k {r} e = subst (λ (n : List ℕ). r ≡ compared n k) e
 -- ---- the loop that compares
 
 -- the invariant: the first i places are alike
-pub record Alike (l m : List ℕ) (i : ℕ) : Type 0 where
+pub record AlikeBelow (l m : List ℕ) (i : ℕ) : Type 0 where
   pub same : compared l m ≡ comparedFrom i (drop i l) (drop i m)
 
 module _ (l m : List ℕ) where
-  pub alike-start : Alike l m 0
+  pub alike-start : AlikeBelow l m 0
   alike-start = record { same = refl }
 
-  module _ {i : ℕ} (a : Alike l m i) where
+  module _ {i : ℕ} (a : AlikeBelow l m i) where
     -- what is left, byte and rest or nothing, on both sides
     left : {k n : List ℕ} → drop i l ≡ k → drop i m ≡ n → compared l m ≡ comparedFrom i k n
     left e f = a .same ∙ ap₂ (comparedFrom i) e f
@@ -72,7 +72,7 @@ module _ (l m : List ℕ) where
         → compared l m ≡ cond b (comparedFrom (suc i) (drop (suc i) l) (drop (suc i) m)) (DiffersAt i)
     headed h k e = heads h k ∙ ap (λ (b : Bool). cond b (comparedFrom (suc i) (drop (suc i) l) (drop (suc i) m)) (DiffersAt i)) e
 
-    pub alike-next : i < length l → i < length m → getD l i 0 ≡ getD m i 0 → Alike l m (i + 1)
+    pub alike-next : i < length l → i < length m → getD l i 0 ≡ getD m i 0 → AlikeBelow l m (i + 1)
     alike-next h k e = record { same = rw add-one (headed h k (eq-eqb _ _ e)) }
 
     pub alike-out : i < length l → i < length m → (getD l i 0 ≡ getD m i 0 → ⊥) → DiffersAt i ≡ compared l m

@@ -17,7 +17,7 @@ use Rattle.paving.specs.Advance.{isThere}
 use Rattle.attempts.specs.Seen.{seenOf, seenEdges}
 use Rattle.attempts.specs.SeenLaws.{try-seen}
 use Rattle.retries.specs.Vain.{isVain, noted, Remembers}
-use Rattle.retries.specs.VainLaws.{there-is, remembers-same, vain-fails, failed-now, noted-remembers}
+use Rattle.retries.specs.VainLaws.{there-is, noted-again, remembers-same, vain-fails, failed-now, noted-remembers}
 
 -- ---- definitions
 
@@ -59,6 +59,12 @@ module _ (o : Outline) (size : Float) (g : Grid) (values : List Float) where
     untried-vain e taken =
         let R = remembers-same o size field l (seenMesh t) t refl refl refl refl (U .remembers) in
         sym (vain-fails o size field l t R a b (U .node) (U .there) (rw (before, after) at (sym e ∙ taken)))
+
+    pub untried-kept : {v : Bool} → v ≡ isVain l a b p q → v ≡ true → l ≡ noted l a b (prevOf t a) (nextOf t b)
+    untried-kept e taken = noted-again l a b (prevOf t a) (nextOf t b) (rw (before, after) at (sym e ∙ taken))
+
+    pub untried-left : {m : List ℕ} → m ≡ noted l a b p q → m ≡ noted l a b (prevOf t a) (nextOf t b)
+    untried-left left = rw (before, after) at left
 
     -- one that was tried in vain, and is noted
     pub untried-noted : {r : Attempt} {m : List ℕ} → r ≡ tryEdge o size field t a b → r ≡ Nothing → m ≡ noted l a b p q

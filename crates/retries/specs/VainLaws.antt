@@ -1,6 +1,6 @@
 -- What the list has of an edge spares the try: `vain-fails`. And what makes and keeps it true: nothing noted, a note of an edge that was tried in vain, and
 -- any later state.
-use Prim.Native.Nat.{ℕ, zero, suc, _+_, _-_, _*_, _/_, _<_, _≤_, min}
+use Prim.Native.Nat.{ℕ, zero, suc, _+_, _-_, _*_, _/_, _<_, _≤_}
 use mathlib.Core.List.{List}
 use mathlib.Core.Path.{_≡_, refl, sym, _∙_, ap, ap₂, subst}
 use mathlib.Core.Bool.{Bool, true, false, not, cond}
@@ -9,7 +9,7 @@ use native.Mathlib.Nat.{eq-or-lt-of-le}
 use native.Mathlib.Omega.{arith}
 use lib.Dec.{eqb, ltb, leb}
 use lib.ListN.{length, getD, set, length-set}
-use lib.Seq.{getD-set-same, getD-set-other}
+use lib.Seq.{getD-set-same, getD-set-other, set-getD}
 use lib.Ieee.{Float}
 use borrow.Author.Tests.{ltb-true, ltb-false, lt-ltb, le-ltb, leb-true, leb-false, eqb-true, eqb-false, eq-eqb, ne-eqb, not-true}
 use Rattle.laws.specs.Loop.{forUp}
@@ -22,90 +22,92 @@ use Rattle.front.specs.State.{State, nodeIn, nextOf, prevOf}
 use Rattle.front.specs.Sound.{Sound, Frame}
 use Rattle.front.specs.FrameLaws.{frame-same}
 use Rattle.front.specs.Ready.{Known}
-use Rattle.paving.specs.declared.Attempt.the-variants.{Nothing}
+use Rattle.paving.specs.declared.Attempt.{Attempt}
+use Rattle.paving.specs.declared.Attempt.the-variants.{Nothing, Quad}
 use Rattle.paving.specs.Attempt.{tryEdge}
 use Rattle.paving.specs.Advance.{isThere}
+use Rattle.snapshots.specs.Stretches.{hasPlaces, stretched, OffBoth, Stretches, SamePlaces, FewerTries}
+use Rattle.snapshots.specs.StretchLaws.{stretch-written}
 use Rattle.retries.specs.Attempts.{try-fails}
 use Rattle.retries.specs.Lasting.{grows, grows-on, sound-few}
-use Rattle.retries.specs.Vain.{hasPlaces, isVain, noted, forgetTurn, forgotten, Failed, Remembers}
+use Rattle.retries.specs.Vain.{isVain, noted, triedAfter, forgetTurn, forgotten, Failed, Remembers}
 
 -- ---- the list
 
--- what `forgotten` leaves: as long a list, with `off` in the first place of each of the nodes, and the other places as they were
+-- what `forgotten` leaves: as long a list, in which the nodes have no try and no stretch, and the nodes before them what they had
 pub record Forgets (from to : ℕ) (l m : List ℕ) : Type 0 where
   pub long : length m ≡ length l
-  pub off-at : (a : ℕ) → from ≤ a → a < to → a < length l / 3 → getD m (3 * a) 0 ≡ off
-  pub kept : (i : ℕ) → i < 3 * from → getD m i 0 ≡ getD l i 0
+  pub none : (a : ℕ) → from ≤ a → a < to → a < length l / 3 → (getD m (3 * a) 0 ≡ off) × (getD m (3 * a + 1) 0 ≡ 0)
+  pub kept : (a : ℕ) → a < from → SamePlaces l m a
 
 module _ (from : ℕ) (l : List ℕ) where
   -- after n turns
-  forgets-after : (n : ℕ) → from + n ≤ length l / 3 → Forgets from (from + n) l (forUp n (forgetTurn from) l)
+  forgets-after : (n : ℕ) → Forgets from (from + n) l (forUp n (forgetTurn from) l)
   unfolding forUp
-  forgets-after zero h = record { long = refl; off-at = λ a low high room. absurd (omega arith); kept = λ i below. refl }
-  forgets-after (suc n) h =
-      let F = forgets-after n (omega arith) in
+  forgets-after zero = record { long = refl; none = λ a low high room. absurd (omega arith); kept = λ a below. (refl, (refl, refl)) }
+  forgets-after (suc n) =
+      let F = forgets-after n in
       let m = forUp n (forgetTurn from) l in
-      let at = 3 * (from + n) in
+      let W = stretch-written m (from + n) 0 in
       record {
-        long = length-set m at off ∙ F .long;
-        off-at = λ a low high room.
-            ⊎-elim (λ e. let q : a ≡ from + n = omega arith in rw q (getD-set-same m at off 0 (omega (arith, F .long))))
-            (λ less. getD-set-other m at (3 * a) off 0 (λ e. omega arith) ∙ F .off-at a low less room) (eq-or-lt-of-le (before high));
-        kept = λ i below. getD-set-other m at i off 0 (λ e. omega arith) ∙ F .kept i below;
+        long = W .long ∙ F .long;
+        none = λ a low high room.
+            ⊎-elim
+            (λ e.
+            let q : a ≡ from + n = omega arith in
+            let h : from + n < length m / 3 = omega (arith, F .long) in
+            rw q (W .first h, W .second h))
+            (λ less.
+            let P = W .others a (λ q. omega arith) in
+            let N = F .none a low less room in
+            (P .0 ∙ N .0, P .1 .0 ∙ N .1)) (eq-or-lt-of-le (before high));
+        kept = λ a below.
+            let P = W .others a (λ q. omega arith) in
+            let K = F .kept a below in
+            (P .0 ∙ K .0, (P .1 .0 ∙ K .1 .0, P .1 .1 ∙ K .1 .1));
       }
     where
       before : {a : ℕ} → a < from + suc n → a ≤ from + n
       before h = omega arith
 
   pub forgets : (to : ℕ) → Forgets from to l (forgotten from to l)
-  unfolding forgotten forUp
-  forgets to = by (leb from (min (length l / 3) to)) refl
-    where
-      n : ℕ
-      n = min (length l / 3) to - from
-
-      by : (b : Bool) → leb from (min (length l / 3) to) ≡ b → Forgets from to l (forUp n (forgetTurn from) l)
-      by true e =
-          let below = leb-true from (min (length l / 3) to) e in
-          let F = forgets-after n (omega arith) in
-          record { long = F .long; off-at = λ a low high room. F .off-at a low (omega arith) room; kept = F .kept }
-      by false e =
-          let above = leb-false from (min (length l / 3) to) e in
-          let none : n ≡ 0 = omega arith in
-          rw none (record { long = refl; off-at = λ a low high room. absurd (omega arith); kept = λ i below. refl })
+  unfolding forgotten
+  forgets to =
+      let F = forgets-after (to - from) in
+      record { long = F .long; none = λ a low high room. F .none a low (omega arith) room; kept = F .kept }
 
 -- the code's loop: the nodes from, .., a - 1 have been forgotten
-pub record Forgetting (from n a : ℕ) (l m : List ℕ) : Type 0 where
+pub record Forgetting (from to a : ℕ) (l m : List ℕ) : Type 0 where
   pub low : from ≤ a
-  pub high : a - from ≤ n - from
+  pub high : a - from ≤ to - from
   pub is : m ≡ forUp (a - from) (forgetTurn from) l
   pub long : length m ≡ length l
 
-pub forgetting-starts : (from n : ℕ) (l : List ℕ) → Forgetting from n from l l
+pub forgetting-starts : (from to : ℕ) (l : List ℕ) → Forgetting from to from l l
 unfolding forUp
-forgetting-starts from n l =
+forgetting-starts from to l =
     let none : from - from ≡ 0 = omega arith in
     record { low = omega arith; high = omega arith; is = sym (ap (λ (j : ℕ). forUp j (forgetTurn from) l) none); long = refl }
 
-pub forgetting-goes : {from n a : ℕ} {l m : List ℕ} → Forgetting from n a l m → a < n → Forgetting from n (a + 1) l (set m (3 * a) off)
+pub forgetting-goes : {from to a : ℕ} {l m k : List ℕ} → Forgetting from to a l m → a < to → k ≡ stretched m a 0 → Forgetting from to (a + 1) l k
 unfolding forUp
-forgetting-goes {from} {n} {a} {l} {m} F less =
+forgetting-goes {from} {to} {a} {l} {m} F less e =
     let low = F .low in
     let more : a + 1 - from ≡ suc (a - from) = omega arith in
     let at : from + (a - from) ≡ a = omega arith in
     record {
       low = omega arith;
       high = omega arith;
-      is = ap₂ (λ (k : List ℕ) (i : ℕ). set k (3 * i) off) (F .is) (sym at) ∙ sym (ap (λ (j : ℕ). forUp j (forgetTurn from) l) more);
-      long = length-set m (3 * a) off ∙ F .long;
+      is = e ∙ (ap₂ (λ (k : List ℕ) (i : ℕ). stretched k i 0) (F .is) (sym at) ∙ sym (ap (λ (j : ℕ). forUp j (forgetTurn from) l) more));
+      long = rw e (stretch-written m a 0 .long) ∙ F .long;
     }
 
-pub forgetting-ends : {from n a : ℕ} {l m : List ℕ} (to : ℕ) → Forgetting from n a l m → n ≤ a → n ≡ min (length l / 3) to → m ≡ forgotten from to l
+pub forgetting-ends : {from to a : ℕ} {l m : List ℕ} → Forgetting from to a l m → to ≤ a → m ≡ forgotten from to l
 unfolding forgotten
-forgetting-ends {from} {n} {a} {l} {m} to F done e =
+forgetting-ends {from} {to} {a} {l} {m} F done =
     let high = F .high in
-    let all : a - from ≡ n - from = omega arith in
-    F .is ∙ (ap (λ (j : ℕ). forUp j (forgetTurn from) l) all ∙ ap (λ (k : ℕ). forUp (k - from) (forgetTurn from) l) e)
+    let all : a - from ≡ to - from = omega arith in
+    F .is ∙ ap (λ (j : ℕ). forUp j (forgetTurn from) l) all
 
 -- ---- what the code compares and notes
 
@@ -135,9 +137,14 @@ module _ (l : List ℕ) (a b p q : ℕ) where
     unfolding noted
     noted-within = rw (lt-ltb a (length l / 3) room)
 
-kept-three : {from to : ℕ} {l m : List ℕ} → Forgets from to l m → (a : ℕ) → a < from
-    → (getD m (3 * a) 0 ≡ getD l (3 * a) 0) × ((getD m (3 * a + 1) 0 ≡ getD l (3 * a + 1) 0) × (getD m (3 * a + 2) 0 ≡ getD l (3 * a + 2) 0))
-kept-three G a old = (G .kept (3 * a) (omega arith), (G .kept (3 * a + 1) (omega arith), G .kept (3 * a + 2) (omega arith)))
+  -- noting what it has changes nothing
+  pub noted-again : isVain l a b p q ≡ true → l ≡ noted l a b p q
+  unfolding isVain noted
+  noted-again e =
+      let h = both (hasPlaces l a) _ e in
+      let k = both (eqb (getD l (3 * a) 0) b) _ (h .1) in
+      let m = both (eqb (getD l (3 * a + 1) 0) p) _ (k .1) in
+      rw (h .0, ← eqb-true _ b (k .0), ← eqb-true _ p (m .0), ← eqb-true _ q (m .1), set-getD l (3 * a) 0, set-getD l (3 * a + 1) 0) (sym (set-getD l (3 * a + 2) 0))
 
 -- three entries more, at the places of node a
 abbrev three : List ℕ → ℕ → ℕ → ℕ → ℕ → List ℕ
@@ -166,6 +173,34 @@ module _ (l : List ℕ) (a x y z : ℕ) where
     three-third : getD (three l a x y z) (3 * a + 2) 0 ≡ z
     three-third = getD-set-same (set (set l (3 * a) x) (3 * a + 1) y) (3 * a + 2) z 0 (simp length-set room)
 
+-- a note keeps the stretches: its node has none
+pub stretches-tried : (r : Attempt) (l : List ℕ) (a b p q n : ℕ) (next snapshot : List ℕ) → b ≢ off → {m : List ℕ} → m ≡ triedAfter r l a b p q
+    → Stretches l n next snapshot → Stretches m n next snapshot
+unfolding noted
+stretches-tried (Quad c d) l a b p q n next snapshot on e S = rw e S
+stretches-tried Nothing l a b p q n next snapshot on e S = rw e (by (hasPlaces l a) refl)
+  where
+    new : List ℕ
+    new = three l a b p q
+
+    within : a < length l / 3 → Stretches new n next snapshot
+    within room i h node none = which (eqb a i) refl
+      where
+        which : (t : Bool) → eqb a i ≡ t → (j : ℕ) → i ≤ j → j < getD new (3 * i + 1) 0 → OffBoth n next snapshot j
+        which true f =
+            let is = eqb-true a i f in
+            let first : getD new (3 * a) 0 ≡ getD new (3 * i) 0 = ap (λ (j : ℕ). getD new (3 * j) 0) is in
+            absurd (on (sym (three-first l a b p q (omega arith)) ∙ (first ∙ none)))
+        which false f =
+            let ne = eqb-false a i f in
+            let first = three-other l a b p q (3 * i) (λ g. ne (omega arith)) (λ g. omega arith) (λ g. omega arith) in
+            let second = three-other l a b p q (3 * i + 1) (λ g. omega arith) (λ g. ne (omega arith)) (λ g. omega arith) in
+            rw second (S i (omega (arith, three-long l a b p q)) node (sym first ∙ none))
+
+    by : (t : Bool) → hasPlaces l a ≡ t → Stretches (cond t new l) n next snapshot
+    by true f = within (ltb-true a (length l / 3) f)
+    by false f = S
+
 -- ---- what is remembered
 
 -- an edge that is there ends at a node
@@ -179,7 +214,7 @@ module _ (o : Outline) (size : Float) (field : FieldRecord) where
   pub forgotten-remembers : (l : List ℕ) (t : State) → Remembers o size field (forgotten 0 (t .counts .nodes) l) t
   forgotten-remembers l t a room node on =
       let F = forgets 0 l (t .counts .nodes) in
-      absurd (on (F .off-at a (omega arith) node (omega (arith, F .long))))
+      absurd (on (F .none a (omega arith) node (omega (arith, F .long)) .0))
 
   -- what failed before t failed before every later state
   failed-later : {t u : State} {a b p q : ℕ} → Frame t u → u .counts .nodes ≤ 4294967294 → Failed o size field t a b p q → Failed o size field u a b p q
@@ -196,11 +231,6 @@ module _ (o : Outline) (size : Float) (field : FieldRecord) where
         nothing = B .nothing;
       }
 
-  -- so the list goes on being true where no node is new
-  pub remembers-on : (l : List ℕ) (t u : State) → Frame t u → u .counts .nodes ≤ 4294967294 → u .counts .nodes ≡ t .counts .nodes
-      → Remembers o size field l t → Remembers o size field l u
-  remembers-on l t u F few same R a room node on = failed-later F few (R a room (omega (arith, same)) on)
-
   module _ (l m : List ℕ) (t u : State) (G : Forgets (t .counts .nodes) (u .counts .nodes) l m) (a : ℕ) (room : a < length m / 3)
       (on : getD m (3 * a) 0 ≢ off) where
     had-room : a < length l / 3
@@ -209,13 +239,13 @@ module _ (o : Outline) (size : Float) (field : FieldRecord) where
     remembers-old : Frame t u → u .counts .nodes ≤ 4294967294 → a < t .counts .nodes → Remembers o size field l t
         → Failed o size field u a (getD m (3 * a) 0) (getD m (3 * a + 1) 0) (getD m (3 * a + 2) 0)
     remembers-old F few old R =
-        let k = kept-three G a old in
+        let k = G .kept a old in
         rw (k .0, k .1 .0, k .1 .1) (failed-later F few (R a had-room old (λ q. on (k .0 ∙ q))))
 
     none-new : t .counts .nodes ≤ a → a < u .counts .nodes → ⊥
-    none-new new node = on (G .off-at a new node had-room)
+    none-new new node = on (G .none a new node had-room .0)
 
-  -- and where the new nodes have nothing in it
+  -- so the list goes on being true where the new nodes have nothing in it
   pub remembers-later : (l : List ℕ) (t u : State) → Frame t u → u .counts .nodes ≤ 4294967294 → Remembers o size field l t
       → Remembers o size field (forgotten (t .counts .nodes) (u .counts .nodes) l) u
   remembers-later l t u F few R a room node on = by (ltb a (t .counts .nodes)) refl
@@ -336,3 +366,10 @@ module _ (o : Outline) (size : Float) (field : FieldRecord) where
       by : (s : Bool) → hasPlaces l a ≡ s → Remembers o size field (cond s new l) t
       by true e = each (ltb-true a (length l / 3) e)
       by false e = R
+
+  -- and what has fewer tries is true too
+  pub remembers-fewer : (l m : List ℕ) (t : State) → FewerTries l m → Remembers o size field l t → Remembers o size field m t
+  remembers-fewer l m t F R a room node on =
+      let had : a < length l / 3 = omega (arith, F .long) in
+      let K = F .kept a had on in
+      rw (K .0, K .1 .0, K .1 .1) (R a had node (λ q. on (K .0 ∙ q)))

@@ -9,7 +9,7 @@ ghost use Rattle.domain.specs.Outline.{outline};
 ghost use Rattle.direction.specs.Record.{fieldRecord};
 ghost use Rattle.paving.specs.Attempt.{tryEdge};
 ghost use Rattle.attempts.specs.Seen.{seen, seenEdges, TryLent};
-ghost use Rattle.retries.specs.Vain.{isVain, noted, forgotten, Remembers};
+ghost use Rattle.retries.specs.Vain.{isVain, noted, triedAfter, forgotten, Remembers};
 ghost use Rattle.retries.specs.Untried.{Untried};
 use direction::Grid;
 use front::Counts;
@@ -18,14 +18,13 @@ use paving::Attempt;
 
 // ---- the list
 
-// Nothing was tried from the nodes `from`, .., `to` - 1.
+// Nothing was tried from the nodes `from`, .., `to` - 1, and no stretch begins at one.
 pub fn forget(tried: &mut [u32], from: u32, to: u32)
     ensures { λ r. ⌜ now (tried .exit) ≡ forgotten from to (now (tried .entry)) ⌝ }
 {
-    let n = numbers::min_usize(tried.len() / 3, to as usize);
-    let mut a = from as usize;
-    while a < n {
-        tried[3 * a] = OFF;
+    let mut a = from;
+    while a < to {
+        snapshots::set_stretch(tried, a, 0);
         a += 1;
     }
 }
@@ -103,7 +102,9 @@ pub fn try_untried<'a>(
         (fieldRecord grid (now (values .entry)) [])
         (seen (now (xs .entry)) (now (ys .entry)) (now (next .entry)) (now (prev .entry)) (now (edges .entry)) counts) a b)
         × Remembers (outline (now (outer .entry)) (now (holes .entry)) (now (lens .entry))) size (fieldRecord grid (now (values .entry)) [])
-        (now (tried .exit)) (seenEdges (now (xs .entry)) (now (ys .entry)) (now (edges .entry)) counts) ⌝ }
+        (now (tried .exit)) (seenEdges (now (xs .entry)) (now (ys .entry)) (now (edges .entry)) counts)
+        × (now (tried .exit) ≡ triedAfter r (now (tried .entry)) a b (linkOf (counts .nodes) (now (prev .entry)) a)
+        (linkOf (counts .nodes) (now (next .entry)) b)) ⌝ }
 {
     let p = link_id(prev, counts.nodes, a);
     let q = link_id(next, counts.nodes, b);

@@ -22,7 +22,7 @@ use Rattle.direction.specs.Cells as field-places
 use Rattle.direction.specs.Direction.{nearestDirection}
 use Rattle.crossfield.specs.Grid.{bounds, gridOf}
 use Rattle.crossfield.specs.Field.{fieldPlaces, refusalFor, fieldRefusal, fieldOf}
-use Rattle.crossfield.specs.FieldLaws.{unrefused, few-made, sides}
+use Rattle.crossfield.specs.FieldLaws.{field-unrefused, few-made, sides}
 use Rattle.topology.specs.LongLoops.{none-listed}
 use Rattle.sound_outlines.specs.Whole.{isWhole}
 use Rattle.soundness.specs.WalkLaws.{whole-means}
@@ -38,15 +38,14 @@ use Rattle.loops.specs.ListedLaws.{listed-front}
 use Rattle.books.specs.Book.{Book, quadAt, newNode, side, bookQuad, bookAfter, quadsArea}
 use Rattle.books.specs.Net.{quadsEdges}
 use Rattle.books.specs.Holds.{BooksHold, Closes, LoopsAnswered}
-use Rattle.books_hold.specs.Runs.{accepted}
+use Rattle.books_hold.specs.Runs.{accepted-run}
 use Rattle.books_hold.specs.Theorem.{books-hold}
 use Rattle.origins.specs.Origins.{originsAfter}
 use Rattle.origins.specs.Writing.{booked-answered}
 use Rattle.run_refusal.specs.Lengths.{lengthsRefusal}
 use Rattle.sampled_advance.specs.Asked.{CanPave}
 use Rattle.run.specs.declared.Paved.{Paved}
-use Rattle.run.specs.Run as run-is
-use Rattle.run.specs.Run.{Lent, Ran, ran, lent, fieldPart, statePart, snapshotPlaces, narrowed, widened}
+use Rattle.run.specs.Run.{Lent, Ran, ran, lent, fieldPart, statePart, snapshotPlaces, otherSnapshot, narrowed, broadened}
 use Rattle.run.specs.Run.{refusedAnswer, pavedAnswer, refusalOf, acceptedIn, acceptedRun, runAnswer, PavesBooks, PavesOrigins, Paves}
 use Rattle.run.specs.Asked.{CanRun}
 
@@ -85,7 +84,7 @@ module _ (o : Outline) (set : Settings) (l : Lent) (C : CanRun o set l) where
 
   lent-made : OutlineFits o → T (fits binary64 (set .size)) → field-places.FieldLent (gridOf (bounds o) (set .size)) (l .values)
   lent-made doubles held =
-      let u = unrefused o (set .size) (set .sweeps) (fieldPlaces (fieldPart l)) none-for in
+      let u = field-unrefused o (set .size) (set .sweeps) (fieldPlaces (fieldPart l)) none-for in
       let two = sides (bounds o) (set .size) in
       record {
         columns = two .0;
@@ -181,7 +180,7 @@ module _ (o : Outline) (set : Settings) (l : Lent) (m : ℕ) (e : m ≡ snapshot
   unfolding refusalOf
   none-of z = first-zero (runRefusal o set (fieldPart l) (statePart (narrowed l))) (lengthsRefusal o (length (l .lengths))) z
 
-  pub can-run : refusalOf o set l ≡ 0 → CanRun o set (run-is.withSnapshot l (take m (l .snapshot)))
+  pub can-run : refusalOf o set l ≡ 0 → CanRun o set (otherSnapshot l (take m (l .snapshot)))
   can-run z =
       record {
         none = rw e (none-of z .0);
@@ -200,27 +199,27 @@ module _ (o : Outline) (set : Settings) (l : Lent) (m : ℕ) (e : m ≡ snapshot
   -- ---- what a caller gets
 
   pub paves-accepted : refusalOf o set l ≡ 0 → OutlineFits o → (r : Paved) (after : Lent)
-      → ran r after ≡ acceptedIn o set (run-is.withSnapshot l (take m (l .snapshot)))
-      → Paves o set l r (run-is.withSnapshot after (after .snapshot ++ drop m (l .snapshot)))
+      → ran r after ≡ acceptedIn o set (otherSnapshot l (take m (l .snapshot)))
+      → Paves o set l r (otherSnapshot after (after .snapshot ++ drop m (l .snapshot)))
   unfolding runAnswer acceptedRun acceptedIn
   paves-accepted z doubles r after q =
       let same : ran r after ≡ acceptedIn o set (narrowed l) = rw e at q in
       let snapshot = after .snapshot ++ drop m (l .snapshot) in
       let part = statePart (narrowed l) in
       let s = runOf o set (fieldPart l) part .paving .state in
-      let A = accepted o set (fieldPart l) part doubles (none-of z .0) in
+      let A = accepted-run o set (fieldPart l) part doubles (none-of z .0) in
       let B = books-unread o (set .size) s snapshot (books-hold o set (fieldPart l) part doubles (none-of z .0)) in
       record {
-        equal = rw (z, e) (ap (λ (w : Ran). ran (w .answer) (widened l (w .lists))) same);
+        equal = rw (z, e) (ap (λ (w : Ran). ran (w .answer) (broadened l (w .lists))) same);
         refused = λ n. absurd (n (ap (λ (w : Ran). w .answer .refusal) same));
         books =
             λ _.
             let p = listedIn (s .counts) (s .next) (s .snapshot) (l .loops) (l .lengths) in
-            subst⁻¹ (λ (w : Ran). PavesBooks o set (w .answer) (run-is.withSnapshot (w .lists) snapshot)) same
+            subst⁻¹ (λ (w : Ran). PavesBooks o set (w .answer) (otherSnapshot (w .lists) snapshot)) same
             (record { books = B; front = λ b q. loops-answered o _ (s .snapshot) (l .loops) (l .lengths) p refl b (B .closes b q) });
         origins =
             λ _.
-            subst⁻¹ (λ (w : Ran). PavesOrigins o set (l .origins) (w .answer) (run-is.withSnapshot (w .lists) snapshot)) same
+            subst⁻¹ (λ (w : Ran). PavesOrigins o set (l .origins) (w .answer) (otherSnapshot (w .lists) snapshot)) same
             (booked-answered o (set .size) part _ (A .outline) (A .front) B (l .origins));
       }
 

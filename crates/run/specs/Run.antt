@@ -75,8 +75,8 @@ abbrev pub scratch : List ℕ → List ℕ → List ℕ → List ℕ → Scratch
 scratch node-pool edge-pool blocks tried = record { node-pool = node-pool; edge-pool = edge-pool; blocks = blocks; tried = tried }
 
 -- the same lists with another snapshot
-abbrev pub withSnapshot : Lent → List ℕ → Lent
-withSnapshot l snapshot =
+abbrev pub otherSnapshot : Lent → List ℕ → Lent
+otherSnapshot l snapshot =
     lent (l .values) (l .marks) (l .xs) (l .ys) (l .next) (l .prev) snapshot (l .origins) (l .quads) (l .edges) (l .loops) (l .lengths)
 
 abbrev pub fieldPart : Lent → FieldLists
@@ -93,11 +93,11 @@ snapshotPlaces l = min (min (length (l .snapshot)) (length (l .loops))) (length 
 
 -- the lists of which the run is made: no more of the snapshot than that
 abbrev pub narrowed : Lent → Lent
-narrowed l = withSnapshot l (take (snapshotPlaces l) (l .snapshot))
+narrowed l = otherSnapshot l (take (snapshotPlaces l) (l .snapshot))
 
 -- the snapshot's other places keep their contents
-abbrev pub widened : Lent → Lent → Lent
-widened l after = withSnapshot after (after .snapshot ++ drop (snapshotPlaces l) (l .snapshot))
+abbrev pub broadened : Lent → Lent → Lent
+broadened l after = otherSnapshot after (after .snapshot ++ drop (snapshotPlaces l) (l .snapshot))
 
 -- ---- the answer
 
@@ -147,7 +147,7 @@ acceptedIn o set l =
     (overlay (originsAfter o (set .size) (s .quads) (s .counts .quads)) (l .origins)) (s .quads) (s .edges) (p .loops) (p .lengths))
 
 unfoldable pub acceptedRun : Outline → Settings → Lent → Ran
-acceptedRun o set l = let r = acceptedIn o set (narrowed l) in ran (r .answer) (widened l (r .lists))
+acceptedRun o set l = let r = acceptedIn o set (narrowed l) in ran (r .answer) (broadened l (r .lists))
 
 -- refused, with nothing written; or run
 unfoldable pub runAnswer : Outline → Settings → Lent → Ran
@@ -156,18 +156,18 @@ runAnswer o set l = answerBy (λ number. ran (refusedAnswer number) l) (accepted
 -- ---- what a caller gets
 
 -- the state that is answered: the lists as they are left, with the counts answered
-abbrev pub answered : Paved → Lent → State
-answered r after =
+abbrev pub answeredState : Paved → Lent → State
+answeredState r after =
     stateOf (after .xs) (after .ys) (after .next) (after .prev) (after .snapshot) (after .quads) (after .edges) (r .counts)
 
 -- the books of the outline, the size and what is answered
 abbrev pub PavesBooks : Outline → Settings → Paved → Lent → Type 0
 PavesBooks o set r after =
-    BooksAnswered o (set .size) (answered r after) (r .listed .count) (r .listed .ids) (after .loops) (after .lengths) (r .whole)
+    BooksAnswered o (set .size) (answeredState r after) (r .listed .count) (r .listed .ids) (after .loops) (after .lengths) (r .whole)
 
 -- the loops that the nodes answered came from, in the list lent for them
 abbrev pub PavesOrigins : Outline → Settings → List ℕ → Paved → Lent → Type 0
-PavesOrigins o set before r after = OriginsAnswered o (set .size) (answered r after) before (after .origins)
+PavesOrigins o set before r after = OriginsAnswered o (set .size) (answeredState r after) before (after .origins)
 
 pub record Paves (o : Outline) (set : Settings) (before : Lent) (r : Paved) (after : Lent) : Type 0 where
   -- the answer and every list are the definition's: demand 2

@@ -2,6 +2,7 @@
 use mathlib.Core.Path.{_≡_, refl, sym, _∙_, ap, ap₂}
 use mathlib.Core.Bool.{Bool, true, false, not, cond, _&&_}
 use mathlib.Core.List.{List, []}
+use mathlib.Core.Logic.{_≢_}
 use Prim.Native.Nat.{ℕ, _<_}
 use native.Mathlib.Omega.{arith}
 use lib.Dec.{eqb, leb}
@@ -33,6 +34,7 @@ use Rattle.books.specs.Answered.{choice}
 use Rattle.attempts.specs.Seen.{seenOf}
 use Rattle.attempts.specs.SeenLaws.{try-seen}
 use Rattle.retries.specs.Vain.{Remembers}
+use Rattle.retries.specs.VainLaws.{there-is}
 use Rattle.retries.specs.Untried.{seenMesh, Untried}
 use Rattle.ends.specs.declared.Settled.{Settled}
 use Rattle.ends.specs.declared.Settled.the-variants.{Put}
@@ -85,6 +87,9 @@ module _ (o : Outline) (size : Float) (g : Grid) (values : List Float) (s : Stat
     on =
         let h = edge-there (getD (s .next) a 0) b e f in
         ap₂ there (sym link-now) (sym (h .1)) ∙ h .0
+
+    pub settle-node : to ≢ off
+    settle-node = there-is s a to on .0
 
     pub settle-untried : (blocks : List ℕ) → Paveable o blocks g values s → {l : List ℕ} → Remembers o size field l (seenMesh s)
         → Untried o size field (seenOf s) l a to

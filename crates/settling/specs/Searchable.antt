@@ -1,11 +1,12 @@
 -- What the pools of a paving have filed and the list of tries remembers, and that a placing keeps it.
 use mathlib.Core.Bool.{Bool, true, false, cond}
 use mathlib.Core.List.{List}
-use mathlib.Core.Path.{_≡_, refl, sym, ap, subst}
-use Prim.Native.Nat.{ℕ, _+_, _*_, _<_, _≤_}
+use mathlib.Core.Path.{_≡_, refl, sym, _∙_, ap, subst}
+use Prim.Native.Nat.{ℕ, _+_, _*_, _/_, _<_, _≤_}
 use native.Mathlib.Omega.{arith}
-use lib.Dec.{leb}
+use lib.Dec.{leb, ltb}
 use lib.ListN.{length, getD}
+use borrow.Author.Tests.{ltb-true, ltb-false}
 use lib.Ieee.{Float}
 use Rattle.pools.specs.Pool.{cleared, Indexed}
 use Rattle.key_rects.specs.Rects.{nodeRect}
@@ -18,7 +19,8 @@ use Rattle.front.specs.declared.Corner.{Corner}
 use Rattle.front.specs.declared.Counts.{Counts}
 use Rattle.front.specs.declared.Placed.{Placed}
 use Rattle.front.specs.declared.Placed.the-variants as placed-is
-use Rattle.front.specs.State.{State, stateOf, edgeFrom, edgeTo}
+use Rattle.topology.specs.Links.{off, link-read}
+use Rattle.front.specs.State.{State, stateOf, nextOf, edgeFrom, edgeTo}
 use Rattle.front.specs.Place.{place}
 use Rattle.front.specs.Stores.{Places, countsAfter}
 use Rattle.front.specs.Sound.{Frame}
@@ -30,7 +32,9 @@ use Rattle.paving.specs.Advance.{mostQuads}
 use Rattle.indexed.specs.Rects.{nodeRects, edgeRects, NodesFiled, EdgesFiled}
 use Rattle.attempts.specs.Seen.{seenEdges}
 use Rattle.retries.specs.Vain.{forgotten, Remembers}
-use Rattle.retries.specs.VainLaws.{forgotten-remembers, remembers-later, remembers-same}
+use Rattle.snapshots.specs.Stretches.{OffBoth, Stretches, FewerTries}
+use Rattle.snapshots.specs.OffLaws.{off-stays}
+use Rattle.retries.specs.VainLaws.{Forgets, forgets, forgotten-remembers, remembers-later, remembers-same, remembers-fewer}
 use Rattle.retries.specs.Untried.{seenMesh}
 use Rattle.ends.specs.declared.Settled.{Settled}
 use Rattle.ends.specs.declared.Settled.the-variants.{Put}
@@ -54,16 +58,17 @@ pub record Addable (size : Float) (s t : State) (node-pool edge-pool : List ℕ)
   pub nodes : NodesFiled node-pool size (t .xs) (t .ys) (s .counts .nodes) (t .counts .nodes)
   pub edges : EdgesFiled edge-pool size (t .xs) (t .ys) (t .edges) (s .counts .edges) (t .counts .edges)
 
--- and what the list has of an edge was tried in vain
-pub record Helped (o : Outline) (size : Float) (field : FieldRecord) (xs ys : List Float) (edges : List ℕ) (counts : Counts)
+-- and what the list has of an edge was tried in vain, and of a stretch is off the front
+pub record Helped (o : Outline) (size : Float) (field : FieldRecord) (xs ys : List Float) (next snapshot edges : List ℕ) (counts : Counts)
     (node-pool edge-pool tried : List ℕ) : Type 0 where
   pub search : Searchable size xs ys edges counts node-pool edge-pool
   pub remembers : Remembers o size field tried (seenEdges xs ys edges counts)
+  pub stretches : Stretches tried (counts .nodes) next snapshot
 
 -- in a loop: the pools and the list are as long as they were
-pub record Pools (o : Outline) (size : Float) (field : FieldRecord) (xs ys : List Float) (edges : List ℕ) (counts : Counts)
+pub record Pools (o : Outline) (size : Float) (field : FieldRecord) (xs ys : List Float) (next snapshot edges : List ℕ) (counts : Counts)
     (node-pool₀ edge-pool₀ tried₀ node-pool edge-pool tried : List ℕ) : Type 0 where
-  pub help : Helped o size field xs ys edges counts node-pool edge-pool tried
+  pub help : Helped o size field xs ys next snapshot edges counts node-pool edge-pool tried
   pub node-long : length node-pool ≡ length node-pool₀
   pub edge-long : length edge-pool ≡ length edge-pool₀
   pub tried-long : length tried ≡ length tried₀
@@ -90,6 +95,33 @@ module _ (size : Float) (s t : State) (F : Frame s t) where
         edges = record { more = F .edges; lent = fit; filed = indexed-same edge-pool _ _ _ (edge-kept joined) (S .edges-filed) };
       }
 
+-- ---- stretches
+
+-- a later state has the stretches, where what was off the front stays off it and no stretch begins at a new node
+stretches-later : (l : List ℕ) (s t : State) → s .counts .nodes ≤ t .counts .nodes → s .counts .nodes ≤ length (s .next) → t .counts .nodes ≤ length (t .next)
+    → ((i : ℕ) → i < s .counts .nodes → nextOf s i ≡ off → nextOf t i ≡ off) → Stretches l (s .counts .nodes) (s .next) (s .snapshot)
+    → Stretches (forgotten (s .counts .nodes) (t .counts .nodes) l) (t .counts .nodes) (t .next) (s .snapshot)
+stretches-later l s t more fit-s fit-t stays S a room node none i low high = by (ltb a N) refl
+  where
+    N : ℕ
+    N = s .counts .nodes
+
+    G : Forgets N (t .counts .nodes) l (forgotten N (t .counts .nodes) l)
+    G = forgets N l (t .counts .nodes)
+
+    had : a < length l / 3
+    had = omega (arith, G .long)
+
+    by : (b : Bool) → ltb a N ≡ b → OffBoth (t .counts .nodes) (t .next) (s .snapshot) i
+    by true e =
+        let old = ltb-true a N e in
+        let K = G .kept a old in
+        let O = S a had old (sym (K .0) ∙ none) i low (omega (arith, K .1 .0)) in
+        let less = O .0 in
+        let gone = stays i less (sym (link-read N (s .next) i less fit-s) ∙ O .1) in
+        (omega arith, link-read (t .counts .nodes) (t .next) i (omega arith) fit-t ∙ gone, O .2)
+    by false e = absurd (omega (arith, G .none a (ltb-false a N e) node had .1))
+
 -- ---- a placing
 
 module _ (o : Outline) (blocks : List ℕ) (g : Grid) (values : List Float) (size : Float) (s : State) (P : Paveable o blocks g values s)
@@ -108,14 +140,14 @@ module _ (o : Outline) (blocks : List ℕ) (g : Grid) (values : List Float) (siz
     placed-adds {m} e = done-adds m _ (rw e at Q)
 
   -- where it is full, nothing changes
-  module _ (field : FieldRecord) (tried : List ℕ) (M : Remembers o size field tried (seenMesh s)) {xs ys : List Float}
-      {next prev snapshot quads edges : List ℕ} {r : Placed}
+  module _ (field : FieldRecord) (tried : List ℕ) (M : Remembers o size field tried (seenMesh s))
+      (T : Stretches tried (s .counts .nodes) (s .next) (s .snapshot)) {xs ys : List Float} {next prev snapshot quads edges : List ℕ} {r : Placed}
       (Q : Places a b c d s r (stateOf xs ys next prev snapshot quads edges (countsAfter (s .counts) r))) where
-    pub full-helped : r ≡ placed-is.Full → Helped o size field xs ys edges (s .counts) node-pool edge-pool tried
+    pub full-helped : r ≡ placed-is.Full → Helped o size field xs ys next snapshot edges (s .counts) node-pool edge-pool tried
     full-helped e =
         let f = placed-full a b c d s (stateOf xs ys next prev snapshot quads edges (s .counts)) (rw e at Q) in
-        subst (λ (t : State). Helped o size field (t .xs) (t .ys) (t .edges) (t .counts) node-pool edge-pool tried) (sym (f .1))
-        (record { search = S; remembers = M })
+        subst (λ (t : State). Helped o size field (t .xs) (t .ys) (t .next) (t .snapshot) (t .edges) (t .counts) node-pool edge-pool tried) (sym (f .1))
+        (record { search = S; remembers = M; stretches = T })
 
     done-remembers : (m : Counts) (t : State) → Places a b c d s (placed-is.Done m) t
         → Remembers o size field (forgotten (s .counts .nodes) (t .counts .nodes) tried) (seenMesh t)
@@ -129,12 +161,27 @@ module _ (o : Outline) (blocks : List ℕ) (g : Grid) (values : List Float) (siz
         (remembers-same o size field l u (seenMesh u) refl refl refl refl
         (remembers-later o size field tried s u (L .frame) few (remembers-same o size field tried (seenMesh s) s refl refl refl refl M)))
 
+    done-stretches : (m : Counts) (t : State) → Places a b c d s (placed-is.Done m) t
+        → Stretches (forgotten (s .counts .nodes) (t .counts .nodes) tried) (t .counts .nodes) (t .next) (s .snapshot)
+    done-stretches m t D =
+        let f = placed-done a b c d s t m D in
+        let L = later-placed o blocks g values s P a b c d (R .choice) (f .0) in
+        let u = place a b c d s in
+        subst (λ (t : State). Stretches (forgotten (s .counts .nodes) (t .counts .nodes) tried) (t .counts .nodes) (t .next) (s .snapshot)) (sym (f .1))
+        (stretches-later tried s u (L .frame .nodes) (held o blocks g values s P .next) (held o blocks g values u (L .paveable) .next)
+        (off-stays (P .sampled) s (P .loops) a b c d (P .sound) (R .choice) (f .0)) T)
+
     -- where it is done, new nodes and edges are filed, and nothing was tried from the nodes
     pub done-helped : {m : Counts} → r ≡ placed-is.Done m → {node-pool₁ edge-pool₁ tried₁ : List ℕ}
         → Searchable size xs ys edges m node-pool₁ edge-pool₁ → tried₁ ≡ forgotten (s .counts .nodes) (m .nodes) tried
-        → Helped o size field xs ys edges m node-pool₁ edge-pool₁ tried₁
+        → Helped o size field xs ys next (s .snapshot) edges m node-pool₁ edge-pool₁ tried₁
     done-helped {m} e found left =
-        record { search = found; remembers = rw left (done-remembers m (stateOf xs ys next prev snapshot quads edges m) (rw e at Q)) }
+        let t = stateOf xs ys next prev snapshot quads edges m in
+        record {
+          search = found;
+          remembers = rw left (done-remembers m t (rw e at Q));
+          stretches = rw left (done-stretches m t (rw e at Q));
+        }
 
 -- ---- the start
 
@@ -148,16 +195,33 @@ all-addable size xs ys edges k fit node-pool₀ edge-pool₀ en ee = (
 )
 
 -- at first nothing is remembered
-pub all-forgotten : (o : Outline) (size : Float) (field : FieldRecord) (xs ys : List Float) (edges : List ℕ) (k : Counts) (l : List ℕ) {tried : List ℕ}
-    → tried ≡ forgotten 0 (k .nodes) l → Remembers o size field tried (seenEdges xs ys edges k)
-all-forgotten o size field xs ys edges k l e = rw e (forgotten-remembers o size field l (seenEdges xs ys edges k))
+pub all-forgotten : (o : Outline) (size : Float) (field : FieldRecord) (xs ys : List Float) (next snapshot edges : List ℕ) (k : Counts)
+    {node-pool edge-pool : List ℕ} → Searchable size xs ys edges k node-pool edge-pool → (l : List ℕ) {tried : List ℕ} → tried ≡ forgotten 0 (k .nodes) l
+    → Helped o size field xs ys next snapshot edges k node-pool edge-pool tried
+all-forgotten o size field xs ys next snapshot edges k found l e =
+    rw e
+    (record {
+      search = found;
+      remembers = forgotten-remembers o size field l (seenEdges xs ys edges k);
+      stretches = λ a room node none i low high.
+          let G = forgets 0 l (k .nodes) in
+          absurd (omega (arith, G .none a (omega arith) node (omega (arith, G .long)) .1));
+    })
+
+-- the snapshot is taken
+pub helped-taken : (o : Outline) (size : Float) (field : FieldRecord) (xs ys : List Float) (next snapshot edges : List ℕ) (k : Counts)
+    (node-pool edge-pool tried : List ℕ) → Helped o size field xs ys next snapshot edges k node-pool edge-pool tried
+    → {snapshot₁ tried₁ : List ℕ} → Stretches tried₁ (k .nodes) next snapshot₁ → FewerTries tried tried₁
+    → Helped o size field xs ys next snapshot₁ edges k node-pool edge-pool tried₁
+helped-taken o size field xs ys next snapshot edges k node-pool edge-pool tried H {tried₁ = tried₁} S F =
+    record { search = H .search; remembers = remembers-fewer o size field tried tried₁ (seenEdges xs ys edges k) F (H .remembers); stretches = S }
 
 -- ---- the counts that an answer gives
 
-module _ {o : Outline} {size : Float} {field : FieldRecord} {xs ys : List Float} {edges node-pool edge-pool tried : List ℕ} where
-  pub helped-at : {k m : Counts} → k ≡ m → Helped o size field xs ys edges k node-pool edge-pool tried
-      → Helped o size field xs ys edges m node-pool edge-pool tried
-  helped-at e H = subst (λ (n : Counts). Helped o size field xs ys edges n node-pool edge-pool tried) e H
+module _ {o : Outline} {size : Float} {field : FieldRecord} {xs ys : List Float} {next snapshot edges node-pool edge-pool tried : List ℕ} where
+  pub helped-at : {k m : Counts} → k ≡ m → Helped o size field xs ys next snapshot edges k node-pool edge-pool tried
+      → Helped o size field xs ys next snapshot edges m node-pool edge-pool tried
+  helped-at e H = subst (λ (n : Counts). Helped o size field xs ys next snapshot edges n node-pool edge-pool tried) e H
 
 -- the counts after a quad
 pub counts-settled : (k m : Counts) {w : Settled} → w ≡ quadSettled m → settledCounts k w ≡ m

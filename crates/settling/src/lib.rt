@@ -67,7 +67,8 @@ pub fn settle<'a>(
 ) -> Settled
     requires { ⌜ Paveable (outline (now outer) (now holes) (now lens)) (now blocks) grid (now values)
         (stateOf (now xs) (now ys) (now next) (now prev) (now snapshot) (now quads) (now edges) k) × (a < k .nodes)
-        × Helped (outline (now outer) (now holes) (now lens)) size (fieldRecord grid (now values) []) (now xs) (now ys) (now edges) k
+        × Helped (outline (now outer) (now holes) (now lens)) size (fieldRecord grid (now values) []) (now xs) (now ys) (now next) (now snapshot)
+        (now edges) k
         (now «node_pool») (now «edge_pool») (now tried) ⌝ }
     ensures { λ r. ⌜ Settles (outline (now (outer .entry)) (now (holes .entry)) (now (lens .entry))) size (fieldRecord grid (now (values .entry)) [])
         (stateOf (now (xs .entry)) (now (ys .entry)) (now (next .entry)) (now (prev .entry)) (now (snapshot .entry)) (now (quads .entry))
@@ -75,7 +76,7 @@ pub fn settle<'a>(
         (stateOf (now (xs .exit)) (now (ys .exit)) (now (next .exit)) (now (prev .exit)) (now (snapshot .entry)) (now (quads .exit)) (now (edges .exit))
         (settledCounts k r))
         × Helped (outline (now (outer .entry)) (now (holes .entry)) (now (lens .entry))) size (fieldRecord grid (now (values .entry)) [])
-        (now (xs .exit)) (now (ys .exit)) (now (edges .exit)) (settledCounts k r) (now («node_pool» .exit)) (now («edge_pool» .exit)) (now (tried .exit)) ⌝ }
+        (now (xs .exit)) (now (ys .exit)) (now (next .exit)) (now (snapshot .entry)) (now (edges .exit)) (settledCounts k r) (now («node_pool» .exit)) (now («edge_pool» .exit)) (now (tried .exit)) ⌝ }
 {
     let edge = ends::snapshot_edge(next, snapshot, a);
     let Neighbour::At(b) = edge else {

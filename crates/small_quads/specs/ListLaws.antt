@@ -1,15 +1,15 @@
 -- The laws of the code's two loops: how many fours it counts, and what it writes. Assumes nothing.
 use mathlib.Core.Path.{_≡_, refl, sym, ap, ap₂, _∙_, subst}
-use mathlib.Core.List.{List, [], _∷_, _++_}
+use mathlib.Core.List.{List, [], _++_}
 use mathlib.Core.Bool.{Bool, true, false, cond}
 use Prim.Native.Nat.{ℕ, zero, suc, _+_, _-_, _*_, _/_, _≤_, _<_}
-use native.Mathlib.Nat.{add-zero, zero-add}
 use native.Mathlib.Numerals.{add-one}
 use native.Mathlib.Omega.{arith}
 use lib.ListN.{length, set, length-append}
-use lib.Seq.{sets, length-sets}
+use lib.Seq.{sets}
 use borrow.Author.Tests.{lt-ltb, le-ltb}
 use Rattle.laws.specs.Loop.{forUp}
+use Rattle.laws.specs.Overlay.{overlay, overlay-length, overlay-more}
 use Rattle.lattice.specs.Fours.{firstPoint, secondPoint, thirdPoint, fourthPoint, acceptedFour, aboveThird, pointsOf, fourTurn, fours, foursAnswer, smallQuads}
 use Rattle.lattice.specs.Same.{same}
 
@@ -62,28 +62,28 @@ pub record FourFits (s : List ℕ) (n k : ℕ) : Type 0 where
   pub fits : n ≤ length s
 
 -- the invariant of the loop that writes: the fours below k are written on the first n places of s₀
-pub record Filled (s₀ : List ℕ) (k n : ℕ) (s : List ℕ) : Type 0 where
+pub record FoursWritten (s₀ : List ℕ) (k n : ℕ) (s : List ℕ) : Type 0 where
   pub within : k ≤ 65536
   pub written : n ≡ length (foursBelow k)
-  pub same : s ≡ sets s₀ 0 (foursBelow k)
+  pub same : s ≡ overlay (foursBelow k) s₀
 
 -- ---- counting
 
 -- the invariant of the loop that counts
-pub record Counted (k n : ℕ) : Type 0 where
+pub record FoursCounted (k n : ℕ) : Type 0 where
   pub within : k ≤ 65536
   pub most : n ≤ k
   pub same : length (foursBelow k) ≡ 4 * n
 
-pub counted-start : Counted 0 0
+pub counted-start : FoursCounted 0 0
 counted-start = record { within = omega arith; most = omega arith; same = ap length below-zero }
 
-pub counted-yes : {k n : ℕ} → Counted k n → k < 65536 → aboveThird k ≡ true → Counted (k + 1) (n + 1)
+pub counted-yes : {k n : ℕ} → FoursCounted k n → k < 65536 → aboveThird k ≡ true → FoursCounted (k + 1) (n + 1)
 counted-yes {k} {n} c h e =
     let next : length (foursBelow (k + 1)) ≡ length (foursBelow k) + 4 = length-next k ∙ ap (λ (b : Bool). cond b (length (foursBelow k) + 4) (length (foursBelow k))) e in
     record { within = omega arith; most = omega (arith, c .most); same = omega (arith, c .same) }
 
-pub counted-no : {k n : ℕ} → Counted k n → k < 65536 → aboveThird k ≡ false → Counted (k + 1) n
+pub counted-no : {k n : ℕ} → FoursCounted k n → k < 65536 → aboveThird k ≡ false → FoursCounted (k + 1) n
 counted-no {k} {n} c h e =
     let next : length (foursBelow (k + 1)) ≡ length (foursBelow k) = length-next k ∙ ap (λ (b : Bool). cond b (length (foursBelow k) + 4) (length (foursBelow k))) e in
     record { within = omega arith; most = omega (arith, c .most); same = omega (arith, c .same) }
@@ -94,7 +94,7 @@ all-of k h g = ap foursBelow (last k h g) ∙ below-all
     last : (k : ℕ) → k ≤ 65536 → 65536 ≤ k → k ≡ 65536
     last k h g = omega arith
 
-pub counted-end : {k n : ℕ} → Counted k n → 65536 ≤ k → (length (fours aboveThird) ≡ 4 * n) × (n ≤ 65536)
+pub counted-end : {k n : ℕ} → FoursCounted k n → 65536 ≤ k → (length (fours aboveThird) ≡ 4 * n) × (n ≤ 65536)
 counted-end {k} {n} c h = (sym (ap length (all-of k (c .within) h)) ∙ c .same, omega (arith, c .most, c .within))
 
 -- ---- writing
@@ -109,16 +109,6 @@ writes s n k =
     ∙ ap (λ (i : ℕ). set (set (set (set s n (firstPoint k)) (n + 1) (secondPoint k)) i (thirdPoint k)) (suc (suc (suc n))) (fourthPoint k)) f
     ∙ ap (λ (i : ℕ). set (set (set (set s n (firstPoint k)) i (secondPoint k)) (suc (suc n)) (thirdPoint k)) (suc (suc (suc n))) (fourthPoint k)) e
 
--- one run of stores after the other
-sets-append : (l d s : List ℕ) (i : ℕ) → sets (sets s i l) (i + length l) d ≡ sets s i (l ++ d)
-sets-append [] d s i = ap (λ (n : ℕ). sets s n d) (add-zero i)
-sets-append (a ∷ l) d s i =
-    let e : i + suc (length l) ≡ suc i + length l = omega arith in
-    ap (λ (n : ℕ). sets (sets (set s i a) (suc i) l) n d) e ∙ sets-append l d (set s i a) (suc i)
-
-sets-first : (l d s : List ℕ) → sets (sets s 0 l) (length l) d ≡ sets s 0 (l ++ d)
-sets-first l d s = ap (λ (n : ℕ). sets (sets s 0 l) n d) (sym (zero-add (length l))) ∙ sets-append l d s 0
-
 module _ (s₀ : List ℕ) (fits : length (fours aboveThird) ≤ length s₀) where
   below-fits : (k : ℕ) → k ≤ 65536 → length (foursBelow k) ≤ length s₀
   below-fits k h =
@@ -127,11 +117,12 @@ module _ (s₀ : List ℕ) (fits : length (fours aboveThird) ≤ length s₀) wh
       let f : length (foursBelow (k + (65536 - k))) ≡ length (fours aboveThird) = ap (λ (n : ℕ). length (foursBelow n)) e ∙ ap length below-all in
       omega arith
 
-  pub filled-start : Filled s₀ 0 0 s₀
-  filled-start = record { within = omega arith; written = sym (ap length below-zero); same = sym (ap (λ (l : List ℕ). sets s₀ 0 l) below-zero) }
+  pub fours-start : FoursWritten s₀ 0 0 s₀
+  unfolding overlay
+  fours-start = record { within = omega arith; written = sym (ap length below-zero); same = sym (ap (λ (l : List ℕ). overlay l s₀) below-zero) }
 
-  pub filled-length : {k n : ℕ} {s : List ℕ} → Filled s₀ k n s → length s ≡ length s₀
-  filled-length {k} f = ap length (f .same) ∙ length-sets s₀ 0 (foursBelow k)
+  pub fours-length : {k n : ℕ} {s : List ℕ} → FoursWritten s₀ k n s → length s ≡ length s₀
+  fours-length {k} f = ap length (f .same) ∙ overlay-length (foursBelow k) s₀ (below-fits k (f .within))
 
   four-fits : (k : ℕ) → k < 65536 → aboveThird k ≡ true → length (foursBelow k) + 4 ≤ length s₀
   four-fits k h e =
@@ -139,33 +130,36 @@ module _ (s₀ : List ℕ) (fits : length (fours aboveThird) ≤ length s₀) wh
       let l = below-fits (k + 1) (omega arith) in
       omega arith
 
-  pub filled-room : {k n : ℕ} {s : List ℕ} → Filled s₀ k n s → k < 65536 → FourFits s n k
-  filled-room {k} {n} f h = record {
+  pub fours-room : {k n : ℕ} {s : List ℕ} → FoursWritten s₀ k n s → k < 65536 → FourFits s n k
+  fours-room {k} {n} f h = record {
     below = h;
-    room = λ e. omega (arith, four-fits k h e, filled-length f, f .written);
-    fits = omega (arith, below-fits k (f .within), filled-length f, f .written);
+    room = λ e. omega (arith, four-fits k h e, fours-length f, f .written);
+    fits = omega (arith, below-fits k (f .within), fours-length f, f .written);
   }
 
-  pub filled-next : {k n m : ℕ} {s t : List ℕ} → Filled s₀ k n s → k < 65536 → t ≡ cond (aboveThird k) (sets s n (pointsOf k)) s
-      → m ≡ cond (aboveThird k) (n + 4) n → Filled s₀ (k + 1) m t
-  filled-next {k} {n} {m} {s} {t} f h e g = go (aboveThird k) refl e g
+  pub fours-next : {k n m : ℕ} {s t : List ℕ} → FoursWritten s₀ k n s → k < 65536 → t ≡ cond (aboveThird k) (sets s n (pointsOf k)) s
+      → m ≡ cond (aboveThird k) (n + 4) n → FoursWritten s₀ (k + 1) m t
+  fours-next {k} {n} {m} {s} {t} f h e g = go (aboveThird k) refl e g
     where
-      go : (b : Bool) → aboveThird k ≡ b → t ≡ cond b (sets s n (pointsOf k)) s → m ≡ cond b (n + 4) n → Filled s₀ (k + 1) m t
+      go : (b : Bool) → aboveThird k ≡ b → t ≡ cond b (sets s n (pointsOf k)) s → m ≡ cond b (n + 4) n → FoursWritten s₀ (k + 1) m t
       go true b e g = record {
         within = omega arith;
         written = g ∙ ap (λ (x : ℕ). x + 4) (f .written) ∙ sym (length-next k ∙ ap (λ (b : Bool). cond b (length (foursBelow k) + 4) (length (foursBelow k))) b);
         same =
-            e ∙ ap₂ (λ (x : List ℕ) (i : ℕ). sets x i (pointsOf k)) (f .same) (f .written) ∙ sets-first (foursBelow k) (pointsOf k) s₀
-            ∙ ap (λ (l : List ℕ). sets s₀ 0 l) (sym (below-next k ∙ ap (λ (b : Bool). cond b (foursBelow k ++ pointsOf k) (foursBelow k)) b));
+            e ∙ ap (λ (x : List ℕ). sets x n (pointsOf k)) (f .same)
+            ∙ overlay-more (foursBelow k) (pointsOf k) s₀ n (sym (f .written)) (omega (arith, four-fits k h b, f .written))
+            ∙ ap (λ (l : List ℕ). overlay l s₀) (sym (below-next k ∙ ap (λ (b : Bool). cond b (foursBelow k ++ pointsOf k) (foursBelow k)) b));
       }
       go false b e g = record {
         within = omega arith;
         written = g ∙ f .written ∙ sym (length-next k ∙ ap (λ (b : Bool). cond b (length (foursBelow k) + 4) (length (foursBelow k))) b);
-        same = e ∙ f .same ∙ ap (λ (l : List ℕ). sets s₀ 0 l) (sym (below-next k ∙ ap (λ (b : Bool). cond b (foursBelow k ++ pointsOf k) (foursBelow k)) b));
+        same = e ∙ f .same ∙ ap (λ (l : List ℕ). overlay l s₀) (sym (below-next k ∙ ap (λ (b : Bool). cond b (foursBelow k ++ pointsOf k) (foursBelow k)) b));
       }
 
-  pub filled-end : {k n : ℕ} {s : List ℕ} → Filled s₀ k n s → 65536 ≤ k → s ≡ sets s₀ 0 (fours aboveThird)
-  filled-end {k} f h = f .same ∙ ap (λ (l : List ℕ). sets s₀ 0 l) (all-of k (f .within) h)
+  pub fours-end : {k n : ℕ} {s : List ℕ} → FoursWritten s₀ k n s → 65536 ≤ k → s ≡ sets s₀ 0 (fours aboveThird)
+  unfolding overlay
+  fours-end {k} f h =
+      f .same ∙ ap (λ (l : List ℕ). overlay l s₀) (all-of k (f .within) h) ∙ sym (overlay-more [] (fours aboveThird) s₀ 0 refl (omega (arith, fits)))
 
 -- ---- the answer
 

@@ -7,11 +7,11 @@ use lib.Dec.{leb, eqb}
 use lib.ListN.{length}
 use lib.Ieee.{Float}
 use Rattle.numbers.specs.Float.{zeroF}
-use Rattle.domain.specs.Outline.{Outline, firstOf, outlineRefusal}
+use Rattle.domain.specs.Outline.{Outline, firstOf}
 use Rattle.direction.specs.declared.Grid.{Grid}
 use Rattle.direction.specs.Record.{FieldRecord}
 use Rattle.direction.specs.Direction.{recordRefusal}
-use Rattle.crossfield.specs.Grid.{bounds, sizeRefusal, boundsRefusal}
+use Rattle.crossfield.specs.Field.{drawnRefusal}
 use Rattle.front.specs.declared.Counts.{Counts}
 use Rattle.front.specs.State.{State, counted, node, nextOf, quadAt}
 use Rattle.hand_steps.specs.declared.StepOutcome.{StepOutcome}
@@ -24,11 +24,7 @@ use Rattle.step_answers.specs.Answers.{refusedStep, doneStep, refusedPreview, n
 
 -- ---- the refusals, in order
 
--- 1 to 7: the outline, the size, and the outline's box, since no run exists on one with no width or no height
-unfoldable pub drawnRefusal : Outline → Float → ℕ
-drawnRefusal o size = firstOf (outlineRefusal o) (firstOf (sizeRefusal size) (boundsRefusal (bounds o)))
-
--- then 11
+-- 1 to 7, of which 7 is the box's, since no run exists on an outline with no width or no height; then 11
 unfoldable pub givenRefusal : Outline → Float → FieldRecord → ℕ
 givenRefusal o size field = firstOf (drawnRefusal o size) (recordRefusal field)
 

@@ -5,18 +5,17 @@ use mathlib.Core.Path.{_≡_, refl, sym, ap, _∙_}
 use mathlib.Core.Logic.{_≢_}
 use Prim.Native.Nat.{ℕ, zero, suc, _/_, _≤_}
 use native.Mathlib.Omega.{arith}
-use lib.Dec.{T, ltb, eqb}
+use lib.Dec.{eqb}
 use lib.ListN.{length}
-use lib.Ieee.{Float, binary64, fits}
-use borrow.Author.Tests.{eq-eqb, ne-eqb, eqb-true, le-ltb}
+use lib.Ieee.{Float}
+use borrow.Author.Tests.{eq-eqb, ne-eqb, eqb-true}
 use Rattle.domain.specs.Outline.{Outline, firstOf, outlineRefusal}
 use Rattle.domain.specs.Accepted.{OutlineFits, first-zero}
-use Rattle.direction.specs.Record.{FieldRecord, mostFieldNodes, gridNodes}
+use Rattle.direction.specs.Record.{FieldRecord}
 use Rattle.direction.specs.Direction.{recordRefusal}
 use Rattle.direction.specs.RecordLaws.{record-lent}
-use Rattle.crossfield.specs.Grid.{bounds, gridOf, sizeRefusal, boundsRefusal, sweepsRefusal}
-use Rattle.crossfield.specs.Field.{placesRefusal, refusalFor}
-use Rattle.crossfield.specs.FieldLaws.{few}
+use Rattle.crossfield.specs.Grid.{bounds, sizeRefusal, boundsRefusal}
+use Rattle.crossfield.specs.Field.{drawnRefusal}
 use Rattle.front.specs.declared.Counts.{Counts}
 use Rattle.front.specs.State.{State, counted, nextOf}
 use Rattle.mesh_check.specs.Check.{lentState}
@@ -34,26 +33,10 @@ use Rattle.previews.specs.PreviewSteps.{preview-passes}
 use Rattle.step_answers.specs.declared.StepAnswer.{StepAnswer}
 use Rattle.step_answers.specs.declared.PreviewAnswer.{PreviewAnswer}
 use Rattle.step_answers.specs.Answers.{refusedStep, doneStep, refusedPreview, stepNumbers, viewNumbers}
-use Rattle.step_entries.specs.Entries.{drawnRefusal, givenRefusal, stepRefusal, sightRefusal, stepReply, stepLeft, countsGiven, HostSteps, copyNumbers, previewReply, previewLeft, HostPreviews}
+use Rattle.step_entries.specs.Entries.{givenRefusal, stepRefusal, sightRefusal, stepReply, stepLeft, countsGiven, HostSteps, copyNumbers, previewReply, previewLeft, HostPreviews}
 use Rattle.step_entries.specs.ViewLaws.{view-is}
 
 -- ---- 1 to 7 and 11
-
--- with no sweeps and room for every field, 8 and 9 never refuse
-pub drawn-is : (o : Outline) (size : Float) → OutlineFits o → T (fits binary64 size) → refusalFor o size 0 mostFieldNodes ≡ drawnRefusal o size
-unfolding drawnRefusal sweepsRefusal placesRefusal
-drawn-is o size doubles held = by (outlineRefusal o) refl (sizeRefusal size) refl (boundsRefusal (bounds o)) refl
-  where
-    last : ℕ
-    last = firstOf (sweepsRefusal 0) (placesRefusal (gridOf (bounds o) size) mostFieldNodes)
-
-    by : (p : ℕ) → outlineRefusal o ≡ p → (q : ℕ) → sizeRefusal size ≡ q → (r : ℕ) → boundsRefusal (bounds o) ≡ r
-        → firstOf p (firstOf q (firstOf r last)) ≡ firstOf p (firstOf q r)
-    by (suc p) e q f r g = refl
-    by zero e (suc q) f r g = refl
-    by zero e zero f (suc r) g = refl
-    by zero e zero f zero g =
-        rw (le-ltb mostFieldNodes (gridNodes (gridOf (bounds o) size)) (few o size (bounds o) doubles held e f refl g)) refl
 
 module _ (o : Outline) (size : Float) (field : FieldRecord) where
   module _ {r : ℕ} (e : r ≡ drawnRefusal o size) where

@@ -3,9 +3,10 @@
 ghost use mathlib.Core.Path.{_≡_};
 ghost use Rattle.domain.specs.Outline.{outline};
 ghost use Rattle.direction.specs.Record.{fieldRecord};
+ghost use Rattle.crossfield.specs.Field.{drawnRefusal};
 ghost use Rattle.front.specs.State.{counted};
 ghost use Rattle.mesh_check.specs.Check.{lentState};
-ghost use Rattle.step_entries.specs.Entries.{gridGiven, drawnRefusal, givenRefusal, countsGiven, HostSteps, HostPreviews};
+ghost use Rattle.step_entries.specs.Entries.{gridGiven, givenRefusal, countsGiven, HostSteps, HostPreviews};
 use direction::Grid;
 use domain::Settings;
 use front::Counts;

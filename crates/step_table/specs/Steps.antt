@@ -6,10 +6,13 @@ use Prim.Native.Nat.{ℕ}
 use lib.ListN.{replicate}
 use lib.Ieee.{Float}
 use Rattle.numbers.specs.Float.{zeroF, oneF, twoF, fourF}
-use Rattle.domain.specs.Outline.{Outline, outline}
+use Rattle.domain.specs.Outline.{outline}
 use Rattle.direction.specs.Record.{FieldRecord, fieldRecord}
+use Rattle.crossfield.specs.Field.{drawnRefusal}
+use Rattle.topology.specs.Links.{off}
 use Rattle.front.specs.declared.Counts.{Counts}
 use Rattle.front.specs.State.{State, counted}
+use Rattle.whole_run.specs.Worked.{workedSquare}
 use Rattle.books.specs.Book.{filled}
 use Rattle.table.specs.Opened.{opened}
 use Rattle.mesh_check.specs.Check.{allOff, lentState, beyondPlaces, idsBeyond, linkUnsound, linkCount, frontUnsound, coordinateUnsound, meshUnsound}
@@ -20,7 +23,7 @@ use Rattle.previews.specs.Preview.{frontListed, previewRefusal}
 use Rattle.step_answers.specs.declared.StepAnswer.{StepAnswer}
 use Rattle.step_answers.specs.declared.PreviewAnswer.{PreviewAnswer}
 use Rattle.step_answers.specs.Answers.{refusedStep, noQuad}
-use Rattle.step_entries.specs.Entries.{gridGiven, drawnRefusal, givenRefusal, stepRefusal, sightRefusal, stepReply, stepLeft}
+use Rattle.step_entries.specs.Entries.{gridGiven, givenRefusal, stepRefusal, sightRefusal, stepReply, stepLeft}
 use Rattle.step_entries.specs.Entries.{previewReply, previewLeft}
 
 -- names to unfold beside `opened`
@@ -29,15 +32,9 @@ unfolding replicate allOff beyondPlaces idsBeyond linkUnsound linkCount frontUns
     placeOn newOrigins frontListed previewRefusal drawnRefusal givenRefusal stepRefusal sightRefusal stepReply stepLeft previewReply previewLeft
 steps-opened = tt
 
-abbrev square : Outline
-square = outline (zeroF ∷ zeroF ∷ twoF ∷ zeroF ∷ twoF ∷ twoF ∷ zeroF ∷ twoF ∷ []) [] []
-
 -- the square's field is the same everywhere: four nodes are enough
 abbrev field : FieldRecord
 field = fieldRecord (gridGiven zeroF zeroF twoF 2 2) (oneF ∷ zeroF ∷ oneF ∷ zeroF ∷ oneF ∷ zeroF ∷ oneF ∷ zeroF ∷ []) (0 ∷ 0 ∷ 0 ∷ 0 ∷ [])
-
-abbrev none : ℕ
-none = 4294967295
 
 -- the sampled square, in lists of nine nodes, one quad and so many edges; the counts as they are lent
 abbrev mesh : List ℕ → List ℕ → Counts → State
@@ -60,15 +57,15 @@ abbrev after : StepAnswer
 after = record { refusal = 0; outcome = 0; nodes = 9; quads = 1; edges = 10; front = 8 }
 
 -- the quad 3 4 5 8, with one new node (1, 1)
-pub record Placed : Type 0 where
-  pub step : stepReply square oneF field 3 4 sampled ≡ after
-  pub left : stepLeft square oneF field 3 4 sampled
+pub record SquareStepped : Type 0 where
+  pub step : stepReply workedSquare oneF field 3 4 sampled ≡ after
+  pub left : stepLeft workedSquare oneF field 3 4 sampled
       ≡ lentState (zeroF ∷ oneF ∷ twoF ∷ twoF ∷ twoF ∷ oneF ∷ zeroF ∷ zeroF ∷ oneF ∷ []) (zeroF ∷ zeroF ∷ zeroF ∷ oneF ∷ twoF ∷ twoF ∷ twoF ∷ oneF ∷ oneF ∷ [])
-      (1 ∷ 2 ∷ 3 ∷ 8 ∷ none ∷ 6 ∷ 7 ∷ 0 ∷ 5 ∷ []) (7 ∷ 0 ∷ 1 ∷ 2 ∷ none ∷ 8 ∷ 5 ∷ 6 ∷ 3 ∷ []) numbers (3 ∷ 4 ∷ 5 ∷ 8 ∷ [])
+      (1 ∷ 2 ∷ 3 ∷ 8 ∷ off ∷ 6 ∷ 7 ∷ 0 ∷ 5 ∷ []) (7 ∷ 0 ∷ 1 ∷ 2 ∷ off ∷ 8 ∷ 5 ∷ 6 ∷ 3 ∷ []) numbers (3 ∷ 4 ∷ 5 ∷ 8 ∷ [])
       (0 ∷ 1 ∷ others (5 ∷ 8 ∷ 3 ∷ 8 ∷ 9 ∷ 9 ∷ [])) (counted 9 1 10 8)
   -- it takes the number of node 3
   pub number : newOrigins 3 8 9 numbers ≡ 3 ∷ 1 ∷ 4 ∷ 1 ∷ 5 ∷ 9 ∷ 2 ∷ 6 ∷ 1 ∷ []
-  pub preview : previewReply square oneF field 3 4 sampled (filled 22 7)
+  pub preview : previewReply workedSquare oneF field 3 4 sampled (filled 22 7)
       ≡ record {
         refusal = 0;
         outcome = 0;
@@ -83,28 +80,28 @@ pub record Placed : Type 0 where
         dy = zeroF;
         front = 8;
       }
-  pub list : previewLeft square oneF field 3 4 sampled (filled 22 7)
+  pub list : previewLeft workedSquare oneF field 3 4 sampled (filled 22 7)
       ≡ 0 ∷ 1 ∷ 1 ∷ 2 ∷ 2 ∷ 3 ∷ 3 ∷ 8 ∷ 5 ∷ 6 ∷ 6 ∷ 7 ∷ 7 ∷ 0 ∷ 8 ∷ 5 ∷ 7 ∷ 7 ∷ 7 ∷ 7 ∷ 7 ∷ 7 ∷ []
 
-pub placed : Placed
+pub square-stepped : SquareStepped
 unfolding opened steps-opened
-placed = record { step = refl; left = refl; number = refl; preview = refl; list = refl }
+square-stepped = record { step = refl; left = refl; number = refl; preview = refl; list = refl }
 
 -- nothing placed
 pub record Others : Type 0 where
   -- eight places for the numbers of nine nodes
-  pub full : stepReply square oneF field 3 4 (mesh (filled 8 0) (0 ∷ 1 ∷ others (9 ∷ 9 ∷ 9 ∷ 9 ∷ [])) (counted 8 0 8 8))
+  pub full : stepReply workedSquare oneF field 3 4 (mesh (filled 8 0) (0 ∷ 1 ∷ others (9 ∷ 9 ∷ 9 ∷ 9 ∷ [])) (counted 8 0 8 8))
       ≡ record { refusal = 0; outcome = 2; nodes = 8; quads = 0; edges = 8; front = 8 }
-  pub full-preview : previewReply square oneF field 3 4 (mesh (filled 8 0) (0 ∷ 1 ∷ others (9 ∷ 9 ∷ 9 ∷ 9 ∷ [])) (counted 8 0 8 8)) (filled 20 7)
+  pub full-preview : previewReply workedSquare oneF field 3 4 (mesh (filled 8 0) (0 ∷ 1 ∷ others (9 ∷ 9 ∷ 9 ∷ 9 ∷ [])) (counted 8 0 8 8)) (filled 20 7)
       ≡ noQuad 2 8
   -- 250,000 quads: nothing is attempted; with one fewer it is, and finds no place here
-  pub cap : placeOn square oneF field 3 4 (mesh numbers [] (counted 8 250000 0 8)) .outcome ≡ Cap
-  pub below-cap : placeOn square oneF field 3 4 (mesh numbers [] (counted 8 249999 0 8)) .outcome ≡ Full
+  pub cap : placeOn workedSquare oneF field 3 4 (mesh numbers [] (counted 8 250000 0 8)) .outcome ≡ Cap
+  pub below-cap : placeOn workedSquare oneF field 3 4 (mesh numbers [] (counted 8 249999 0 8)) .outcome ≡ Full
   -- 24 by the mark of none, and the wrong way round
-  pub mark : stepReply square oneF field 8 none sampled ≡ refusedStep 24
-  pub turned : stepReply square oneF field 4 3 sampled ≡ refusedStep 24
+  pub mark : stepReply workedSquare oneF field 8 off sampled ≡ refusedStep 24
+  pub turned : stepReply workedSquare oneF field 4 3 sampled ≡ refusedStep 24
   -- a preview's list one edge short: 23 before 24
-  pub short : previewReply square oneF field 4 3 sampled (filled 19 7) .refusal ≡ 23
+  pub short : previewReply workedSquare oneF field 4 3 sampled (filled 19 7) .refusal ≡ 23
   -- 7 of an outline with no height, before 23 of a count
   pub flat : stepReply (outline (zeroF ∷ zeroF ∷ oneF ∷ zeroF ∷ twoF ∷ zeroF ∷ []) [] []) oneF field 3 4 (mesh numbers [] (counted 8 0 0 7)) ≡ refusedStep 7
 
@@ -116,11 +113,11 @@ others-answered =
 -- what 23 lets pass, answered by the definitions
 pub record Readings : Type 0 where
   -- no edge listed: all four sides are added
-  pub unlisted : stepReply square oneF field 3 4 (mesh numbers (filled 8 0) (counted 8 0 0 8))
+  pub unlisted : stepReply workedSquare oneF field 3 4 (mesh numbers (filled 8 0) (counted 8 0 0 8))
       ≡ record { refusal = 0; outcome = 0; nodes = 9; quads = 1; edges = 4; front = 8 }
   -- the first pair stored as 1 0 isn't found: the edge is added again
-  pub reversed : stepReply square oneF field 0 1 (mesh numbers (1 ∷ 0 ∷ others (filled 6 0)) (counted 8 0 8 8)) .edges ≡ 11
-  pub stored : stepReply square oneF field 0 1 (mesh numbers (0 ∷ 1 ∷ others (filled 6 0)) (counted 8 0 8 8)) .edges ≡ 10
+  pub reversed : stepReply workedSquare oneF field 0 1 (mesh numbers (1 ∷ 0 ∷ others (filled 6 0)) (counted 8 0 8 8)) .edges ≡ 11
+  pub stored : stepReply workedSquare oneF field 0 1 (mesh numbers (0 ∷ 1 ∷ others (filled 6 0)) (counted 8 0 8 8)) .edges ≡ 10
 
 pub readings : Readings
 unfolding opened steps-opened

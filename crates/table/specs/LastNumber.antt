@@ -21,7 +21,7 @@ use Rattle.paving.specs.declared.Attempt.the-variants.{Quad}
 use Rattle.paving.specs.Checks.{closeNode, tooClose, nodeOk, cornerFree, cornersApart, blocks, nodeInside, edgesFree, cornersOf, quadOk, quadFits}
 use Rattle.paving.specs.Attempt.{cornerC, cornerD, attemptQuad}
 use Rattle.table.specs.Opened.{opened}
-use Rattle.table.specs.Unreached.{at, up}
+use Rattle.table.specs.Unreached.{wholePoint, up}
 
 -- 4,294,967,294 nodes, of which 0 and 1 are on the front at (1,1) and (2,1); the others are past the lists' ends, where a NaN is read
 abbrev most : State
@@ -38,7 +38,7 @@ abbrev newD : Corner
 newD = Fresh (toFloat 2) (toFloat 2)
 
 abbrev newQuad : Corners
-newQuad = record { a = at 1 1; b = at 2 1; d = at 2 2; c = at 1 2 }
+newQuad = record { a = wholePoint 1 1; b = wholePoint 2 1; d = wholePoint 2 2; c = wholePoint 1 2 }
 
 chosen-c : cornerC oneF most 0 1 up ≡ newC
 unfolding opened
@@ -63,13 +63,13 @@ unfolding anyUp forUp
 no-node test h zero = refl
 no-node test h (suc n) = rw (no-node test h n, h n) refl
 
-clear-c : (id : ℕ) → closeNode oneF most (at 1 2) id ≡ false
+clear-c : (id : ℕ) → closeNode oneF most (wholePoint 1 2) id ≡ false
 unfolding opened
 clear-c zero = refl
 clear-c (suc zero) = refl
 clear-c (suc (suc id)) = refl
 
-clear-d : (id : ℕ) → closeNode oneF most (at 2 2) id ≡ false
+clear-d : (id : ℕ) → closeNode oneF most (wholePoint 2 2) id ≡ false
 unfolding opened
 clear-d zero = refl
 clear-d (suc zero) = refl
@@ -89,21 +89,21 @@ finite-2 : isFinite (toFloat 2) ≡ true
 unfolding opened
 finite-2 = refl
 
-inside-c : contains wide (at 1 2) ≡ true
+inside-c : contains wide (wholePoint 1 2) ≡ true
 unfolding opened
 inside-c = refl
 
-inside-d : contains wide (at 2 2) ≡ true
+inside-d : contains wide (wholePoint 2 2) ≡ true
 unfolding opened
 inside-d = refl
 
 free-c : cornerFree wide oneF most newC ≡ true
 unfolding cornerFree nodeOk tooClose
-free-c = sym (passes finite-1 (passes finite-2 (passes inside-c (ap not (sym (no-node (closeNode oneF most (at 1 2)) clear-c 4294967294))))))
+free-c = sym (passes finite-1 (passes finite-2 (passes inside-c (ap not (sym (no-node (closeNode oneF most (wholePoint 1 2)) clear-c 4294967294))))))
 
 free-d : cornerFree wide oneF most newD ≡ true
 unfolding cornerFree nodeOk tooClose
-free-d = sym (passes finite-2 (passes finite-2 (passes inside-d (ap not (sym (no-node (closeNode oneF most (at 2 2)) clear-d 4294967294))))))
+free-d = sym (passes finite-2 (passes finite-2 (passes inside-d (ap not (sym (no-node (closeNode oneF most (wholePoint 2 2)) clear-d 4294967294))))))
 
 apart : cornersApart oneF newC newD ≡ true
 unfolding opened

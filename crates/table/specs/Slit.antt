@@ -8,13 +8,14 @@ use lib.Ieee.{Float}
 use Rattle.numbers.specs.Float.{bits, zeroF, oneF}
 use Rattle.domain.specs.Outline.{Outline, outline}
 use Rattle.sound_outlines.specs.Whole.{isWhole}
+use Rattle.topology.specs.Links.{off}
 use Rattle.front.specs.State.{State, counted}
 use Rattle.paving.specs.declared.End.the-variants.{Still}
 use Rattle.paving.specs.Advance.{paved}
 use Rattle.paving.specs.Loops.{frontLoops}
 use Rattle.whole_run.specs.Run.{runOf}
 use Rattle.table.specs.Opened.{opened}
-use Rattle.table.specs.Square.{settings, lentField, lent, n}
+use Rattle.table.specs.Square.{squareSettings, lentField, squareLent}
 
 abbrev minusOne : Float
 minusOne = bits 0xbff0_0000_0000_0000
@@ -33,16 +34,16 @@ end =
     record {
       xs = minusOne ∷ zeroF ∷ oneF ∷ oneF ∷ oneF ∷ zeroF ∷ zeroF ∷ zeroF ∷ minusOne ∷ minusOne ∷ [];
       ys = minusTwo ∷ minusTwo ∷ minusTwo ∷ minusOne ∷ zeroF ∷ zeroF ∷ minusOne ∷ zeroF ∷ zeroF ∷ minusOne ∷ [];
-      next = n ∷ n ∷ n ∷ 6 ∷ n ∷ n ∷ 3 ∷ n ∷ n ∷ n ∷ [];
-      prev = n ∷ n ∷ n ∷ 6 ∷ n ∷ n ∷ 3 ∷ n ∷ n ∷ n ∷ [];
-      snapshot = n ∷ n ∷ n ∷ 6 ∷ n ∷ n ∷ 3 ∷ n ∷ n ∷ n ∷ [];
+      next = off ∷ off ∷ off ∷ 6 ∷ off ∷ off ∷ 3 ∷ off ∷ off ∷ off ∷ [];
+      prev = off ∷ off ∷ off ∷ 6 ∷ off ∷ off ∷ 3 ∷ off ∷ off ∷ off ∷ [];
+      snapshot = off ∷ off ∷ off ∷ 6 ∷ off ∷ off ∷ 3 ∷ off ∷ off ∷ off ∷ [];
       quads = 4 ∷ 5 ∷ 6 ∷ 3 ∷ 7 ∷ 8 ∷ 9 ∷ 6 ∷ 9 ∷ 0 ∷ 1 ∷ 6 ∷ 1 ∷ 2 ∷ 3 ∷ 6 ∷ 7 ∷ 7 ∷ 7 ∷ 7 ∷ [];
       edges =
           0 ∷ 1 ∷ 1 ∷ 2 ∷ 2 ∷ 3 ∷ 3 ∷ 4 ∷ 4 ∷ 5 ∷ 5 ∷ 6 ∷ 6 ∷ 7 ∷ 7 ∷ 8 ∷ 8 ∷ 9 ∷ 0 ∷ 9 ∷ 3 ∷ 6 ∷ 6 ∷ 9 ∷ 1 ∷ 6 ∷ 7 ∷ 7 ∷ [];
       counts = counted 10 4 13 2;
     }
 
-pub shut-run : runOf shut settings lentField lent .paving ≡ paved end Still
+pub shut-run : runOf shut squareSettings lentField squareLent .paving ≡ paved end Still
 unfolding opened
 shut-run = refl
 

@@ -25,11 +25,11 @@ use Rattle.paving.specs.Loops.{frontLoops}
 use Rattle.table.specs.Opened.{opened}
 
 -- the point (x, y) of whole numbers
-abbrev pub at : ℕ → ℕ → Point
-at x y = point (toFloat x) (toFloat y)
+abbrev pub wholePoint : ℕ → ℕ → Point
+wholePoint x y = point (toFloat x) (toFloat y)
 
 abbrev pub up : Point
-up = at 0 1
+up = wholePoint 0 1
 
 -- n nodes, each with its links, and no quad or edge
 abbrev linked : ℕ → List Float → List Float → List ℕ → List ℕ → State
@@ -81,7 +81,7 @@ abbrev pair : State
 pair = linked 2 (zeroF ∷ oneF ∷ []) (zeroF ∷ zeroF ∷ []) (1 ∷ 0 ∷ []) (1 ∷ 0 ∷ [])
 
 -- prev(0) is 1, and stands where c is wanted, but is the edge's other end
-pub not-b : cornerC oneF pair 0 1 (at 1 0) ≡ Fresh oneF zeroF
+pub not-b : cornerC oneF pair 0 1 (wholePoint 1 0) ≡ Fresh oneF zeroF
 unfolding opened
 not-b = refl
 
@@ -91,7 +91,7 @@ unfolding opened
 not-a = refl
 
 -- where they are not the edge's ends, they are reused
-pub else-c : cornerC oneF pair 0 5 (at 1 0) ≡ Reused 1
+pub else-c : cornerC oneF pair 0 5 (wholePoint 1 0) ≡ Reused 1
 unfolding opened
 else-c = refl
 
@@ -109,33 +109,33 @@ long x y = stateOf (zeroF ∷ toFloat x ∷ []) (zeroF ∷ toFloat y ∷ []) [] 
 abbrev crosses : Point → Point → State → Bool
 crosses a b s = edgeCrosses halfF s a b 2 3
 
-pub kept-across : crosses (point (toFloat 2) (neg oneF)) (at 2 1) (long 4096 0) ≡ true
+pub kept-across : crosses (point (toFloat 2) (neg oneF)) (wholePoint 2 1) (long 4096 0) ≡ true
 unfolding opened
 kept-across = refl
 
-pub skipped-across : crosses (point (toFloat 2) (neg oneF)) (at 2 1) (long 4097 0) ≡ false
+pub skipped-across : crosses (point (toFloat 2) (neg oneF)) (wholePoint 2 1) (long 4097 0) ≡ false
 unfolding opened
 skipped-across = refl
 
 -- though they do cross
-pub skipped-crosses : segmentsCross (point (toFloat 2) (neg oneF)) (at 2 1) (at 0 0) (at 4097 0) ≡ true
+pub skipped-crosses : segmentsCross (point (toFloat 2) (neg oneF)) (wholePoint 2 1) (wholePoint 0 0) (wholePoint 4097 0) ≡ true
 unfolding opened
 skipped-crosses = refl
 
-pub kept-both-ways : isCandidate halfF (at 0 0) (at 1 1) (at 0 0) (at 4000 96) ≡ true
+pub kept-both-ways : isCandidate halfF (wholePoint 0 0) (wholePoint 1 1) (wholePoint 0 0) (wholePoint 4000 96) ≡ true
 unfolding opened
 kept-both-ways = refl
 
-pub skipped-both-ways : isCandidate halfF (at 0 0) (at 1 1) (at 0 0) (at 4000 97) ≡ false
+pub skipped-both-ways : isCandidate halfF (wholePoint 0 0) (wholePoint 1 1) (wholePoint 0 0) (wholePoint 4000 97) ≡ false
 unfolding opened
 skipped-both-ways = refl
 
 -- the query's rectangle alike
-pub query-kept : isCandidate halfF (at 4000 96) (at 0 0) (at 1 1) (at 0 0) ≡ true
+pub query-kept : isCandidate halfF (wholePoint 4000 96) (wholePoint 0 0) (wholePoint 1 1) (wholePoint 0 0) ≡ true
 unfolding opened
 query-kept = refl
 
-pub query-skipped : isCandidate halfF (at 4000 97) (at 0 0) (at 1 1) (at 0 0) ≡ false
+pub query-skipped : isCandidate halfF (wholePoint 4000 97) (wholePoint 0 0) (wholePoint 1 1) (wholePoint 0 0) ≡ false
 unfolding opened
 query-skipped = refl
 

@@ -13,12 +13,12 @@ unfoldable pub runRefusal : Outline → Settings → FieldLists → State → �
 runRefusal o set f lent = firstOf (fieldRefusal o (set .size) (set .sweeps) f) (frontRefusal o (set .size) lent)
 
 -- the field, and the paving where it ended
-pub record Run : Type 0 where
+pub record WholeRun : Type 0 where
   pub field : FieldRecord
   pub paving : Paved
 
 -- field, sampling and paving, in the lists lent
-unfoldable pub runOf : Outline → Settings → FieldLists → State → Run
+unfoldable pub runOf : Outline → Settings → FieldLists → State → WholeRun
 runOf o set f lent =
     let field = fieldOf o (set .size) (set .sweeps) f in
     record { field = field; paving = advance o (set .size) field (set .passes) (fromBoundary o (set .size) lent) }

@@ -22,7 +22,8 @@ Inv-loop outer holes lens blocks size grid values xs₀ ys₀ next₀ prev₀ sn
     snapshot quads edges nodePool edgePool tried counts i =
     Run (passesTurn (outline outer holes lens) size (fieldRecord grid values [])) allUsed
     (stateOf xs₀ ys₀ next₀ prev₀ snapshot₀ quads₀ edges₀ counts₀) most i (stateOf xs ys next prev snapshot quads edges counts)
-    × Pools (outline outer holes lens) size (fieldRecord grid values []) xs ys edges counts nodePool₀ edgePool₀ tried₀ nodePool edgePool tried
+    × Pools (outline outer holes lens) size (fieldRecord grid values []) xs ys next snapshot edges counts nodePool₀ edgePool₀ tried₀ nodePool edgePool
+    tried
 
 abbrev μ-loop : tie.MeasureT-loop
 μ-loop outer holes lens blocks size grid values xs₀ ys₀ next₀ prev₀ snapshot₀ quads₀ edges₀ nodePool₀ edgePool₀ tried₀ passes most counts₀ i₀ xs ys next prev
@@ -62,10 +63,7 @@ loop-holds : tie.Need-loop-holds Inv-loop μ-loop
 loop-holds c = let start = c .before .before .before .before .before .before .before .before .before .before .before .before .before .before .before .before .before .before .before .before .before .before .before .before .before .before .before .before .before in (
   run-start _ allUsed _ _,
   record {
-    help = record {
-      search = c .before .before .before .before .before .before .file-all .ensures .0;
-      remembers = all-forgotten (around start) (start .args .size) (field start) _ _ _ _ _ (c .before .before .before .before .before .before .file-all .ensures .1);
-    };
+    help = all-forgotten (around start) (start .args .size) (field start) _ _ _ _ _ _ (c .before .before .before .before .before .before .file-all .ensures .0) _ (c .before .before .before .before .before .before .file-all .ensures .1);
     node-long = refl;
     edge-long = refl;
     tried-long = refl;

@@ -3,7 +3,7 @@ use borrow.Author.Needs.{needs}
 use mathlib.Core.Bool.{true, false, not, _&&_}
 use mathlib.Core.Path.{_≡_, refl, _∙_, ap}
 use borrow.Author.Tests.{not-true, not-false}
-use Rattle.bowl.specs.Steps.{isLeft, isShown}
+use Rattle.bowl.specs.Steps.{turnsLeft, isShown}
 use Rattle.bowl.specs.Stepped.{vector, ids}
 use Rattle.bowl.specs.StepsLaws.{shown-is}
 use Rattle.bowl.proofs.is_shown.Statement.{statement}
@@ -39,9 +39,9 @@ corners : (w4 : tie.After-way4)
     let w2 = w3 .before in
     let w1 = w2 .before in
     let start = w1 .before .before .before .before .before .before .before in
-    isLeft (vector (w4 .way4 .result)) (vector (w1 .way .result))
-    && (isLeft (vector (w1 .way .result)) (vector (w2 .way2 .result))
-    && (isLeft (vector (w2 .way2 .result)) (vector (w3 .way3 .result)) && isLeft (vector (w3 .way3 .result)) (vector (w4 .way4 .result))))
+    turnsLeft (vector (w4 .way4 .result)) (vector (w1 .way .result))
+    && (turnsLeft (vector (w1 .way .result)) (vector (w2 .way2 .result))
+    && (turnsLeft (vector (w2 .way2 .result)) (vector (w3 .way3 .result)) && turnsLeft (vector (w3 .way3 .result)) (vector (w4 .way4 .result))))
     ≡ isShown (start .args .xs .now) (start .args .ys .now) (ids (start .args .a) (start .args .b) (start .args .d) (start .args .c))
 corners w4 =
     let w3 = w4 .before in

@@ -4,7 +4,7 @@ use Prim.Native.Nat.{_-_, _*_}
 use lib.ListN.{length-set}
 use native.Mathlib.Omega.{arith}
 use Rattle.laws.specs.Loop.{Loop, loop-start, loop-end}
-use Rattle.bowl.specs.Steps.{storeTurn, stored}
+use Rattle.bowl.specs.Steps.{storeTurn, storedSteps}
 use Rattle.bowl.specs.StepsLaws.{store-length, store-next}
 use Rattle.bowl.proofs.store_steps.Statement.{statement}
 use Rattle.bowl.proofs.store_steps.Tie as tie
@@ -111,7 +111,7 @@ same-length : tie.Need-same-length Inv-loop μ-loop
 same-length c = store-length _ _ _ _ _ _ (c .before .loop .inv)
 
 returns : tie.Need-returns Inv-loop μ-loop
-unfolding stored
+unfolding storedSteps
 returns c = loop-end _ _ (c .before .loop .inv) (c .loop-test .left)
 
 pub store-steps-spec : {M : Type 1} → statement M

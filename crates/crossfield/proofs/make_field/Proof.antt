@@ -4,14 +4,14 @@ use borrow.Author.Needs.{needs}
 use lib.Dec.{T}
 use Rattle.domain.specs.Accepted.{accepted}
 use Rattle.averages.specs.Places.{room-of}
-use Rattle.crossfield.specs.FieldLaws.{unrefused, few-made, room-made, seeds-ask}
+use Rattle.crossfield.specs.FieldLaws.{field-unrefused, few-made, room-made, seeds-ask}
 use Rattle.crossfield.specs.Field.{fieldRefusal, fieldOf}
 use Rattle.crossfield.proofs.make_field.Statement.{statement}
 use Rattle.crossfield.proofs.make_field.Tie as tie
 
 bounds-of-requires : tie.Need-bounds-of-requires
 unfolding fieldRefusal
-bounds-of-requires c κs = accepted _ (unrefused _ _ _ _ (c .before .before .before .before .before .before .pre) .outline) .shape
+bounds-of-requires c κs = accepted _ (field-unrefused _ _ _ _ (c .before .before .before .before .before .before .pre) .outline) .shape
 
 grid-of-requires : tie.Need-grid-of-requires
 unfolding fieldRefusal
@@ -22,7 +22,7 @@ grid-of-requires c κs =
 
 file-requires : tie.Need-file-requires
 unfolding fieldRefusal
-file-requires c κs = unrefused _ _ _ _ (c .before .before .before .before .before .before .before .before .before .pre) .outline
+file-requires c κs = field-unrefused _ _ _ _ (c .before .before .before .before .before .before .before .before .before .pre) .outline
 
 seed-all-requires : tie.Need-seed-all-requires
 unfolding fieldRefusal

@@ -1,13 +1,13 @@
 -- `file_listing::list_file` meets its contract: refused as the file is, or what was read listed. Assumes nothing.
 use mathlib.Core.Path.{refl, sym}
-use Rattle.file_listing.specs.Laws.{Held, lists-as, read-held, read-listed, refused-number, refused-as, refused-listed}
+use Rattle.file_listing.specs.Laws.{RequestHeld, given-as, read-held, read-listed, refused-number, refused-as, refused-listed}
 use borrow.Author.Needs.{needs}
 use Rattle.file_listing.proofs.list_file.Statement.{statement}
 use Rattle.file_listing.proofs.list_file.Tie as tie
 
 -- what was read lies within the lists
 held : (c : tie.After-known-told2)
-    → Held (c .before .before .before .read-file .last .1 .0) (c .before .before .before .read-file .last .1 .1 .0) (c .before .read2 .given .0 .0)
+    → RequestHeld (c .before .before .before .read-file .last .1 .0) (c .before .before .before .read-file .last .1 .1 .0) (c .before .read2 .given .0 .0)
 held c = read-held _ _ _ (c .before .before .before .read-file .ensures) refl refl (c .before .read2 .given .1)
 
 read-file-requires : tie.Need-read-file-requires
@@ -39,7 +39,7 @@ returns c =
     let at-read = c .before .before .before .before .before in
     let at-read-file = at-read .before .before in
     let answered = at-read-file .read-file .ensures in
-    lists-as (refused-as _ _ _ answered refl refl _ (at-read .read .given .1))
+    given-as (refused-as _ _ _ answered refl refl _ (at-read .read .given .1))
     (refused-listed (refused-number _ _ _ answered refl refl _ (at-read .read .given .1)) (c .before .before .write-refused .ensures))
 
 same-length-2 : tie.Need-same-length-2
@@ -49,7 +49,7 @@ returns-2 : tie.Need-returns-2
 returns-2 c =
     let at-read = c .before .before .before .before .before .before .before in
     let at-read-file = at-read .before .before in
-    lists-as (read-listed _ _ _ (at-read-file .read-file .ensures) refl refl (at-read .read2 .given .1)) (c .before .before .list-request .ensures)
+    given-as (read-listed _ _ _ (at-read-file .read-file .ensures) refl refl (at-read .read2 .given .1)) (c .before .before .list-request .ensures)
 
 pub list-file-spec : {M : Type 1} → statement M
 list-file-spec =

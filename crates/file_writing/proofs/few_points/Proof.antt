@@ -1,5 +1,5 @@
--- `file_writing::few_points` meets its contract: the loop's invariant is `Few`, and each answer is a law of it.
-use Rattle.file_writing.specs.WriteLaws.{Few, few-start, few-next, few-out, few-end}
+-- `file_writing::few_points` meets its contract: the loop's invariant is `FewPoints`, and each answer is a law of it.
+use Rattle.file_writing.specs.WriteLaws.{FewPoints, few-start, few-next, few-out, few-end}
 use lib.ListN.{length}
 use native.Mathlib.Omega.{arith}
 use Prim.Native.Nat.{_-_}
@@ -7,7 +7,7 @@ use Rattle.file_writing.proofs.few_points.Statement.{statement}
 use Rattle.file_writing.proofs.few_points.Tie as tie
 
 abbrev Inv-loop : tie.InvT-loop
-Inv-loop lens sum₀ k₀ sum k = Few lens k sum
+Inv-loop lens sum₀ k₀ sum k = FewPoints lens k sum
 
 abbrev μ-loop : tie.MeasureT-loop
 μ-loop lens sum₀ k₀ sum k = length lens - k

@@ -4,7 +4,7 @@ use Prim.Native.Nat.{_-_, _≤_}
 use native.Mathlib.Omega.{arith}
 use lib.ListN.{length, replicate, length-set}
 use lib.Seq.{sets}
-use Rattle.origins.specs.Writing.{fill-next, fill-end}
+use Rattle.origins.specs.Writing.{repeat-next, repeat-end}
 use Rattle.origins.proofs.fill_number.Statement.{statement}
 use Rattle.origins.proofs.fill_number.Tie as tie
 
@@ -34,13 +34,13 @@ loop-less : tie.Need-loop-less Inv-loop μ-loop
 loop-less c = omega arith
 
 loop-again : tie.Need-loop-again Inv-loop μ-loop
-loop-again c = (omega arith, simp length-set (c .before .loop .inv .1), fill-next _ _ _ _ (c .before .loop .inv .2))
+loop-again c = (omega arith, simp length-set (c .before .loop .inv .1), repeat-next _ _ _ _ (c .before .loop .inv .2))
 
 same-length : tie.Need-same-length Inv-loop μ-loop
 same-length c = c .before .loop .inv .1
 
 returns : tie.Need-returns Inv-loop μ-loop
-returns c = fill-end _ _ _ _ _ (c .before .loop .inv .2) (c .before .loop .inv .0) (c .loop-test .left)
+returns c = repeat-end _ _ _ _ _ (c .before .loop .inv .2) (c .before .loop .inv .0) (c .loop-test .left)
 
 pub fill-number-spec : {M : Type 1} → statement M
 fill-number-spec =

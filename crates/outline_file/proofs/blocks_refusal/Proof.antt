@@ -1,5 +1,5 @@
 -- `outline_file::blocks_refusal` meets its contract: the loop's invariant is that no block so far is refused.
-use Rattle.outline_file.specs.RefusalLaws.{Unrefused, unrefused-next, unrefused-out, unrefused-end}
+use Rattle.outline_file.specs.RefusalLaws.{BlocksUnrefused, blocks-unrefused-next, blocks-unrefused-out, blocks-unrefused-end}
 use Rattle.laws.specs.Loop.{loop-start}
 use native.Mathlib.Omega.{arith}
 use Prim.Native.Nat.{_-_}
@@ -7,7 +7,7 @@ use Rattle.outline_file.proofs.blocks_refusal.Statement.{statement}
 use Rattle.outline_file.proofs.blocks_refusal.Tie as tie
 
 abbrev Inv-loop : tie.InvT-loop
-Inv-loop file n k₀ k = Unrefused file n k
+Inv-loop file n k₀ k = BlocksUnrefused file n k
 
 abbrev μ-loop : tie.MeasureT-loop
 μ-loop file n k₀ k = n - k
@@ -22,7 +22,7 @@ points-refusal-requires : tie.Need-points-refusal-requires Inv-loop μ-loop
 points-refusal-requires c κs = omega (arith, c .before .before .before .pre)
 
 returns : tie.Need-returns Inv-loop μ-loop
-returns c = unrefused-out _ _ (c .before .before .before .loop .inv) (c .before .before .loop-test .taken) (c .before .points-refusal .ensures) (c .if1 .taken)
+returns c = blocks-unrefused-out _ _ (c .before .before .before .loop .inv) (c .before .before .loop-test .taken) (c .before .points-refusal .ensures) (c .if1 .taken)
 
 add-k : tie.Need-add-k Inv-loop μ-loop
 add-k c = omega (arith, c .before .before .before .before .before .pre)
@@ -32,10 +32,10 @@ loop-less c = omega arith
 
 loop-again : tie.Need-loop-again Inv-loop μ-loop
 loop-again c =
-    unrefused-next _ _ (c .before .before .before .loop .inv) (c .before .before .loop-test .taken) (c .before .points-refusal .ensures) (c .if1 .left)
+    blocks-unrefused-next _ _ (c .before .before .before .loop .inv) (c .before .before .loop-test .taken) (c .before .points-refusal .ensures) (c .if1 .left)
 
 returns-2 : tie.Need-returns-2 Inv-loop μ-loop
-returns-2 c = unrefused-end _ _ (c .before .loop .inv) (c .loop-test .left)
+returns-2 c = blocks-unrefused-end _ _ (c .before .loop .inv) (c .loop-test .left)
 
 pub blocks-refusal-spec : {M : Type 1} → statement M
 blocks-refusal-spec =

@@ -1,12 +1,12 @@
--- `outline_file::head_points` meets its contract: the loop's invariant is `Counting`, and each answer is a law of it.
-use Rattle.outline_file.specs.RefusalLaws.{Counting, counting-start, counting-next, counting-end}
+-- `outline_file::head_points` meets its contract: the loop's invariant is `HeadCounting`, and each answer is a law of it.
+use Rattle.outline_file.specs.RefusalLaws.{HeadCounting, counting-start, counting-next, counting-end}
 use native.Mathlib.Omega.{arith}
 use Prim.Native.Nat.{_-_}
 use Rattle.outline_file.proofs.head_points.Statement.{statement}
 use Rattle.outline_file.proofs.head_points.Tie as tie
 
 abbrev Inv-loop : tie.InvT-loop
-Inv-loop h n sum₀ k₀ sum k = Counting h n k sum
+Inv-loop h n sum₀ k₀ sum k = HeadCounting h n k sum
 
 abbrev μ-loop : tie.MeasureT-loop
 μ-loop h n sum₀ k₀ sum k = n - k

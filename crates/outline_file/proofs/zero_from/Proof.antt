@@ -1,5 +1,5 @@
 -- `outline_file::zero_from` meets its contract: the loop's invariant is a search that has found nothing.
-use Rattle.outline_file.specs.File.{filled, zeroFrom}
+use Rattle.outline_file.specs.File.{nonzeroByte, zeroFrom}
 use Rattle.laws.specs.Loop.{Scan, scan-start, scan-next, scan-hit, scan-none}
 use mathlib.Core.Bool.{not}
 use mathlib.Core.Path.{ap}
@@ -10,7 +10,7 @@ use Rattle.outline_file.proofs.zero_from.Statement.{statement}
 use Rattle.outline_file.proofs.zero_from.Tie as tie
 
 abbrev Inv-loop : tie.InvT-loop
-Inv-loop b at n i₀ i = Scan (filled b at) n i
+Inv-loop b at n i₀ i = Scan (nonzeroByte b at) n i
 
 abbrev μ-loop : tie.MeasureT-loop
 μ-loop b at n i₀ i = n - i

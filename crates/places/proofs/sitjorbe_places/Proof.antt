@@ -1,5 +1,5 @@
 -- `places::sitjorbe_places` meets its contract: `given-refused` and `given-counted`. Assumes nothing.
-use Rattle.places.specs.Laws.{drawn-none, given-refused, given-counted}
+use Rattle.places.specs.Laws.{drawn-unrefused, given-refused, given-counted}
 use lib.Dec.{T}
 use mathlib.Core.Path.{sym, subst}
 use borrow.Author.Needs.{needs}
@@ -17,7 +17,7 @@ returns c = let known = c .before .before .before in
 count-places-requires : tie.Need-count-places-requires
 count-places-requires c κs =
     let known = c .before .before .before in
-    drawn-none _ _ (record { outer = λ i h. known .before .shared-slice-known .given i; holes = λ i h. known .shared-slice-known2 .given i })
+    drawn-unrefused _ _ (record { outer = λ i h. known .before .shared-slice-known .given i; holes = λ i h. known .shared-slice-known2 .given i })
     (subst T (sym (known .before .before .good .1 .1 .1 .0 .1)) tt) (c .before .field-refusal .ensures) (c .if1 .left)
 
 returns-2 : tie.Need-returns-2

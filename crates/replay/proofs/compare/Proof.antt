@@ -2,12 +2,12 @@
 use Prim.Native.Nat.{_-_}
 use native.Mathlib.Omega.{arith}
 use lib.ListN.{length}
-use Rattle.replay.specs.Laws.{Alike, alike-start, alike-next, alike-out, alike-short, alike-long, alike-end}
+use Rattle.replay.specs.Laws.{AlikeBelow, alike-start, alike-next, alike-out, alike-short, alike-long, alike-end}
 use Rattle.replay.proofs.compare.Statement.{statement}
 use Rattle.replay.proofs.compare.Tie as tie
 
 abbrev Inv-loop : tie.InvT-loop
-Inv-loop a b i₀ i = Alike a b i
+Inv-loop a b i₀ i = AlikeBelow a b i
 
 abbrev μ-loop : tie.MeasureT-loop
 μ-loop a b i₀ i = length a - i

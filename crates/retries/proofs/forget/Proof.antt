@@ -1,46 +1,37 @@
 -- `retries::forget` meets its contract: the loop is the definition's. Assumes nothing.
-use Rattle.retries.specs.VainLaws.{Forgetting, forgetting-starts, forgetting-goes, forgetting-ends}
-use Prim.Native.Nat.{_-_}
-use native.Mathlib.Omega.{arith}
 use borrow.Author.Needs.{needs}
+use native.Mathlib.Omega.{arith}
+use Prim.Native.Nat.{_-_}
+use Rattle.retries.specs.VainLaws.{Forgetting, forgetting-starts, forgetting-goes, forgetting-ends}
 use Rattle.retries.proofs.forget.Statement.{statement}
 use Rattle.retries.proofs.forget.Tie as tie
 
 abbrev Inv-loop : tie.InvT-loop
-Inv-loop tried₀ from to n a₀ tried a = Forgetting from n a tried₀ tried
+Inv-loop tried₀ from to a₀ tried a = Forgetting from to a tried₀ tried
 
 abbrev μ-loop : tie.MeasureT-loop
-μ-loop tried₀ from to n a₀ tried a = n - a
-
-min-usize-requires : tie.Need-min-usize-requires Inv-loop μ-loop
-min-usize-requires c κs = search needs
+μ-loop tried₀ from to a₀ tried a = to - a
 
 loop-holds : tie.Need-loop-holds Inv-loop μ-loop
 loop-holds c = forgetting-starts _ _ _
 
-mul-tried : tie.Need-mul-tried Inv-loop μ-loop
-mul-tried c = omega (arith, c .loop-test .taken, c .before .before .min-usize .ensures, c .before .loop .inv .long, (c .before .before .before .before) .good)
-
-mul-tried-2 : tie.Need-mul-tried-2 Inv-loop μ-loop
-mul-tried-2 c = omega (arith, c .loop-test .taken, c .before .before .min-usize .ensures, c .before .loop .inv .long, (c .before .before .before .before) .good)
-
-slice-write-tried : tie.Need-slice-write-tried Inv-loop μ-loop
-slice-write-tried c = omega (arith, c .loop-test .taken, c .before .before .min-usize .ensures, c .before .loop .inv .long)
+set-stretch-requires : tie.Need-set-stretch-requires Inv-loop μ-loop
+set-stretch-requires c κs = search needs
 
 add-a : tie.Need-add-a Inv-loop μ-loop
-add-a c = omega arith
+add-a c = omega (arith, c .before .before .before .before .loop-test .taken)
 
 loop-less : tie.Need-loop-less Inv-loop μ-loop
-loop-less c = omega arith
+loop-less c = omega (arith, c .before .before .before .before .loop-test .taken)
 
 loop-again : tie.Need-loop-again Inv-loop μ-loop
-loop-again c = forgetting-goes (c .before .loop .inv) (c .loop-test .taken)
+loop-again c = forgetting-goes (c .before .before .before .before .before .loop .inv) (c .before .before .before .before .loop-test .taken) (c .before .before .set-stretch .ensures)
 
 same-length : tie.Need-same-length Inv-loop μ-loop
 same-length c = c .before .loop .inv .long
 
 returns : tie.Need-returns Inv-loop μ-loop
-returns c = forgetting-ends _ (c .before .loop .inv) (c .loop-test .left) (c .before .before .min-usize .ensures)
+returns c = forgetting-ends (c .before .loop .inv) (c .loop-test .left)
 
 pub forget-spec : {M : Type 1} → statement M
 forget-spec =
@@ -48,11 +39,8 @@ forget-spec =
     (tie.spec
     Inv-loop
     μ-loop
-    min-usize-requires
     loop-holds
-    mul-tried
-    mul-tried-2
-    slice-write-tried
+    set-stretch-requires
     add-a
     loop-less
     loop-again

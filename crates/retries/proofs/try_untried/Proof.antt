@@ -1,6 +1,6 @@
 -- `retries::try_untried` meets its contract: the list has the edge, or it is tried, and noted where that is in vain. Assumes nothing.
-use mathlib.Core.Path.{sym, _∙_}
-use Rattle.retries.specs.Untried.{untried-vain, untried-noted}
+use mathlib.Core.Path.{sym, _∙_, refl}
+use Rattle.retries.specs.Untried.{untried-vain, untried-kept, untried-left, untried-noted}
 use Rattle.front.specs.State.{State}
 use Rattle.domain.specs.Outline.{Outline, outline}
 use Rattle.attempts.specs.Seen.{seen}
@@ -28,7 +28,11 @@ same-length : tie.Need-same-length
 same-length c = search needs
 
 returns : tie.Need-returns
-returns c = (untried-vain (around (c .before .before .before .before .before .before .before .before .before .before .before .before .before .before .before .before .before .before)) (c .before .before .before .before .before .before .before .before .before .before .before .before .before .before .before .before .before .before .args .size) (c .before .before .before .before .before .before .before .before .before .before .before .before .before .before .before .before .before .before .args .grid) (c .before .before .before .before .before .before .before .before .before .before .before .before .before .before .before .before .before .before .args .values .now) (lent (c .before .before .before .before .before .before .before .before .before .before .before .before .before .before .before .before .before .before)) _ _ _ (c .before .before .before .before .before .before .before .before .before .before .before .before .before .before .before .before .before .before .pre .1) (c .before .before .before .before .link-id .ensures) (c .before .before .before .link-id2 .ensures) (c .before .is-vain .ensures) (c .if1 .taken), c .before .before .before .before .before .before .before .before .before .before .before .before .before .before .before .before .before .before .pre .1 .remembers)
+returns c = (
+  untried-vain (around (c .before .before .before .before .before .before .before .before .before .before .before .before .before .before .before .before .before .before)) (c .before .before .before .before .before .before .before .before .before .before .before .before .before .before .before .before .before .before .args .size) (c .before .before .before .before .before .before .before .before .before .before .before .before .before .before .before .before .before .before .args .grid) (c .before .before .before .before .before .before .before .before .before .before .before .before .before .before .before .before .before .before .args .values .now) (lent (c .before .before .before .before .before .before .before .before .before .before .before .before .before .before .before .before .before .before)) _ _ _ (c .before .before .before .before .before .before .before .before .before .before .before .before .before .before .before .before .before .before .pre .1) (c .before .before .before .before .link-id .ensures) (c .before .before .before .link-id2 .ensures) (c .before .is-vain .ensures) (c .if1 .taken),
+  c .before .before .before .before .before .before .before .before .before .before .before .before .before .before .before .before .before .before .pre .1 .remembers,
+  untried-kept (around (c .before .before .before .before .before .before .before .before .before .before .before .before .before .before .before .before .before .before)) (c .before .before .before .before .before .before .before .before .before .before .before .before .before .before .before .before .before .before .args .size) (c .before .before .before .before .before .before .before .before .before .before .before .before .before .before .before .before .before .before .args .grid) (c .before .before .before .before .before .before .before .before .before .before .before .before .before .before .before .before .before .before .args .values .now) (lent (c .before .before .before .before .before .before .before .before .before .before .before .before .before .before .before .before .before .before)) _ _ _ (c .before .before .before .before .before .before .before .before .before .before .before .before .before .before .before .before .before .before .pre .1) (c .before .before .before .before .link-id .ensures) (c .before .before .before .link-id2 .ensures) (c .before .is-vain .ensures) (c .if1 .taken),
+)
 
 try-edge-requires : tie.Need-try-edge-requires
 try-edge-requires c κs = c .before .before .before .before .before .before .before .before .before .before .before .before .before .before .before .before .before .before .pre .0
@@ -49,13 +53,14 @@ returns-2 : tie.Need-returns-2
 returns-2 c = (
   sym (c .before .before .before .before .enum-told .given .1) ∙ c .before .before .before .before .before .before .try-edge .ensures,
   untried-noted (around (c .before .before .before .before .before .before .before .before .before .before .before .before .before .before .before .before .before .before .before .before .before .before .before .before .before)) (c .before .before .before .before .before .before .before .before .before .before .before .before .before .before .before .before .before .before .before .before .before .before .before .before .before .args .size) (c .before .before .before .before .before .before .before .before .before .before .before .before .before .before .before .before .before .before .before .before .before .before .before .before .before .args .grid) (c .before .before .before .before .before .before .before .before .before .before .before .before .before .before .before .before .before .before .before .before .before .before .before .before .before .args .values .now) (lent (c .before .before .before .before .before .before .before .before .before .before .before .before .before .before .before .before .before .before .before .before .before .before .before .before .before)) _ _ _ (c .before .before .before .before .before .before .before .before .before .before .before .before .before .before .before .before .before .before .before .before .before .before .before .before .before .pre .1) (c .before .before .before .before .before .before .before .before .before .before .before .link-id .ensures) (c .before .before .before .before .before .before .before .before .before .before .link-id2 .ensures) (c .before .before .before .before .before .before .try-edge .ensures) (c .before .before .before .before .enum-told .given .1) (c .before .before .note .ensures),
+  untried-left (around (c .before .before .before .before .before .before .before .before .before .before .before .before .before .before .before .before .before .before .before .before .before .before .before .before .before)) (c .before .before .before .before .before .before .before .before .before .before .before .before .before .before .before .before .before .before .before .before .before .before .before .before .before .args .size) (c .before .before .before .before .before .before .before .before .before .before .before .before .before .before .before .before .before .before .before .before .before .before .before .before .before .args .grid) (c .before .before .before .before .before .before .before .before .before .before .before .before .before .before .before .before .before .before .before .before .before .before .before .before .before .args .values .now) (lent (c .before .before .before .before .before .before .before .before .before .before .before .before .before .before .before .before .before .before .before .before .before .before .before .before .before)) _ _ _ (c .before .before .before .before .before .before .before .before .before .before .before .before .before .before .before .before .before .before .before .before .before .before .before .before .before .pre .1) (c .before .before .before .before .before .before .before .before .before .before .before .link-id .ensures) (c .before .before .before .before .before .before .before .before .before .before .link-id2 .ensures) (c .before .before .note .ensures),
 )
 
 same-length-3 : tie.Need-same-length-3
 same-length-3 c = search needs
 
 returns-3 : tie.Need-returns-3
-returns-3 c = (sym (c .before .attempt .given .1) ∙ c .before .before .before .try-edge .ensures, c .before .before .before .before .before .before .before .before .before .before .before .before .before .before .before .before .before .before .before .before .before .before .pre .1 .remembers)
+returns-3 c = (sym (c .before .attempt .given .1) ∙ c .before .before .before .try-edge .ensures, c .before .before .before .before .before .before .before .before .before .before .before .before .before .before .before .before .before .before .before .before .before .before .pre .1 .remembers, refl)
 
 pub try-untried-spec : {M : Type 1} → statement M
 try-untried-spec =

@@ -5,7 +5,7 @@ use borrow.Author.Tests.{lt-ltb, le-ltb}
 use Prim.Native.Nat.{ℕ, suc, _<_, _≤_}
 use Rattle.domain.specs.Accepted.{accepted}
 use Rattle.domain.specs.RefusalLaws.{first-stays}
-use Rattle.crossfield.specs.FieldLaws.{unrefused}
+use Rattle.crossfield.specs.FieldLaws.{field-unrefused}
 use borrow.Author.Needs.{needs}
 use Rattle.run_refusal.proofs.refusal.Statement.{statement}
 use Rattle.run_refusal.proofs.refusal.Tie as tie
@@ -24,7 +24,7 @@ returns c =
 front-refusal-requires : tie.Need-front-refusal-requires
 front-refusal-requires c κs =
     let at-field-refusal = c .before in
-    accepted _ (unrefused _ _ _ _ (sym (at-field-refusal .field-refusal .ensures) ∙ c .if1 .left) .outline) .shape
+    accepted _ (field-unrefused _ _ _ _ (sym (at-field-refusal .field-refusal .ensures) ∙ c .if1 .left) .outline) .shape
 
 returns-2 : tie.Need-returns-2
 returns-2 c =

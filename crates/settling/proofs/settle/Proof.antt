@@ -1,7 +1,8 @@
 -- `settling::settle` meets its contract: the edge is gone, the attempt answers nothing, a quad that is full, or a quad that is placed.
+use Rattle.retries.specs.VainLaws.{stretches-tried}
 use Rattle.settling.specs.Searchable.{placed-adds, full-helped, done-helped, helped-at, counts-settled}
 use Rattle.settling.specs.Paveable.{held, try-lent}
-use Rattle.settling.specs.Laws.{settle-gone, settle-untried, settle-same, settle-ready, settle-full, settle-done}
+use Rattle.settling.specs.Laws.{settle-gone, settle-untried, settle-same, settle-node, settle-ready, settle-full, settle-done}
 use Rattle.front.specs.State.{State, stateOf}
 use Rattle.direction.specs.Record.{FieldRecord, fieldRecord}
 use Rattle.domain.specs.Outline.{Outline, outline}
@@ -86,7 +87,13 @@ returns-2 : tie.Need-returns-2
 returns-2 c = let start = c .before .before .before .before .before .before .before .before .before .before .before .before .before .before .before .before .before .before .before .before .before .before .before .before .before .before .before .before .before .before .before .before .before in (
   settle-same (around start) (start .args .size) (start .args .grid) (start .args .values .now) (lent start) (start .args .a) (start .pre .1)
       (held _ _ _ _ _ (start .pre .0)) (c .before .before .before .before .before .before .before .before .before .before .before .before .before .before .before .before .snapshot-edge .ensures) (c .before .before .before .before .before .before .before .before .before .before .before .before .before .before .edge .given .1) _ (c .before .before .before .before .try-untried .ensures .0) (c .enum-told2 .given .1),
-  record { search = start .pre .2 .search; remembers = c .before .before .before .before .try-untried .ensures .1 },
+  record {
+    search = start .pre .2 .search;
+    remembers = c .before .before .before .before .try-untried .ensures .1;
+    stretches = stretches-tried (c .before .before .before .before .try-untried .result) (start .args .tried .now) (start .args .a) _ _ _ (start .args .k .nodes) (start .args .next .now)
+        (start .args .snapshot .now) (settle-node (around start) (start .args .size) (start .args .grid) (start .args .values .now) (lent start) (start .args .a) (start .pre .1)
+        (held _ _ _ _ _ (start .pre .0)) (c .before .before .before .before .before .before .before .before .before .before .before .before .before .before .before .before .snapshot-edge .ensures) (c .before .before .before .before .before .before .before .before .before .before .before .before .before .before .edge .given .1)) (c .before .before .before .before .try-untried .ensures .2) (start .pre .2 .stretches);
+  },
 )
 
 is-known-across-requires : tie.Need-is-known-across-requires
@@ -146,10 +153,13 @@ same-length-18 c = search needs
 returns-3 : tie.Need-returns-3
 returns-3 c = let start = c .before .before .before .before .before .before .before .before .before .before .before .before .before .before .before .before .before .before .before .before .before .before .before .before .before .before .before .before .before .before .before .before .before .before .before .before .before .before .before .before .before .before .before .before .before .before .before .before .before .before .before .before .before .before .before .before .before .before .before .before in
     let ready = settle-ready (around start) (start .args .size) (start .args .grid) (start .args .values .now) (lent start) (start .args .a) (start .pre .1)
-    (held _ _ _ _ _ (start .pre .0)) (c .before .before .before .before .before .before .before .before .before .before .before .before .before .before .before .before .before .before .before .before .before .before .before .before .before .before .before .before .before .before .before .before .before .before .before .before .before .before .before .before .before .before .before .snapshot-edge .ensures) (c .before .before .before .before .before .before .before .before .before .before .before .before .before .before .before .before .before .before .before .before .before .before .before .before .before .before .before .before .before .before .before .before .before .before .before .before .before .before .before .before .before .edge .given .1) _ (c .before .before .before .before .before .before .before .before .before .before .before .before .before .before .before .before .before .before .before .before .before .before .before .before .before .before .before .before .before .before .before .try-untried .ensures .0) _ _ (c .before .before .before .before .before .before .before .before .before .before .before .before .before .before .before .before .before .before .before .before .before .before .before .before .before .before .before .attempt .given .1) _ (start .pre .0) in (
+    (held _ _ _ _ _ (start .pre .0)) (c .before .before .before .before .before .before .before .before .before .before .before .before .before .before .before .before .before .before .before .before .before .before .before .before .before .before .before .before .before .before .before .before .before .before .before .before .before .before .before .before .before .before .before .snapshot-edge .ensures) (c .before .before .before .before .before .before .before .before .before .before .before .before .before .before .before .before .before .before .before .before .before .before .before .before .before .before .before .before .before .before .before .before .before .before .before .before .before .before .before .before .before .edge .given .1) _ (c .before .before .before .before .before .before .before .before .before .before .before .before .before .before .before .before .before .before .before .before .before .before .before .before .before .before .before .before .before .before .before .try-untried .ensures .0) _ _ (c .before .before .before .before .before .before .before .before .before .before .before .before .before .before .before .before .before .before .before .before .before .before .before .before .before .before .before .attempt .given .1) _ (start .pre .0) in
+    let T = stretches-tried (c .before .before .before .before .before .before .before .before .before .before .before .before .before .before .before .before .before .before .before .before .before .before .before .before .before .before .before .before .before .before .before .try-untried .result) (start .args .tried .now) (start .args .a) _ _ _ (start .args .k .nodes) (start .args .next .now)
+    (start .args .snapshot .now) (settle-node (around start) (start .args .size) (start .args .grid) (start .args .values .now) (lent start) (start .args .a) (start .pre .1)
+    (held _ _ _ _ _ (start .pre .0)) (c .before .before .before .before .before .before .before .before .before .before .before .before .before .before .before .before .before .before .before .before .before .before .before .before .before .before .before .before .before .before .before .before .before .before .before .before .before .before .before .before .before .before .before .snapshot-edge .ensures) (c .before .before .before .before .before .before .before .before .before .before .before .before .before .before .before .before .before .before .before .before .before .before .before .before .before .before .before .before .before .before .before .before .before .before .before .before .before .before .before .before .before .edge .given .1)) (c .before .before .before .before .before .before .before .before .before .before .before .before .before .before .before .before .before .before .before .before .before .before .before .before .before .before .before .before .before .before .before .try-untried .ensures .2) (start .pre .2 .stretches) in (
       settle-full (around start) (start .args .size) (start .args .grid) (start .args .values .now) (lent start) (start .args .a) (start .pre .1)
           (held _ _ _ _ _ (start .pre .0)) (c .before .before .before .before .before .before .before .before .before .before .before .before .before .before .before .before .before .before .before .before .before .before .before .before .before .before .before .before .before .before .before .before .before .before .before .before .before .before .before .before .before .before .before .snapshot-edge .ensures) (c .before .before .before .before .before .before .before .before .before .before .before .before .before .before .before .before .before .before .before .before .before .before .before .before .before .before .before .before .before .before .before .before .before .before .before .before .before .before .before .before .before .edge .given .1) _ (c .before .before .before .before .before .before .before .before .before .before .before .before .before .before .before .before .before .before .before .before .before .before .before .before .before .before .before .before .before .before .before .try-untried .ensures .0) _ _ (c .before .before .before .before .before .before .before .before .before .before .before .before .before .before .before .before .before .before .before .before .before .before .before .before .before .before .before .attempt .given .1) (start .args .k) (c .before .before .before .before .before .before .before .before .before .before .before .before .before .before .place .ensures) (c .enum-told3 .given .1),
-      full-helped (around start) _ _ _ (start .args .size) (lent start) (start .pre .0) (start .args .a) _ _ _ ready (start .pre .2 .search) (field start) _ (c .before .before .before .before .before .before .before .before .before .before .before .before .before .before .before .before .before .before .before .before .before .before .before .before .before .before .before .before .before .before .before .try-untried .ensures .1) (c .before .before .before .before .before .before .before .before .before .before .before .before .before .before .place .ensures) (c .enum-told3 .given .1),
+      full-helped (around start) _ _ _ (start .args .size) (lent start) (start .pre .0) (start .args .a) _ _ _ ready (start .pre .2 .search) (field start) _ (c .before .before .before .before .before .before .before .before .before .before .before .before .before .before .before .before .before .before .before .before .before .before .before .before .before .before .before .before .before .before .before .try-untried .ensures .1) T (c .before .before .before .before .before .before .before .before .before .before .before .before .before .before .place .ensures) (c .enum-told3 .given .1),
     )
 
 same-length-19 : tie.Need-same-length-19
@@ -183,11 +193,14 @@ same-length-27 c = let start = c .before .before .before .before .before .before
 returns-4 : tie.Need-returns-4
 returns-4 c = let start = c .before .before .before .before .before .before .before .before .before .before .before .before .before .before .before .before .before .before .before .before .before .before .before .before .before .before .before .before .before .before .before .before .before .before .before .before .before .before .before .before .before .before .before .before .before .before .before .before .before .before .before .before .before .before .before .before .before .before .before .before .before .before .before .before .before .before .before .before .before .before .before .before .before .before .before in
     let ready = settle-ready (around start) (start .args .size) (start .args .grid) (start .args .values .now) (lent start) (start .args .a) (start .pre .1)
-    (held _ _ _ _ _ (start .pre .0)) (c .before .before .before .before .before .before .before .before .before .before .before .before .before .before .before .before .before .before .before .before .before .before .before .before .before .before .before .before .before .before .before .before .before .before .before .before .before .before .before .before .before .before .before .before .before .before .before .before .before .before .before .before .before .before .before .before .before .before .snapshot-edge .ensures) (c .before .before .before .before .before .before .before .before .before .before .before .before .before .before .before .before .before .before .before .before .before .before .before .before .before .before .before .before .before .before .before .before .before .before .before .before .before .before .before .before .before .before .before .before .before .before .before .before .before .before .before .before .before .before .before .before .edge .given .1) _ (c .before .before .before .before .before .before .before .before .before .before .before .before .before .before .before .before .before .before .before .before .before .before .before .before .before .before .before .before .before .before .before .before .before .before .before .before .before .before .before .before .before .before .before .before .before .before .try-untried .ensures .0) _ _ (c .before .before .before .before .before .before .before .before .before .before .before .before .before .before .before .before .before .before .before .before .before .before .before .before .before .before .before .before .before .before .before .before .before .before .before .before .before .before .before .before .before .before .attempt .given .1) _ (start .pre .0) in (
+    (held _ _ _ _ _ (start .pre .0)) (c .before .before .before .before .before .before .before .before .before .before .before .before .before .before .before .before .before .before .before .before .before .before .before .before .before .before .before .before .before .before .before .before .before .before .before .before .before .before .before .before .before .before .before .before .before .before .before .before .before .before .before .before .before .before .before .before .before .before .snapshot-edge .ensures) (c .before .before .before .before .before .before .before .before .before .before .before .before .before .before .before .before .before .before .before .before .before .before .before .before .before .before .before .before .before .before .before .before .before .before .before .before .before .before .before .before .before .before .before .before .before .before .before .before .before .before .before .before .before .before .before .before .edge .given .1) _ (c .before .before .before .before .before .before .before .before .before .before .before .before .before .before .before .before .before .before .before .before .before .before .before .before .before .before .before .before .before .before .before .before .before .before .before .before .before .before .before .before .before .before .before .before .before .before .try-untried .ensures .0) _ _ (c .before .before .before .before .before .before .before .before .before .before .before .before .before .before .before .before .before .before .before .before .before .before .before .before .before .before .before .before .before .before .before .before .before .before .before .before .before .before .before .before .before .before .attempt .given .1) _ (start .pre .0) in
+    let T = stretches-tried (c .before .before .before .before .before .before .before .before .before .before .before .before .before .before .before .before .before .before .before .before .before .before .before .before .before .before .before .before .before .before .before .before .before .before .before .before .before .before .before .before .before .before .before .before .before .before .try-untried .result) (start .args .tried .now) (start .args .a) _ _ _ (start .args .k .nodes) (start .args .next .now)
+    (start .args .snapshot .now) (settle-node (around start) (start .args .size) (start .args .grid) (start .args .values .now) (lent start) (start .args .a) (start .pre .1)
+    (held _ _ _ _ _ (start .pre .0)) (c .before .before .before .before .before .before .before .before .before .before .before .before .before .before .before .before .before .before .before .before .before .before .before .before .before .before .before .before .before .before .before .before .before .before .before .before .before .before .before .before .before .before .before .before .before .before .before .before .before .before .before .before .before .before .before .before .before .before .snapshot-edge .ensures) (c .before .before .before .before .before .before .before .before .before .before .before .before .before .before .before .before .before .before .before .before .before .before .before .before .before .before .before .before .before .before .before .before .before .before .before .before .before .before .before .before .before .before .before .before .before .before .before .before .before .before .before .before .before .before .before .before .edge .given .1)) (c .before .before .before .before .before .before .before .before .before .before .before .before .before .before .before .before .before .before .before .before .before .before .before .before .before .before .before .before .before .before .before .before .before .before .before .before .before .before .before .before .before .before .before .before .before .before .try-untried .ensures .2) (start .pre .2 .stretches) in (
       settle-done (around start) (start .args .size) (start .args .grid) (start .args .values .now) (lent start) (start .args .a) (start .pre .1)
           (held _ _ _ _ _ (start .pre .0)) (c .before .before .before .before .before .before .before .before .before .before .before .before .before .before .before .before .before .before .before .before .before .before .before .before .before .before .before .before .before .before .before .before .before .before .before .before .before .before .before .before .before .before .before .before .before .before .before .before .before .before .before .before .before .before .before .before .before .before .snapshot-edge .ensures) (c .before .before .before .before .before .before .before .before .before .before .before .before .before .before .before .before .before .before .before .before .before .before .before .before .before .before .before .before .before .before .before .before .before .before .before .before .before .before .before .before .before .before .before .before .before .before .before .before .before .before .before .before .before .before .before .before .edge .given .1) _ (c .before .before .before .before .before .before .before .before .before .before .before .before .before .before .before .before .before .before .before .before .before .before .before .before .before .before .before .before .before .before .before .before .before .before .before .before .before .before .before .before .before .before .before .before .before .before .try-untried .ensures .0) _ _ (c .before .before .before .before .before .before .before .before .before .before .before .before .before .before .before .before .before .before .before .before .before .before .before .before .before .before .before .before .before .before .before .before .before .before .before .before .before .before .before .before .before .before .attempt .given .1) (start .args .k) (c .before .before .before .before .before .before .before .before .before .before .before .before .before .before .before .before .before .before .before .before .before .before .before .before .before .before .before .before .before .place .ensures) (c .before .before .before .before .before .before .before .before .before .before .before .before .before .before .before .placed .given .1) (c .after-quad .ensures),
       helped-at (sym (counts-settled (start .args .k) _ (c .after-quad .ensures)))
-          (done-helped (around start) _ _ _ (start .args .size) (lent start) (start .pre .0) (start .args .a) _ _ _ ready (start .pre .2 .search) (field start) _ (c .before .before .before .before .before .before .before .before .before .before .before .before .before .before .before .before .before .before .before .before .before .before .before .before .before .before .before .before .before .before .before .before .before .before .before .before .before .before .before .before .before .before .before .before .before .before .try-untried .ensures .1) (c .before .before .before .before .before .before .before .before .before .before .before .before .before .before .before .before .before .before .before .before .before .before .before .before .before .before .before .before .before .place .ensures) (c .before .before .before .before .before .before .before .before .before .before .before .before .before .before .before .placed .given .1) (c .before .before .before .before .before .before .before .file-added .ensures .0) (c .before .before .before .before .before .before .before .file-added .ensures .1)),
+          (done-helped (around start) _ _ _ (start .args .size) (lent start) (start .pre .0) (start .args .a) _ _ _ ready (start .pre .2 .search) (field start) _ (c .before .before .before .before .before .before .before .before .before .before .before .before .before .before .before .before .before .before .before .before .before .before .before .before .before .before .before .before .before .before .before .before .before .before .before .before .before .before .before .before .before .before .before .before .before .before .try-untried .ensures .1) T (c .before .before .before .before .before .before .before .before .before .before .before .before .before .before .before .before .before .before .before .before .before .before .before .before .before .before .before .before .before .place .ensures) (c .before .before .before .before .before .before .before .before .before .before .before .before .before .before .before .placed .given .1) (c .before .before .before .before .before .before .before .file-added .ensures .0) (c .before .before .before .before .before .before .before .file-added .ensures .1)),
     )
 
 pub settle-spec : {M : Type 1} → statement M

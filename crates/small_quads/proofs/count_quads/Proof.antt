@@ -1,14 +1,14 @@
--- `small_quads::count_quads` meets its contract: the invariant is `Counted`: as many as the fours below k. The measure is what is left of 65,536. Assumes nothing.
+-- `small_quads::count_quads` meets its contract: the invariant is `FoursCounted`: as many as the fours below k. The measure is what is left of 65,536. Assumes nothing.
 use Prim.Native.Nat.{_-_}
 use mathlib.Core.Path.{sym, _∙_}
 use native.Mathlib.Omega.{arith}
 use mathlib.Core.Logic.{⊎-elim}
-use Rattle.small_quads.specs.ListLaws.{Counted, counted-start, counted-yes, counted-no, counted-end}
+use Rattle.small_quads.specs.ListLaws.{FoursCounted, counted-start, counted-yes, counted-no, counted-end}
 use Rattle.small_quads.proofs.count_quads.Statement.{statement}
 use Rattle.small_quads.proofs.count_quads.Tie as tie
 
 abbrev Inv-loop : tie.InvT-loop
-Inv-loop n₀ k₀ n k = Counted k n
+Inv-loop n₀ k₀ n k = FoursCounted k n
 
 abbrev μ-loop : tie.MeasureT-loop
 μ-loop n₀ k₀ n k = 65536 - k

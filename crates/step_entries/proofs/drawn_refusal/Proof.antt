@@ -1,7 +1,7 @@
 -- `step_entries::drawn_refusal` meets its contract: 8 and 9 never refuse there.
 use mathlib.Core.Path.{sym, _∙_, subst}
 use lib.Dec.{T}
-use Rattle.step_entries.specs.EntryLaws.{drawn-is}
+use Rattle.crossfield.specs.FieldLaws.{drawn-is}
 use borrow.Author.Needs.{needs}
 use Rattle.step_entries.proofs.drawn_refusal.Statement.{statement}
 use Rattle.step_entries.proofs.drawn_refusal.Tie as tie

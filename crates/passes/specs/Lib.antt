@@ -1,0 +1,2 @@
+-- A pass of a paving: the laws of its turns.
+pub mod Laws

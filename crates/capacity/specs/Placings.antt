@@ -13,7 +13,7 @@ use borrow.Author.Tests.{eqb-true, eqb-false, ltb-true, ltb-false}
 use Rattle.domain.specs.declared.Point.{Point}
 use Rattle.domain.specs.Outline.{Outline}
 use Rattle.topology.specs.Sums.{frontSum}
-use Rattle.topology.specs.Changes.{removed, added}
+use Rattle.topology.specs.Changes.{removedSum, addedSum}
 use Rattle.front.specs.declared.Corner.{Corner}
 use Rattle.front.specs.declared.Corner.the-variants.{Reused, Fresh}
 use Rattle.front.specs.State.{State, node, nextOf, hasEdge, edgePlaces, pushNode, pushQuad, pushEdge, addEdge, addFront, removeFront}

@@ -21,7 +21,7 @@ use Rattle.sampled.specs.Cuts.{loopCuts, cuts-length, cuts-least}
 use Rattle.sampled.specs.Rings.{ring-longest, after-in, ring-in, ids-length}
 use Rattle.sampled.specs.Turn.{splitPoints, turnPoints, turn-sampled, turn-length}
 use Rattle.sampled.specs.Outlines.{Threes}
-use Rattle.sampled.specs.Begun.{Begun, Places, refusal-places, stateAt, Ready, ready, fits, turn-at, begun-in}
+use Rattle.sampled.specs.Begun.{Begun, Places, refusal-places, stateAt, TurnReady, turn-ready, fits, turn-at, begun-in}
 use Rattle.sampled.specs.Same.{turn-same, same-at, same-start}
 use Rattle.capacity.specs.Alike.{EdgesAlike, Alike, add-alike}
 use Rattle.capacity.specs.Placings.{SameEdges, same-trans, either, same-add, alike-same, alike-more, Longer, longer}
@@ -105,8 +105,8 @@ module _ (o : Outline) (size : Float) (a b : State) (three : Threes o) (A : Plac
     abbrev ring : Ring
     ring = ringIn k (before .counts .nodes) cutLoop
 
-    R : Ready o size lent k
-    R = ready o size lent three P k (omega arith)
+    R : TurnReady o size lent k
+    R = turn-ready o size lent three P k (omega arith)
 
     same : SameEdges before (splitLongest ring cutLoop)
     same =

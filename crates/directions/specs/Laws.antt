@@ -64,7 +64,7 @@ floats-three (direction-is.Refused n) = refl
 floats-three (direction-is.Toward p) = refl
 
 -- the first i of n points are written in s, which was s₀
-pub record Filling (f : ℕ → List Float) (n : ℕ) (s₀ : List Float) (i : ℕ) (s : List Float) : Type 0 where
+pub record FillingPoints (f : ℕ → List Float) (n : ℕ) (s₀ : List Float) (i : ℕ) (s : List Float) : Type 0 where
   pub within : i ≤ n
   pub same : s ≡ strung f i ++ drop (3 * i) s₀
 
@@ -88,17 +88,17 @@ module _ (f : ℕ → List Float) (three : (i : ℕ) → length (f i) ≡ 3) whe
       ∙ ap (take 3) (drop-at (strung f n) (f n ++ rest) (3 * n) (strung-long n)) ∙ take-at (f n) rest 3 (three n) ∙ ap f (sym e))
       (λ less. strung-at n i (f n ++ rest) less) (eq-or-lt-of-le (le-of-suc-le-suc h))
 
-  filling-start : (n : ℕ) (s₀ : List Float) → Filling f n s₀ 0 s₀
+  filling-start : (n : ℕ) (s₀ : List Float) → FillingPoints f n s₀ 0 s₀
   unfolding strung forUp
   filling-start n s₀ = record { within = omega arith; same = refl }
 
-  module _ {n i : ℕ} {s₀ s : List Float} (w : Filling f n s₀ i s) where
+  module _ {n i : ℕ} {s₀ s : List Float} (w : FillingPoints f n s₀ i s) where
     filling-long : 3 * n ≤ length s₀ → length s ≡ length s₀
     filling-long room =
         ap length (w .same) ∙ length-append (strung f i) (drop (3 * i) s₀)
         ∙ omega (arith, strung-long i, length-drop (3 * i) s₀, w .within)
 
-    filling-next : {t : List Float} → 3 * n ≤ length s₀ → i < n → t ≡ sets s (3 * i) (f i) → Filling f n s₀ (i + 1) t
+    filling-next : {t : List Float} → 3 * n ≤ length s₀ → i < n → t ≡ sets s (3 * i) (f i) → FillingPoints f n s₀ (i + 1) t
     filling-next {t} room h e =
         let long = filling-long room in
         let start = strung f i in
@@ -129,8 +129,8 @@ pub record Fit (ps targets answers : List Float) : Type 0 where
   pub room : 3 * points ps ≤ length answers
 
 -- its invariant: i points are answered
-abbrev pub Written : Grid → List Float → List Float → List Float → List Float → ℕ → List Float → Type 0
-Written g values ps targets s₀ i s = Filling (codeAt g values ps targets) (points ps) s₀ i s
+abbrev pub PointsAnswered : Grid → List Float → List Float → List Float → List Float → ℕ → List Float → Type 0
+PointsAnswered g values ps targets s₀ i s = FillingPoints (codeAt g values ps targets) (points ps) s₀ i s
 
 module _ (g : Grid) (values ps targets s₀ : List Float) where
   abbrev f : ℕ → List Float
@@ -139,10 +139,10 @@ module _ (g : Grid) (values ps targets s₀ : List Float) where
   three : (i : ℕ) → length (codeAt g values ps targets i) ≡ 3
   three i = floats-three (pointAnswer g values (pointAt ps i) (pointAt targets i))
 
-  pub written-start : Written g values ps targets s₀ 0 s₀
-  written-start = filling-start f three (points ps) s₀
+  pub points-answered-start : PointsAnswered g values ps targets s₀ 0 s₀
+  points-answered-start = filling-start f three (points ps) s₀
 
-  module _ {i : ℕ} {s : List Float} (w : Written g values ps targets s₀ i s) (fit : Fit ps targets s₀) where
+  module _ {i : ℕ} {s : List Float} (w : PointsAnswered g values ps targets s₀ i s) (fit : Fit ps targets s₀) where
     pub written-long : length s ≡ length s₀
     written-long = filling-long f three w (fit .room)
 
@@ -151,7 +151,7 @@ module _ (g : Grid) (values ps targets s₀ : List Float) where
     written-room h = omega (arith, fit .room, written-long)
 
     pub written-next : {p target : Point} {d : Direction} {t : List Float} → i < points ps → p ≡ pointAt ps i → target ≡ pointAt targets i
-        → d ≡ pointAnswer g values p target → t ≡ sets s (3 * i) (directionFloats d) → Written g values ps targets s₀ (i + 1) t
+        → d ≡ pointAnswer g values p target → t ≡ sets s (3 * i) (directionFloats d) → PointsAnswered g values ps targets s₀ (i + 1) t
     written-next h e u a b =
         filling-next f three w (fit .room) h
         (b ∙ ap (λ (d : Direction). sets s (3 * i) (directionFloats d)) (a ∙ ap₂ (pointAnswer g values) e u))

@@ -91,8 +91,8 @@ prod p q =
       near = rel-and (r .size * W) (size p * size q) W (r .near);
     }
 
-square : {x : Float} {X : ℤ} (p : Step x X) → Prod false (size p * size p) (x ⊗ x)
-square {x} p = subst (λ (s : Bool). Prod s (size p * size p) (x ⊗ x)) (unlike-self (sign p)) (prod p p)
+step-square : {x : Float} {X : ℤ} (p : Step x X) → Prod false (size p * size p) (x ⊗ x)
+step-square {x} p = subst (λ (s : Bool). Prod s (size p * size p) (x ⊗ x)) (unlike-self (sign p)) (prod p p)
 
 -- ---- lengths
 
@@ -108,8 +108,8 @@ record Length (l : Float) (w₀ w₁ : ℕ) : Type 0 where
 norm-near : {x y : Float} {X Y : ℤ} (p : Step x X) (q : Step y Y) → T (not (le (norm x y) tolerance)) → Length (norm x y) (p .exact) (q .exact)
 unfolding norm
 norm-near {x} {y} p q t =
-    let a = square p in
-    let b = square q in
+    let a = step-square p in
+    let b = step-square q in
     let s = add-law-pos (x ⊗ x) (y ⊗ y) (a .size) (b .size) (a .val) (b .val) (moderate (a .size) (a .small)) (moderate (b .size) (b .small)) in
     let r = root-law (x ⊗ x ⊕ y ⊗ y) (add-fits binary64 (x ⊗ x) (y ⊗ y)) (s .size) (s .val) in
     let l = long-of (r .L) (above-of-not-le (norm x y) tolerance false (r .L) tolerance-units (r .val) tolerance-val t .1) in
@@ -205,7 +205,7 @@ side-test u Q e h =
 -- ---- the corner, from its four steps
 
 -- the exact cross product P is at least 0.34 of the computed lengths L and M, which are near the exact squared lengths Q and R
-record Turn (P : ℤ) (Q R : ℕ) : Type 0 where
+record CornerTurn (P : ℤ) (Q R : ℕ) : Type 0 where
   L : ℕ
   M : ℕ
   some : 0 < L * M
@@ -236,7 +236,7 @@ module _ {ux uy vx vy : Float} {X Y X' Y' : ℤ} (a₀ : Step ux X) (a₁ : Step
   product₂ = signed (unlike (sign a₁) (sign b₀)) (a₁ .exact * b₀ .exact)
 
   turn : T (not (le (norm ux uy) tolerance)) → T (not (le (norm vx vy) tolerance)) → T (not (le (crossF ⊘ lengthsF) sin20))
-      → Turn (product₁ -ℤ product₂) (a₀ .exact * a₀ .exact + a₁ .exact * a₁ .exact) (b₀ .exact * b₀ .exact + b₁ .exact * b₁ .exact)
+      → CornerTurn (product₁ -ℤ product₂) (a₀ .exact * a₀ .exact + a₁ .exact * a₁ .exact) (b₀ .exact * b₀ .exact + b₁ .exact * b₁ .exact)
   turn tu tv ts =
       let p = norm-near a₀ a₁ tu in
       let q = norm-near b₀ b₁ tv in
@@ -291,7 +291,7 @@ module _ {ux uy vx vy : Float} {X Y X' Y' : ℤ} (a₀ : Step ux X) (a₁ : Step
       some-of a h = omega (arith, W-pos)
 
 -- so the sine is above 1/3
-turn-sine : (u v : Vector) (P : ℤ) (Q R : ℕ) → Turn P Q R → cross u v ≡ P → squaredLength u ≡ pos Q → squaredLength v ≡ pos R → T (sineAboveThird u v)
+turn-sine : (u v : Vector) (P : ℤ) (Q R : ℕ) → CornerTurn P Q R → cross u v ≡ P → squaredLength u ≡ pos Q → squaredLength v ≡ pos R → T (sineAboveThird u v)
 turn-sine u v P Q R t e f g =
     let N = t .L * t .M in
     let n = nonneg-is (not-negative N (t .above)) in

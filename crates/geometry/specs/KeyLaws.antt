@@ -105,13 +105,13 @@ back-of k small = toZ-ofZ w64 k (record { sfits = small })
 -- ---- the spans
 
 -- a sum tested against a limit without taking it
-pub within : (a b limit : ℕ) → a ≤ limit → leb b (limit - a) ≡ leb (a + b) limit
-within a b limit h = within-by (leb b (limit - a)) refl
+pub leb-sum-within : (a b limit : ℕ) → a ≤ limit → leb b (limit - a) ≡ leb (a + b) limit
+leb-sum-within a b limit h = within-by (leb b (limit - a)) refl
   where
     within-by : (t : Bool) → leb b (limit - a) ≡ t → t ≡ leb (a + b) limit
     within-by true e = let low = leb-true b (limit - a) e in sym (le-leb (a + b) limit (omega arith))
     within-by false e = let high = leb-false b (limit - a) e in sym (lt-leb (a + b) limit (omega arith))
 
 -- and where the first summand is above it
-pub over : (a b limit : ℕ) → limit < a → leb (a + b) limit ≡ false
-over a b limit h = lt-leb (a + b) limit (omega arith)
+pub leb-sum-over : (a b limit : ℕ) → limit < a → leb (a + b) limit ≡ false
+leb-sum-over a b limit h = lt-leb (a + b) limit (omega arith)

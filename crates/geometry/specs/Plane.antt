@@ -74,11 +74,11 @@ centroid p =
     point ((p .a .x ⊕ p .b .x ⊕ p .d .x ⊕ p .c .x) ⊘ fourF) ((p .a .y ⊕ p .b .y ⊕ p .d .y ⊕ p .c .y) ⊘ fourF)
 
 -- one corner of `convex_ccw`: both sides above 1e-12, and the sine of the turn from a to b to c above sin 20°
-abbrev pub cornerOk : Point → Point → Point → Bool
-cornerOk a b c = corner.cornerOk (a .x) (a .y) (b .x) (b .y) (c .x) (c .y)
+abbrev pub convexAt : Point → Point → Point → Bool
+convexAt a b c = corner.cornerOk (a .x) (a .y) (b .x) (b .y) (c .x) (c .y)
 
 -- `convex_ccw` at 20 degrees
 unfoldable pub convexCcw : Corners → Bool
 convexCcw p =
-    not (le (doubledArea p) tolerance) && (cornerOk (p .c) (p .a) (p .b) && (cornerOk (p .a) (p .b) (p .d)
-    && (cornerOk (p .b) (p .d) (p .c) && cornerOk (p .d) (p .c) (p .a))))
+    not (le (doubledArea p) tolerance) && (convexAt (p .c) (p .a) (p .b) && (convexAt (p .a) (p .b) (p .d)
+    && (convexAt (p .b) (p .d) (p .c) && convexAt (p .d) (p .c) (p .a))))

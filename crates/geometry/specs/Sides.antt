@@ -7,7 +7,7 @@ use Rattle.exact.specs.Corner.{sin20}
 use Rattle.exact.specs.Corner as corner
 use Rattle.domain.specs.declared.Point.{Point}
 use Rattle.geometry.specs.declared.Side.{Side}
-use Rattle.geometry.specs.Plane.{norm, cornerOk}
+use Rattle.geometry.specs.Plane.{norm, convexAt}
 
 -- the side a to b
 abbrev pub sideOf : Point → Point → Side
@@ -20,6 +20,6 @@ turnOk u v =
     not (le (u .length) tolerance) && not (le (v .length) tolerance) && not (le sine sin20)
 
 -- it is that of the corner b between a and c
-pub turn-is : (a b c : Point) {u v : Side} {r : Bool} → u ≡ sideOf a b → v ≡ sideOf b c → r ≡ turnOk u v → r ≡ cornerOk a b c
+pub turn-is : (a b c : Point) {u v : Side} {r : Bool} → u ≡ sideOf a b → v ≡ sideOf b c → r ≡ turnOk u v → r ≡ convexAt a b c
 unfolding turnOk corner.cornerOk
 turn-is a b c eu ev e = rw (eu, ev) at e

@@ -17,7 +17,7 @@ use Rattle.front.specs.State.{State, stateOf, counted, withFront, edgeIn, hasEd
 use Rattle.front.specs.MeshEdges.{withEdges, quad-edged}
 use Rattle.front.specs.Stores.{storeX, storeY, storeQuad}
 use Rattle.front.specs.Place.{added, cornerId, pushCorner, addEdges, takeOff, putOn, moveFront, place}
-use Rattle.mesh_changes.specs.Parts.{frontIn, edgesIn, nodesIn}
+use Rattle.mesh_changes.specs.Parts.{frontIn, edgesIn, nodesAlone}
 
 -- ---- parts: `over s p` is s with the part taken from p, and `bare s` has of s what a change reads and never writes
 
@@ -127,7 +127,7 @@ overNodes s p =
     (counted (p .counts .nodes) (s .counts .quads) (s .counts .edges) (s .counts .front))
 
 abbrev pub bareNodes : State → State
-bareNodes s = nodesIn [] [] [] [] 0
+bareNodes s = nodesAlone [] [] [] [] 0
 
 abbrev pub NodesLocal : (State → State) → Type 0
 NodesLocal F = Local overNodes bareNodes (λ s. refl) F
@@ -145,7 +145,7 @@ corners-local c d = then overNodes bareNodes (λ s. refl) (pushCorner c) (pushCo
 module _ (a b : ℕ) (c d : Corner) (xs ys : List Float) (next prev snapshot quads edges : List ℕ) (k : Counts) where
   pub parts-placed : {xs' ys' : List Float} {next' prev' next'' prev'' quads' edges' : List ℕ} {n' e' f' C D : ℕ}
       → C ≡ cornerId (k .nodes) c → D ≡ cornerId (k .nodes + added c) d
-      → nodesIn xs' ys' next' prev' n' ≡ pushCorner d (pushCorner c (nodesIn xs ys next prev (k .nodes)))
+      → nodesAlone xs' ys' next' prev' n' ≡ pushCorner d (pushCorner c (nodesAlone xs ys next prev (k .nodes)))
       → edgesIn edges' e' ≡ addEdges a b D C (edgesIn edges (k .edges))
       → quads' ≡ storeQuad (k .quads) a b D C quads
       → frontIn next'' prev'' n' f' ≡ moveFront c d a b D C (frontIn next' prev' n' (k .front))

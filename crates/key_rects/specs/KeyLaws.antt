@@ -15,7 +15,7 @@ use Rattle.geometry.specs.declared.Corners.{Corners}
 use Rattle.geometry.specs.Keys.{gap, atMost, lesser, greater, spansOf, rangesMeet, rectanglesMeet, nearKeys, between}
 use Rattle.geometry.specs.Keys.{keyOf, edgeBucket, spansKept, isTooClose, tooCloseAt, lowest, highest, isInBox, inBoxAt, isCandidate, candidateAt}
 use Rattle.geometry.specs.KeyLaws.{at-most, apart}
-use Rattle.pools.specs.Pool.{Within}
+use Rattle.pools.specs.Pool.{InRect}
 use Rattle.key_rects.specs.Rects.{shifted, rectOf, rectAt, rectAround, rectEmpty, nodeRect, edgeRect, Meets}
 
 -- ---- what the code computes
@@ -136,7 +136,7 @@ rectangles-meet k l m n e =
     }
 
 -- no key lies in the empty rectangle
-pub empty-none : (i j : ℕ) → Within rectEmpty i j → ⊥
+pub empty-none : (i j : ℕ) → InRect rectEmpty i j → ⊥
 unfolding rectEmpty
 empty-none i j w = omega (arith, w .left, w .right)
 

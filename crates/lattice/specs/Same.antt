@@ -23,7 +23,7 @@ use Rattle.exact.specs.Sine.{sine-theorem}
 use Rattle.geometry.specs.Plane.{convexCcw, doubledArea, areaTerm}
 use Rattle.lattice.specs.Fours.{latticePoint, firstPoint, secondPoint, thirdPoint, fourthPoint, acceptedFour, cornerTurns, aboveThird, pointsOf, fourTurn, fours}
 use Rattle.lattice.specs.Tables.{floatOf, difference, product, sum-is, zero-is, above-tolerance, stepsOk, gridStep, corner-is}
-use Rattle.lattice.specs.Scale.{scaled, unscale}
+use Rattle.lattice.specs.Scale.{scaledBy, unscale}
 
 -- ---- floats to integers
 
@@ -49,7 +49,7 @@ unfoldable pub vectorOf : ℤ → ℤ → Vector
 vectorOf x y = record { x = x; y = y }
 
 step-scaled : (ax ay bx by : ℕ) → ax < 4 → ay < 4 → bx < 4 → by < 4
-    → step (toFloat ax) (toFloat ay) (toFloat bx) (toFloat by) ≡ scaled (pos W) (stepZ ax ay bx by)
+    → step (toFloat ax) (toFloat ay) (toFloat bx) (toFloat by) ≡ scaledBy (pos W) (stepZ ax ay bx by)
 unfolding step vectorOf
 step-scaled ax ay bx by p q r s = ap₂ vectorOf (along ax bx p r) (along ay by q s)
   where
@@ -73,7 +73,7 @@ module _ {ax ay bx by cx cy : ℕ} (Ax : ax < 4) (Ay : ay < 4) (Bx : bx < 4) (By
       let s = sine-theorem (toFloat ax) (toFloat ay) (toFloat bx) (toFloat by) (toFloat cx) (toFloat cy)
       (within ax Ax) (within ay Ay) (within bx Bx) (within by By) (within cx Cx) (within cy Cy) t in
       unscale W (stepZ ax ay bx by) (stepZ bx by cx cy)
-      (subst (λ (v : Vector). T (sineAboveThird (scaled (pos W) (stepZ ax ay bx by)) v)) (step-scaled bx by cx cy Bx By Cx Cy)
+      (subst (λ (v : Vector). T (sineAboveThird (scaledBy (pos W) (stepZ ax ay bx by)) v)) (step-scaled bx by cx cy Bx By Cx Cy)
       (subst (λ (u : Vector). T (sineAboveThird u (step (toFloat bx) (toFloat by) (toFloat cx) (toFloat cy)))) (step-scaled ax ay bx by Ax Ay Bx By) s))
 
   int-to-float : T (sineAboveThird (stepZ ax ay bx by) (stepZ bx by cx cy))

@@ -70,10 +70,10 @@ module _ (o : Outline) (size : Float) (doubles : OutlineFits o) (held : T (fits 
   pub drawn-unrefused : {n : ℕ} → n ≡ refusalFor o size 0 mostFieldNodes → n ≡ 0 → drawnRefusal o size ≡ 0
   drawn-unrefused e passed = sym (drawn-is o size doubles held) ∙ sym e ∙ passed
 
-  pub counted : {b : Bounds} {g : Grid} {n : ℕ} → drawnRefusal o size ≡ 0 → b ≡ bounds o → g ≡ gridOf b size → n ≡ min (sampledCount o size) most
+  pub places-counted : {b : Bounds} {g : Grid} {n : ℕ} → drawnRefusal o size ≡ 0 → b ≡ bounds o → g ≡ gridOf b size → n ≡ min (sampledCount o size) most
       → placesAnswered 0 (gridNodes g) n ≡ placesAnswer o size
   unfolding placesAnswer
-  counted {n = n} none box grid count =
+  places-counted {n = n} none box grid count =
       let exact : n ≡ sampledCount o size = omega (arith, front-few none) in
       rw none (ap₂ (λ (a b : ℕ). placesAnswered 0 a b) (ap gridNodes (grid ∙ ap (λ (b : Bounds). gridOf b size) box)) exact)
 

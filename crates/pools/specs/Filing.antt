@@ -7,7 +7,7 @@ use native.Mathlib.Omega.{arith}
 use lib.ListN.{length}
 use Rattle.laws.specs.Loop.{anyUp, Unfound}
 use Rattle.pools.specs.declared.Rect.{Rect}
-use Rattle.pools.specs.Pool.{filed, cleared, file, Indexed}
+use Rattle.pools.specs.Pool.{filed, clearedPool, file, Indexed}
 use Rattle.pools.specs.FileLaws.{file-length, indexed-none, indexed-file, indexed-past}
 
 -- those before id are filed, of the pool's own length
@@ -16,7 +16,7 @@ pub record Filing (rects : ℕ → Rect) (to : ℕ) (pool₀ pool : List ℕ) (i
   pub within : id ≤ to
   pub filed : Indexed pool rects id
 
-pub filing-start : (rects : ℕ → Rect) (to : ℕ) (pool₀ : List ℕ) {pool : List ℕ} → pool ≡ cleared pool₀ → Filing rects to pool pool 0
+pub filing-start : (rects : ℕ → Rect) (to : ℕ) (pool₀ : List ℕ) {pool : List ℕ} → pool ≡ clearedPool pool₀ → Filing rects to pool pool 0
 filing-start rects to pool₀ e =
     record { size = refl; within = omega arith; filed = subst (λ (p : List ℕ). Indexed p rects 0) (sym e) (indexed-none pool₀ rects) }
 

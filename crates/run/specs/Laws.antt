@@ -150,7 +150,7 @@ module _ (o : Outline) (s : State) (marks loops lengths : List ℕ) (p : Lists)
 
 pub run-whole : (o : Outline) (set : Settings) (l : Lent) (g : Grid) (values : List Float) (marks : List ℕ)
     → fieldRecord g values marks ≡ fieldOf o (set .size) (set .sweeps) (fieldPart l)
-    → (a : paving.Paved) → a ≡ advance o (set .size) (fieldRecord g values []) (set .passes) (fromBoundary o (set .size) (statePart l))
+    → (a : paving.EndedPaving) → a ≡ advance o (set .size) (fieldRecord g values []) (set .passes) (fromBoundary o (set .size) (statePart l))
     → (n : List ℕ) → n ≡ overlay (originsAfter o (set .size) (a .state .quads) (a .state .counts .quads)) (l .origins)
     → (p : Lists) → p ≡ listedIn (a .state .counts) (a .state .next) (a .state .snapshot) (l .loops) (l .lengths)
     → (w : Bool) → w ≡ isWhole o (p .listed .count) → (r : Paved) → r ≡ pavedAnswer g (a .end) (a .state .counts) (p .listed) w

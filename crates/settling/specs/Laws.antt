@@ -21,7 +21,7 @@ use Rattle.front.specs.declared.Placed.{Placed}
 use Rattle.front.specs.declared.Placed.the-variants as placed-is
 use Rattle.front.specs.State.{State, stateOf, nextOf}
 use Rattle.front.specs.Place.{place}
-use Rattle.front.specs.Stores.{Places, countsAfter}
+use Rattle.front.specs.Stores.{PlacesQuad, countsAfter}
 use Rattle.front.specs.KnownLaws.{placed-full, placed-done}
 use Rattle.front.specs.Ready.{Ready}
 use Rattle.paving.specs.declared.Attempt.{Attempt}
@@ -127,13 +127,13 @@ module _ (o : Outline) (size : Float) (g : Grid) (values : List Float) (s : Stat
         quad-turned : (some : Bool) → settle a to (Quad c d) (passing s some) ≡ passTurn o size field a (passing s some)
         quad-turned some = rw q at (turned some)
 
-        full-turned : (s′ : State) → Places a to c d s placed-is.Full s′ → (some : Bool)
+        full-turned : (s′ : State) → PlacesQuad a to c d s placed-is.Full s′ → (some : Bool)
             → out (out (paved s′ Full)) ≡ passTurn o size field a (passing s some)
         full-turned s′ P some =
             let f = placed-full a to c d s s′ P in
             rw (f .1) (rw (f .0) at (quad-turned some))
 
-        done-turned : (m : Counts) (s′ : Counts → State) → s′ m .counts ≡ m → Places a to c d s (placed-is.Done m) (s′ m)
+        done-turned : (m : Counts) (s′ : Counts → State) → s′ m .counts ≡ m → PlacesQuad a to c d s (placed-is.Done m) (s′ m)
             → (k : Counts) (w : Settled) → w ≡ quadSettled m
             → (some : Bool) → settled w some (s′ (settledCounts k w)) ≡ passTurn o size field a (passing s some)
         unfolding afterQuad quadSettled
@@ -148,7 +148,7 @@ module _ (o : Outline) (size : Float) (g : Grid) (values : List Float) (s : Stat
             by false e = rw (counts, e)
 
         module _ {xs ys : List Float} {next prev snapshot quads edges : List ℕ} {r : Placed} (k : Counts)
-            (P : Places a to c d s r (stateOf xs ys next prev snapshot quads edges (countsAfter k r))) where
+            (P : PlacesQuad a to c d s r (stateOf xs ys next prev snapshot quads edges (countsAfter k r))) where
           pub settle-full : r ≡ placed-is.Full → (some : Bool)
               → out (out (paved (stateOf xs ys next prev snapshot quads edges k) Full)) ≡ passTurn o size field a (passing s some)
           settle-full e some = full-turned _ (rw e at P) some

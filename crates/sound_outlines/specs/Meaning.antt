@@ -1,4 +1,4 @@
--- SOUND IN WORDS. `outlineSound` computes; `Sound` says the same as statements on points in common (`sound-means`, the last statement). Assumes nothing.
+-- SOUND IN WORDS. `outlineSound` computes; `SoundOutline` says the same as statements on points in common (`sound-means`, the last statement). Assumes nothing.
 use mathlib.Core.Path.{_≡_, refl, sym, subst}
 use mathlib.Core.Bool.{Bool, true, false, not, _&&_, _||_, true≢false}
 use mathlib.Core.Logic.{_↔_}
@@ -32,7 +32,7 @@ pub record Simple (s : List Float) : Type 0 where
   pub next : (i j : ℕ) → i < points s → j < i → i ≡ after (points s) j → Folding s j i → ⊥
   pub last : (i j : ℕ) → i < points s → j < i → j ≡ after (points s) i → Folding s i j → ⊥
 
-pub record Sound (o : Outline) : Type 0 where
+pub record SoundOutline (o : Outline) : Type 0 where
   -- no loop crosses itself; loop 0 is the outer one
   pub simple : (k : ℕ) → k ≤ length (o .lens) → Simple (loopAt o k)
   -- no two loops touch
@@ -170,7 +170,7 @@ module _ (o : Outline) where
   nests = anyUp holes (λ k. anyUp holes (λ l. liesIn o k l))
 
 -- AN OUTLINE IS JUDGED SOUND EXACTLY IF IT IS SOUND IN WORDS.
-pub sound-means : (o : Outline) → T (outlineSound o) ↔ Sound o
+pub sound-means : (o : Outline) → T (outlineSound o) ↔ SoundOutline o
 unfolding outlineSound
 sound-means o =
     let parts = four (not (crossings o)) (not (touches o)) (not (strays o)) (not (nests o)) in

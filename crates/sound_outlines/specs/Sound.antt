@@ -13,13 +13,13 @@ use Rattle.laws.specs.Loop.{anyUp}
 use Rattle.exact.specs.Corner.{Vector}
 use Rattle.domain.specs.Outline.{Outline, holeAt, loopAt, points, pointAt, after}
 use Rattle.domain.specs.Parity.{oddUp}
-use Rattle.orientation.specs.Orient.{place, way, orient}
+use Rattle.orientation.specs.Orient.{inUnits, way, orient}
 
 -- ---- places
 
 -- where segment i of a loop starts
 abbrev pub start : List Float → ℕ → Vector
-start s i = place (pointAt s i)
+start s i = inUnits (pointAt s i)
 
 -- and where it ends
 abbrev pub end : List Float → ℕ → Vector
@@ -28,8 +28,8 @@ end s i = start s (after (points s) i)
 -- ---- three places
 
 -- the scalar product
-unfoldable pub dot : Vector → Vector → ℤ
-dot u v = u .x *ℤ v .x +ℤ u .y *ℤ v .y
+unfoldable pub scalarProduct : Vector → Vector → ℤ
+scalarProduct u v = u .x *ℤ v .x +ℤ u .y *ℤ v .y
 
 -- c is left of the line from a to b
 abbrev pub isLeft : Vector → Vector → Vector → Bool
@@ -42,15 +42,15 @@ isRight a b c = ltZ (orient a b c) (pos 0)
 -- ---- two segments, a to b and c to d
 
 -- the smaller of two numbers, and the larger
-abbrev pub least : ℤ → ℤ → ℤ
-least u v = cond (ltZ u v) u v
+abbrev pub minZ : ℤ → ℤ → ℤ
+minZ u v = cond (ltZ u v) u v
 
-abbrev pub greatest : ℤ → ℤ → ℤ
-greatest u v = cond (ltZ u v) v u
+abbrev pub maxZ : ℤ → ℤ → ℤ
+maxZ u v = cond (ltZ u v) v u
 
 -- the numbers from u to v and those from s to t have one in common: neither lot lies wholly below the other
 unfoldable pub overlap : ℤ → ℤ → ℤ → ℤ → Bool
-overlap u v s t = not (ltZ (greatest u v) (least s t)) && not (ltZ (greatest s t) (least u v))
+overlap u v s t = not (ltZ (maxZ u v) (minZ s t)) && not (ltZ (maxZ s t) (minZ u v))
 
 -- c and d are on the same side of the line through a and b, neither of them on it
 unfoldable pub parted : Vector → Vector → Vector → Vector → Bool
@@ -63,7 +63,7 @@ meets a b c d =
 
 -- a to b and b to c have more in common than b (`folds-shares`): the way goes back on itself at b
 unfoldable pub foldsBack : Vector → Vector → Vector → Bool
-foldsBack a b c = eqb (natAbs (orient a b c)) 0 && ltZ (dot (way a b) (way b c)) (pos 0)
+foldsBack a b c = eqb (natAbs (orient a b c)) 0 && ltZ (scalarProduct (way a b) (way b c)) (pos 0)
 
 -- ---- one loop
 

@@ -7,7 +7,7 @@ use Rattle.domain.specs.Outline.{Outline, outline}
 use Rattle.geometry.specs.TestLaws.{passed, refused}
 use Rattle.front.specs.State.{State}
 use Rattle.attempts.specs.AttemptLaws.{attempt-none, attempt-is}
-use Rattle.attempts.specs.Seen.{seen}
+use Rattle.attempts.specs.Seen.{seenState}
 use Rattle.attempts.proofs.attempt_quad.Statement.{statement}
 use Rattle.attempts.proofs.attempt_quad.Tie as tie
 
@@ -16,7 +16,7 @@ abbrev around : tie.Start → Outline
 around s = outline (s .args .outer .now) (s .args .holes .now) (s .args .lens .now)
 
 abbrev lent : tie.Start → State
-lent s = seen (s .args .xs .now) (s .args .ys .now) (s .args .next .now) (s .args .prev .now) (s .args .edges .now) (s .args .counts)
+lent s = seenState (s .args .xs .now) (s .args .ys .now) (s .args .next .now) (s .args .prev .now) (s .args .edges .now) (s .args .counts)
 
 far-corners-requires : tie.Need-far-corners-requires
 far-corners-requires c κs =

@@ -1,5 +1,5 @@
--- `directions::write_answers` meets its contract: the invariant is `Written`, i points answered. Assumes nothing.
-use Rattle.directions.specs.Laws.{Written, written-start, written-long, written-room, written-next, written-end}
+-- `directions::write_answers` meets its contract: the invariant is `PointsAnswered`, i points answered. Assumes nothing.
+use Rattle.directions.specs.Laws.{PointsAnswered, points-answered-start, written-long, written-room, written-next, written-end}
 use borrow.Author.Needs.{needs}
 use native.Mathlib.Omega.{arith}
 use Prim.Native.Nat.{_-_}
@@ -7,13 +7,13 @@ use Rattle.directions.proofs.write_answers.Statement.{statement}
 use Rattle.directions.proofs.write_answers.Tie as tie
 
 abbrev Inv-loop : tie.InvT-loop
-Inv-loop g values points targets answers₀ n i₀ answers i = Written g values points targets answers₀ i answers
+Inv-loop g values points targets answers₀ n i₀ answers i = PointsAnswered g values points targets answers₀ i answers
 
 abbrev μ-loop : tie.MeasureT-loop
 μ-loop g values points targets answers₀ n i₀ answers i = n - i
 
 loop-holds : tie.Need-loop-holds Inv-loop μ-loop
-loop-holds c = written-start _ _ _ _ _
+loop-holds c = points-answered-start _ _ _ _ _
 
 point-at-requires : tie.Need-point-at-requires Inv-loop μ-loop
 point-at-requires c κs = omega arith

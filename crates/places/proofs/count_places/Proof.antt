@@ -1,5 +1,5 @@
 -- `places::count_places` meets its contract: no count stops, since both are small. Assumes nothing.
-use Rattle.places.specs.Laws.{drawn-shape, field-few, made-few, counted}
+use Rattle.places.specs.Laws.{drawn-shape, field-few, made-few, places-counted}
 use lib.Dec.{T}
 use native.Mathlib.Omega.{arith}
 use mathlib.Core.Path.{sym, subst}
@@ -27,7 +27,7 @@ mul-t8 c =
 
 returns : tie.Need-returns
 returns c = let known = c .before .before .before .before .before in
-    counted _ _ (record { outer = λ i h. known .before .shared-slice-known .given i; holes = λ i h. known .shared-slice-known2 .given i })
+    places-counted _ _ (record { outer = λ i h. known .before .shared-slice-known .given i; holes = λ i h. known .shared-slice-known2 .given i })
     (subst T (sym (known .before .before .good .1 .1 .1 .0 .1)) tt) (known .before .before .pre) (c .before .before .before .bounds-of .ensures)
     (c .before .before .grid-of .ensures) (c .before .sampled-count .ensures)
 

@@ -28,7 +28,7 @@ use Rattle.paving.specs.Advance.{paved, Passing, passing, Passed, mostQuads, af
 use Rattle.paving.specs.Advance.{copyTurn, copied, withSnapshot, mostPasses, passesTurn, allUsed, advance}
 use Rattle.paving.specs.Reach.{Placement, Reaches, begin, snapshot, placed}
 use Rattle.paving.specs.ReachLaws.{Reached, tried}
-use Rattle.books.specs.Step.{step}
+use Rattle.books.specs.Step.{answered-step}
 use Rattle.books_hold.specs.Stages.{Start, standing}
 use Rattle.books_hold.specs.Ends.{StillAt, FullAt, PassesLead, LastPass, UsedUp, Ended}
 use Rattle.books_hold.specs.Ends as ends
@@ -143,7 +143,7 @@ module _ (o : Outline) (size : Float) (field : FieldRecord) (s : State) (ls : Li
             let r = I .between .reached in
             let P : Placement o size (p .state) a b c d = record { there = there; da = A .da; db = A .db; answered = A .answered; fits = f } in
             let Y = standing (S .sound) (r .by) in
-            let X = step (sampledCount o size) (p .state) (Y .loops) o size a b c d (Y .sound) P in
+            let X = answered-step (sampledCount o size) (p .state) (Y .loops) o size a b c d (Y .sound) P in
             let more = no-fewer a (p .state) (p .placed) (I .progress) in
             quad-placed a (place a b c d (p .state)) (record { quads = suc (r .quads); by = placed (r .by) P })
             (omega (arith, X .quads)) (omega (arith, X .quads, I .between .below))

@@ -29,7 +29,7 @@ use Rattle.sampled.specs.Rings.{ring-in, ring-differ, ring-longest}
 use Rattle.sampled.specs.Joins.{join, OnlyLinked, Joinable, join-is, join-one, next-joined}
 use Rattle.sampled.specs.Laid.{Laid, linked-pushed, off-pushed}
 use Rattle.sampled.specs.Turn.{splitPoints, split-count, split-pushed, turn-sampled, sampled-count, cuts-three}
-use Rattle.sampled.specs.Begun.{Places, stateAt, loopsAt, turn-ready, fits}
+use Rattle.sampled.specs.Begun.{Places, stateAt, loopsAt, turn-ready, turn-fits}
 use Rattle.sampled.specs.Outlines.{Threes}
 use Rattle.boundary.specs.Laying.{linkTurn, linkRing, layLoop}
 
@@ -191,4 +191,4 @@ module _ (o : Outline) (size : Float) (lent : State) (three : Threes o) (P : Pla
   pub unsearched : (k : ℕ) → k < loopCount o → boundaryTurn o size k (stateAt o size lent k) ≡ layLoop k (loopAt o k) size (stateAt o size lent k)
   unsearched k h =
       let A = turn-ready o size lent three P k (omega arith) in
-      turn-unsearched (cleared lent) o size k (stateAt o size lent k) (A .room) (fits o size lent three P k h A) (three k h) (loopsAt o size lent k) (A .laid)
+      turn-unsearched (cleared lent) o size k (stateAt o size lent k) (A .room) (turn-fits o size lent three P k h A) (three k h) (loopsAt o size lent k) (A .laid)

@@ -25,7 +25,7 @@ use Rattle.nearest_step.specs.StepLaws.{step-near}
 use Rattle.bowl.specs.declared.StepsAnswer.{StepsAnswer}
 use Rattle.bowl.specs.Steps.{stepsGiven, meshUnstepped, lowestHidden, stepsAnswer, storedSteps, stepsLeft}
 use Rattle.bowl.specs.Stepped.{NodeWithin, NodesWithin, QuadsWithin, NearStep, MeshStepped}
-use Rattle.bowl.specs.StepsLaws.{stored-x, stored-y, stored-past}
+use Rattle.bowl.specs.StepsLaws.{stored-x, stored-y, stored-steps-past}
 
 -- ---- coordinates
 
@@ -115,7 +115,7 @@ module _ (s : State) (lent : List ℤ) (r : StepsAnswer) (answer : r ≡ stepsAn
               near-of _ _ (ap (λ (l : List ℤ). getD l (2 * i) (pos 0)) e ∙ stored-x (s .xs) (s .ys) lent n enough i h),
               near-of _ _ (ap (λ (l : List ℤ). getD l (2 * i + 1) (pos 0)) e ∙ stored-y (s .xs) (s .ys) lent n enough i h),
             );
-        past = ap (drop (2 * n)) e ∙ stored-past (s .xs) (s .ys) lent n enough;
+        past = ap (drop (2 * n)) e ∙ stored-steps-past (s .xs) (s .ys) lent n enough;
         unwritten = λ some. absurd (some none);
       }
 

@@ -23,7 +23,7 @@ use Rattle.exact.specs.Operations.{mul-law, product-small, Sum, sub-law,
 use Rattle.exact.specs.Root.{root-law}
 use Rattle.exact.specs.SineBounds.{Rel, RelAnd, rel, rel-and, le-of-sq, Long, unit-below, length-law, side-law, quotient-law, product-law}
 use Rattle.exact.specs.SineBounds.{products-below, signed-near, cross-law, sine-law}
-use Rattle.exact.specs.Corner.{sin20, norm, cornerOk, Vector, step, cross, squaredLength, sineAboveThird, isShort}
+use Rattle.exact.specs.Corner.{sin20, norm, cornerOk, Vector, stepUnits, cross, squaredLength, sineAboveThird, isShort}
 
 -- ---- the constants of the test
 
@@ -319,26 +319,26 @@ corner-tests ax ay bx by cx cy t =
 
 -- A side of two places within 1,001 whose computed length is above 1e-12 is not shorter than 1e-150.
 pub side-long : (ax ay bx by : Float) → Within 1001 ax → Within 1001 ay → Within 1001 bx → Within 1001 by
-    → T (not (le (norm (bx ⊖ ax) (by ⊖ ay)) tolerance)) → T (not (isShort (step ax ay bx by)))
-unfolding step
+    → T (not (le (norm (bx ⊖ ax) (by ⊖ ay)) tolerance)) → T (not (isShort (stepUnits ax ay bx by)))
+unfolding stepUnits
 side-long ax ay bx by Ax Ay Bx By t =
     let p = step-of Ax Bx in
     let q = step-of Ay By in
-    side-test (step ax ay bx by) (p .exact * p .exact + q .exact * q .exact) (exact-length {v = step ax ay bx by} p q) (norm-near p q t .far)
+    side-test (stepUnits ax ay bx by) (p .exact * p .exact + q .exact * q .exact) (exact-length {v = stepUnits ax ay bx by} p q) (norm-near p q t .far)
 
 -- THE SINE THEOREM. For places a, b and c within 1,001: where the f64 test of the corner passes, the exact sine between the step from a to b
 -- and the step from b to c is above 1/3.
 pub sine-theorem : (ax ay bx by cx cy : Float) → Within 1001 ax → Within 1001 ay → Within 1001 bx → Within 1001 by → Within 1001 cx
-    → Within 1001 cy → T (cornerOk ax ay bx by cx cy) → T (sineAboveThird (step ax ay bx by) (step bx by cx cy))
-unfolding cornerOk step cross
+    → Within 1001 cy → T (cornerOk ax ay bx by cx cy) → T (sineAboveThird (stepUnits ax ay bx by) (stepUnits bx by cx cy))
+unfolding cornerOk stepUnits cross
 sine-theorem ax ay bx by cx cy Ax Ay Bx By Cx Cy t =
     let a₀ = step-of Ax Bx in
     let a₁ = step-of Ay By in
     let b₀ = step-of Bx Cx in
     let b₁ = step-of By Cy in
     let test = corner-tests ax ay bx by cx cy t in
-    let u = step ax ay bx by in
-    let v = step bx by cx cy in
+    let u = stepUnits ax ay bx by in
+    let v = stepUnits bx by cx cy in
     turn-sine u v (product₁ a₀ a₁ b₀ b₁ -ℤ product₂ a₀ a₁ b₀ b₁)
     (a₀ .exact * a₀ .exact + a₁ .exact * a₁ .exact) (b₀ .exact * b₀ .exact + b₁ .exact * b₁ .exact)
     (turn a₀ a₁ b₀ b₁ (test .into) (test .out) (test .sine))

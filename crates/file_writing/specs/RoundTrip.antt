@@ -377,9 +377,9 @@ module _ (r : Request) (fit : Fileable r) where
   file-points : filePoints (fileOf r) ≡ count
   file-points = ap (λ (b : List ℕ). headPoints b (headLoops b)) file-head ∙ points-are ∙ sym count-is
 
-  pub file-accepted : fileRefusal (fileOf r) ≡ 0
+  pub written-accepted : fileRefusal (fileOf r) ≡ 0
   unfolding fileRefusal endRefusal
-  file-accepted =
+  written-accepted =
       rw (file-points, file-head, head-accepted, blocks-accepted, le-ltb (fileLength count) (length (fileOf r)) (omega (arith, file-length)))
 
   -- ---- it says what the request says
@@ -425,4 +425,4 @@ module _ (r : Request) (fit : Fileable r) where
 -- THE ROUND TRIP
 pub round-trip : (r : Request) → fileable r ≡ true → T (fits binary64 (r .settings .size)) → AllFit (r .coordinates)
     → (fileRefusal (fileOf r) ≡ 0) × (requestOf (fileOf r) ≡ r)
-round-trip r e size floats = let fit = fileable-is r e in (file-accepted r fit, request-back r fit size floats)
+round-trip r e size floats = let fit = fileable-is r e in (written-accepted r fit, request-back r fit size floats)

@@ -17,7 +17,7 @@ use Rattle.front.specs.Place.{cornerPoint, idC, idD, addEdges, edgesAdde
 use Rattle.front.specs.Place as front
 use Rattle.front.specs.Sound.{Sound, Frame}
 use Rattle.front.specs.FrameLaws.{frame-trans, frame-node-places, frame-quad-places, frame-edge-places}
-use Rattle.front.specs.Ready.{Choice, Fits, fits}
+use Rattle.front.specs.Ready.{Choice, Fits, room-fits}
 use Rattle.front.specs.Pushed.{Cornered, cornered, withCorners}
 use Rattle.front.specs.MeshEdges.{quad-edged, edges-few}
 use Rattle.front.specs.Moved.{kindOf, changesOf, edgesAfter, edges-after}
@@ -92,7 +92,7 @@ pub grounds : (n : ℕ) (s : State) (ls : List (List ℕ)) (a b : ℕ) (c d : Co
     → Grounds s ls a b c d
 unfolding nodePlaces edgesAdded
 grounds n s ls a b c d S H full =
-    let A = fits s a b c d full in
+    let A = room-fits s a b c d full in
     let X = sides n s ls S a b c d H in
     let C = idC s c in
     let D = idD s c d in

@@ -1,4 +1,4 @@
--- What the code of `place` stores is the state that `place` leaves: `stored`, at the end.
+-- What the code of `place` stores is the state that `place` leaves: `quad-stored`, at the end.
 use Prim.Native.Nat.{ℕ, _+_, _-_, _*_, _<_, _≤_, min, max}
 use mathlib.Core.List.{List}
 use mathlib.Core.Path.{_≡_, refl, sym, _∙_, ap}
@@ -26,7 +26,7 @@ use Rattle.front.specs.declared.Corner.the-variants.{Reused, Fresh}
 use Rattle.front.specs.State.{State, stateOf, Quad, counted, nodePlaces, quadPlaces, edgePlaces, nextOf, prevOf, edgeFrom, edgeTo}
 use Rattle.front.specs.State.{edgeIs, hasEdge, pushNode, pushEdge, pushQuad, addEdge}
 use Rattle.front.specs.Place.{added, cornerId, idC, idD, addEdges, edgesAdded, isFull, place}
-use Rattle.front.specs.Ready.{Chosen, Known, Ready, fits}
+use Rattle.front.specs.Ready.{Chosen, Known, Ready, room-fits}
 use Rattle.front.specs.Pushed.{withCorners}
 use Rattle.front.specs.MeshEdges.{withEdges, edged, has-flip, has-other}
 use Rattle.front.specs.Moved.{kindOf, changesOf, edgesAfter}
@@ -281,12 +281,12 @@ storedState s a b c d C D across w =
     (storeNext c d a b C D (s .next)) (storePrev c d a b C D (s .prev)) (s .snapshot) (storeQuad (s .counts .quads) a b D C (s .quads))
     (storeEdges across c d a b C D (s .counts .edges) (s .edges)) (countsWithQuad (s .counts) c d w)
 
-pub stored : (s : State) (a b : ℕ) (c d : Corner) → Ready s a b c d → isFull s a b c d ≡ false
+pub quad-stored : (s : State) (a b : ℕ) (c d : Corner) → Ready s a b c d → isFull s a b c d ≡ false
     → place a b c d s
     ≡ storedState s a b c d (idC s c) (idD s c d) (knownAcross (s .edges) (s .counts .edges) c d)
     (newEdges (knownAcross (s .edges) (s .counts .edges) c d) c d)
 unfolding pushQuad edgePlaces
-stored s a b c d R full =
+quad-stored s a b c d R full =
     let C = idC s c in
     let D = idD s c d in
     let H = grounds (R .sampled) s (R .loops) a b c d (R .sound) (R .choice) full in
@@ -366,7 +366,7 @@ module _ (s : State) (a b : ℕ) (c d : Corner) (R : Ready s a b c d) (mc md C D
   unfolding nodePlaces quadPlaces edgePlaces
   when-fits h =
       let full = sym beyond-full ∙ h in
-      let A = fits s a b c d full in
+      let A = room-fits s a b c d full in
       let H = grounds (R .sampled) s (R .loops) a b c d (R .sound) (R .choice) full in
       let X = H .sides in
       let P = H .cornered .pushed in
@@ -387,7 +387,7 @@ module _ (s : State) (a b : ℕ) (c d : Corner) (R : Ready s a b c d) (mc md C D
         ids = (ids (length (s .next)) (omega (arith, A .nodes-fit)), ids (length (s .prev)) (omega (arith, A .nodes-fit)));
         counts = front-enough c d a b (idC s c) (idD s c d) (s .counts .front) (H .few-off);
         room = full;
-        is = rw (eC, eD, pw, pk) (stored s a b c d R full);
+        is = rw (eC, eD, pw, pk) (quad-stored s a b c d R full);
       }
 
 -- what was stored is the state that `place` leaves

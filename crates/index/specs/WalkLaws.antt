@@ -199,9 +199,9 @@ row-stands {pool} r {j} {rest} {c} found on =
     }
 
 -- none in it
-pub row-over : {pool : List ℕ} {right j : ℕ} {rest : List ℕ} {c : Cursor} → InRow pool right j rest c → over c ≡ true → rest ≡ []
+pub row-walked : {pool : List ℕ} {right j : ℕ} {rest : List ℕ} {c : Cursor} → InRow pool right j rest c → over c ≡ true → rest ≡ []
 unfolding rowAhead
-row-over found e = sym (found .all) ∙ rw e refl
+row-walked found e = sym (found .all) ∙ rw e refl
 
 -- nothing is left of the walk
 pub stands-none : {pool : List ℕ} {r : Rect} {rest : List ℕ} {c : Cursor} → over c ≡ true → rest ≡ [] → Stands pool r rest c

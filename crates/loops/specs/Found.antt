@@ -13,7 +13,7 @@ use Rattle.topology.specs.Sums.{All, total, pathSum, loopSum}
 use Rattle.topology.specs.Links.{off, delta, delta-same}
 use Rattle.topology.specs.Front.{Loops}
 use Rattle.topology.specs.Walk.{walkBy, count, least, leastFrom, turnTo, loopFrom, Cycle}
-use Rattle.topology.specs.Walk.{least-le, turn-sum, turn-length, cycles, once, nodes, outside, walk-loop}
+use Rattle.topology.specs.Walk.{least-le, turn-sum, turn-to-length, cycles, once, nodes, outside, walk-loop}
 use Rattle.topology.specs.Listing.{longLoops, walks, ifListed, total-one, total-add, total-listing}
 use Rattle.loops.specs.Walked.{walk-last, walk-more}
 
@@ -78,9 +78,9 @@ all-reached f u (l ∷ ls) c =
 
 -- ---- a walk begins where it starts
 
-pub starts : (f : ℕ → ℕ) (k z u : ℕ) → 0 < length (walkBy f k z u) → 0 < count u (walkBy f k z u)
+pub walk-starts : (f : ℕ → ℕ) (k z u : ℕ) → 0 < length (walkBy f k z u) → 0 < count u (walkBy f k z u)
 unfolding count
-starts f k z u h = by (eqb (f u) z) refl
+walk-starts f k z u h = by (eqb (f u) z) refl
   where
     by : (b : Bool) → eqb (f u) z ≡ b → 0 < count u (walkBy f k z u)
     by true e = rw (walk-last f k z u h (eqb-true (f u) z e)) (omega (arith, delta-same u u refl))
@@ -116,7 +116,7 @@ module _ (n : ℕ) (f : ℕ → ℕ) (ls : List (List ℕ)) (L : Loops n f ls) (
 
   -- their ids are no more than m
   pub found-ids : (k u : ℕ) → total length (walks (suc k) u m f) ≤ m
-  found-ids k u = omega (arith, found-le k length length turn-length (listed-le (suc k) length) u)
+  found-ids k u = omega (arith, found-le k length length turn-to-length (listed-le (suc k) length) u)
 
   -- and they no more than the loops
   pub found-number : (k u : ℕ) → length (walks (suc k) u m f) ≤ length ls

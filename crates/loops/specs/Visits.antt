@@ -21,7 +21,7 @@ use Rattle.loops.specs.declared.Listed.{Listed}
 use Rattle.loops.specs.Listed.{Lists, lists, listedOf, written}
 use Rattle.loops.specs.Walked.{linksIn, walkIn, markAll, mark-length, walk-on, walk-last, walk-more, walk-length, entry-read, link-node}
 use Rattle.loops.specs.Walked.{Walkable, Walked}
-use Rattle.loops.specs.Found.{found-ids, found-number, found-more, found-reached, walk-nodes, on-loop, found-long, starts, counts-some}
+use Rattle.loops.specs.Found.{found-ids, found-number, found-more, found-reached, walk-nodes, on-loop, found-long, walk-starts, counts-some}
 
 -- ---- definitions
 
@@ -292,7 +292,7 @@ module _ {next marks loops lengths : List ℕ} (p : Startable next marks loops l
         by k q [] s = s
         by zero q (x ∷ l) s = absurd (omega (arith, mark-before, e, ap (λ (j : ℕ). cond {A = ℕ} (ltb 0 j) 1 0) q))
         by (suc k) q (x ∷ l) s =
-            let walked = starts (linksIn next) (length next) u u (omega (arith, ap length s)) in
+            let walked = walk-starts (linksIn next) (length next) u u (omega (arith, ap length s)) in
             absurd (omega (arith, q, walked, before-walk, once (length next) (linksIn next) (p .front) (p .links) u))
 
     is-fresh : getD (marksAfter (walkIn next) u marks) u 0 ≢ 1 → linksIn next u ≢ off → 0 < length (walkIn next u)

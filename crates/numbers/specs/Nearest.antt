@@ -20,7 +20,7 @@ use lib.Ieee.Fits.{down-pos, up-pos, odd-fits, and-l, and-r}
 use lib.Ieee.Positive.{first-pos}
 use Rattle.numbers.specs.Root.{rootUnits, root, NearRoot}
 use Rattle.numbers.specs.Isqrt.{four-is, four-pos, picked, picked-near}
-use Rattle.numbers.specs.RootUnits.{zero-units, root-value, Split, split-even, split-odd, rounds, below-top, units-odd}
+use Rattle.numbers.specs.RootUnits.{no-zero-units, root-value, Split, split-even, split-odd, rounds, below-top, units-odd}
 
 -- x is n units, and has no minus sign
 abbrev pub IsUnits : Float → ℕ → Type 0
@@ -63,7 +63,7 @@ unfolding fits
 digits-of nan n f v = absurd v
 digits-of (inf s) n f v = absurd v
 digits-of (fin s zero e) zero f v = record { m = 0; j = 0; is = refl; small = pow-pos 53; top = pow-pos 2098 }
-digits-of (fin s zero e) (suc n) f v = absurd (zero-units (suc n) (down e) (up e) (down-pos e) (v .1) (zero-lt-suc n))
+digits-of (fin s zero e) (suc n) f v = absurd (no-zero-units (suc n) (down e) (up e) (down-pos e) (v .1) (zero-lt-suc n))
 digits-of (fin s (suc m) e) n f v =
     let A = eqb (suc m % 2) 1 in
     let B = ltb (suc m) (2 ^ 53) in
@@ -177,8 +177,8 @@ pub record Rounded (x : Float) (n : ℕ) : Type 0 where
 units-fits : (q k : ℕ) → q < 2 ^ 53 → q * 2 ^ k < 2 ^ 2098 → T (fits binary64 (units binary64 false q k))
 units-fits q k h t = rw (units-odd q k t) (odd-fits binary64 54 false q k (omega arith) (le-of-lt h) t)
 
-pub rounded : (x : Float) (n : ℕ) → T (fits binary64 x) → IsUnits x n → 0 < n → Rounded x n
-rounded x n f v h =
+pub is-rounded : (x : Float) (n : ℕ) → T (fits binary64 x) → IsUnits x n → 0 < n → Rounded x n
+is-rounded x n f v h =
     let w = normalize n h (digits-of x n f v) in
     let sp = either-split (w .sig) (w .p) (w .reach) (w .under) in
     let k = w .p / 2 in
@@ -236,10 +236,10 @@ root-zero (fin s (suc m) e) v = absurd (no (v .1))
     no : suc m * up e * 2 ^ 1074 ≡ 0 * down e → ⊥
     no h = lt-irrefl 0 (subst (λ (z : ℕ). 0 < z) (h ∙ zero-mul (down e)) (mul-pos (mul-pos (zero-lt-suc m) (up-pos e)) (pow-pos 1074)))
 
-pub root-law : (x : Float) → T (fits binary64 x) → (n : ℕ) → IsUnits x n → Rooted (root x) (n * 2 ^ 1074)
-root-law x f zero v = record { L = 0; val = subst (λ (z : Float). IsUnits z 0) (sym (root-zero x v)) v; lower = lit≤ tt; upper = lit≤ tt }
-root-law x f (suc n) v =
-    let w = rounded x (suc n) f v (zero-lt-suc n) in
+pub root-units-law : (x : Float) → T (fits binary64 x) → (n : ℕ) → IsUnits x n → Rooted (root x) (n * 2 ^ 1074)
+root-units-law x f zero v = record { L = 0; val = subst (λ (z : Float). IsUnits z 0) (sym (root-zero x v)) v; lower = lit≤ tt; upper = lit≤ tt }
+root-units-law x f (suc n) v =
+    let w = is-rounded x (suc n) f v (zero-lt-suc n) in
     let square = times (w .Q) (2 ^ w .k) (4 ^ w .k) (sym (four-is (w .k))) in
     let large = le-trans (lit≤ tt) (w .digits) in
     record {
@@ -326,7 +326,7 @@ pub record NearestFloat (n : ℕ) (y : Float) : Type 0 where
 -- The root of a double x above 0, of n units, is the nearest double.
 pub nearest-root : (x : Float) (n : ℕ) → T (fits binary64 x) → IsUnits x n → 0 < n → NearestFloat n (root x)
 nearest-root x n f v h =
-    let w = rounded x n f v h in
+    let w = is-rounded x n f v h in
     record {
       held = w .held;
       r = w .Q * 2 ^ w .k;

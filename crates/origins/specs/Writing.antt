@@ -172,11 +172,11 @@ push-same id n e = rw (eq-eqb id n e)
 pub push-other : (id n : ℕ) → (id ≡ n → ⊥) → pushCount id n ≡ n
 push-other id n e = rw (ne-eqb id n e)
 
-pub at-same : (a id n : ℕ) (l : List ℕ) → id ≡ n → set l n (originOf l a) ≡ pushAt a id n l
-at-same a id n l e = rw (eq-eqb id n e)
+pub push-at-same : (a id n : ℕ) (l : List ℕ) → id ≡ n → set l n (originOf l a) ≡ pushAt a id n l
+push-at-same a id n l e = rw (eq-eqb id n e)
 
-pub at-other : (a id n : ℕ) (l : List ℕ) → (id ≡ n → ⊥) → l ≡ pushAt a id n l
-at-other a id n l e = rw (ne-eqb id n e)
+pub push-at-other : (a id n : ℕ) (l : List ℕ) → (id ≡ n → ⊥) → l ≡ pushAt a id n l
+push-at-other a id n l e = rw (ne-eqb id n e)
 
 push-more : (id n : ℕ) → n ≤ pushCount id n
 push-more id n = by (eqb id n)

@@ -100,13 +100,13 @@ unfoldable pub clearedPool : List ℕ → List ℕ
 clearedPool pool = cond (leb 4 (length pool)) (forUp (cells (length pool)) clearCell (set (set pool 0 0) 1 0)) pool
 
 -- the next place, u, has the owner, and is the head of cell c
-abbrev pub placed : ℕ → ℕ → ℕ → List ℕ → List ℕ
-placed u c own pool =
+abbrev pub itemPlaced : ℕ → ℕ → ℕ → List ℕ → List ℕ
+itemPlaced u c own pool =
     set (set (set (set pool (ownPlace (length pool) u) own) (linkPlace (length pool) u) (headAt pool c)) (2 + c) u) 0 (u + 1)
 
 -- `own` at the head of the chain of cell c
 unfoldable pub push : ℕ → ℕ → List ℕ → List ℕ
-push c own pool = placed (used pool) c own pool
+push c own pool = itemPlaced (used pool) c own pool
 
 -- `own` under the k-th column of row j, from `left` on, of m cells
 abbrev pub fileColumn : ℕ → ℕ → ℕ → ℕ → ℕ → List ℕ → List ℕ

@@ -125,16 +125,16 @@ none-laid lent =
 -- ---- turn by turn
 
 module _ (o : Outline) (size : Float) (lent : State) (three : Threes o) (P : Places (sampledCount o size) lent) where
-  pub fits : (k : ℕ) → k < loopCount o → TurnReady o size lent k → stateAt o size lent k .counts .nodes + loopNodes o size k ≤ sampledCount o size
+  pub turn-fits : (k : ℕ) → k < loopCount o → TurnReady o size lent k → stateAt o size lent k .counts .nodes + loopNodes o size k ≤ sampledCount o size
   unfolding sampledCount
-  fits k h A = omega (arith, A .count, sum-term (loopNodes o size) k (loopCount o) h)
+  turn-fits k h A = omega (arith, A .count, sum-term (loopNodes o size) k (loopCount o) h)
 
   -- and what it leaves
   pub turn-at : (k : ℕ) → k < loopCount o → TurnReady o size lent k
       → Added (cleared lent) (stateAt o size lent k) (stateAt o size lent (suc k)) (loopsAt o size lent k)
       (loopIds o size k (stateAt o size lent k)) (turnPoints o size k (stateAt o size lent k))
   unfolding forUp
-  turn-at k h A = turn-added (cleared lent) o size k (stateAt o size lent k) (A .room) (fits k h A) (three k h) (loopsAt o size lent k) (A .laid)
+  turn-at k h A = turn-added (cleared lent) o size k (stateAt o size lent k) (A .room) (turn-fits k h A) (three k h) (loopsAt o size lent k) (A .laid)
 
   start-room : Room (sampledCount o size) (cleared lent)
   start-room = let Q = cleared-places (sampledCount o size) lent P in room-places (sampledCount o size) (cleared lent) (Q .nodes) (Q .edges)
@@ -154,7 +154,7 @@ module _ (o : Outline) (size : Float) (lent : State) (three : Threes o) (P : Pla
       record {
         laid = T .laid;
         room = room-kept (sampledCount o size) (cleared lent) (stateAt o size lent (suc k)) (T .laid .frame) start-room;
-        count = T .count ∙ omega (arith, turn-length (cleared lent) o size k s (A .room) (fits k h A) (three k h), A .count, sum-suc (loopNodes o size) k);
+        count = T .count ∙ omega (arith, turn-length (cleared lent) o size k s (A .room) (turn-fits k h A) (three k h), A .count, sum-suc (loopNodes o size) k);
       }
 
 -- ---- the theorem

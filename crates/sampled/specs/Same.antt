@@ -22,7 +22,7 @@ use Rattle.sampled.specs.Cuts.{loopCuts, cuts-length, cuts-least}
 use Rattle.sampled.specs.Rings.{ring-longest, ordered-in, after-in}
 use Rattle.sampled.specs.Turn.{splitPoints, addedPoints, turnPoints, turn-sampled}
 use Rattle.sampled.specs.Outlines.{Threes}
-use Rattle.sampled.specs.Begun.{Places, no-nodes, stateAt, loopsAt, turn-ready, fits, turn-at}
+use Rattle.sampled.specs.Begun.{Places, no-nodes, stateAt, loopsAt, turn-ready, turn-fits, turn-at}
 
 -- ---- a ring is read off the nodes from its base on
 
@@ -116,8 +116,8 @@ module _ (o : Outline) (size : Float) (a b : State) (three : Threes o) (A : Plac
       let t = stateAt o size b k in
       let S = turn-ready o size a three A k (omega arith) in
       let T = turn-ready o size b three B k (omega arith) in
-      let P = turn-sampled (cleared a) o size k s (S .room) (fits o size a three A k h S) in
-      let Q = turn-sampled (cleared b) o size k t (T .room) (fits o size b three B k h T) in
+      let P = turn-sampled (cleared a) o size k s (S .room) (turn-fits o size a three A k h S) in
+      let Q = turn-sampled (cleared b) o size k t (T .room) (turn-fits o size b three B k h T) in
       let s′ = sampleLoop size l s in
       let t′ = sampleLoop size l t in
       let u = sampled-same P Q e in

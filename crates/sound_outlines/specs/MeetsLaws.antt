@@ -18,7 +18,7 @@ use Rattle.exact.specs.Corner.{Vector, cross}
 use Rattle.orientation.specs.Orient.{orient}
 use Rattle.sound_outlines.specs.Sound.{overlap, parted, meets}
 use Rattle.sound_outlines.specs.Zero.{vanishes, cancel}
-use Rattle.sound_outlines.specs.OverlapLaws.{Level, Weights, Common, common, weights-flip, flip, some-ℤ, overlap-common}
+use Rattle.sound_outlines.specs.OverlapLaws.{Level, Weights, Common, common, weights-flip, common-flip, some-ℤ, overlap-common}
 
 -- ---- the statement
 
@@ -351,7 +351,7 @@ aligned a b c d h p q r s = go (ℤ-discrete (a .x) (b .x)) (ℤ-discrete (c .x)
     go : Dec (a .x ≡ b .x) → Dec (c .x ≡ d .x) → Shares a b c d
     go (no f) g = shares-of a b c d (x .weights) (x .level) (slanted a b c d f p q x)
     go (yes e) (no f) =
-        let m : Common (c .x) (d .x) (a .x) (b .x) = flip x in
+        let m : Common (c .x) (d .x) (a .x) (b .x) = common-flip x in
         shares-flip (shares-of c d a b (m .weights) (m .level) (slanted c d a b f r s m))
     go (yes e) (yes f) =
         shares-of a b c d (y .weights)

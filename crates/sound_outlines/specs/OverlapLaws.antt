@@ -42,8 +42,8 @@ common i' i j' j w l = record { i' = i'; i = i; j' = j'; j = j; weights = w; lev
 pub weights-flip : {i' i j' j : ℕ} → Weights i' i j' j → Weights j' j i' i
 weights-flip w = record { some = omega (arith, w .some, w .even); even = sym (w .even) }
 
-pub flip : {u v s t : ℤ} → Common s t u v → Common u v s t
-flip l = common (l .j') (l .j) (l .i') (l .i) (weights-flip (l .weights)) (sym (l .level))
+pub common-flip : {u v s t : ℤ} → Common s t u v → Common u v s t
+common-flip l = common (l .j') (l .j) (l .i') (l .i) (weights-flip (l .weights)) (sym (l .level))
 
 -- the ends of one do
 back : {u v s t : ℤ} → Common v u s t → Common u v s t
@@ -140,7 +140,7 @@ common-overlap u v s t m =
     (not-T (ltZ (maxZ u v) (minZ s t))
     (λ h. apart u v s t (maxZ u v) (minZ s t) m (p .highU) (p .highV) (ltZ-yes h) (q .lowU) (q .lowV)))
     (not-T (ltZ (maxZ s t) (minZ u v))
-    (λ h. apart s t u v (maxZ s t) (minZ u v) (flip m) (q .highU) (q .highV) (ltZ-yes h) (p .lowU) (p .lowV)))
+    (λ h. apart s t u v (maxZ s t) (minZ u v) (common-flip m) (q .highU) (q .highV) (ltZ-yes h) (p .lowU) (p .lowV)))
 
 -- ---- and back
 
@@ -175,7 +175,7 @@ common-end u v s t h k =
 -- two stretches that go up, neither wholly below the other: the higher of the two starts is in common
 common-start : (u v s t : ℤ) → s ≤ℤ v → u ≤ℤ t → Common u v s t
 common-start u v s t sv ut =
-    elim (<ℤ-or-≤ℤ s u) [ inl h ↦ flip (common-end s t u v (<ℤ-weaken h) ut) | inr h ↦ common-end u v s t h sv ]
+    elim (<ℤ-or-≤ℤ s u) [ inl h ↦ common-flip (common-end s t u v (<ℤ-weaken h) ut) | inr h ↦ common-end u v s t h sv ]
 
 pub overlap-common : (u v s t : ℤ) → T (overlap u v s t) ↔ Common u v s t
 unfolding overlap
@@ -186,11 +186,11 @@ overlap-common u v s t = (there, common-overlap u v s t)
         elim (ordered u v) [
           | inl p ↦ elim (ordered s t) [
             | inl q ↦ common-start u v s t (low p q) (high p q)
-            | inr q ↦ flip (back (flip (common-start u v t s (low p q) (high p q))))
+            | inr q ↦ common-flip (back (common-flip (common-start u v t s (low p q) (high p q))))
           ]
           | inr p ↦ back (elim (ordered s t) [
             | inl q ↦ common-start v u s t (low p q) (high p q)
-            | inr q ↦ flip (back (flip (common-start v u t s (low p q) (high p q))))
+            | inr q ↦ common-flip (back (common-flip (common-start v u t s (low p q) (high p q))))
           ])
         ]
       where

@@ -19,7 +19,7 @@ use Rattle.exact.specs.Corner.{Vector}
 use Rattle.domain.specs.declared.Point.{Point}
 use Rattle.domain.specs.Outline.{points, pointAt, pointAfter, after}
 use Rattle.orientation.specs.Orient.{inUnits, orient, sideNumber}
-use Rattle.sound_outlines.specs.Sound.{start, end, minZ, maxZ, overlap, parted, meets, foldsBack, foldsAt, clash, rayMeets, isInside}
+use Rattle.sound_outlines.specs.Sound.{segmentStart, segmentEnd, minZ, maxZ, overlap, parted, meets, foldsBack, foldsAt, clash, rayMeets, isInside}
 use Rattle.sound_outlines.specs.FoldsLaws.{isExtreme, folds-extreme}
 
 or-false-right : (b : Bool) → (b || false) ≡ b
@@ -172,29 +172,29 @@ module _ (a b c : Vector) where
 -- ---- the segments of a loop
 
 -- the end of a segment, as code reads it
-pub end-is : (s : List Float) (i : ℕ) {a : Point} → a ≡ pointAfter s i → inUnits a ≡ end s i
+pub end-is : (s : List Float) (i : ℕ) {a : Point} → a ≡ pointAfter s i → inUnits a ≡ segmentEnd s i
 unfolding pointAfter
 end-is s i e = ap inUnits e
 
 module _ (s : List Float) (i j : ℕ) {r : ℕ} (e : r ≡ after (points s) i) where
   pub folds-off : (j ≡ r → ⊥) → false ≡ foldsAt s i j
   unfolding foldsAt
-  folds-off h = ap (λ (b : Bool). b && foldsBack (start s i) (start s j) (end s j)) (sym (ne-eqb j (after (points s) i) (λ f. h (f ∙ sym e))))
+  folds-off h = ap (λ (b : Bool). b && foldsBack (segmentStart s i) (segmentStart s j) (segmentEnd s j)) (sym (ne-eqb j (after (points s) i) (λ f. h (f ∙ sym e))))
 
   pub folds-on : {a b c : Point} {x : Bool} → j ≡ r → a ≡ pointAt s i → b ≡ pointAt s j → c ≡ pointAfter s j
       → x ≡ foldsBack (inUnits a) (inUnits b) (inUnits c) → x ≡ foldsAt s i j
   unfolding foldsAt
   folds-on {a} {b} {c} h f g k l =
-      l ∙ ap (λ (p : Point). foldsBack (inUnits p) (inUnits b) (inUnits c)) f ∙ ap₂ (foldsBack (start s i)) (ap inUnits g) (end-is s j k)
-      ∙ ap (λ (z : Bool). z && foldsBack (start s i) (start s j) (end s j)) (sym (eq-eqb j (after (points s) i) (h ∙ e)))
+      l ∙ ap (λ (p : Point). foldsBack (inUnits p) (inUnits b) (inUnits c)) f ∙ ap₂ (foldsBack (segmentStart s i)) (ap inUnits g) (end-is s j k)
+      ∙ ap (λ (z : Bool). z && foldsBack (segmentStart s i) (segmentStart s j) (segmentEnd s j)) (sym (eq-eqb j (after (points s) i) (h ∙ e)))
 
 -- two segments, by their points as read
 pub meets-at : (a b : Vector) (t : List Float) (j : ℕ) {c d : Point} {x : Bool} → c ≡ pointAt t j → d ≡ pointAfter t j
-    → x ≡ meets a b (inUnits c) (inUnits d) → x ≡ meets a b (start t j) (end t j)
+    → x ≡ meets a b (inUnits c) (inUnits d) → x ≡ meets a b (segmentStart t j) (segmentEnd t j)
 meets-at a b t j e f h = h ∙ ap₂ (meets a b) (ap inUnits e) (end-is t j f)
 
 module _ (s : List Float) (i j : ℕ) {x y : Bool} (e : x ≡ foldsAt s i j) (f : x ≡ false) (g : y ≡ foldsAt s j i) (h : y ≡ false) where
-  clash-of : {n p m : Bool} → n ≡ eqb j (after (points s) i) → p ≡ eqb i (after (points s) j) → m ≡ meets (start s i) (end s i) (start s j) (end s j)
+  clash-of : {n p m : Bool} → n ≡ eqb j (after (points s) i) → p ≡ eqb i (after (points s) j) → m ≡ meets (segmentStart s i) (segmentEnd s i) (segmentStart s j) (segmentEnd s j)
       → (not (n || p) && m) ≡ clash s i j
   unfolding clash
   clash-of {n} {p} {m} k l q =
@@ -215,7 +215,7 @@ module _ (s : List Float) (i j : ℕ) {x y : Bool} (e : x ≡ foldsAt s i j) (f 
       pub clash-other : {a b c d : Point} {z : Bool} → (i ≡ t → ⊥) → a ≡ pointAt s i → b ≡ pointAfter s i → c ≡ pointAt s j → d ≡ pointAfter s j
           → z ≡ meets (inUnits a) (inUnits b) (inUnits c) (inUnits d) → z ≡ clash s i j
       clash-other {a} {b} {c} {d} never ea eb ec ed q =
-          meets-at (inUnits a) (inUnits b) s j ec ed q ∙ ap₂ (λ (u v : Vector). meets u v (start s j) (end s j)) (ap inUnits ea) (end-is s i eb)
+          meets-at (inUnits a) (inUnits b) s j ec ed q ∙ ap₂ (λ (u v : Vector). meets u v (segmentStart s j) (segmentEnd s j)) (ap inUnits ea) (end-is s i eb)
           ∙ clash-of no-next (sym (ne-eqb i (after (points s) j) (λ z. never (z ∙ sym m)))) refl
 
 -- ---- the ray
@@ -238,18 +238,18 @@ module _ (p a b : Vector) where
   ray-below e f = rw (e, f) refl
 
 pub ray-at : (p : Vector) (s : List Float) (i : ℕ) {a b : Point} {x : Bool} → a ≡ pointAt s i → b ≡ pointAfter s i
-    → x ≡ rayMeets p (inUnits a) (inUnits b) → x ≡ rayMeets p (start s i) (end s i)
+    → x ≡ rayMeets p (inUnits a) (inUnits b) → x ≡ rayMeets p (segmentStart s i) (segmentEnd s i)
 ray-at p s i e f h = h ∙ ap₂ (rayMeets p) (ap inUnits e) (end-is s i f)
 
 -- ---- the points of a loop
 
 -- the segment from a to b, as read, meets some segment of t
 pub segment-at : (s t : List Float) (i : ℕ) {a b : Point} {x : Bool} → a ≡ pointAt s i → b ≡ pointAfter s i
-    → x ≡ anyUp (points t) (λ j. meets (inUnits a) (inUnits b) (start t j) (end t j))
-    → x ≡ anyUp (points t) (λ j. meets (start s i) (end s i) (start t j) (end t j))
-segment-at s t i e f h = h ∙ ap₂ (λ (a b : Vector). anyUp (points t) (λ j. meets a b (start t j) (end t j))) (ap inUnits e) (end-is s i f)
+    → x ≡ anyUp (points t) (λ j. meets (inUnits a) (inUnits b) (segmentStart t j) (segmentEnd t j))
+    → x ≡ anyUp (points t) (λ j. meets (segmentStart s i) (segmentEnd s i) (segmentStart t j) (segmentEnd t j))
+segment-at s t i e f h = h ∙ ap₂ (λ (a b : Vector). anyUp (points t) (λ j. meets a b (segmentStart t j) (segmentEnd t j))) (ap inUnits e) (end-is s i f)
 
 -- a point, as read, is inside t or not
 pub point-in : (s t : List Float) (i : ℕ) (inside : Bool) {a : Point} {x y : Bool} → a ≡ pointAt s i → x ≡ isInside (inUnits a) t → Bool·beq x inside ≡ y
-    → Bool·beq (isInside (start s i) t) inside ≡ y
+    → Bool·beq (isInside (segmentStart s i) t) inside ≡ y
 point-in s t i inside e f h = ap (λ (z : Bool). Bool·beq z inside) (sym (f ∙ ap (λ (p : Point). isInside (inUnits p) t) e)) ∙ h

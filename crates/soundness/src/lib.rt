@@ -9,7 +9,7 @@ ghost use Rattle.exact.specs.Units.{units, Within};
 ghost use Rattle.domain.specs.Outline.{outline, points, holeAt, outlineRefusal};
 ghost use Rattle.domain.specs.Accepted.{PointWithin, LoopWithin};
 ghost use Rattle.orientation.specs.Orient.{inUnits};
-ghost use Rattle.sound_outlines.specs.Sound.{start, end, overlap, parted, meets, foldsBack, foldsAt, clash, crossesItself, touch};
+ghost use Rattle.sound_outlines.specs.Sound.{segmentStart, segmentEnd, overlap, parted, meets, foldsBack, foldsAt, clash, crossesItself, touch};
 ghost use Rattle.sound_outlines.specs.Sound.{rayMeets, isInside, outlineSound};
 ghost use Rattle.sound_outlines.specs.Whole.{isWhole};
 ghost use Rattle.sound_outlines.specs.FoldsLaws.{isExtreme};
@@ -164,7 +164,7 @@ fn crosses_itself(s: &[f64]) -> bool
 // Whether the segment a to b meets some segment of the loop.
 fn meets_loop(a: Point, b: Point, t: &[f64]) -> bool
     requires { ⌜ PointWithin 1000 1000 a × PointWithin 1000 1000 b × LoopWithin (now t) ⌝ }
-    ensures { λ r. ⌜ r ≡ anyUp (points (now (t .entry))) (λ j. meets (inUnits a) (inUnits b) (start (now (t .entry)) j) (end (now (t .entry)) j)) ⌝ }
+    ensures { λ r. ⌜ r ≡ anyUp (points (now (t .entry))) (λ j. meets (inUnits a) (inUnits b) (segmentStart (now (t .entry)) j) (segmentEnd (now (t .entry)) j)) ⌝ }
 {
     let n = t.len() / 2;
     let mut j = 0;

@@ -8,7 +8,7 @@ use Rattle.numbers.specs.Root.{isqrtIn, rootUnits, root}
 use Rattle.numbers.specs.Float.{isFinite, absF, minF, maxF, clampF}
 use Rattle.numbers.specs.Whole.{floorInt, floorQuotient, ceilCount}
 use Rattle.exact.specs.Units.{W, sizeOf}
-use Rattle.exact.specs.Corner.{norm, cornerOk, step, cross, squaredLength, sineAboveThird, isShort}
+use Rattle.exact.specs.Corner.{norm, cornerOk, stepUnits, cross, squaredLength, sineAboveThird, isShort}
 use Rattle.topology.specs.Links.{linkOf}
 use Rattle.topology.specs.Walk.{prepend, walkBy}
 use Rattle.topology.specs.Listing.{addLoop, longLoops}
@@ -56,7 +56,7 @@ unfolding isqrtIn rootUnits root isFinite absF minF maxF clampF floorInt floorQu
 openedNumbers = tt
 
 unfoldable pub openedExact : Unit {0}
-unfolding W sizeOf norm cornerOk step cross squaredLength sineAboveThird isShort
+unfolding W sizeOf norm cornerOk stepUnits cross squaredLength sineAboveThird isShort
 openedExact = tt
 
 unfoldable pub openedTopology : Unit {0}

@@ -13,7 +13,7 @@ use Rattle.topology.specs.Sums.{All, total, loopSum, frontSum, Even, tot
 use Rattle.topology.specs.Links.{at}
 use Rattle.topology.specs.Front.{Loops, loops-same}
 use Rattle.topology.specs.Walk.{walkBy, count, least, turnTo, loopFrom, Cycle}
-use Rattle.topology.specs.Walk.{least-counts, turn-sum, turn-length, cycles, once, nodes, from-none, walk-loop}
+use Rattle.topology.specs.Walk.{least-counts, turn-sum, turn-to-length, cycles, once, nodes, from-none, walk-loop}
 
 -- ---- definitions
 
@@ -94,7 +94,7 @@ module _ (f : ℕ → ℕ) (k : ℕ) (r : List ℕ → ℕ) (turn : (u : ℕ) (l
     (ls : List (List ℕ)) (R : All (Cycle f) ls) where
   listed-turn : (u : ℕ) (l : List ℕ) → ifListed (suc k) r (turnTo u l) ≡ ifListed (suc k) r l
   unfolding ifListed
-  listed-turn u l = rw (turn-length u l, turn u l)
+  listed-turn u l = rw (turn-to-length u l, turn u l)
 
   listed-nil : ifListed (suc k) r [] ≡ 0
   unfolding ifListed
@@ -135,9 +135,9 @@ listed-all f r [] R = refl
 listed-all f r ([] ∷ ls) R = absurd (R .0)
 listed-all f r ((x ∷ xs) ∷ ls) R = rw (le-leb 1 (suc (length xs)) (omega arith), listed-all f r ls (R .1))
 
-pub all-append : (P : List ℕ → Type 0) (ls : List (List ℕ)) (l : List ℕ) → All P ls → P l → All P (ls ++ l ∷ [])
-all-append P [] l a p = (p, tt)
-all-append P (x ∷ ls) l a p = (a .0, all-append P ls l (a .1) p)
+pub all-snoc : (P : List ℕ → Type 0) (ls : List (List ℕ)) (l : List ℕ) → All P ls → P l → All P (ls ++ l ∷ [])
+all-snoc P [] l a p = (p, tt)
+all-snoc P (x ∷ ls) l a p = (a .0, all-snoc P ls l (a .1) p)
 
 -- an even loop, turned or not there, has an even number of nodes
 even-from : (u : ℕ) (ls : List (List ℕ)) → All Even ls → length (loopFrom u ls) % 2 ≡ 0
@@ -146,7 +146,7 @@ even-from u [] e = refl
 even-from u (l ∷ ls) e = by (eqb (least l) u) (even-from u ls (e .1))
   where
     by : (b : Bool) → length (loopFrom u ls) % 2 ≡ 0 → length (cond b (turnTo u l) (loopFrom u ls)) % 2 ≡ 0
-    by true h = rw (turn-length u l) (e .0 .even)
+    by true h = rw (turn-to-length u l) (e .0 .even)
     by false h = h
 
 listing-even : (k n : ℕ) (L : ℕ → List ℕ) → ((u : ℕ) → length (L u) % 2 ≡ 0) → All Even (longLoops (suc k) n L)
@@ -158,7 +158,7 @@ listing-even k (suc n) L h = by (leb (suc k) (length (L n))) refl (listing-even 
         → All Even (cond b (longLoops (suc k) n L ++ L n ∷ []) (longLoops (suc k) n L))
     by true e a =
         let long = leb-true (suc k) (length (L n)) e in
-        all-append Even (longLoops (suc k) n L) (L n) a (record { even = h n; two = omega (arith, h n) })
+        all-snoc Even (longLoops (suc k) n L) (L n) a (record { even = h n; two = omega (arith, h n) })
     by false e a = a
 
 -- ---- the theorems

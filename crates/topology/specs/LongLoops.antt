@@ -13,8 +13,8 @@ use Rattle.laws.specs.Loop.{forUp}
 use Rattle.topology.specs.Sums.{All, Some, total, Even}
 use Rattle.topology.specs.Front.{Loops, headOr}
 use Rattle.topology.specs.Walk.{walkBy, count, least, turnTo, loopFrom, Cycle}
-use Rattle.topology.specs.Walk.{FromSmallest, least-counts, turn-smallest, turn-head, turn-length, cycles, once, nodes}
-use Rattle.topology.specs.Listing.{addLoop, longLoops, walks, all-append, walks-list}
+use Rattle.topology.specs.Walk.{FromSmallest, least-counts, turn-smallest, turn-head, turn-to-length, cycles, once, nodes}
+use Rattle.topology.specs.Listing.{addLoop, longLoops, walks, all-snoc, walks-list}
 use Rattle.topology.specs.Pigeonhole.{ids-most}
 
 -- ---- the statement
@@ -77,7 +77,7 @@ some-last P (m ∷ ms) l p = inr (some-last P ms l p)
 
 rising-append : (ms : List (List ℕ)) (l : List ℕ) → Rising ms → All (λ m. headOr 0 m < headOr 0 l) ms → Rising (ms ++ l ∷ [])
 rising-append [] l r h = (tt, tt)
-rising-append (m ∷ ms) l r h = (all-append _ ms l (r .0) (h .0), rising-append ms l (r .1) (h .1))
+rising-append (m ∷ ms) l r h = (all-snoc _ ms l (r .0) (h .0), rising-append ms l (r .1) (h .1))
 
 -- ---- of the loops L 0, .., L (n - 1) those of three nodes or more
 
@@ -89,7 +89,7 @@ module _ (L : ℕ → List ℕ) where
   listing-each P h (suc n) = by (leb 3 (length (L n))) refl (listing-each P h n)
     where
       by : (b : Bool) → leb 3 (length (L n)) ≡ b → All P (longLoops 3 n L) → All P (cond b (longLoops 3 n L ++ L n ∷ []) (longLoops 3 n L))
-      by true e a = all-append P (longLoops 3 n L) (L n) a (h n (leb-true 3 (length (L n)) e))
+      by true e a = all-snoc P (longLoops 3 n L) (L n) a (h n (leb-true 3 (length (L n)) e))
       by false e a = a
 
   -- and each is listed
@@ -118,7 +118,7 @@ module _ (L : ℕ → List ℕ) where
       where
         by : (b : Bool) → leb 3 (length (L n)) ≡ b → All (λ m. headOr 0 m < suc n) (longLoops 3 n L)
             → All (λ m. headOr 0 m < suc n) (cond b (longLoops 3 n L ++ L n ∷ []) (longLoops 3 n L))
-        by true e a = all-append _ (longLoops 3 n L) (L n) a (omega (arith, begins n (leb-true 3 (length (L n)) e)))
+        by true e a = all-snoc _ (longLoops 3 n L) (L n) a (omega (arith, begins n (leb-true 3 (length (L n)) e)))
         by false e a = a
 
     listing-rising : (n : ℕ) → Rising (longLoops 3 n L)
@@ -158,7 +158,7 @@ module _ (f : ℕ → ℕ) where
           → 3 ≤ length (cond b (turnTo u l) (loopFrom u ls))
           → Some (λ k. (3 ≤ length k) × FromSmallest k (cond b (turnTo u l) (loopFrom u ls))) (l ∷ ls)
       by true e later h =
-          inl ((omega (arith, turn-length u l)), turn-smallest f u l (R .0) (eqb-true (least l) u e))
+          inl ((omega (arith, turn-to-length u l)), turn-smallest f u l (R .0) (eqb-true (least l) u e))
       by false e later h = inr (later h)
 
   -- loops that share no node have different smallest ids
@@ -208,7 +208,7 @@ loops-listed n f ls L =
     (least-nodes f n ls C (nodes n f ls L)) (from-least f ls C (once n f ls L)) in
     record {
       all = all-both (λ l p s long.
-          listing-some F (FromSmallest l) (least l) n (p .0) (omega (arith, ap length (p .1), turn-length (least l) l))
+          listing-some F (FromSmallest l) (least l) n (p .0) (omega (arith, ap length (p .1), turn-to-length (least l) l))
           (subst (FromSmallest l) (sym (p .1)) s)) ls found (each-smallest f ls C);
       only = listing-each F (λ m. Some (λ l. (3 ≤ length l) × FromSmallest l m) ls) (λ u h. from-some f u ls C h) n;
       rising = listing-rising F (λ u h. from-head f u ls C (omega arith)) n;

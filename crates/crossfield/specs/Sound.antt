@@ -21,7 +21,8 @@ use Rattle.domain.specs.declared.Near.{Near}
 use Rattle.domain.specs.Outline.{Outline, holeAt, points, point, pointAt, pointAfter}
 use Rattle.domain.specs.Queries.{pointSegmentDistance, near, nowhere, nearer, segmentTurn, nearestInLoop, holeTurn, nearestSegment}
 use Rattle.domain.specs.Accepted.{OutlineFits, PointWithin, Accepted, LoopWithin, after-within}
-use Rattle.geometry.specs.Plane.{norm, tangent}
+use Rattle.exact.specs.Corner.{norm}
+use Rattle.geometry.specs.Plane.{tangent}
 use Rattle.direction.specs.declared.Grid.{Grid}
 use Rattle.direction.specs.Record.{FieldLists, nodeAt}
 use Rattle.averages.specs.Average.{plusIf, oneIf, neighbourSum, neighbourCount, normalised, average}

@@ -11,7 +11,7 @@ use Rattle.numbers.specs.Whole.{floorInt}
 use Rattle.domain.specs.declared.Point.{Point}
 use Rattle.domain.specs.Outline.{point, pointAt, anyFloat, firstOf, pointRefusal}
 use Rattle.domain.specs.Queries.{answerBy}
-use Rattle.geometry.specs.Plane.{norm}
+use Rattle.exact.specs.Corner.{norm}
 use Rattle.direction.specs.declared.Grid.{Grid}
 use Rattle.direction.specs.declared.Direction.{Direction}
 use Rattle.direction.specs.declared.Direction.the-variants as direction-is

@@ -13,6 +13,7 @@ use lib.ListN.{length, getD, take, drop, replicate, length-append, length-take, 
 use lib.Seq.{take-at, take-length, drop-append-add, getD-append-add, getD-take, getD-drop}
 use lib.Ieee.{Float, nan, binary64, fits, toBits}
 use lib.Ieee.Bits.{ofBits-toBits, toBits-lt}
+use Rattle.laws.specs.Tests.{both}
 use Rattle.laws.specs.Loop.{forUp-same, forUp-keeps, none-found, anyUp, sumUp, sumTurn}
 use Rattle.laws.specs.Sums.{sum-term}
 use Rattle.laws.specs.Tabulate.{tabulate, tabulate-same, tabulate-take, tabulate-length, tabulate-map, tabulate-at}
@@ -23,7 +24,6 @@ use Rattle.outline_file.specs.File.{Request, numberAt, floatAt, blockAt, weight
 use Rattle.outline_file.specs.File.{headPoints, headSound, headRefusal, pointBlocks, pointsRefusal, pointsTurn, blocksRefusal, coordinateAt}
 use Rattle.outline_file.specs.File.{filePoints, fileLength, endRefusal, fileRefusal, requestOf, numberBytes, floatBytes, blockOf, lengthBytes}
 use Rattle.outline_file.specs.File.{headBytes, pointBytes, pointBlock, blocksOf, fileOf, totalPoints, fileable}
-use Rattle.outline_file.specs.RefusalLaws.{both}
 
 -- ---- numbers
 

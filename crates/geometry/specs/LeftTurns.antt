@@ -14,10 +14,10 @@ use lib.Ieee.Scale.{round-same}
 use lib.Ieee.Positive.{positive, above, above-of-le, mul-mono}
 use Rattle.numbers.specs.Float.{_⊕_, _⊖_, _⊗_, _⊘_, zeroF, tolerance, isFinite}
 use Rattle.exact.specs.Corner.{sin20}
-use Rattle.exact.specs.Corner as corner
+use Rattle.exact.specs.Corner.{norm, cornerOk}
 use Rattle.domain.specs.declared.Point.{Point}
 use Rattle.geometry.specs.declared.Corners.{Corners}
-use Rattle.geometry.specs.Plane.{norm, convexAt}
+use Rattle.geometry.specs.Plane.{convexAt}
 use Rattle.geometry.specs.SignLaws.{HasSign, round-sign, square-sign, sum-sign, root-sign, le-of-not, finite-difference, finite-product}
 
 -- ---- definitions
@@ -42,7 +42,7 @@ cornersTurn p = convexAt (p .c) (p .a) (p .b) && (convexAt (p .a) (p .b) (p .d) 
 -- ---- the product of two lengths above 1e-12 is above 0
 
 length-sign : (x y : Float) → T (isFinite x) → T (isFinite y) → HasSign (norm x y) false
-unfolding corner.norm
+unfolding norm
 length-sign x y p q = root-sign (x ⊗ x ⊕ y ⊗ y) (sum-sign (x ⊗ x) (y ⊗ y) (square-sign x p) (square-sign y q))
 
 tolerance-sign : HasSign tolerance false
@@ -167,7 +167,7 @@ steps-fail ux uy vx vy h f =
     fails (le lu tolerance) (le lv tolerance) (le (k ⊘ (lu ⊗ lv)) sin20) (λ p q. quotient-low k (lu ⊗ lv) f h (lengths-above lu lv u v p q))
 
 pub corner-fails : (a b c : Point) → noLeftTurn a b c ≡ true → convexAt a b c ≡ false
-unfolding noLeftTurn corner.cornerOk
+unfolding noLeftTurn cornerOk
 corner-fails a b c e =
     let k = turn a b c in
     let t : T (le k zeroF && isFinite k) = subst T (sym e) tt in

@@ -4,14 +4,10 @@
 use mathlib.Core.Bool.{Bool, true, false, not, _&&_, _||_, cond}
 use lib.Ieee.{Float, neg, lt, le}
 use Rattle.numbers.specs.Float.{_⊕_, _⊖_, _⊗_, _⊘_, zeroF, oneF, fourF, tolerance, absF, minF, maxF}
-use Rattle.exact.specs.Corner as corner
+use Rattle.exact.specs.Corner.{norm, cornerOk}
 use Rattle.domain.specs.declared.Point.{Point}
 use Rattle.domain.specs.Outline.{point}
 use Rattle.geometry.specs.declared.Corners.{Corners}
-
--- the root of x·x + y·y
-abbrev pub norm : Float → Float → Float
-norm x y = corner.norm x y
 
 -- `distance`
 unfoldable pub distance : Point → Point → Float
@@ -75,7 +71,7 @@ centroid p =
 
 -- one corner of `convex_ccw`: both sides above 1e-12, and the sine of the turn from a to b to c above sin 20°
 abbrev pub convexAt : Point → Point → Point → Bool
-convexAt a b c = corner.cornerOk (a .x) (a .y) (b .x) (b .y) (c .x) (c .y)
+convexAt a b c = cornerOk (a .x) (a .y) (b .x) (b .y) (c .x) (c .y)
 
 -- `convex_ccw` at 20 degrees
 unfoldable pub convexCcw : Corners → Bool

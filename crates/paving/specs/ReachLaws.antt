@@ -9,7 +9,7 @@ use Rattle.laws.specs.Loop.{Turn, go, out, Kept, run-keeps}
 use Rattle.numbers.specs.Float.{_⊖_, tolerance}
 use Rattle.domain.specs.declared.Point.{Point}
 use Rattle.domain.specs.Outline.{Outline}
-use Rattle.geometry.specs.Plane.{norm}
+use Rattle.exact.specs.Corner.{norm}
 use Rattle.direction.specs.Record.{FieldRecord}
 use Rattle.direction.specs.Direction.{nearestDirection}
 use Rattle.front.specs.declared.Corner.{Corner}

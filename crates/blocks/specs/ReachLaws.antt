@@ -119,8 +119,8 @@ module _ {u v : Float} (p : Within 1000 u) (q : Within 1000 v) where
   step-within : Within 10000 (stepped u v)
   step-within = add-within tt tt p (sub-within tt tt q p)
 
-  pub highest : Highest u v (maxF (maxF u v) (stepped u v))
-  highest =
+  pub highest-is : Highest u v (maxF (maxF u v) (stepped u v))
+  highest-is =
       let P = widen 10000 tt p in
       let Q = widen 10000 tt q in
       let g = greater P Q in
@@ -132,8 +132,8 @@ module _ {u v : Float} (p : Within 1000 u) (q : Within 1000 v) where
         step = h .right;
       }
 
-  pub lowest : Lowest u v (minF (minF u v) (stepped u v))
-  lowest =
+  pub lowest-is : Lowest u v (minF (minF u v) (stepped u v))
+  lowest-is =
       let P = widen 10000 tt p in
       let Q = widen 10000 tt q in
       let g = less P Q in
@@ -150,19 +150,19 @@ module _ {u v : Float} (p : Within 1000 u) (q : Within 1000 v) where
 module _ {a b : Point} (A : PointWithin 1000 1000 a) (B : PointWithin 1000 1000 b) where
   pub reach-0 : Lowest (a .x) (b .x) (reachOf 0 a b)
   unfolding reachOf
-  reach-0 = lowest (A .x) (B .x)
+  reach-0 = lowest-is (A .x) (B .x)
 
   pub reach-1 : Highest (a .x) (b .x) (reachOf 1 a b)
   unfolding reachOf
-  reach-1 = highest (A .x) (B .x)
+  reach-1 = highest-is (A .x) (B .x)
 
   pub reach-2 : Lowest (a .y) (b .y) (reachOf 2 a b)
   unfolding reachOf
-  reach-2 = lowest (A .y) (B .y)
+  reach-2 = lowest-is (A .y) (B .y)
 
   pub reach-3 : Highest (a .y) (b .y) (reachOf 3 a b)
   unfolding reachOf
-  reach-3 = highest (A .y) (B .y)
+  reach-3 = highest-is (A .y) (B .y)
 
 pub reach-fits-1 : (a b : Point) → PointFits a → PointFits b → T (fits binary64 (reachOf 1 a b))
 unfolding reachOf

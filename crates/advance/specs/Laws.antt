@@ -10,7 +10,7 @@ use Rattle.direction.specs.Record.{FieldRecord}
 use Rattle.front.specs.declared.Counts.{Counts}
 use Rattle.front.specs.State.{State, stateOf}
 use Rattle.paving.specs.declared.End.{End}
-use Rattle.paving.specs.Advance.{Paved, paved, Passed, passesTurn, allUsed, advance}
+use Rattle.paving.specs.Advance.{EndedPaving, paved, Passed, passesTurn, allUsed, advance}
 use Rattle.paving.specs.ReachLaws.{Reached, AtEnd, pass-kept}
 use Rattle.paving.specs.Reach.{begin}
 use Rattle.ends.specs.declared.Swept.{Swept}
@@ -30,7 +30,7 @@ module _ {xs ys : List Float} {next prev snapshot quads edges : List ℕ} (r : S
   pass-over q = sym (rw q at E)
 
 -- the passes are as many as asked for, at most 600
-pub advance-whole : (o : Outline) (size : Float) (field : FieldRecord) (passes : ℕ) (s : State) {most : ℕ} {w : Paved} → most ≡ min passes 600
+pub advance-whole : (o : Outline) (size : Float) (field : FieldRecord) (passes : ℕ) (s : State) {most : ℕ} {w : EndedPaving} → most ≡ min passes 600
     → w ≡ run most (passesTurn o size field) allUsed s → w ≡ advance o size field passes s
 unfolding advance
 advance-whole o size field passes s e E = rw e at E

@@ -14,17 +14,17 @@ use Rattle.indexed.specs.Rects.{nodeRects, edgeRects}
 
 -- ---- states with the lists that are read, the others empty
 
-abbrev pub seen : List Float → List Float → List ℕ → List ℕ → List ℕ → Counts → State
-seen xs ys next prev edges counts =
+abbrev pub seenState : List Float → List Float → List ℕ → List ℕ → List ℕ → Counts → State
+seenState xs ys next prev edges counts =
     record { xs = xs; ys = ys; next = next; prev = prev; snapshot = []; quads = []; edges = edges; counts = counts }
 
 -- what an attempt reads of a state
 abbrev pub seenOf : State → State
-seenOf s = seen (s .xs) (s .ys) (s .next) (s .prev) (s .edges) (s .counts)
+seenOf s = seenState (s .xs) (s .ys) (s .next) (s .prev) (s .edges) (s .counts)
 
 -- nodes alone
 abbrev pub seenNodes : List Float → List Float → Counts → State
-seenNodes xs ys counts = seen xs ys [] [] [] counts
+seenNodes xs ys counts = seenState xs ys [] [] [] counts
 
 -- coordinates alone
 abbrev pub seenPoints : List Float → List Float → State
@@ -32,11 +32,11 @@ seenPoints xs ys = seenNodes xs ys (counted 0 0 0 0)
 
 -- nodes and edges
 abbrev pub seenEdges : List Float → List Float → List ℕ → Counts → State
-seenEdges xs ys edges counts = seen xs ys [] [] edges counts
+seenEdges xs ys edges counts = seenState xs ys [] [] edges counts
 
 -- points, and the links of so many nodes
 abbrev pub seenLinks : List Float → List Float → List ℕ → List ℕ → ℕ → State
-seenLinks xs ys next prev nodes = seen xs ys next prev [] (counted nodes 0 0 0)
+seenLinks xs ys next prev nodes = seenState xs ys next prev [] (counted nodes 0 0 0)
 
 -- ---- what the code asks
 

@@ -8,7 +8,7 @@ use Rattle.numbers.specs.Float.{_⊖_}
 use Rattle.domain.specs.declared.Point.{Point}
 use Rattle.domain.specs.Outline.{Outline}
 use Rattle.geometry.specs.declared.Corners.{Corners}
-use Rattle.geometry.specs.Plane.{norm}
+use Rattle.exact.specs.Corner.{norm}
 use Rattle.direction.specs.Record.{FieldRecord, fieldRecord}
 use Rattle.direction.specs.Direction.{nearestDirection}
 use Rattle.front.specs.declared.Corner.{Corner}

@@ -15,7 +15,7 @@ ghost use Rattle.front.specs.Place.{added, cornerId, cornerPoint};
 ghost use Rattle.indexed.specs.Rects.{nodeRects};
 ghost use Rattle.paving.specs.Checks.{tooClose, cornerFree, cornersApart, nodeInside, edgeCrosses, sideCrosses, edgesFree, cornersOf};
 ghost use Rattle.paving.specs.Attempt.{isReused, cornerAt, ideal, attemptQuad, normalOf, tryEdge};
-ghost use Rattle.attempts.specs.Seen.{seen, seenNodes, seenPoints, seenEdges, seenLinks};
+ghost use Rattle.attempts.specs.Seen.{seenState, seenNodes, seenPoints, seenEdges, seenLinks};
 ghost use Rattle.attempts.specs.Seen.{NodesLent, EdgesIndexed, EdgesLent, LinksLent, AttemptLent, TryLent};
 ghost use Rattle.attempts.specs.FarCorners.{farCorners};
 use direction::Grid;
@@ -355,7 +355,7 @@ fn attempt_quad<'a>(
     requires { ⌜ AttemptLent (outline (now outer) (now holes) (now lens)) (now blocks) size (now xs) (now ys) (now next) (now prev)
         (now edges) (now «node_pool») (now «edge_pool») counts ⌝ }
     ensures { λ r. ⌜ r ≡ attemptQuad (outline (now (outer .entry)) (now (holes .entry)) (now (lens .entry))) size
-        (seen (now (xs .entry)) (now (ys .entry)) (now (next .entry)) (now (prev .entry)) (now (edges .entry)) counts) a b da db ⌝ }
+        (seenState (now (xs .entry)) (now (ys .entry)) (now (next .entry)) (now (prev .entry)) (now (edges .entry)) counts) a b da db ⌝ }
 {
     let chosen = far_corners(size, xs, ys, next, prev, counts.nodes, a, b, da, db);
     let Attempt::Quad(c, d) = chosen else {
@@ -443,7 +443,7 @@ pub fn try_edge<'a>(
         (now edges) (now «node_pool») (now «edge_pool») counts ⌝ }
     ensures { λ r. ⌜ r ≡ tryEdge (outline (now (outer .entry)) (now (holes .entry)) (now (lens .entry))) size
         (fieldRecord grid (now (values .entry)) [])
-        (seen (now (xs .entry)) (now (ys .entry)) (now (next .entry)) (now (prev .entry)) (now (edges .entry)) counts) a b ⌝ }
+        (seenState (now (xs .entry)) (now (ys .entry)) (now (next .entry)) (now (prev .entry)) (now (edges .entry)) counts) a b ⌝ }
 {
     let p = front::node_at(xs, ys, a);
     let q = front::node_at(xs, ys, b);

@@ -7,7 +7,7 @@ use lib.Ieee.{Float, lt}
 use Rattle.numbers.specs.Float.{_⊕_, _⊘_, zeroF, oneF, tolerance, toFloat}
 use Rattle.domain.specs.declared.Point.{Point}
 use Rattle.domain.specs.Outline.{point, pointAt}
-use Rattle.geometry.specs.Plane.{norm}
+use Rattle.exact.specs.Corner.{norm}
 use Rattle.direction.specs.declared.Grid.{Grid}
 use Rattle.direction.specs.Record.{nodeAt}
 

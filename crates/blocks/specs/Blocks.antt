@@ -9,7 +9,7 @@ use lib.Dec.{ltb, eqb}
 use lib.ListN.{length, getD}
 use lib.Ieee.{Float, lt}
 use Rattle.laws.specs.Loop.{forUp}
-use Rattle.numbers.specs.Float.{_⊕_, _⊖_, minF, maxF}
+use Rattle.numbers.specs.Float.{_⊕_, _⊖_}
 use Rattle.exact.specs.Units.{Within}
 use Rattle.domain.specs.declared.Point.{Point}
 use Rattle.domain.specs.Outline.{Outline, holeStart, loopAt, points, pointAt, pointAfter, mostPoints, outlineRefusal}
@@ -28,13 +28,20 @@ forBetween from to turn a = forUp (to - from) (λ j. turn (from + j)) a
 abbrev pub coordinate : ℕ → Point → Float
 coordinate d p = cond (ltb d 2) (p .x) (p .y)
 
+-- the lower and the higher of two numbers, neither of which is a NaN
+abbrev pub lowerOf : Float → Float → Float
+lowerOf x y = cond (lt y x) y x
+
+abbrev pub higherOf : Float → Float → Float
+higherOf x y = cond (lt x y) y x
+
 -- how far the segment a to b reaches on side d: over a, b, and a + (b − a), which is where a part of the way from a to b ends as it is computed
 unfoldable pub reachOf : ℕ → Point → Point → Float
 reachOf d a b =
     let u = coordinate d a in
     let v = coordinate d b in
     let w = u ⊕ (v ⊖ u) in
-    cond (eqb (d % 2) 1) (maxF (maxF u v) w) (minF (minF u v) w)
+    cond (eqb (d % 2) 1) (higherOf (higherOf u v) w) (lowerOf (lowerOf u v) w)
 
 -- the same of segment i of a loop
 abbrev pub reach : ℕ → List Float → ℕ → Float

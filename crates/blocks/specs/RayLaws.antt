@@ -12,7 +12,7 @@ use lib.Ieee.{Float, nan, inf, fin, binary64, fits, unlike, isNan, lt}
 use lib.Ieee.Bits.{is-true}
 use lib.Ieee.Fits.{sub-fits}
 use Rattle.numbers.specs.Float.{_⊕_, _⊖_, _⊗_, _⊘_, isFinite}
-use Rattle.exact.specs.Units.{W, Val, signOf, sizeOf, unlike-self, val-of, Within, within}
+use Rattle.exact.specs.Units.{W, Val, signOf, sizeOf, unlike-self, val-of, Within, within-of}
 use Rattle.exact.specs.Order.{beyond-lt}
 use Rattle.exact.specs.Keeps.{add-within, sub-within}
 use Rattle.exact.specs.Part.{part-within, part-most, slope-part}
@@ -68,7 +68,7 @@ straddled-within (fin s m e) u v f p q h = decide (leb (sizeOf y) (1000 * W)) re
     val = val-of y tt f
 
     decide : (b : Bool) → leb (sizeOf y) (1000 * W) ≡ b → Within 1000 y
-    decide true g = within 1000 y f tt (leb-true _ _ g)
+    decide true g = within-of 1000 y f tt (leb-true _ _ g)
     decide false g =
         let far = leb-false _ _ g in
         absurd (subst T (ap₂ unlike (beyond-lt y (signOf y) (sizeOf y) val p far) (beyond-lt y (signOf y) (sizeOf y) val q far) ∙ unlike-self (signOf y)) h)

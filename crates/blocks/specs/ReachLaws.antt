@@ -10,14 +10,14 @@ use lib.Dec.{T, ltb}
 use lib.Ieee.{Float, nan, inf, fin, binary64, fits, isNan, lt, le}
 use lib.Ieee.Fits.{add-fits}
 use lib.Signed.{clashℤ}
-use Rattle.numbers.specs.Float.{_⊕_, _⊖_, minF, maxF}
+use Rattle.numbers.specs.Float.{_⊕_, _⊖_}
 use Rattle.exact.specs.Units.{Within, widen}
 use Rattle.exact.specs.Order.{lt-val, le-val, not-lt-val}
 use Rattle.exact.specs.Keeps.{add-within, sub-within, le-self, le-through}
 use Rattle.domain.specs.declared.Point.{Point}
 use Rattle.domain.specs.Outline.{points, pointAt, pointAfter}
 use Rattle.domain.specs.Accepted.{AllFit, PointFits, PointWithin, LoopWithin, after-within}
-use Rattle.blocks.specs.Blocks.{reachOf, sideAt, BlockThere, ExtentWithin, segmentExtent, blockExtent}
+use Rattle.blocks.specs.Blocks.{lowerOf, higherOf, reachOf, sideAt, BlockThere, ExtentWithin, segmentExtent, blockExtent}
 
 -- ---- bounded floats
 
@@ -61,39 +61,33 @@ record Less (K : ℕ) (x y m : Float) : Type 0 where
   right : T (le m y)
 
 module _ {K : ℕ} {x y : Float} (p : Within K x) (q : Within K y) where
-  greater : Greater K x y (maxF x y)
-  unfolding maxF
-  greater = rw (within-number x p) (decide (lt x y) refl)
+  greater : Greater K x y (higherOf x y)
+  greater = decide (lt x y) refl
     where
       decide : (b : Bool) → lt x y ≡ b → Greater K x y (cond b y x)
       decide true e = record { within = q; left = le-of-lt-true p q e; right = le-self q }
       decide false e = record { within = p; left = le-self p; right = le-of-lt-false p q e }
 
-  less : Less K x y (minF x y)
-  unfolding minF
-  less = rw (within-number x p) (decide (lt y x) refl)
+  less : Less K x y (lowerOf x y)
+  less = decide (lt y x) refl
     where
       decide : (b : Bool) → lt y x ≡ b → Less K x y (cond b y x)
       decide true e = record { within = q; left = le-of-lt-true q p e; right = le-self q }
       decide false e = record { within = p; left = le-self p; right = le-of-lt-false q p e }
 
-pub max-fits : (x y : Float) → T (fits binary64 x) → T (fits binary64 y) → T (fits binary64 (maxF x y))
-unfolding maxF
-max-fits x y f g = decide (isNan x) (lt x y)
+pub higher-fits : (x y : Float) → T (fits binary64 x) → T (fits binary64 y) → T (fits binary64 (higherOf x y))
+higher-fits x y f g = decide (lt x y)
   where
-    decide : (a b : Bool) → T (fits binary64 (cond a y (cond b y x)))
-    decide true b = g
-    decide false true = g
-    decide false false = f
+    decide : (b : Bool) → T (fits binary64 (cond b y x))
+    decide true = g
+    decide false = f
 
-pub min-fits : (x y : Float) → T (fits binary64 x) → T (fits binary64 y) → T (fits binary64 (minF x y))
-unfolding minF
-min-fits x y f g = decide (isNan x) (lt y x)
+pub lower-fits : (x y : Float) → T (fits binary64 x) → T (fits binary64 y) → T (fits binary64 (lowerOf x y))
+lower-fits x y f g = decide (lt y x)
   where
-    decide : (a b : Bool) → T (fits binary64 (cond a y (cond b y x)))
-    decide true b = g
-    decide false true = g
-    decide false false = f
+    decide : (b : Bool) → T (fits binary64 (cond b y x))
+    decide true = g
+    decide false = f
 
 -- ---- the way from u to v
 
@@ -119,8 +113,8 @@ module _ {u v : Float} (p : Within 1000 u) (q : Within 1000 v) where
   step-within : Within 10000 (stepped u v)
   step-within = add-within tt tt p (sub-within tt tt q p)
 
-  pub highest : Highest u v (maxF (maxF u v) (stepped u v))
-  highest =
+  pub highest-is : Highest u v (higherOf (higherOf u v) (stepped u v))
+  highest-is =
       let P = widen 10000 tt p in
       let Q = widen 10000 tt q in
       let g = greater P Q in
@@ -132,8 +126,8 @@ module _ {u v : Float} (p : Within 1000 u) (q : Within 1000 v) where
         step = h .right;
       }
 
-  pub lowest : Lowest u v (minF (minF u v) (stepped u v))
-  lowest =
+  pub lowest-is : Lowest u v (lowerOf (lowerOf u v) (stepped u v))
+  lowest-is =
       let P = widen 10000 tt p in
       let Q = widen 10000 tt q in
       let g = less P Q in
@@ -150,23 +144,23 @@ module _ {u v : Float} (p : Within 1000 u) (q : Within 1000 v) where
 module _ {a b : Point} (A : PointWithin 1000 1000 a) (B : PointWithin 1000 1000 b) where
   pub reach-0 : Lowest (a .x) (b .x) (reachOf 0 a b)
   unfolding reachOf
-  reach-0 = lowest (A .x) (B .x)
+  reach-0 = lowest-is (A .x) (B .x)
 
   pub reach-1 : Highest (a .x) (b .x) (reachOf 1 a b)
   unfolding reachOf
-  reach-1 = highest (A .x) (B .x)
+  reach-1 = highest-is (A .x) (B .x)
 
   pub reach-2 : Lowest (a .y) (b .y) (reachOf 2 a b)
   unfolding reachOf
-  reach-2 = lowest (A .y) (B .y)
+  reach-2 = lowest-is (A .y) (B .y)
 
   pub reach-3 : Highest (a .y) (b .y) (reachOf 3 a b)
   unfolding reachOf
-  reach-3 = highest (A .y) (B .y)
+  reach-3 = highest-is (A .y) (B .y)
 
 pub reach-fits-1 : (a b : Point) → PointFits a → PointFits b → T (fits binary64 (reachOf 1 a b))
 unfolding reachOf
-reach-fits-1 a b f g = max-fits _ _ (max-fits (a .x) (b .x) (f .x) (g .x)) (add-fits binary64 (a .x) (b .x ⊖ a .x))
+reach-fits-1 a b f g = higher-fits _ _ (higher-fits (a .x) (b .x) (f .x) (g .x)) (add-fits binary64 (a .x) (b .x ⊖ a .x))
 
 -- ---- points and boxes of a loop
 

@@ -6,7 +6,7 @@ ghost use lib.ListN.{length};
 ghost use Rattle.laws.specs.Loop.{anyUp};
 ghost use Rattle.domain.specs.Outline.{outline, points, mostPoints, outlineRefusal};
 ghost use Rattle.domain.specs.Queries.{polygonTurn, pointInPolygon, inHole, contains};
-ghost use Rattle.blocks.specs.Blocks.{forBetween, coordinate, reach, isFarther, Farthest, blockEnd, isListed, BlockThere, BlockFiles, LoopFiles};
+ghost use Rattle.blocks.specs.Blocks.{forBetween, coordinate, lowerOf, higherOf, reach, isFarther, Farthest, blockEnd, isListed, BlockThere, BlockFiles, LoopFiles};
 ghost use Rattle.blocks.specs.Blocks.{LoopDrawn, firstBlockAt, Drawn, blockExtent, rayMisses};
 use domain::Point;
 
@@ -29,6 +29,19 @@ fn coordinate(d: usize, p: Point) -> f64
     if d < 2 { p.x } else { p.y }
 }
 
+// Of two numbers neither of which is a NaN, which one instruction tells apart; `min_f64` and `max_f64` ask for a NaN first.
+fn lower_of(x: f64, y: f64) -> f64
+    ensures { λ r. ⌜ r ≡ lowerOf x y ⌝ }
+{
+    if y < x { y } else { x }
+}
+
+fn higher_of(x: f64, y: f64) -> f64
+    ensures { λ r. ⌜ r ≡ higherOf x y ⌝ }
+{
+    if x < y { y } else { x }
+}
+
 // On the sides 0, least x; 1, greatest x; 2, least y; 3, greatest y.
 pub fn reach(d: usize, s: &[f64], i: usize) -> f64
     requires { ⌜ 2 * i + 1 < length (now s) ⌝ }
@@ -38,9 +51,9 @@ pub fn reach(d: usize, s: &[f64], i: usize) -> f64
     let v = coordinate(d, outlines::point_after(s, i));
     let w = u + (v - u);
     if d % 2 == 1 {
-        numbers::max_f64(numbers::max_f64(u, v), w)
+        higher_of(higher_of(u, v), w)
     } else {
-        numbers::min_f64(numbers::min_f64(u, v), w)
+        lower_of(lower_of(u, v), w)
     }
 }
 

@@ -17,7 +17,7 @@ use Rattle.front.specs.declared.Neighbour.the-variants.{At, Off}
 use Rattle.front.specs.State.{State, nextOf, prevOf}
 use Rattle.front.specs.Neighbours.{neighbourOf}
 use Rattle.front.specs.Place.{idC, idD}
-use Rattle.front.specs.Ready.{Chosen, Choice, Fits, fits}
+use Rattle.front.specs.Ready.{Chosen, Choice, Fits, room-fits}
 use Rattle.paving.specs.declared.Attempt.the-variants.{Quad}
 use Rattle.paving.specs.Checks.{quadFits}
 use Rattle.paving.specs.Attempt.{isReused, cornerAt, cornerC, cornerD, attemptQuad}
@@ -81,5 +81,5 @@ answered o size s a b c d P =
     record {
       choice = choice o size s a b (P .da) (P .db) c d (P .there) (P .answered);
       checks = quad-chosen o size s a b (P .da) (P .db) c d (P .answered) .checks;
-      fits = fits s a b c d (P .fits);
+      fits = room-fits s a b c d (P .fits);
     }

@@ -84,11 +84,11 @@ after-keeps o size s (suc k) =
 -- ---- areas
 
 -- the edges of the front join nodes of the book
-abbrev pub IsNode : Book → ℕ → Type 0
-IsNode b id = (id < length (b .xs)) × (id < length (b .ys))
+abbrev pub IsBookNode : Book → ℕ → Type 0
+IsBookNode b id = (id < length (b .xs)) × (id < length (b .ys))
 
 abbrev pub FrontJoins : Book → Type 0
-FrontJoins b = (u v : ℕ) → 0 < edgesSum (at u v) (b .front) → IsNode b u × IsNode b v
+FrontJoins b = (u v : ℕ) → 0 < edgesSum (at u v) (b .front) → IsBookNode b u × IsBookNode b v
 
 weights-same : (w x : ℕ → ℕ → ℤ) (es : List Edge) → ((u v : ℕ) → 0 < edgesSum (at u v) es → w u v ≡ x u v) → edgesSumℤ w es ≡ edgesSumℤ x es
 unfolding edgesSumℤ edgesSum
@@ -105,7 +105,7 @@ quads-area measure b s (suc k) =
 
 module _ (o : Outline) (size : Float) (s : State) (k : ℕ) (b : Book) (steps : bookAfter o size s k ≡ some b) (joins : FrontJoins (startBook o size))
     (measure : Float → ℤ) where
-  place-same : (id : ℕ) → IsNode (startBook o size) id → placeOf measure (startBook o size) id ≡ placeOf measure b id
+  place-same : (id : ℕ) → IsBookNode (startBook o size) id → placeOf measure (startBook o size) id ≡ placeOf measure b id
   place-same id h =
       let K : Keeps (startBook o size) b = subst (Gives (Keeps (startBook o size))) steps (after-keeps o size s k) in
       rw (begins-at (startBook o size .xs) (b .xs) (K .0) id (h .0), begins-at (startBook o size .ys) (b .ys) (K .1) id (h .1))

@@ -15,7 +15,7 @@ use borrow.Author.Tests.{eq-eqb}
 use Rattle.domain.specs.Outline.{Outline}
 use Rattle.topology.specs.Sums.{frontSum}
 use Rattle.topology.specs.Links.{at, at-other}
-use Rattle.topology.specs.Changes.{removed, added}
+use Rattle.topology.specs.Changes.{removedSum, addedSum}
 use Rattle.topology.specs.Placing.{Kind, reused, fresh, offIf, onIf, placing, newNodes, ByKind}
 use Rattle.front.specs.declared.Corner.{Corner}
 use Rattle.front.specs.declared.Corner.the-variants.{Reused, Fresh}
@@ -54,7 +54,7 @@ record Sided (k : Kind) (final : State) (id u v m : ℕ) (b : Book) : Type 0 whe
   through : side final id (edge u v) (edge v u) b ≡ some book
   xs : book .xs ≡ take (m + newNodes k) (final .xs)
   ys : book .ys ≡ take (m + newNodes k) (final .ys)
-  sums : (w : ℕ → ℕ → ℕ) → edgesSum w (book .front) + removed w (offIf k u v []) ≡ edgesSum w (b .front) + added w (onIf k v u [])
+  sums : (w : ℕ → ℕ → ℕ) → edgesSum w (book .front) + removedSum w (offIf k u v []) ≡ edgesSum w (b .front) + addedSum w (onIf k v u [])
 
 sided : (k : Kind) (final : State) (id u v m : ℕ) (b : Book) → b .xs ≡ take m (final .xs) → b .ys ≡ take m (final .ys)
     → m + newNodes k ≤ length (final .xs) → m + newNodes k ≤ length (final .ys)
@@ -83,14 +83,14 @@ sided fresh final id u v m b ex ey lx ly h i =
 
 -- the changes of the front, side by side
 removed-sides : (kc kd : Kind) (w : ℕ → ℕ → ℕ) (a b c d : ℕ)
-    → removed w (placing kc kd a b c d) ≡ w a b + removed w (offIf kc c a []) + removed w (offIf kd b d [])
+    → removedSum w (placing kc kd a b c d) ≡ w a b + removedSum w (offIf kc c a []) + removedSum w (offIf kd b d [])
 removed-sides reused reused w a b c d = omega arith
 removed-sides reused fresh w a b c d = omega arith
 removed-sides fresh reused w a b c d = omega arith
 removed-sides fresh fresh w a b c d = omega arith
 
 added-sides : (kc kd : Kind) (w : ℕ → ℕ → ℕ) (a b c d : ℕ)
-    → added w (placing kc kd a b c d) ≡ w c d + added w (onIf kc a c []) + added w (onIf kd d b [])
+    → addedSum w (placing kc kd a b c d) ≡ w c d + addedSum w (onIf kc a c []) + addedSum w (onIf kd d b [])
 added-sides reused reused w a b c d = omega arith
 added-sides reused fresh w a b c d = omega arith
 added-sides fresh reused w a b c d = omega arith
@@ -102,11 +102,11 @@ by-count reused x y e h = omega arith
 by-count fresh x y e h = e ∙ h
 
 -- a weight that is 0 at an edge is 0 whether the edge comes off or goes on
-removed-zero : (k : Kind) (w : ℕ → ℕ → ℕ) (u v : ℕ) → w u v ≡ 0 → removed w (offIf k u v []) ≡ 0
+removed-zero : (k : Kind) (w : ℕ → ℕ → ℕ) (u v : ℕ) → w u v ≡ 0 → removedSum w (offIf k u v []) ≡ 0
 removed-zero reused w u v e = omega arith
 removed-zero fresh w u v e = refl
 
-added-zero : (k : Kind) (w : ℕ → ℕ → ℕ) (u v : ℕ) → w u v ≡ 0 → added w (onIf k u v []) ≡ 0
+added-zero : (k : Kind) (w : ℕ → ℕ → ℕ) (u v : ℕ) → w u v ≡ 0 → addedSum w (onIf k u v []) ≡ 0
 added-zero reused w u v e = refl
 added-zero fresh w u v e = omega arith
 

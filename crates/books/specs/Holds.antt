@@ -17,13 +17,13 @@ use Rattle.topology.specs.LongLoops.{LongLoops}
 use Rattle.paving.specs.Loops.{frontLoops}
 use Rattle.sound_outlines.specs.Sound.{outlineSound}
 use Rattle.exact.specs.Units.{units}
-use Rattle.exact.specs.Corner.{Vector, step, sineAboveThird, isShort}
+use Rattle.exact.specs.Corner.{Vector, stepUnits, sineAboveThird, isShort}
 use Rattle.books.specs.Book.{Book, Quad, startBook, quadAt, bookAfter, xOf, yOf, loopEdges, frontArea, quadsArea, follow}
 use Rattle.books.specs.Net.{countEdge, net, quadsEdges}
 
 -- the exact step from node u to node v
 abbrev pub stepOf : Book → ℕ → ℕ → Vector
-stepOf b u v = step (xOf b u) (yOf b u) (xOf b v) (yOf b v)
+stepOf b u v = stepUnits (xOf b u) (yOf b u) (xOf b v) (yOf b v)
 
 -- the corner at v between u and w: its sine is above 1/3, and the side from u is not shorter than 1e-150
 pub record CornerHolds (b : Book) (u v w : ℕ) : Type 0 where

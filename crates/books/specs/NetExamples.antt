@@ -16,9 +16,9 @@ abbrev left : List Edge
 left = edge 3 2 ∷ edge 2 3 ∷ []
 
 -- from 0 to 1: once, and never back; from 2 to 0 never
-pub one-way : ((net 0 1 start) ≡ pos 1) × ((net 1 0 start) ≡ negsuc 0) × (net 2 0 start ≡ pos 0)
+pub net-one-way : ((net 0 1 start) ≡ pos 1) × ((net 1 0 start) ≡ negsuc 0) × (net 2 0 start ≡ pos 0)
 unfolding net countEdge difference
-one-way = (refl, refl, refl)
+net-one-way = (refl, refl, refl)
 
 -- the quad has all of it, also from 2 to 3, where the front left has one step each way
 pub paved-shut : (net 0 1 (quadEdges quad) ≡ pos 1) × (net 2 3 (quadEdges quad) ≡ pos 1) × (net 2 3 left ≡ pos 0) × (net 2 3 start ≡ pos 1)

@@ -60,11 +60,11 @@ net-joined u v es fs =
 -- ---- where every figure is 0
 
 -- each edge stands as often as its reverse
-abbrev Even : List Edge → Type 0
-Even es = (u v : ℕ) → edgesSum (at u v) es ≡ edgesSum (at v u) es
+abbrev Reversible : List Edge → Type 0
+Reversible es = (u v : ℕ) → edgesSum (at u v) es ≡ edgesSum (at v u) es
 
 -- then a weight has the sum of the weight reversed: take off the first edge and one of its reverses, again and again
-cancels : (n : ℕ) (es : List Edge) → length es ≤ n → Even es → (p : ℕ → ℕ → ℕ) → edgesSum p es ≡ edgesSum (flip p) es
+cancels : (n : ℕ) (es : List Edge) → length es ≤ n → Reversible es → (p : ℕ → ℕ → ℕ) → edgesSum p es ≡ edgesSum (flip p) es
 unfolding edgesSum
 cancels zero [] h even p = refl
 cancels zero (e ∷ es) h even p = absurd (omega arith)
@@ -78,7 +78,7 @@ cancels (suc n) (e ∷ es) h even p = by (eqb (e .from) (e .to)) refl (cancels n
     v = e .to
 
     by : (b : Bool) → eqb u v ≡ b
-        → ((es : List Edge) → length es ≤ n → Even es → (p : ℕ → ℕ → ℕ) → edgesSum p es ≡ edgesSum (flip p) es)
+        → ((es : List Edge) → length es ≤ n → Reversible es → (p : ℕ → ℕ → ℕ) → edgesSum p es ≡ edgesSum (flip p) es)
         → p u v + edgesSum p es ≡ p v u + edgesSum (flip p) es
     by true q rest =
         let same = eqb-true u v q in
@@ -115,7 +115,7 @@ module _ (w : ℕ → ℕ → ℤ) (anti : Antisymmetric w) where
   none-left : (es : List Edge) → ((u v : ℕ) → net u v es ≡ pos 0) → edgesSumℤ w es ≡ pos 0
   unfolding net
   none-left es none =
-      let even : Even es = λ u v. sym (count-sum u v es) ∙ (same-counts _ _ (none u v) ∙ count-sum v u es) in
+      let even : Reversible es = λ u v. sym (count-sum u v es) ∙ (same-counts _ _ (none u v) ∙ count-sum v u es) in
       edges-is w anti es ∙ no-difference _ _ (cancels (length es) es (omega arith) even (gain w))
 
   back : (es : List Edge) → edgesSumℤ w (reversed es) ≡ negℤ (edgesSumℤ w es)

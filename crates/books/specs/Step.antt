@@ -13,6 +13,6 @@ use Rattle.paving.specs.Reach.{Placement}
 use Rattle.books.specs.Answered.{answered}
 
 -- the placing of an answered quad on a sound state
-pub step : (n : ℕ) (s : State) (ls : List (List ℕ)) (o : Outline) (size : Float) (a b : ℕ) (c d : Corner) → Sound n s ls
+pub answered-step : (n : ℕ) (s : State) (ls : List (List ℕ)) (o : Outline) (size : Float) (a b : ℕ) (c d : Corner) → Sound n s ls
     → Placement o size s a b c d → Stepped n s ls a b c d (place a b c d s)
-step n s ls o size a b c d S P = front.step n s ls a b c d S (answered o size s a b c d P .choice) (P .fits)
+answered-step n s ls o size a b c d S P = front.step n s ls a b c d S (answered o size s a b c d P .choice) (P .fits)

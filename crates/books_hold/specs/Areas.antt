@@ -57,8 +57,8 @@ module _ (o : Outline) (size : Float) (s : State) (ls : List (List ℕ)) (S : St
 
   module _ (final : State) (k : ℕ) (t : State) (Y : Stage o size s ls final k t) where
     -- the balance of the weight that counts u to v
-    pub edges : (u v : ℕ) → net u v (startBook o size .front) ≡ net u v (quadsEdges final k) +ℤ net u v (Y .book .front)
-    edges u v =
+    pub net-edges : (u v : ℕ) → net u v (startBook o size .front) ≡ net u v (quadsEdges final k) +ℤ net u v (Y .book .front)
+    net-edges u v =
         let w = netWeight u v in
         let anti = net-anti u v in
         sym (net-sum u v (startBook o size .front))

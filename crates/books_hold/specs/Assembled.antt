@@ -16,13 +16,13 @@ use Rattle.books.specs.Book.{Book, bookAfter}
 use Rattle.books.specs.Holds.{HoldsAfter, Closes, BooksHold}
 use Rattle.books.specs.Areas.{areas-balance}
 use Rattle.books_hold.specs.Stages.{Start, Stage, QuadsTurn, stage-at, stage-before}
-use Rattle.books_hold.specs.Areas.{start-joins, edges, quads-turn}
+use Rattle.books_hold.specs.Areas.{start-joins, net-edges, quads-turn}
 use Rattle.books_hold.specs.Fronts.{loops-hold, counts-hold, closes}
 
 module _ (o : Outline) (size : Float) (s : State) (ls : List (List ℕ)) (S : Start o size s ls) (number : length ls ≡ loopCount o) where
   holds-after : (final : State) (k : ℕ) (t : State) → Stage o size s ls final k t → HoldsAfter o size final k
   holds-after final k t Y =
-      let E = edges o size s ls S final k t Y in
+      let E = net-edges o size s ls S final k t Y in
       record {
         book = Y .book;
         steps = Y .steps;

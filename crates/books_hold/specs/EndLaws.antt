@@ -28,7 +28,7 @@ use Rattle.paving.specs.Advance.{paved, Passing, passing, Passed, mostQuads, af
 use Rattle.paving.specs.Advance.{copyTurn, copied, withSnapshot, mostPasses, passesTurn, allUsed, advance}
 use Rattle.paving.specs.Reach.{Placement, Reaches, begin, snapshot, placed}
 use Rattle.paving.specs.ReachLaws.{Reached, tried}
-use Rattle.books.specs.Step.{step}
+use Rattle.books.specs.Step.{answered-step}
 use Rattle.books_hold.specs.Stages.{Start, standing}
 use Rattle.books_hold.specs.Ends.{StillAt, FullAt, PassesLead, LastPass, UsedUp, Ended}
 use Rattle.books_hold.specs.Ends as ends
@@ -56,7 +56,7 @@ copied-at n links l long a h =
 
 module _ (o : Outline) (size : Float) (field : FieldRecord) (s : State) (ls : List (List ℕ)) (S : Start o size s ls) where
   -- a state of the run from which it goes on
-  record Between (t : State) : Type 0 where
+  record GoesOn (t : State) : Type 0 where
     reached : Reached o size s t
     below : t .counts .quads < mostQuads
 
@@ -69,7 +69,7 @@ module _ (o : Outline) (size : Float) (field : FieldRecord) (s : State) (ls : Li
 
   -- ---- a pass that begins with t
 
-  module _ (t : State) (B : Between t) where
+  module _ (t : State) (B : GoesOn t) where
     abbrev first : State
     first = withSnapshot t
 
@@ -87,12 +87,12 @@ module _ (o : Outline) (size : Float) (field : FieldRecord) (s : State) (ls : Li
     PassProgress i u false = (u ≡ first) × Tried i
 
     record InPass (i : ℕ) (p : Passing) : Type 0 where
-      between : Between (p .state)
+      between : GoesOn (p .state)
       progress : PassProgress i (p .state) (p .placed)
 
     -- what the pass leaves
     abbrev Leaves : Passed → Type 0
-    Leaves (go u) = Between u × (t .counts .quads < u .counts .quads)
+    Leaves (go u) = GoesOn u × (t .counts .quads < u .counts .quads)
     Leaves (out r) = EndedIn (r .state) (r .end)
 
     first-quads : first .counts .quads ≡ t .counts .quads
@@ -143,7 +143,7 @@ module _ (o : Outline) (size : Float) (field : FieldRecord) (s : State) (ls : Li
             let r = I .between .reached in
             let P : Placement o size (p .state) a b c d = record { there = there; da = A .da; db = A .db; answered = A .answered; fits = f } in
             let Y = standing (S .sound) (r .by) in
-            let X = step (sampledCount o size) (p .state) (Y .loops) o size a b c d (Y .sound) P in
+            let X = answered-step (sampledCount o size) (p .state) (Y .loops) o size a b c d (Y .sound) P in
             let more = no-fewer a (p .state) (p .placed) (I .progress) in
             quad-placed a (place a b c d (p .state)) (record { quads = suc (r .quads); by = placed (r .by) P })
             (omega (arith, X .quads)) (omega (arith, X .quads, I .between .below))
@@ -184,7 +184,7 @@ module _ (o : Outline) (size : Float) (field : FieldRecord) (s : State) (ls : Li
             let f = follower-next a on in
             rw (← f .1) (nothing a (f .0) (rw (f .1, ne-eqb (nextOf first a) off on, eq-eqb (nextOf first a) (nextOf first a) refl)))
 
-    ended : (u : State) (some : Bool) → Between u → PassProgress (t .counts .nodes) u some → Leaves (afterPass (passing u some))
+    ended : (u : State) (some : Bool) → GoesOn u → PassProgress (t .counts .nodes) u some → Leaves (afterPass (passing u some))
     ended u true W g = (W, g)
     ended u false W g =
         subst (StillAt o size field) (sym (g .0))
@@ -207,7 +207,7 @@ module _ (o : Outline) (size : Float) (field : FieldRecord) (s : State) (ls : Li
   -- ---- pass by pass
 
   record Lead (n : ℕ) (t : State) : Type 0 where
-    between : Between t
+    between : GoesOn t
     passes : PassesLead o size field s n t
 
   ended-in : (n : ℕ) (t : State) (e : End) → EndedIn t e → LastPass o size field n s t e → Ended o size field n s t e

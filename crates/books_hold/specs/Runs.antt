@@ -15,7 +15,7 @@ use Rattle.front.specs.Sound.{Frame}
 use Rattle.front.specs.FrameLaws.{frame-trans}
 use Rattle.paving.specs.declared.End.{End}
 use Rattle.paving.specs.declared.End.the-variants.{Still, Passes, Cap, Full}
-use Rattle.paving.specs.Advance.{Paved, mostQuads, advance}
+use Rattle.paving.specs.Advance.{EndedPaving, mostQuads, advance}
 use Rattle.paving.specs.Reach.{Reaches}
 use Rattle.paving.specs.ReachLaws.{Reached, advance-reaches}
 use Rattle.whole_run.specs.Run.{runRefusal, runOf}
@@ -44,7 +44,7 @@ pub record AcceptedRun (o : Outline) (size : Float) (lent : State) : Type 0 wher
   pub front : frontRefusal o size lent ≡ 0
 
 -- what holds of a run, beside its books
-pub record RunFacts (o : Outline) (size : Float) (field : FieldRecord) (passes : ℕ) (lent : State) (run : Paved) : Type 0 where
+pub record RunFacts (o : Outline) (size : Float) (field : FieldRecord) (passes : ℕ) (lent : State) (run : EndedPaving) : Type 0 where
   -- it ends as document 01 has it
   pub ends : Ended o size field passes (fromBoundary o size lent) (run .state) (run .end)
   pub few : run .state .counts .quads ≤ mostQuads

@@ -31,7 +31,7 @@ use Rattle.books.specs.BookLaws.{frame-quad}
 use Rattle.books.specs.Matches.{Matches}
 use Rattle.books.specs.Holds.{QuadHolds}
 use Rattle.bounded.specs.Corners.{cornersIn}
-use Rattle.books.specs.Step.{Stepped, step}
+use Rattle.books.specs.Step.{Stepped, answered-step}
 use Rattle.books.specs.Booked.{booked}
 use Rattle.books.specs.Snapshot.{snapshot-frame, snapshot-sound, snapshot-matches}
 
@@ -123,7 +123,7 @@ module _ (o : Outline) (size : Float) (s : State) (ls : List (List ℕ)) (final 
     quad = record { a = a; b = b; d = idD t c d; c = idC t c }
 
     after : Stepped (sampledCount o size) t (S .loops) a b c d (place a b c d t)
-    after = step (sampledCount o size) t (S .loops) o size a b c d (S .sound) P
+    after = answered-step (sampledCount o size) t (S .loops) o size a b c d (S .sound) P
 
     -- the quad answered last
     last-quad : quadAt final k ≡ quad
@@ -217,7 +217,7 @@ standing {n = n} {s = s} S (snapshot {t = t} r) =
     }
 standing {n = n} {o = o} {size = size} {s = s} S (placed {t = t} {a = a} {b = b} {c = c} {d = d} r P) =
     let Y = standing S r in
-    let X = step n t (Y .loops) o size a b c d (Y .sound) P in
+    let X = answered-step n t (Y .loops) o size a b c d (Y .sound) P in
     record {
       loops = X .loops;
       sound = X .sound;
@@ -240,7 +240,7 @@ module _ (o : Outline) (size : Float) (s : State) (ls : List (List ℕ)) (S : St
   place-frame : {k : ℕ} {t : State} {a b : ℕ} {c d : Corner} → Reaches o size s k t → Placement o size t a b c d → Frame t (place a b c d t)
   place-frame {t = t} {a = a} {b = b} {c = c} {d = d} r P =
       let Y = standing (S .sound) r in
-      step (sampledCount o size) t (Y .loops) o size a b c d (Y .sound) P .frame
+      answered-step (sampledCount o size) t (Y .loops) o size a b c d (Y .sound) P .frame
 
   module _ (turns : QuadsTurn o size s) (final : State) where
     -- the state reached by k quads

@@ -27,29 +27,29 @@ evenUp n = n + n % 2
 -- ---- sums that stop
 
 -- i of n terms of f have been added
-pub record Added (f : ℕ → ℕ) (n i sum : ℕ) : Type 0 where
+pub record PartSum (f : ℕ → ℕ) (n i sum : ℕ) : Type 0 where
   pub within : i ≤ n
   pub same : sum ≡ min (sumUp i f) most
 
 module _ (f : ℕ → ℕ) where
-  pub added-none : (n : ℕ) → Added f n 0 0
+  pub added-none : (n : ℕ) → PartSum f n 0 0
   added-none n = record { within = omega arith; same = omega (arith, sum-zero f) }
 
-  pub added-few : {n i sum : ℕ} → Added f n i sum → sum ≤ most
+  pub added-few : {n i sum : ℕ} → PartSum f n i sum → sum ≤ most
   added-few A = omega (arith, A .same)
 
   -- one more, which may have been stopped too
-  pub added-next : {n i sum : ℕ} (x : ℕ) → Added f n i sum → i < n → min x most ≡ min (f i) most → Added f n (i + 1) (min (sum + x) most)
+  pub added-next : {n i sum : ℕ} (x : ℕ) → PartSum f n i sum → i < n → min x most ≡ min (f i) most → PartSum f n (i + 1) (min (sum + x) most)
   added-next {n} {i} {sum} x A h e = record { within = omega arith; same = rw add-one (omega (arith, A .same, sum-suc f i, e)) }
 
-  pub added-all : {n i sum : ℕ} → Added f n i sum → n ≤ i → sum ≡ min (sumUp n f) most
+  pub added-all : {n i sum : ℕ} → PartSum f n i sum → n ≤ i → sum ≡ min (sumUp n f) most
   added-all {n} {i} A h = let e : i ≡ n = omega (arith, A .within) in A .same ∙ ap (λ (k : ℕ). min (sumUp k f) most) e
 
 -- ---- the loops
 
 -- one loop more: s is loop k
-pub loop-added : (o : Outline) (size : Float) {n k sum : ℕ} (s : List Float) (parts : ℕ) → Added (loopNodes o size) (suc n) k sum → k ≤ n
-    → s ≡ loopAt o k → parts ≡ min (loopParts size s) most → Added (loopNodes o size) (suc n) (k + 1) (min (sum + evenUp parts) most)
+pub loop-added : (o : Outline) (size : Float) {n k sum : ℕ} (s : List Float) (parts : ℕ) → PartSum (loopNodes o size) (suc n) k sum → k ≤ n
+    → s ≡ loopAt o k → parts ≡ min (loopParts size s) most → PartSum (loopNodes o size) (suc n) (k + 1) (min (sum + evenUp parts) most)
 unfolding loopNodes
 loop-added o size {n} {k} s parts A h p e =
     added-next (loopNodes o size) (evenUp parts) A (omega arith) (omega (arith, e ∙ ap (λ (l : List Float). min (loopParts size l) most) p))

@@ -31,8 +31,8 @@ withNodes st xs ys next prev n =
     }
 
 -- the state with these n edges, each of them on the front
-abbrev pub withEdges : State → List ℕ → List ℕ → List ℕ → ℕ → State
-withEdges st next prev edges n =
+abbrev pub withFrontEdges : State → List ℕ → List ℕ → List ℕ → ℕ → State
+withFrontEdges st next prev edges n =
     record {
       xs = st .xs;
       ys = st .ys;
@@ -45,8 +45,8 @@ withEdges st next prev edges n =
     }
 
 -- a state between two loops: n nodes, as many edges, each of them on the front, and no quad
-abbrev pub between : List ℕ → List ℕ → List Float → List Float → List ℕ → List ℕ → List ℕ → ℕ → State
-between snapshot quads xs ys next prev edges n =
+abbrev pub betweenLoops : List ℕ → List ℕ → List Float → List Float → List ℕ → List ℕ → List ℕ → ℕ → State
+betweenLoops snapshot quads xs ys next prev edges n =
     stateOf xs ys next prev snapshot quads edges (counted n 0 n n)
 
 -- ---- what the code asks

@@ -21,7 +21,7 @@ use Rattle.front.specs.Sampling.{edgeLength, longestTurn, longestEdge, ringOf, 
 use Rattle.sampled.specs.Cuts.{cuts-least}
 use Rattle.sampled.specs.Rings.{longest-in}
 use Rattle.boundary.specs.Counting.{evenUp}
-use Rattle.boundary.specs.Laying.{between, NodeRoom, NodesFrom, RingFits, LoopRoom, linkRing, layLoop}
+use Rattle.boundary.specs.Laying.{betweenLoops, NodeRoom, NodesFrom, RingFits, LoopRoom, linkRing, layLoop}
 
 -- ---- room
 
@@ -202,5 +202,5 @@ laid k s size st t t′ t″ r a b c d =
 
 -- as many edges as nodes
 pub as-many : (snapshot quads : List ℕ) (xs ys : List Float) (next prev edges : List ℕ) {n m : ℕ} → n ≡ m
-    → between snapshot quads xs ys next prev edges n ≡ stateOf xs ys next prev snapshot quads edges (counted n 0 m m)
+    → betweenLoops snapshot quads xs ys next prev edges n ≡ stateOf xs ys next prev snapshot quads edges (counted n 0 m m)
 as-many snapshot quads xs ys next prev edges {n} e = ap (λ (k : ℕ). stateOf xs ys next prev snapshot quads edges (counted n 0 k k)) e

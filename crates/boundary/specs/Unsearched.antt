@@ -29,7 +29,7 @@ use Rattle.sampled.specs.Rings.{ring-in, ring-differ, ring-longest}
 use Rattle.sampled.specs.Joins.{join, OnlyLinked, Joinable, join-is, join-one, next-joined}
 use Rattle.sampled.specs.Laid.{Laid, linked-pushed, off-pushed}
 use Rattle.sampled.specs.Turn.{splitPoints, split-count, split-pushed, turn-sampled, sampled-count, cuts-three}
-use Rattle.sampled.specs.Begun.{Places, stateAt, loopsAt, ready, fits}
+use Rattle.sampled.specs.Begun.{Places, stateAt, loopsAt, turn-ready, turn-fits}
 use Rattle.sampled.specs.Outlines.{Threes}
 use Rattle.boundary.specs.Laying.{linkTurn, linkRing, layLoop}
 
@@ -48,7 +48,7 @@ pub record Unlinked (n : ℕ) (r : Ring) (st : State) : Type 0 where
   pub known : Known st
 
 -- i edges of the ring have been added to st, and s is left: the ids from i on have no links
-record Joined (r : Ring) (st : State) (i : ℕ) (s : State) : Type 0 where
+record RingJoined (r : Ring) (st : State) (i : ℕ) (s : State) : Type 0 where
   pub frame : Frame st s
   pub nodes : s .counts .nodes ≡ st .counts .nodes
   pub edges : s .counts .edges ≡ st .counts .edges + i
@@ -66,7 +66,7 @@ module _ {n : ℕ} (r : Ring) (st : State) (U : Unlinked n r st) where
       by true e = ltb-true (i + 1) (ringCount r) e
       by false e = omega arith
 
-  module _ (i : ℕ) (s : State) (h : i < ringCount r) (J : Joined r st i s) where
+  module _ (i : ℕ) (s : State) (h : i < ringCount r) (J : RingJoined r st i s) where
     -- the next id is not linked to id i
     one-way : nextOf s (ringAt r (after (ringCount r) i)) ≢ ringAt r i
     one-way = by (ltb (i + 1) (ringCount r)) refl
@@ -101,7 +101,7 @@ module _ {n : ℕ} (r : Ring) (st : State) (U : Unlinked n r st) where
           known = J .known;
         }
 
-    joined-next : Joined r st (suc i) (joinTurn r i s)
+    joined-next : RingJoined r st (suc i) (joinTurn r i s)
     unfolding forUp
     joined-next =
         let u = ringAt r i in
@@ -129,7 +129,7 @@ module _ {n : ℕ} (r : Ring) (st : State) (U : Unlinked n r st) where
   pub ring-unsearched : joinRing r st ≡ linkRing r st
   unfolding joinRing linkRing forUp
   ring-unsearched =
-      forUp-keeps (Joined r st) (ringCount r) (joinTurn r) st
+      forUp-keeps (RingJoined r st) (ringCount r) (joinTurn r) st
       (record {
         frame = frame-same st;
         nodes = refl;
@@ -190,5 +190,5 @@ module _ (o : Outline) (size : Float) (lent : State) (three : Threes o) (P : Pla
   -- turn k, on the state that the turns before it leave
   pub unsearched : (k : ℕ) → k < loopCount o → boundaryTurn o size k (stateAt o size lent k) ≡ layLoop k (loopAt o k) size (stateAt o size lent k)
   unsearched k h =
-      let A = ready o size lent three P k (omega arith) in
-      turn-unsearched (cleared lent) o size k (stateAt o size lent k) (A .room) (fits o size lent three P k h A) (three k h) (loopsAt o size lent k) (A .laid)
+      let A = turn-ready o size lent three P k (omega arith) in
+      turn-unsearched (cleared lent) o size k (stateAt o size lent k) (A .room) (turn-fits o size lent three P k h A) (three k h) (loopsAt o size lent k) (A .laid)

@@ -12,7 +12,7 @@ ghost use Rattle.front.specs.Sampling.{partsOf, loopParts, sampledCount, sample
 ghost use Rattle.front.specs.Sampling.{signedArea, orderedAt, edgeLength, longestEdge, ringOf, ringCount, sampledAt, ringAt, midpoint, splitLongest};
 ghost use Rattle.sampled.specs.Joins.{withLink};
 ghost use Rattle.boundary.specs.Counting.{most, evenUp};
-ghost use Rattle.boundary.specs.Laying.{withNodes, withEdges, between, NodeRoom, NodesFrom, RingFits, LoopRoom, CanSample, linkRing, layLoop};
+ghost use Rattle.boundary.specs.Laying.{withNodes, withFrontEdges, betweenLoops, NodeRoom, NodesFrom, RingFits, LoopRoom, CanSample, linkRing, layLoop};
 use domain::Point;
 use domain::Settings;
 use front::Counts;
@@ -336,8 +336,8 @@ fn split_longest(
 // v comes after u, and their edge is edge e.
 fn link(next: &mut [u32], prev: &mut [u32], edges: &mut [u32], u: u32, v: u32, e: usize)
     requires { ⌜ (u < length (now next)) × (v < length (now prev)) × (2 * e + 1 < length (now edges)) ⌝ }
-    ensures { λ r. ⌜ ((st : State) → withEdges st (now (next .exit)) (now (prev .exit)) (now (edges .exit)) (e + 1)
-        ≡ withLink u v (withEdges st (now (next .entry)) (now (prev .entry)) (now (edges .entry)) e)) ⌝ }
+    ensures { λ r. ⌜ ((st : State) → withFrontEdges st (now (next .exit)) (now (prev .exit)) (now (edges .exit)) (e + 1)
+        ≡ withLink u v (withFrontEdges st (now (next .entry)) (now (prev .entry)) (now (edges .entry)) e)) ⌝ }
 {
     next[u as usize] = v;
     prev[v as usize] = u;
@@ -349,8 +349,8 @@ fn link(next: &mut [u32], prev: &mut [u32], edges: &mut [u32], u: u32, v: u32, e
 fn link_ring(r: Ring, next: &mut [u32], prev: &mut [u32], edges: &mut [u32], e: usize)
     requires { ⌜ RingFits r × (r .base + ringCount r ≤ length (now next)) × (r .base + ringCount r ≤ length (now prev))
         × (2 * (e + ringCount r) ≤ length (now edges)) ⌝ }
-    ensures { λ u. ⌜ ((st : State) → withEdges st (now (next .exit)) (now (prev .exit)) (now (edges .exit)) (e + ringCount r)
-        ≡ linkRing r (withEdges st (now (next .entry)) (now (prev .entry)) (now (edges .entry)) e)) ⌝ }
+    ensures { λ u. ⌜ ((st : State) → withFrontEdges st (now (next .exit)) (now (prev .exit)) (now (edges .exit)) (e + ringCount r)
+        ≡ linkRing r (withFrontEdges st (now (next .entry)) (now (prev .entry)) (now (edges .entry)) e)) ⌝ }
 {
     let n = ring_count(r);
     let mut i = 0;
@@ -377,9 +377,9 @@ fn lay_loop(
     requires { ⌜ LoopRoom (now s) size base (now xs) (now ys) (now next) (now prev) (now edges) ⌝ }
     ensures { λ r. ⌜ (r ≡ base + evenUp (loopParts size (now (s .entry))))
         × ((snapshot quads : List ℕ)
-        → between snapshot quads (now (xs .exit)) (now (ys .exit)) (now (next .exit)) (now (prev .exit)) (now (edges .exit)) r
+        → betweenLoops snapshot quads (now (xs .exit)) (now (ys .exit)) (now (next .exit)) (now (prev .exit)) (now (edges .exit)) r
         ≡ layLoop k (now (s .entry)) size
-        (between snapshot quads (now (xs .entry)) (now (ys .entry)) (now (next .entry)) (now (prev .entry)) (now (edges .entry)) base)) ⌝ }
+        (betweenLoops snapshot quads (now (xs .entry)) (now (ys .entry)) (now (next .entry)) (now (prev .entry)) (now (edges .entry)) base)) ⌝ }
 {
     let nodes = sample_loop(s, size, xs, ys, next, prev, base);
     let r = ring_of(k, xs, ys, base, nodes - base);

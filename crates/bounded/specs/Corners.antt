@@ -9,7 +9,7 @@ use Rattle.numbers.specs.Float.{tolerance}
 use Rattle.exact.specs.Sine.{corner-tests, side-long, sine-theorem}
 use Rattle.domain.specs.declared.Point.{Point}
 use Rattle.geometry.specs.declared.Corners.{Corners}
-use Rattle.geometry.specs.Plane.{doubledArea, cornerOk, convexCcw}
+use Rattle.geometry.specs.Plane.{doubledArea, convexAt, convexCcw}
 use Rattle.front.specs.State.{nodeIn}
 use Rattle.books.specs.Book.{Book, Quad}
 use Rattle.books.specs.Holds.{CornerHolds, QuadHolds}
@@ -23,17 +23,17 @@ pub record CornersBounded (p : Corners) : Type 0 where
 
 -- the four tests of `convex_ccw`
 record FourOk (p : Corners) : Type 0 where
-  at-a : T (cornerOk (p .c) (p .a) (p .b))
-  at-b : T (cornerOk (p .a) (p .b) (p .d))
-  at-d : T (cornerOk (p .b) (p .d) (p .c))
-  at-c : T (cornerOk (p .d) (p .c) (p .a))
+  at-a : T (convexAt (p .c) (p .a) (p .b))
+  at-b : T (convexAt (p .a) (p .b) (p .d))
+  at-d : T (convexAt (p .b) (p .d) (p .c))
+  at-c : T (convexAt (p .d) (p .c) (p .a))
 
 four-ok : (p : Corners) → T (convexCcw p) → FourOk p
 unfolding convexCcw
 four-ok p t =
-    let at-a = cornerOk (p .c) (p .a) (p .b) in
-    let at-b = cornerOk (p .a) (p .b) (p .d) in
-    let at-d = cornerOk (p .b) (p .d) (p .c) in
+    let at-a = convexAt (p .c) (p .a) (p .b) in
+    let at-b = convexAt (p .a) (p .b) (p .d) in
+    let at-d = convexAt (p .b) (p .d) (p .c) in
     let t₁ = and-r (not (le (doubledArea p) tolerance)) _ t in
     let t₂ = and-r at-a _ t₁ in
     let t₃ = and-r at-b _ t₂ in
@@ -49,7 +49,7 @@ abbrev pub cornersIn : Book → Quad → Corners
 cornersIn book q = record { a = nodeOf book (q .a); b = nodeOf book (q .b); d = nodeOf book (q .d); c = nodeOf book (q .c) }
 
 corner-holds : (book : Book) (u v w : ℕ) → Bounded (nodeOf book u) → Bounded (nodeOf book v) → Bounded (nodeOf book w)
-    → T (cornerOk (nodeOf book u) (nodeOf book v) (nodeOf book w)) → CornerHolds book u v w
+    → T (convexAt (nodeOf book u) (nodeOf book v) (nodeOf book w)) → CornerHolds book u v w
 unfolding nodeIn
 corner-holds book u v w at-u at-v at-w t =
     let a = at-u .within in

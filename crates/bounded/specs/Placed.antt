@@ -37,7 +37,7 @@ use Rattle.books.specs.Book.{Book, Quad, quadAt}
 use Rattle.books.specs.Matches.{Matches}
 use Rattle.books.specs.BookLaws.{frame-quad}
 use Rattle.books.specs.Holds.{QuadHolds}
-use Rattle.books.specs.Step.{step}
+use Rattle.books.specs.Step.{answered-step}
 use Rattle.bounded.specs.Point.{Bounded}
 use Rattle.bounded.specs.Corners.{CornersBounded, nodeOf, cornersIn, quad-holds}
 use Rattle.bounded.specs.Nodes.{AllNodes, IfNew, Roomy, place-nodes}
@@ -142,7 +142,7 @@ module _ (o : Outline) (fits : OutlineFits o) (taken : outlineRefusal o ≡ 0) w
   pub placement-bounded : {n : ℕ} {ls : List (List ℕ)} {size : Float} {s : State} {a b : ℕ} {c d : Corner} → Sound n s ls → AllNodes Bounded s
       → Placement o size s a b c d → CornersBounded (cornersOf s a b c d)
   placement-bounded {n} {ls} {size} {s} {a} {b} {c} {d} S h P =
-      let T = step n s ls o size a b c d S P in
+      let T = answered-step n s ls o size a b c d S P in
       let after = place-bounded P h in
       record {
         a = h a (T .node-a);
@@ -160,7 +160,7 @@ module _ (o : Outline) (fits : OutlineFits o) (taken : outlineRefusal o ≡ 0) w
   pub matched-holds : {n : ℕ} {ls ms : List (List ℕ)} {size : Float} {s t : State} {a b : ℕ} {c d : Corner} → Sound n s ls → AllNodes Bounded s
       → Placement o size s a b c d → Frame (place a b c d s) t → (book : Book) → Matches t ms book → QuadHolds book (quadAt t (s .counts .quads))
   matched-holds {n} {ls} {ms} {size} {s} {t} {a} {b} {c} {d} S h P F book M =
-      let T = step n s ls o size a b c d S P in
+      let T = answered-step n s ls o size a b c d S P in
       let u = place a b c d s in
       let is = frame-quad u t F (s .counts .quads) (omega (arith, T .quads)) ∙ T .quad in
       let at-a = later a (omega (arith, T .node-a, T .nodes)) ∙ frame-node s u (T .frame) a (T .node-a) in

@@ -12,7 +12,7 @@ use lib.Ieee.{Float, nan, binary64, fits, le, ofBits}
 use borrow.Author.Tests.{eqb-true, eqb-false, eq-eqb, ne-eqb, leb-true, leb-false, le-leb, lt-leb, not-false}
 use Rattle.laws.specs.Tests.{both, neither}
 use Rattle.numbers.specs.Float.{isFinite, absF}
-use Rattle.exact.specs.Units.{W, Val, signOf, sizeOf, val-of, abs-val, Within, within}
+use Rattle.exact.specs.Units.{W, Val, signOf, sizeOf, val-of, abs-val, Within, within-of}
 use Rattle.exact.specs.Order.{le-val}
 use Rattle.domain.specs.Accepted.{AllFit}
 use Rattle.direction.specs.Direction as direction
@@ -24,8 +24,8 @@ use Rattle.nearest_step.specs.Step.{nearestStep}
 use Rattle.nearest_step.specs.StepLaws.{step-near}
 use Rattle.bowl.specs.declared.StepsAnswer.{StepsAnswer}
 use Rattle.bowl.specs.Steps.{stepsGiven, meshUnstepped, lowestHidden, stepsAnswer, storedSteps, stepsLeft}
-use Rattle.bowl.specs.Stepped.{NodeWithin, NodesWithin, QuadsWithin, Near, MeshStepped}
-use Rattle.bowl.specs.StepsLaws.{stored-x, stored-y, stored-past}
+use Rattle.bowl.specs.Stepped.{NodeWithin, NodesWithin, QuadsWithin, NearStep, MeshStepped}
+use Rattle.bowl.specs.StepsLaws.{stored-x, stored-y, stored-steps-past}
 
 -- ---- coordinates
 
@@ -41,7 +41,7 @@ coordinate-within x t e =
     let finite : T (isFinite x) = rw (passes .0) tt in
     let size = abs-val x (signOf x) (sizeOf x) (val-of x finite t) in
     let under = le-val (absF x) farthestNode false false (sizeOf x) (1001 * W) size farthest-val .0 (rw (passes .1) tt) in
-    within 1001 x t finite (leb→le (sizeOf x) (1001 * W) (under .le))
+    within-of 1001 x t finite (leb→le (sizeOf x) (1001 * W) (under .le))
 
 -- ---- a mesh that passes
 
@@ -98,7 +98,7 @@ given-passes s places = by (eqb (meshRefusal s) 0) refl (leb (2 * s .counts .nod
 
 -- ---- the entry
 
-near-of : (x : Float) (z : ℤ) → z ≡ nearestStep x → Near x z
+near-of : (x : Float) (z : ℤ) → z ≡ nearestStep x → NearStep x z
 near-of x z e = rw e (step-near x)
 
 module _ (s : State) (lent : List ℤ) (r : StepsAnswer) (answer : r ≡ stepsAnswer s (length lent)) where
@@ -115,7 +115,7 @@ module _ (s : State) (lent : List ℤ) (r : StepsAnswer) (answer : r ≡ stepsAn
               near-of _ _ (ap (λ (l : List ℤ). getD l (2 * i) (pos 0)) e ∙ stored-x (s .xs) (s .ys) lent n enough i h),
               near-of _ _ (ap (λ (l : List ℤ). getD l (2 * i + 1) (pos 0)) e ∙ stored-y (s .xs) (s .ys) lent n enough i h),
             );
-        past = ap (drop (2 * n)) e ∙ stored-past (s .xs) (s .ys) lent n enough;
+        past = ap (drop (2 * n)) e ∙ stored-steps-past (s .xs) (s .ys) lent n enough;
         unwritten = λ some. absurd (some none);
       }
 

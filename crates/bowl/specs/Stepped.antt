@@ -50,8 +50,8 @@ pub record QuadsWithin (xs ys : List Float) (quads : List ℕ) (n : ℕ) : Type 
 -- ---- the entry
 
 -- 128 times the way from a coordinate to its step is at most 1: W units make 1
-abbrev pub Near : Float → ℤ → Type 0
-Near x step = (natAbs (pos 128 *ℤ units x -ℤ pos (2 * W) *ℤ step) ≤ W)
+abbrev pub NearStep : Float → ℤ → Type 0
+NearStep x step = (natAbs (pos 128 *ℤ units x -ℤ pos (2 * W) *ℤ step) ≤ W)
 
 -- the mesh s and a step buffer were lent, r is answered and the buffer left
 pub record MeshStepped (s : State) (lent : List ℤ) (r : StepsAnswer) (left : List ℤ) : Type 0 where
@@ -59,7 +59,7 @@ pub record MeshStepped (s : State) (lent : List ℤ) (r : StepsAnswer) (left : L
   pub steps : left ≡ stepsLeft s r lent
   -- no node moves by more than 1/128 in either coordinate
   pub near : r .refusal ≡ 0 → (i : ℕ) → i < s .counts .nodes
-      → Near (getD (s .xs) i nan) (getD left (2 * i) (pos 0)) × Near (getD (s .ys) i nan) (getD left (2 * i + 1) (pos 0))
+      → NearStep (getD (s .xs) i nan) (getD left (2 * i) (pos 0)) × NearStep (getD (s .ys) i nan) (getD left (2 * i + 1) (pos 0))
   -- places past the nodes' keep their contents, and on a refusal all do
   pub past : drop (2 * s .counts .nodes) left ≡ drop (2 * s .counts .nodes) lent
   pub unwritten : (r .refusal ≡ 0 → ⊥) → left ≡ lent

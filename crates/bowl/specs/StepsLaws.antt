@@ -239,6 +239,6 @@ module _ (xs ys : List Float) (lent : List ℤ) (n : ℕ) (room : 2 * n ≤ leng
   unfolding storedSteps
   stored-y i h = up-to n (omega arith) .y-at i h
 
-  pub stored-past : drop (2 * n) (storedSteps xs ys n lent) ≡ drop (2 * n) lent
+  pub stored-steps-past : drop (2 * n) (storedSteps xs ys n lent) ≡ drop (2 * n) lent
   unfolding storedSteps
-  stored-past = up-to n (omega arith) .past
+  stored-steps-past = up-to n (omega arith) .past

@@ -15,7 +15,7 @@ use Rattle.front.specs.State.{State, node, nextOf, nodePlaces, edgePlaces}
 use Rattle.front.specs.Sampling.{sampledCount, frontRefusal, fromBoundary}
 use Rattle.front.specs.FrameLaws.{frame-node}
 use Rattle.paving.specs.declared.End.the-variants.{Full}
-use Rattle.paving.specs.Advance.{Paved}
+use Rattle.paving.specs.Advance.{EndedPaving}
 use Rattle.whole_run.specs.Run.{runRefusal, runOf}
 use Rattle.books.specs.Book.{quadAt}
 use Rattle.books.specs.BookLaws.{frame-quad}
@@ -47,7 +47,7 @@ pub record SameAnswer (s t : State) : Type 0 where
   pub next : (u : ℕ) → nextOf t u ≡ nextOf s u
 
 -- two runs end the same way with the same answer, or the first is full and stopped on the way of the second
-pub data Agreement (r e : Paved) : Type 0 where
+pub data Agreement (r e : EndedPaving) : Type 0 where
   same : e .end ≡ r .end → SameAnswer (r .state) (e .state) → Agreement r e
   full : r .end ≡ Full → BeginsWith (r .state) (e .state) → Agreement r e
 
@@ -76,7 +76,7 @@ begins-behind o size field n s t B =
       answered = λ k h. frame-quad (B .there) t F k (omega (arith, A .quads)) ∙ A .answered k h;
     }
 
-agreement : (o : Outline) (size : Float) (field : FieldRecord) (n : ℕ) (r e : Paved) → RunsAgree o size field n r e → Agreement r e
+agreement : (o : Outline) (size : Float) (field : FieldRecord) (n : ℕ) (r e : EndedPaving) → RunsAgree o size field n r e → Agreement r e
 agreement o size field n r e (lockstep.same p W) = same p (same-answer n (r .state) (e .state) W)
 agreement o size field n r e (lockstep.full p B) = full p (begins-behind o size field n (r .state) (e .state) B)
 

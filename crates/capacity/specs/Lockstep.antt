@@ -16,7 +16,7 @@ use Rattle.paving.specs.declared.Attempt.{Attempt}
 use Rattle.paving.specs.declared.Attempt.the-variants.{Nothing, Quad}
 use Rattle.paving.specs.declared.End.the-variants.{Still, Passes, Cap, Full}
 use Rattle.paving.specs.Attempt.{tryEdge}
-use Rattle.paving.specs.Advance.{Paved, paved, Passing, passing, Passed, mostQuads, afterQuad, settle, isThere, passTurn, afterPass, pass}
+use Rattle.paving.specs.Advance.{EndedPaving, paved, Passing, passing, Passed, mostQuads, afterQuad, settle, isThere, passTurn, afterPass, pass}
 use Rattle.paving.specs.Advance.{withSnapshot, mostPasses, passesTurn, allUsed, advance}
 use Rattle.paving.specs.Reach.{Placement, begin, placed}
 use Rattle.paving.specs.ReachLaws.{Reached, AtPassing, AtPassed, AtEnd, turn-kept, pass-kept, tried}
@@ -53,14 +53,14 @@ module _ (o : Outline) (size : Float) (field : FieldRecord) (n : ℕ) where
   data InStep (m : ℕ) : Turn Passing Passed → Turn Passing Passed → Type 0 where
     both : {p q : Passing} → q .placed ≡ p .placed → Twins n (p .state) (q .state) → SnapshotsAgree m (p .state) (q .state)
         → InStep m (go p) (go q)
-    ended : {r e : Paved} → e .end ≡ r .end → Twins n (r .state) (e .state) → InStep m (out (out r)) (out (out e))
-    full : {r : Paved} {y : Turn Passing Passed} → r .end ≡ Full → Behind (r .state) (stateIn y) → InStep m (out (out r)) y
+    ended : {r e : EndedPaving} → e .end ≡ r .end → Twins n (r .state) (e .state) → InStep m (out (out r)) (out (out e))
+    full : {r : EndedPaving} {y : Turn Passing Passed} → r .end ≡ Full → Behind (r .state) (stateIn y) → InStep m (out (out r)) y
 
   -- between passes
   pub data Agree : Passed → Passed → Type 0 where
     both : {u v : State} → Twins n u v → Agree (go u) (go v)
-    ended : {r e : Paved} → e .end ≡ r .end → Twins n (r .state) (e .state) → Agree (out r) (out e)
-    full : {r : Paved} {y : Passed} → r .end ≡ Full → Behind (r .state) (passedState y) → Agree (out r) y
+    ended : {r e : EndedPaving} → e .end ≡ r .end → Twins n (r .state) (e .state) → Agree (out r) (out e)
+    full : {r : EndedPaving} {y : Passed} → r .end ≡ Full → Behind (r .state) (passedState y) → Agree (out r) y
 
   -- ---- the second run alone
 
@@ -204,7 +204,7 @@ module _ (o : Outline) (size : Float) (field : FieldRecord) (n : ℕ) where
       full e (record { there = B .there; twins = B .twins; onward = pass-on (B .there) i y (B .onward) })
 
   -- two runs of at most k passes
-  pub data RunsAgree (r e : Paved) : Type 0 where
+  pub data RunsAgree (r e : EndedPaving) : Type 0 where
     same : e .end ≡ r .end → Twins n (r .state) (e .state) → RunsAgree r e
     full : r .end ≡ Full → Behind (r .state) (e .state) → RunsAgree r e
 

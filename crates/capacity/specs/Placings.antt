@@ -13,7 +13,7 @@ use borrow.Author.Tests.{eqb-true, eqb-false, ltb-true, ltb-false}
 use Rattle.domain.specs.declared.Point.{Point}
 use Rattle.domain.specs.Outline.{Outline}
 use Rattle.topology.specs.Sums.{frontSum}
-use Rattle.topology.specs.Changes.{removed, added}
+use Rattle.topology.specs.Changes.{removedSum, addedSum}
 use Rattle.front.specs.declared.Corner.{Corner}
 use Rattle.front.specs.declared.Corner.the-variants.{Reused, Fresh}
 use Rattle.front.specs.State.{State, node, nextOf, hasEdge, edgePlaces, pushNode, pushQuad, pushEdge, addEdge, addFront, removeFront}
@@ -26,7 +26,7 @@ use Rattle.paving.specs.AttemptLaws.{quad-chosen}
 use Rattle.paving.specs.Reach.{Placement}
 use Rattle.books.specs.Book.{Quad, quadAt}
 use Rattle.books.specs.BookLaws.{frame-quad}
-use Rattle.books.specs.Step.{Stepped, step}
+use Rattle.books.specs.Step.{Stepped, answered-step}
 use Rattle.capacity.specs.Alike.{EdgesAlike, Alike, add-alike}
 use Rattle.capacity.specs.Attempts.{ReadsAlike, reads-alike, in-c, in-d, point-alike, id-c, id-d}
 
@@ -164,10 +164,10 @@ new-id (Fresh x y) (Fresh z w) n id h g = by (eqb id n) refl
 module _ (n : ℕ) (s t : State) (ls ms : List (List ℕ)) (S : Sound n s ls) (T : Sound n t ms) (A : Alike s t ls ms) (o : Outline) (size : Float)
     (a b : ℕ) (c d : Corner) (P : Placement o size s a b c d) (Q : Placement o size t a b c d) where
   abbrev X : Stepped n s ls a b c d (place a b c d s)
-  X = step n s ls o size a b c d S P
+  X = answered-step n s ls o size a b c d S P
 
   abbrev Z : Stepped n t ms a b c d (place a b c d t)
-  Z = step n t ms o size a b c d T Q
+  Z = answered-step n t ms o size a b c d T Q
 
   R : ReadsAlike s t
   R = reads-alike n s t ls ms S T A

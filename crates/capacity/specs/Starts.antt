@@ -21,7 +21,7 @@ use Rattle.sampled.specs.Cuts.{loopCuts, cuts-length, cuts-least}
 use Rattle.sampled.specs.Rings.{ring-longest, after-in, ring-in, ids-length}
 use Rattle.sampled.specs.Turn.{splitPoints, turnPoints, turn-sampled, turn-length}
 use Rattle.sampled.specs.Outlines.{Threes}
-use Rattle.sampled.specs.Begun.{Begun, Places, refusal-places, stateAt, Ready, ready, fits, turn-at, begun-in}
+use Rattle.sampled.specs.Begun.{Begun, Places, refusal-places, stateAt, TurnReady, turn-ready, turn-fits, turn-at, begun-in}
 use Rattle.sampled.specs.Same.{turn-same, same-at, same-start}
 use Rattle.capacity.specs.Alike.{EdgesAlike, Alike, add-alike}
 use Rattle.capacity.specs.Placings.{SameEdges, same-trans, either, same-add, alike-same, alike-more, Longer, longer}
@@ -105,12 +105,12 @@ module _ (o : Outline) (size : Float) (a b : State) (three : Threes o) (A : Plac
     abbrev ring : Ring
     ring = ringIn k (before .counts .nodes) cutLoop
 
-    R : Ready o size lent k
-    R = ready o size lent three P k (omega arith)
+    R : TurnReady o size lent k
+    R = turn-ready o size lent three P k (omega arith)
 
     same : SameEdges before (splitLongest ring cutLoop)
     same =
-        let S = turn-sampled (cleared lent) o size k before (R .room) (fits o size lent three P k h R) in
+        let S = turn-sampled (cleared lent) o size k before (R .room) (turn-fits o size lent three P k h R) in
         same-trans (record { list = S .edges; number = S .edgeCount; snapshot = S .snapshot }) (split-edges ring cutLoop)
 
     joined : later ≡ forUp (ringCount ring) (joinTurn ring) (splitLongest ring cutLoop)
@@ -120,14 +120,14 @@ module _ (o : Outline) (size : Float) (a b : State) (three : Threes o) (A : Plac
     room : 2 * forUp (ringCount ring) (joinTurn ring) (splitLongest ring cutLoop) .counts .edges ≤ length (splitLongest ring cutLoop .edges)
     room =
         let T = turn-at o size lent three P k h R in
-        let long = turn-length (cleared lent) o size k before (R .room) (fits o size lent three P k h R) (three k h) in
+        let long = turn-length (cleared lent) o size k before (R .room) (turn-fits o size lent three P k h R) (three k h) in
         omega (
           arith,
           ap (λ (u : State). u .counts .edges) joined,
           T .laid .edgeCount,
           T .count,
           long,
-          fits o size lent three P k h R,
+          turn-fits o size lent three P k h R,
           R .room .edges,
           ap length (same .list),
         )
@@ -136,7 +136,7 @@ module _ (o : Outline) (size : Float) (a b : State) (three : Threes o) (A : Plac
     unfolding ringOf turnPoints
     inside i g =
         let l = loopAt o k in
-        let S = turn-sampled (cleared lent) o size k before (R .room) (fits o size lent three P k h R) in
+        let S = turn-sampled (cleared lent) o size k before (R .room) (turn-fits o size lent three P k h R) in
         let T = turn-at o size lent three P k h R in
         let some : 0 < cutLoop .counts .nodes - before .counts .nodes =
         omega (arith, S .count, cuts-length size l, cuts-least size l, three k h) in

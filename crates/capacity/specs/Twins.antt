@@ -23,7 +23,7 @@ use Rattle.paving.specs.Attempt.{tryEdge}
 use Rattle.paving.specs.Advance.{isThere, withSnapshot}
 use Rattle.paving.specs.Reach.{Placement}
 use Rattle.books.specs.Book.{quadAt}
-use Rattle.books.specs.Step.{step}
+use Rattle.books.specs.Step.{answered-step}
 use Rattle.books.specs.Snapshot.{snapshot-frame, snapshot-sound}
 use Rattle.books_hold.specs.EndLaws.{copied-at}
 use Rattle.capacity.specs.Alike.{EdgesAlike, Alike, next-alike, edges-has}
@@ -127,8 +127,8 @@ module _ (n : ℕ) (s t : State) (W : Twins n s t) where
   pub place-twins : (o : Outline) (size : Float) (a b : ℕ) (c d : Corner) → Placement o size s a b c d → Placement o size t a b c d
       → Twins n (place a b c d s) (place a b c d t)
   place-twins o size a b c d P Q =
-      let X = step n s (W .ls) o size a b c d (W .first) P in
-      let Z = step n t (W .ms) o size a b c d (W .second) Q in
+      let X = answered-step n s (W .ls) o size a b c d (W .first) P in
+      let Z = answered-step n t (W .ms) o size a b c d (W .second) Q in
       record {
         ls = X .loops;
         ms = Z .loops;

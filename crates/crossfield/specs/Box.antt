@@ -98,8 +98,8 @@ ends low high (inl e) h t = absurd (true≢false (sym (le-top high h) ∙ subst 
 ends low high (inr l) (inl e) t = absurd (true≢false (sym (bottom-le low l) ∙ subst (λ (z : Float). le z low ≡ false) e t))
 ends low high (inr l) (inr h) t = (l, h)
 
-pub side : (low high : Float) → Within 1000 low → Within 1000 high → Within 4000 (high ⊖ low)
-side low high l h = sum-within 2000 (sub-law h l tt tt) (double (h .size) (l .size) W (h .small) (l .small))
+pub box-side : (low high : Float) → Within 1000 low → Within 1000 high → Within 4000 (high ⊖ low)
+box-side low high l h = sum-within 2000 (sub-law h l tt tt) (double (h .size) (l .size) W (h .small) (l .small))
   where
     double : (a b w : ℕ) → a ≤ 1000 * w → b ≤ 1000 * w → a + b ≤ 2000 * w
     double a b w h l = omega arith
@@ -120,4 +120,4 @@ box o held a e =
     (cond-zero (le (b .xmax) (b .xmin) || le (b .ymax) (b .ymin)) 6 0 e .0) in
     let x = ends (b .xmin) (b .xmax) (boxed .xmin) (boxed .xmax) (two .0) in
     let y = ends (b .ymin) (b .ymax) (boxed .ymin) (boxed .ymax) (two .1) in
-    record { xmin = x .0; ymin = y .0; width = side (b .xmin) (b .xmax) (x .0) (x .1); height = side (b .ymin) (b .ymax) (y .0) (y .1) }
+    record { xmin = x .0; ymin = y .0; width = box-side (b .xmin) (b .xmax) (x .0) (x .1); height = box-side (b .ymin) (b .ymax) (y .0) (y .1) }

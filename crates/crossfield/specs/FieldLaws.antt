@@ -70,17 +70,17 @@ drawn-is o size doubles held = by (outlineRefusal o) refl (sizeRefusal size) ref
         rw (le-ltb mostFieldNodes (gridNodes (gridOf (bounds o) size)) (few o size (bounds o) doubles held e f refl g)) refl
 
 -- room for each node in both lists
-pub room-for : (g : Grid) (floats bytes : ℕ) → gridNodes g ≤ min (floats / 2) bytes → FieldRoom (g .nx) (g .ny) floats bytes
-room-for g floats bytes h = record {
+pub field-room-for : (g : Grid) (floats bytes : ℕ) → gridNodes g ≤ min (floats / 2) bytes → FieldRoom (g .nx) (g .ny) floats bytes
+field-room-for g floats bytes h = record {
   values = let e = mul-comm (g .nx) (g .ny) in omega arith;
   marks =
       let e = mul-comm (g .nx) (g .ny) in omega arith;
 }
 
 -- and each side is short
-pub sides : (b : Bounds) (size : Float) → (2 ≤ gridOf b size .nx) × (2 ≤ gridOf b size .ny)
+pub grid-sides : (b : Bounds) (size : Float) → (2 ≤ gridOf b size .nx) × (2 ≤ gridOf b size .ny)
 unfolding gridOf
-sides b size = (count-pos (b .xmax ⊖ b .xmin) h, count-pos (b .ymax ⊖ b .ymin) h)
+grid-sides b size = (count-pos (b .xmax ⊖ b .xmin) h, count-pos (b .ymax ⊖ b .ymin) h)
   where
     h : Float
     h = spacing (b .xmax ⊖ b .xmin) (b .ymax ⊖ b .ymin) (halfF ⊗ size)
@@ -89,7 +89,7 @@ pub short-sides : (b : Bounds) (size : Float) (g : Grid) → g ≡ gridOf b size
     → (g .nx ≤ mostFieldNodes) × (g .ny ≤ mostFieldNodes)
 short-sides b size g e h =
     subst (λ (g : Grid). (g .nx ≤ mostFieldNodes) × (g .ny ≤ mostFieldNodes)) (sym e)
-    (let two = sides b size in
+    (let two = grid-sides b size in
     let w = gridOf b size .nx in
     let n = gridOf b size .ny in
     (wide w n (two .1) h, high w n (two .0) h))
@@ -110,7 +110,7 @@ few-made o size n places {b} doubles held none same =
 pub room-made : (o : Outline) (size : Float) (n floats bytes : ℕ) {b : Bounds} {g : Grid} → refusalFor o size n (min (floats / 2) bytes) ≡ 0
     → b ≡ bounds o → g ≡ gridOf b size → FieldRoom (g .nx) (g .ny) floats bytes
 room-made o size n floats bytes {b} {g} none same made =
-    room-for g floats bytes
+    field-room-for g floats bytes
     (le-trans (le-of-eq (ap gridNodes (made ∙ ap (λ (b : Bounds). gridOf b size) same)))
     (field-unrefused o size n (min (floats / 2) bytes) none .room))
 

@@ -29,7 +29,7 @@ use Rattle.crossfield.specs.Seeds.{seeded}
 use Rattle.crossfield.specs.Field.{fieldPlaces, fieldRefusal, fieldOf}
 use Rattle.crossfield.specs.Box.{Box, box}
 use Rattle.crossfield.specs.Spacing.{GrownSpacing, spacing-held, start-size}
-use Rattle.crossfield.specs.FieldLaws.{field-unrefused, few-made, sides}
+use Rattle.crossfield.specs.FieldLaws.{field-unrefused, few-made, grid-sides}
 use Rattle.crossfield.specs.Unit.{Most}
 use Rattle.crossfield.specs.Sound.{seeds-sound, SoundList, sweeps-sound}
 
@@ -135,7 +135,7 @@ field-handed o size n f held double none values marks =
     let g = gridOf b size in
     let u = field-unrefused o size n (fieldPlaces f) none in
     let a = accepted o (u .outline) in
-    let two = sides b size in
+    let two = grid-sides b size in
     let turned = mul-comm (g .nx) (g .ny) in
     let room : 2 * (g .ny * g .nx) ≤ 2 * gridNodes g = le-of-eq (ap (λ (z : ℕ). 2 * z) (sym turned)) in
     let s = seeds-sound o held a g (2 * gridNodes g) (gridNodes g) room f values marks in

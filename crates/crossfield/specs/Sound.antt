@@ -21,7 +21,8 @@ use Rattle.domain.specs.declared.Near.{Near}
 use Rattle.domain.specs.Outline.{Outline, holeAt, points, point, pointAt, pointAfter}
 use Rattle.domain.specs.Queries.{pointSegmentDistance, near, nowhere, nearer, segmentTurn, nearestInLoop, holeTurn, nearestSegment}
 use Rattle.domain.specs.Accepted.{OutlineFits, PointWithin, Accepted, LoopWithin, after-within}
-use Rattle.geometry.specs.Plane.{norm, tangent}
+use Rattle.exact.specs.Corner.{norm}
+use Rattle.geometry.specs.Plane.{tangent}
 use Rattle.direction.specs.declared.Grid.{Grid}
 use Rattle.direction.specs.Record.{FieldLists, nodeAt}
 use Rattle.averages.specs.Average.{plusIf, oneIf, neighbourSum, neighbourCount, normalised, average}
@@ -29,7 +30,7 @@ use Rattle.sweeps.specs.Sweeps.{SweptField, setValue, relaxed}
 use Rattle.sweeps.specs.Sweeps.{sweepNode, sweeps}
 use Rattle.averages.specs.Places.{Node, here-in, right-in, over-in}
 use Rattle.crossfield.specs.Seeds.{gridPoint, seed, seedNode, seedRow, seeded}
-use Rattle.crossfield.specs.Box.{side, outer-near, hole-near}
+use Rattle.crossfield.specs.Box.{box-side, outer-near, hole-near}
 use Rattle.crossfield.specs.Past.{sweeps-keep}
 use Rattle.crossfield.specs.Unit.{Most, most-more, most-add, UnitPair, unit-lt, unit-not-le, unit-one, unit-first, unit-second}
 use Rattle.crossfield.specs.Unit.{seed-most}
@@ -84,7 +85,7 @@ tangent-unit a b p q = pick (le (norm (b .x ⊖ a .x) (b .y ⊖ a .y)) tolerance
         → UnitPair (cond t (point oneF zeroF) (point (dx ⊘ norm dx dy) (dy ⊘ norm dx dy)) .x)
         (cond t (point oneF zeroF) (point (dx ⊘ norm dx dy) (dy ⊘ norm dx dy)) .y)
     pick true e = unit-one
-    pick false e = unit-not-le (side (a .x) (b .x) (p .x) (q .x)) (side (a .y) (b .y) (p .y) (q .y)) e
+    pick false e = unit-not-le (box-side (a .x) (b .x) (p .x) (q .x)) (box-side (a .y) (b .y) (p .y) (q .y)) e
 
 -- both coordinates within c thousandths
 record PointMost (c : ℕ) (p : Point) : Type 0 where

@@ -105,15 +105,15 @@ growth-within : Within 2 growth
 unfolding W ofBits growthUnits
 growth-within = record { sign = false; size = growthUnits; val = (refl, refl); small = lit≤ tt }
 
--- A spacing of the definition's loop after k growths: at least `least k` millionths, never below 0.004, and at most 200.
-pub least : ℕ → ℕ
-least zero = 4000
-least (suc k) = least k * 6 / 5
+-- A spacing of the definition's loop after k growths: at least `leastGrown k` millionths, never below 0.004, and at most 200.
+pub leastGrown : ℕ → ℕ
+leastGrown zero = 4000
+leastGrown (suc k) = leastGrown k * 6 / 5
 
 pub record GrownSpacing (k : ℕ) (h : Float) : Type 0 where
   pub size : ℕ
   pub val : Val h false size
-  pub low : least k * W ≤ size * 1000000
+  pub low : leastGrown k * W ≤ size * 1000000
   pub floor : 4000 * W ≤ size * 1000000
   pub high : size ≤ 200 * W
 
@@ -178,7 +178,7 @@ module _ (width height : Float) (p : Within 4000 width) (q : Within 4000 height)
 
   one-more : (k : ℕ) (h : Float) (many : Bool) → tooManyNodes width height h ≡ many → GrownSpacing k h
       → GrowthHeld (suc k) (cond many (go (h ⊗ growth)) (out h))
-  unfolding least
+  unfolding leastGrown
   one-more k h false few g = (record { size = g .size; val = g .val; low = g .floor; floor = g .floor; high = g .high }, few)
   one-more k h true many g =
       let b = g .size in
@@ -186,7 +186,7 @@ module _ (width height : Float) (p : Within 4000 width) (q : Within 4000 height)
       record {
         size = r .size;
         val = r .val;
-        low = step (least k) (least (suc k)) b (r .size) W (fifths (least k)) (g .low) (r .more);
+        low = step (leastGrown k) (leastGrown (suc k)) b (r .size) W (fifths (leastGrown k)) (g .low) (r .more);
         floor = raise b (r .size) W (g .floor) (r .more);
         high = bounded b (r .size) W (small-many h b (g .val) many) (r .twice);
       }
@@ -215,15 +215,15 @@ module _ (width height : Float) (p : Within 4000 width) (q : Within 4000 height)
 
   -- after all growths the spacing is 11 or more
   last-large : (h : Float) → GrownSpacing growths h → tooManyNodes width height h ≡ false
-  unfolding least
+  unfolding leastGrown
   last-large h g = large-few h (g .size) (g .val) (reaches W (g .size) (g .low))
     where
-      reaches : (w b : ℕ) → least growths * w ≤ b * 1000000 → 11 * w ≤ b
-      reaches w b l = let m = mul-le-mul-right w (lit≤ {m = 11000000} {n = least growths} tt) in omega arith
+      reaches : (w b : ℕ) → leastGrown growths * w ≤ b * 1000000 → 11 * w ≤ b
+      reaches w b l = let m = mul-le-mul-right w (lit≤ {m = 11000000} {n = leastGrown growths} tt) in omega arith
 
   last-held : (t : Turn Float Float) → GrowthHeld growths t
       → GrownSpacing 0 (answer (λ (h : Float). h) t) × (tooManyNodes width height (answer (λ (h : Float). h) t) ≡ false)
-  unfolding least
+  unfolding leastGrown
   last-held (go h) g = (record { size = g .size; val = g .val; low = g .floor; floor = g .floor; high = g .high }, last-large h g)
   last-held (out h) g = g
 
@@ -306,7 +306,7 @@ sized size held e =
     over w u a h l = omega arith
 
 pub start-size : (size : Float) → T (fits binary64 size) → sizeRefusal size ≡ 0 → GrownSpacing 0 (halfF ⊗ size)
-unfolding half-within least
+unfolding half-within leastGrown
 start-size size held e =
     let from = sized size held e in
     let a = from .units in

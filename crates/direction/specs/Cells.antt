@@ -29,8 +29,8 @@ more-columns w n most h t = omega (arith, mul-le-mul-left w t)
 pub more-rows : (w n most : ℕ) → most < n → 2 ≤ w → most < w * n
 more-rows w n most h t = omega (arith, mul-le-mul-right n t)
 
-pub product-small : (w n : ℕ) → w ≤ mostFieldNodes → n ≤ mostFieldNodes → w * n ≤ mostFieldNodes * mostFieldNodes
-product-small w n h t = mul-le-mul h t
+pub field-product-small : (w n : ℕ) → w ≤ mostFieldNodes → n ≤ mostFieldNodes → w * n ≤ mostFieldNodes * mostFieldNodes
+field-product-small w n h t = mul-le-mul h t
 
 -- ---- the cell of columns i and i + 1 and of rows j and j + 1
 pub corner-in : {g : Grid} {values : List Float} (i j : ℕ) → FieldLent g values → i + 2 ≤ g .nx → j + 2 ≤ g .ny

@@ -11,7 +11,7 @@ use Rattle.numbers.specs.Whole.{floorInt}
 use Rattle.domain.specs.declared.Point.{Point}
 use Rattle.domain.specs.Outline.{point, pointAt, anyFloat, firstOf, pointRefusal}
 use Rattle.domain.specs.Queries.{answerBy}
-use Rattle.geometry.specs.Plane.{norm}
+use Rattle.exact.specs.Corner.{norm}
 use Rattle.direction.specs.declared.Grid.{Grid}
 use Rattle.direction.specs.declared.Direction.{Direction}
 use Rattle.direction.specs.declared.Direction.the-variants as direction-is
@@ -56,9 +56,9 @@ recordRefusal r = cond (countsSound r && (gridSound (r .grid) && not (anyFloat v
 -- ---- the direction
 
 -- `z.clamp(0, n - 2)`: the cell of a grid with n nodes a side
-abbrev pub cellOf : ℤ → ℕ → ℕ
-cellOf (pos k) n = min k (n - 2)
-cellOf (negsuc k) n = 0
+abbrev pub gridCell : ℤ → ℕ → ℕ
+gridCell (pos k) n = min k (n - 2)
+gridCell (negsuc k) n = 0
 
 -- the four values round a point, weighed: w00·p00 + w10·p10 + w01·p01 + w11·p11
 unfoldable pub weighed : Float → Float → Float → Float → Float → Float → Float
@@ -70,8 +70,8 @@ unfoldable pub rawAt : Grid → List Float → Point → Point
 rawAt g values p =
     let fx = (p .x ⊖ g .xmin) ⊘ g .h in
     let fy = (p .y ⊖ g .ymin) ⊘ g .h in
-    let i = cellOf (floorInt fx) (g .nx) in
-    let j = cellOf (floorInt fy) (g .ny) in
+    let i = gridCell (floorInt fx) (g .nx) in
+    let j = gridCell (floorInt fy) (g .ny) in
     let tx = clampF (fx ⊖ toFloat i) zeroF oneF in
     let ty = clampF (fy ⊖ toFloat j) zeroF oneF in
     let id = nodeAt g i j in

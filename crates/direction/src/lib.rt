@@ -4,7 +4,7 @@ ghost use Prim.Native.Nat.{_+_, _≤_};
 ghost use Rattle.numbers.specs.Whole.{floorQuotient};
 ghost use Rattle.domain.specs.Outline.{anyFloat};
 ghost use Rattle.direction.specs.Record.{fieldRecord};
-ghost use Rattle.direction.specs.Direction.{within, valueUnsound, countsSound, gridSound, recordRefusal, cellOf, weighed, rawAt};
+ghost use Rattle.direction.specs.Direction.{within, valueUnsound, countsSound, gridSound, recordRefusal, gridCell, weighed, rawAt};
 ghost use Rattle.direction.specs.Direction.{scaled, half, directionOf, dot, closerOf, nearestOf, directionAt, directionRefusal};
 ghost use Rattle.direction.specs.Direction.{directionAnswer};
 ghost use Rattle.direction.specs.Cells.{FieldLent};
@@ -127,7 +127,7 @@ pub fn record_refusal(g: Grid, values: &[f64], marks: &[u8]) -> u32
 // `((d / h).floor() as i64).clamp(0, n - 2)`
 fn cell_of(d: f64, h: f64, n: usize) -> usize
     requires { ⌜ 2 ≤ n ⌝ }
-    ensures { λ r. ⌜ r ≡ cellOf (floorQuotient d h) n ⌝ }
+    ensures { λ r. ⌜ r ≡ gridCell (floorQuotient d h) n ⌝ }
     ensures { λ r. ⌜ r + 2 ≤ n ⌝ }
 {
     let z = numbers::floor_quotient(d, h);

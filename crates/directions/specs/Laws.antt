@@ -40,12 +40,12 @@ answer-same r p target e = rw e refl
 abbrev pub codeAt : Grid → List Float → List Float → List Float → ℕ → List Float
 codeAt g values ps targets i = directionFloats (pointAnswer g values (pointAt ps i) (pointAt targets i))
 
-unfoldable pub answered : Grid → List Float → List Float → List Float → List Float → List Float
-answered g values ps targets answers = strung (codeAt g values ps targets) (points ps) ++ drop (3 * points ps) answers
+unfoldable pub pointsAnswered : Grid → List Float → List Float → List Float → List Float → List Float
+pointsAnswered g values ps targets answers = strung (codeAt g values ps targets) (points ps) ++ drop (3 * points ps) answers
 
 answered-same : (r : FieldRecord) (ps targets answers : List Float) → recordRefusal r ≡ 0
-    → answered (r .grid) (r .lists .values) ps targets answers ≡ strung (floatsAt r ps targets) (points ps) ++ drop (3 * points ps) answers
-unfolding answered strung
+    → pointsAnswered (r .grid) (r .lists .values) ps targets answers ≡ strung (floatsAt r ps targets) (points ps) ++ drop (3 * points ps) answers
+unfolding pointsAnswered strung
 answered-same r ps targets answers e =
     ap (λ (l : List Float). l ++ drop (3 * points ps) answers)
     (forUp-same (points ps) _ _ [] (λ i l h. ap (λ (d : Direction). l ++ directionFloats d) (answer-same r (pointAt ps i) (pointAt targets i) e)))
@@ -64,7 +64,7 @@ floats-three (direction-is.Refused n) = refl
 floats-three (direction-is.Toward p) = refl
 
 -- the first i of n points are written in s, which was s₀
-pub record Filling (f : ℕ → List Float) (n : ℕ) (s₀ : List Float) (i : ℕ) (s : List Float) : Type 0 where
+pub record FillingPoints (f : ℕ → List Float) (n : ℕ) (s₀ : List Float) (i : ℕ) (s : List Float) : Type 0 where
   pub within : i ≤ n
   pub same : s ≡ strung f i ++ drop (3 * i) s₀
 
@@ -88,17 +88,17 @@ module _ (f : ℕ → List Float) (three : (i : ℕ) → length (f i) ≡ 3) whe
       ∙ ap (take 3) (drop-at (strung f n) (f n ++ rest) (3 * n) (strung-long n)) ∙ take-at (f n) rest 3 (three n) ∙ ap f (sym e))
       (λ less. strung-at n i (f n ++ rest) less) (eq-or-lt-of-le (le-of-suc-le-suc h))
 
-  filling-start : (n : ℕ) (s₀ : List Float) → Filling f n s₀ 0 s₀
+  filling-start : (n : ℕ) (s₀ : List Float) → FillingPoints f n s₀ 0 s₀
   unfolding strung forUp
   filling-start n s₀ = record { within = omega arith; same = refl }
 
-  module _ {n i : ℕ} {s₀ s : List Float} (w : Filling f n s₀ i s) where
+  module _ {n i : ℕ} {s₀ s : List Float} (w : FillingPoints f n s₀ i s) where
     filling-long : 3 * n ≤ length s₀ → length s ≡ length s₀
     filling-long room =
         ap length (w .same) ∙ length-append (strung f i) (drop (3 * i) s₀)
         ∙ omega (arith, strung-long i, length-drop (3 * i) s₀, w .within)
 
-    filling-next : {t : List Float} → 3 * n ≤ length s₀ → i < n → t ≡ sets s (3 * i) (f i) → Filling f n s₀ (i + 1) t
+    filling-next : {t : List Float} → 3 * n ≤ length s₀ → i < n → t ≡ sets s (3 * i) (f i) → FillingPoints f n s₀ (i + 1) t
     filling-next {t} room h e =
         let long = filling-long room in
         let start = strung f i in
@@ -129,8 +129,8 @@ pub record Fit (ps targets answers : List Float) : Type 0 where
   pub room : 3 * points ps ≤ length answers
 
 -- its invariant: i points are answered
-abbrev pub Written : Grid → List Float → List Float → List Float → List Float → ℕ → List Float → Type 0
-Written g values ps targets s₀ i s = Filling (codeAt g values ps targets) (points ps) s₀ i s
+abbrev pub PointsAnswered : Grid → List Float → List Float → List Float → List Float → ℕ → List Float → Type 0
+PointsAnswered g values ps targets s₀ i s = FillingPoints (codeAt g values ps targets) (points ps) s₀ i s
 
 module _ (g : Grid) (values ps targets s₀ : List Float) where
   abbrev f : ℕ → List Float
@@ -139,26 +139,26 @@ module _ (g : Grid) (values ps targets s₀ : List Float) where
   three : (i : ℕ) → length (codeAt g values ps targets i) ≡ 3
   three i = floats-three (pointAnswer g values (pointAt ps i) (pointAt targets i))
 
-  pub written-start : Written g values ps targets s₀ 0 s₀
-  written-start = filling-start f three (points ps) s₀
+  pub points-answered-start : PointsAnswered g values ps targets s₀ 0 s₀
+  points-answered-start = filling-start f three (points ps) s₀
 
-  module _ {i : ℕ} {s : List Float} (w : Written g values ps targets s₀ i s) (fit : Fit ps targets s₀) where
-    pub written-long : length s ≡ length s₀
-    written-long = filling-long f three w (fit .room)
+  module _ {i : ℕ} {s : List Float} (w : PointsAnswered g values ps targets s₀ i s) (fit : Fit ps targets s₀) where
+    pub points-answered-long : length s ≡ length s₀
+    points-answered-long = filling-long f three w (fit .room)
 
     -- room for one point more
-    pub written-room : i < points ps → 3 * i + 3 ≤ length s
-    written-room h = omega (arith, fit .room, written-long)
+    pub points-answered-room : i < points ps → 3 * i + 3 ≤ length s
+    points-answered-room h = omega (arith, fit .room, points-answered-long)
 
-    pub written-next : {p target : Point} {d : Direction} {t : List Float} → i < points ps → p ≡ pointAt ps i → target ≡ pointAt targets i
-        → d ≡ pointAnswer g values p target → t ≡ sets s (3 * i) (directionFloats d) → Written g values ps targets s₀ (i + 1) t
-    written-next h e u a b =
+    pub points-answered-next : {p target : Point} {d : Direction} {t : List Float} → i < points ps → p ≡ pointAt ps i → target ≡ pointAt targets i
+        → d ≡ pointAnswer g values p target → t ≡ sets s (3 * i) (directionFloats d) → PointsAnswered g values ps targets s₀ (i + 1) t
+    points-answered-next h e u a b =
         filling-next f three w (fit .room) h
         (b ∙ ap (λ (d : Direction). sets s (3 * i) (directionFloats d)) (a ∙ ap₂ (pointAnswer g values) e u))
 
-    pub written-end : points ps ≤ i → s ≡ answered g values ps targets s₀
-    unfolding answered
-    written-end h = filling-end f three w h
+    pub points-answered-end : points ps ≤ i → s ≡ pointsAnswered g values ps targets s₀
+    unfolding pointsAnswered
+    points-answered-end h = filling-end f three w h
 
 -- ---- the refusals
 
@@ -199,9 +199,9 @@ module _ (ps targets answers : List Float) where
     unfolding directionsRefusal
     lists-pass e = rw e refl
 
-    pub unrefused : directionsRefusal r ps targets answers ≡ 0 → Fit ps targets answers × (recordRefusal r ≡ 0)
+    pub directions-unrefused : directionsRefusal r ps targets answers ≡ 0 → Fit ps targets answers × (recordRefusal r ≡ 0)
     unfolding directionsRefusal
-    unrefused e =
+    directions-unrefused e =
         let parts = first-zero (cond (listsUnfit ps targets answers) 14 0) (recordRefusal r) e in
         (fit (cond-zero (listsUnfit ps targets answers) 13 0 (parts .0) .0), parts .1)
 
@@ -218,14 +218,14 @@ module _ (ps targets answers : List Float) where
         }
 
     pub given-answered : {after : List Float} → directionsRefusal r ps targets answers ≡ 0
-        → after ≡ answered (r .grid) (r .lists .values) ps targets answers → DirectionsGiven r ps targets answers 0 after
+        → after ≡ pointsAnswered (r .grid) (r .lists .values) ps targets answers → DirectionsGiven r ps targets answers 0 after
     unfolding directionsAnswer
     given-answered {after} e left =
         let n = points ps in
         let f = floatsAt r ps targets in
         let three : (i : ℕ) → length (f i) ≡ 3 = λ i. floats-three (directionAnswer r (pointAt ps i) (pointAt targets i)) in
         let rest = drop (3 * n) answers in
-        let same : after ≡ strung f n ++ rest = left ∙ answered-same r ps targets answers (unrefused e .1) in
+        let same : after ≡ strung f n ++ rest = left ∙ answered-same r ps targets answers (directions-unrefused e .1) in
         record {
           equal = rw e (ap (directionsExit 0) same);
           refused = λ no. absurd (no refl);

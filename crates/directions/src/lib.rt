@@ -6,7 +6,7 @@ ghost use lib.Seq.{sets};
 ghost use Rattle.direction.specs.Record.{fieldRecord};
 ghost use Rattle.direction.specs.Cells.{FieldLent};
 ghost use Rattle.directions.specs.Directions.{recordLent, directionFloats, listsUnfit, directionsRefusal, DirectionsGiven};
-ghost use Rattle.directions.specs.Laws.{pointAnswer, Fit, answered};
+ghost use Rattle.directions.specs.Laws.{pointAnswer, Fit, pointsAnswered};
 use direction::Direction;
 use direction::Grid;
 use domain::Point;
@@ -81,7 +81,7 @@ fn write_answer(answers: &mut [f64], k: usize, answer: Direction)
 // The answers of all points, where none of 14 and 11 refuses.
 fn write_answers(g: Grid, values: &[f64], points: &[f64], targets: &[f64], answers: &mut [f64])
     requires { ⌜ FieldLent g (now values) × Fit (now points) (now targets) (now answers) ⌝ }
-    ensures { λ r. ⌜ now (answers .exit) ≡ answered g (now (values .entry)) (now (points .entry)) (now (targets .entry)) (now (answers .entry)) ⌝ }
+    ensures { λ r. ⌜ now (answers .exit) ≡ pointsAnswered g (now (values .entry)) (now (points .entry)) (now (targets .entry)) (now (answers .entry)) ⌝ }
 {
     let n = points.len() / 2;
     let mut i = 0;

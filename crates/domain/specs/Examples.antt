@@ -73,10 +73,10 @@ pub record Names : Type 0 where
   -- and is itself answered
   pub point : name pausingFirst threeF minusOneF ≡ (0, 0)
 
-pub names : Names
+pub segment-names : Names
 unfolding nearestSegment nearestInLoop nearer pointSegmentDistance squaredDistance footOf holeStart holeAt pointAt pointAfter forUp sumUp clampF isqrtIn
     rootUnits root lt le eq add sub mul div ofBits round odd size units climb trailingZeros
-names = record {
+segment-names = record {
   corner = refl;
   across = refl;
   left = refl;

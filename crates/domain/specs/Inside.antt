@@ -11,7 +11,7 @@ use lib.ListN.{length}
 use lib.Ieee.{Float, unlike, lt}
 use Rattle.laws.specs.Tests.{both, and-true, and-false}
 use Rattle.numbers.specs.Float.{_⊕_, _⊖_, _⊗_, _⊘_, isFinite}
-use Rattle.exact.specs.Units.{W, Val, signOf, sizeOf, val-of, Within, within}
+use Rattle.exact.specs.Units.{W, Val, signOf, sizeOf, val-of, Within, within-of}
 use Rattle.exact.specs.Order.{beyond-lt}
 use Rattle.exact.specs.Blend.{slope, blend}
 use Rattle.domain.specs.declared.Point.{Point}
@@ -82,11 +82,11 @@ module _ (p : Point) (s : List Float) (w : LoopWithin s) where
       no g = absurd (true≢false (sym e ∙ g))
 
       side : Within 1000 (p .y) → (b : Bool) → leb (sizeOf (p .x)) (1001 * W) ≡ b → PointWithin 1001 1000 p
-      side Y true g = record { x = within 1001 (p .x) (f .x) (is nx) (leb-true _ _ g); y = Y }
+      side Y true g = record { x = within-of 1001 (p .x) (f .x) (is nx) (leb-true _ _ g); y = Y }
       side Y false g = no (too-far (signOf (p .x)) (sizeOf (p .x)) (val-of (p .x) (is nx) (f .x)) (leb-false _ _ g) Y)
 
       height : (b : Bool) → leb (sizeOf (p .y)) (1000 * W) ≡ b → PointWithin 1001 1000 p
-      height true g = side (within 1000 (p .y) (f .y) (is ny) (leb-true _ _ g)) (leb (sizeOf (p .x)) (1001 * W)) refl
+      height true g = side (within-of 1000 (p .y) (f .y) (is ny) (leb-true _ _ g)) (leb (sizeOf (p .x)) (1001 * W)) refl
       height false g = no (too-high (signOf (p .y)) (sizeOf (p .y)) (val-of (p .y) (is ny) (f .y)) (leb-false _ _ g))
 
 -- ---- the theorem

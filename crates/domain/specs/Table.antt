@@ -18,6 +18,6 @@ pub record Table : Type 0 where
   -- unit square: (1,1) outside
   pub upperCorner : contains unitSquare (point oneF oneF) ≡ false
 
-pub table : Table
+pub domain-table : Table
 unfolding contains pointInPolygon rayCrosses pointAt pointAfter forUp anyUp ofBits lt add sub mul div
-table = record { lowerCorner = refl; upperCorner = refl }
+domain-table = record { lowerCorner = refl; upperCorner = refl }

@@ -18,11 +18,11 @@ unfoldable pub estimateOf : ℕ → ℕ → List ℕ → QuadIds → ℕ
 estimateOf u v t q = estimate u v (thresholdAt t (q .a)) (thresholdAt t (q .b)) (thresholdAt t (q .d)) (thresholdAt t (q .c))
 
 -- the least and the greatest of its corners
-unfoldable pub leastOf : List ℕ → QuadIds → ℕ
-leastOf t q = min (min (thresholdAt t (q .a)) (thresholdAt t (q .b))) (min (thresholdAt t (q .d)) (thresholdAt t (q .c)))
+unfoldable pub leastThreshold : List ℕ → QuadIds → ℕ
+leastThreshold t q = min (min (thresholdAt t (q .a)) (thresholdAt t (q .b))) (min (thresholdAt t (q .d)) (thresholdAt t (q .c)))
 
-unfoldable pub greatestOf : List ℕ → QuadIds → ℕ
-greatestOf t q = max (max (thresholdAt t (q .a)) (thresholdAt t (q .b))) (max (thresholdAt t (q .d)) (thresholdAt t (q .c)))
+unfoldable pub greatestThreshold : List ℕ → QuadIds → ℕ
+greatestThreshold t q = max (max (thresholdAt t (q .a)) (thresholdAt t (q .b))) (max (thresholdAt t (q .d)) (thresholdAt t (q .c)))
 
 -- ---- the answer
 

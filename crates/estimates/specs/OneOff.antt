@@ -17,7 +17,7 @@ use Rattle.thresholds.specs.Figures.{noThreshold, mostThreshold, thresholdAt, s
 use Rattle.thresholds.specs.Figures.{Results, unlessRefused, refusalAt, withThreshold, enterAnswer, withdrawAnswer}
 use Rattle.thresholds.specs.Laws.{stands-means, complete-same, four-same, other-same, taken}
 use Rattle.estimates.specs.declared.EstimateAnswer.{EstimateAnswer}
-use Rattle.estimates.specs.Estimate.{estimateOf, leastOf, greatestOf, estimateRefusal, estimated, estimateAnswer}
+use Rattle.estimates.specs.Estimate.{estimateOf, leastThreshold, greatestThreshold, estimateRefusal, estimated, estimateAnswer}
 use Rattle.estimates.specs.Moves.{estimate-moves, estimate-least, estimate-greatest}
 
 -- how far two thresholds are apart
@@ -180,24 +180,24 @@ module _ (m : Mesh) (r : Results) (id k u v : ℕ) where
 
 -- BETWEEN: an estimate that is answered lies between the least and the greatest of its corners
 pub between-corners : (m : Mesh) (t : List ℕ) (k u v : ℕ) → estimateAnswer m t k u v .refusal ≡ 0
-    → (leastOf t (quadOf m k) ≤ estimateAnswer m t k u v .estimate) × (estimateAnswer m t k u v .estimate ≤ greatestOf t (quadOf m k))
-unfolding estimateAnswer estimateRefusal estimateOf leastOf greatestOf answer
+    → (leastThreshold t (quadOf m k) ≤ estimateAnswer m t k u v .estimate) × (estimateAnswer m t k u v .estimate ≤ greatestThreshold t (quadOf m k))
+unfolding estimateAnswer estimateRefusal estimateOf leastThreshold greatestThreshold answer
 between-corners m t k u v = by (leb (m .quads) k || not (isComplete (m .nodes) t q)) (ltb 256 u || ltb 256 v) refl
   where
     q : QuadIds
     q = quadOf m k
 
     by : (a b : Bool) → ltb 256 u || ltb 256 v ≡ b → answer a b (estimateOf u v t (quadOf m k)) .refusal ≡ 0
-        → (leastOf t (quadOf m k) ≤ answer a b (estimateOf u v t (quadOf m k)) .estimate)
-        × (answer a b (estimateOf u v t (quadOf m k)) .estimate ≤ greatestOf t (quadOf m k))
+        → (leastThreshold t (quadOf m k) ≤ answer a b (estimateOf u v t (quadOf m k)) .estimate)
+        × (answer a b (estimateOf u v t (quadOf m k)) .estimate ≤ greatestThreshold t (quadOf m k))
     by true b f z = absurd (omega (arith, z))
     by false true f z = absurd (omega (arith, z))
     by false false f z =
         let p = neither (ltb 256 u) (ltb 256 v) f in
         let hu = ltb-false 256 u (p .0) in
         let hv = ltb-false 256 v (p .1) in (
-          estimate-least u v (thresholdAt t (q .a)) (thresholdAt t (q .b)) (thresholdAt t (q .d)) (thresholdAt t (q .c)) (leastOf t (quadOf m k)) hu hv
+          estimate-least u v (thresholdAt t (q .a)) (thresholdAt t (q .b)) (thresholdAt t (q .d)) (thresholdAt t (q .c)) (leastThreshold t (quadOf m k)) hu hv
               (omega arith) (omega arith) (omega arith) (omega arith),
-          estimate-greatest u v (thresholdAt t (q .a)) (thresholdAt t (q .b)) (thresholdAt t (q .d)) (thresholdAt t (q .c)) (greatestOf t (quadOf m k)) hu hv
+          estimate-greatest u v (thresholdAt t (q .a)) (thresholdAt t (q .b)) (thresholdAt t (q .d)) (thresholdAt t (q .c)) (greatestThreshold t (quadOf m k)) hu hv
               (omega arith) (omega arith) (omega arith) (omega arith),
         )

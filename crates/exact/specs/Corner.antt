@@ -38,8 +38,8 @@ pub record Vector : Type 0 where
   pub y : ℤ
 
 -- the exact step from a to b
-unfoldable pub step : (ax ay bx by : Float) → Vector
-step ax ay bx by = record { x = units bx -ℤ units ax; y = units by -ℤ units ay }
+unfoldable pub stepUnits : (ax ay bx by : Float) → Vector
+stepUnits ax ay bx by = record { x = units bx -ℤ units ax; y = units by -ℤ units ay }
 
 unfoldable pub cross : Vector → Vector → ℤ
 cross u v = u .x *ℤ v .y -ℤ u .y *ℤ v .x

@@ -11,7 +11,7 @@ use Rattle.numbers.specs.Root.{root, rootUnits, isqrtIn}
 use Rattle.numbers.specs.Float.{bits, zeroF, oneF, twoF}
 use Rattle.exact.specs.Units as U
 use Rattle.exact.specs.Order.{within-le}
-use Rattle.exact.specs.Corner.{norm, cornerOk, step, sineAboveThird}
+use Rattle.exact.specs.Corner.{norm, cornerOk, stepUnits, sineAboveThird}
 use Rattle.exact.specs.Sine.{sine-theorem}
 
 -- 1 is 2 ^ 1074 units, the smallest double above 0 is one, and -0.5 is -(2 ^ 1073)
@@ -54,7 +54,7 @@ within-one : U.Within 1001 oneF
 unfolding ofBits fits le lt eq
 within-one = within-le 1001 oneF tt tt tt
 
-square-sine : T (sineAboveThird (step zeroF zeroF oneF zeroF) (step oneF zeroF oneF oneF))
+square-sine : T (sineAboveThird (stepUnits zeroF zeroF oneF zeroF) (stepUnits oneF zeroF oneF oneF))
 square-sine =
     sine-theorem zeroF zeroF oneF zeroF oneF oneF within-zero within-zero within-one within-zero within-one within-one
     (subst T (sym corner-square) tt)

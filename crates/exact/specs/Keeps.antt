@@ -24,7 +24,7 @@ use Rattle.laws.specs.Ring.{var, num, _+ᵉ_, _*ᵉ_, _-ᵉ_, ring}
 use Rattle.laws.specs.Ring as R
 use Rattle.laws.specs.Certificate.{Nonneg, nonneg, of-≤ℤ, to-≤ℤ, hyp, _⊞_, _⊠_, prove}
 use Rattle.numbers.specs.Float.{_⊕_, _⊖_, _⊗_, _⊘_, isFinite, zeroF, oneF}
-use Rattle.numbers.specs.Nearest.{Digits, digits-of}
+use Rattle.numbers.specs.Nearest.{Representable, digits-of}
 use Rattle.exact.specs.Units.{W, W-pos, Val, signed, signed-not, units, sizeOf, val-of, neg-val, unlike-self, Within, within-units}
 use Rattle.exact.specs.Constants.{zero-val, one-val}
 use Rattle.exact.specs.Order.{le-val, le-units, not-lt-val}
@@ -271,14 +271,14 @@ pub double-unique : (x y : Float) (s : Bool) (a : ℕ) → T (fits binary64 x) �
 double-unique x y s a f g v w =
     sym (ofBits-toBits binary64 x f) ∙ ap (ofBits binary64) (pattern-val x s a v ∙ sym (pattern-val y s a w)) ∙ ofBits-toBits binary64 y g
 
-digits-val : (x : Float) (s : Bool) (a : ℕ) → T (fits binary64 x) → Val x s a → Digits a
+digits-val : (x : Float) (s : Bool) (a : ℕ) → T (fits binary64 x) → Val x s a → Representable a
 unfolding W fits
 digits-val nan s a f v = absurd v
 digits-val (inf t) s a f v = absurd v
 digits-val (fin t zero e) s a f v = digits-of (fin false zero e) a f (refl, v .1)
 digits-val (fin t (suc m) e) s a f v = digits-of (fin false (suc m) e) a f (refl, v .1)
 
-round-digits : (s : Bool) (a : ℕ) → Digits a → Val (round binary64 s a W) s a
+round-digits : (s : Bool) (a : ℕ) → Representable a → Val (round binary64 s a W) s a
 unfolding W
 round-digits s a d =
     round-exact binary64 s a W (d .m) (d .j) W-pos (d .small) (subst (λ (z : ℕ). z < 2 ^ 2098) (d .is) (d .top)) (ap (λ (z : ℕ). z * 2 ^ 1074) (d .is))

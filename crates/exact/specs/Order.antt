@@ -18,7 +18,7 @@ use Rattle.laws.specs.Ring.{Expr, var, num, con, _+ᵉ_, _*ᵉ_, _-ᵉ_, neg, e
 use Rattle.laws.specs.Certificate.{Nonneg, nonneg, not-nonneg, of-le, to-le, of-≤ℤ, of-<ℤ, to-<ℤ, <ℤ-or-≤ℤ, <ℤ-weaken, ≤ℤ-antisym, hyp, _⊞_, prove}
 use Rattle.laws.specs.Tests.{T-ext}
 use Rattle.numbers.specs.Float.{isFinite, absF}
-use Rattle.exact.specs.Units.{W, W-pos, Val, signed, signOf, sizeOf, units, val-of, abs-val, Within, within, whole-val}
+use Rattle.exact.specs.Units.{W, W-pos, Val, signed, signOf, sizeOf, units, val-of, abs-val, Within, within-of, whole-val}
 
 -- ---- the tests from the units: A / c and B / c are the fractions that lib.Ieee compares, and a / w and b / w are the same
 
@@ -254,7 +254,7 @@ pub within-le : (K : ℕ) (x : Float) → T (fits binary64 x) → T (le x (fin f
 within-le K x t p q =
     let f = finite-of-le x K p q in
     let v = val-of x f t in
-    within K x t f
+    within-of K x t f
     (size-le (signOf x) (sizeOf x) (K * W) (le-val x (fin false K (pos 0)) (signOf x) false (sizeOf x) (K * W) v (whole-val false K) .0 p)
     (le-val (fin true K (pos 0)) x true (signOf x) (K * W) (sizeOf x) (whole-val true K) v .0 q))
 
@@ -262,7 +262,7 @@ within-le K x t p q =
 pub within-abs : (K : ℕ) (x y : Float) → Val y false (K * W) → T (fits binary64 x) → T (isFinite x) → T (not (lt y (absF x))) → Within K x
 within-abs K x y v t f h =
     let a = abs-val x (signOf x) (sizeOf x) (val-of x f t) in
-    within K x t f (leb→le (sizeOf x) (K * W) (not-lt-val y (absF x) false false (K * W) (sizeOf x) v a .0 h .le))
+    within-of K x t f (leb→le (sizeOf x) (K * W) (not-lt-val y (absF x) false false (K * W) (sizeOf x) v a .0 h .le))
 
 -- what is farther out than a bound of y is below y exactly if it is negative
 pub beyond-lt : {K : ℕ} {y : Float} (x : Float) (s : Bool) (n : ℕ) → Val x s n → Within K y → K * W < n → lt x y ≡ s

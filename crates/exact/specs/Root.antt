@@ -27,7 +27,7 @@ pub record RootOf (n : ℕ) (y : Float) : Type 0 where
 
 pub root-law : (x : Float) → T (fits binary64 x) → (n : ℕ) → Val x false n → RootOf n (sqrt x)
 unfolding W
-root-law x f n v = let r = N.root-law x f n v in record { L = r .L; val = r .val; lower = r .lower; upper = r .upper }
+root-law x f n v = let r = N.root-units-law x f n v in record { L = r .L; val = r .val; lower = r .lower; upper = r .upper }
 
 -- ---- the order
 

@@ -12,7 +12,7 @@ use lib.Ieee.{size, nearest}
 use lib.Ieee.Digits.{size-reaches}
 use lib.Ieee.Nearest.{closest}
 use lib.Ieee.Order.{drop, kept}
-use Rattle.numbers.specs.Isqrt.{Compared, compared}
+use Rattle.numbers.specs.Isqrt.{CompareSays, compare-says}
 
 -- x is within m / 2 ^ 53 of n
 abbrev pub Close : ℕ → ℕ → ℕ → Type 0
@@ -36,7 +36,7 @@ tie q b r a (suc (suc t)) l e h = absurd (big t l)
     big : (t : ℕ) → suc (suc t) < 2 → ⊥
     big t l = omega arith
 
-nearest-half : (o : Ordering) (q b r a : ℕ) → q * b + r ≡ a → r < b → Compared o (r * 2) b → Half (nearest q o * b) a b
+nearest-half : (o : Ordering) (q b r a : ℕ) → q * b + r ≡ a → r < b → CompareSays o (r * 2) b → Half (nearest q o * b) a b
 nearest-half Ordering·lt q b r a e l h = omega arith
 nearest-half Ordering·eq q b r a e l h = tie q b r a (q % 2) (below-two q) e h
   where
@@ -45,7 +45,7 @@ nearest-half Ordering·eq q b r a e l h = tie q b r a (q % 2) (below-two q) e h
 nearest-half Ordering·gt q b r a e l h = subst (λ (z : ℕ). Half z a b) (sym (suc-mul q b)) (omega arith)
 
 closest-half : (a b : ℕ) → 0 < b → Half (closest a b * b) a b
-closest-half a b B = nearest-half (compare (a % b * 2) b) (a / b) b (a % b) a (div-add-mod' a b) (mod-lt a B) (compared (a % b * 2) b)
+closest-half a b B = nearest-half (compare (a % b * 2) b) (a / b) b (a % b) a (div-add-mod' a b) (mod-lt a B) (compare-says (a % b * 2) b)
 
 -- ---- the step in which `round` counts: c * 2 ^ k where k digits are dropped. It is small beside n, unless nothing is dropped
 

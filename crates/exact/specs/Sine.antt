@@ -23,7 +23,7 @@ use Rattle.exact.specs.Operations.{mul-law, product-small, Sum, sub-law,
 use Rattle.exact.specs.Root.{root-law}
 use Rattle.exact.specs.SineBounds.{Rel, RelAnd, rel, rel-and, le-of-sq, Long, unit-below, length-law, side-law, quotient-law, product-law}
 use Rattle.exact.specs.SineBounds.{products-below, signed-near, cross-law, sine-law}
-use Rattle.exact.specs.Corner.{sin20, norm, cornerOk, Vector, step, cross, squaredLength, sineAboveThird, isShort}
+use Rattle.exact.specs.Corner.{sin20, norm, cornerOk, Vector, stepUnits, cross, squaredLength, sineAboveThird, isShort}
 
 -- ---- the constants of the test
 
@@ -91,8 +91,8 @@ prod p q =
       near = rel-and (r .size * W) (size p * size q) W (r .near);
     }
 
-square : {x : Float} {X : ℤ} (p : Step x X) → Prod false (size p * size p) (x ⊗ x)
-square {x} p = subst (λ (s : Bool). Prod s (size p * size p) (x ⊗ x)) (unlike-self (sign p)) (prod p p)
+step-square : {x : Float} {X : ℤ} (p : Step x X) → Prod false (size p * size p) (x ⊗ x)
+step-square {x} p = subst (λ (s : Bool). Prod s (size p * size p) (x ⊗ x)) (unlike-self (sign p)) (prod p p)
 
 -- ---- lengths
 
@@ -108,8 +108,8 @@ record Length (l : Float) (w₀ w₁ : ℕ) : Type 0 where
 norm-near : {x y : Float} {X Y : ℤ} (p : Step x X) (q : Step y Y) → T (not (le (norm x y) tolerance)) → Length (norm x y) (p .exact) (q .exact)
 unfolding norm
 norm-near {x} {y} p q t =
-    let a = square p in
-    let b = square q in
+    let a = step-square p in
+    let b = step-square q in
     let s = add-law-pos (x ⊗ x) (y ⊗ y) (a .size) (b .size) (a .val) (b .val) (moderate (a .size) (a .small)) (moderate (b .size) (b .small)) in
     let r = root-law (x ⊗ x ⊕ y ⊗ y) (add-fits binary64 (x ⊗ x) (y ⊗ y)) (s .size) (s .val) in
     let l = long-of (r .L) (above-of-not-le (norm x y) tolerance false (r .L) tolerance-units (r .val) tolerance-val t .1) in
@@ -205,7 +205,7 @@ side-test u Q e h =
 -- ---- the corner, from its four steps
 
 -- the exact cross product P is at least 0.34 of the computed lengths L and M, which are near the exact squared lengths Q and R
-record Turn (P : ℤ) (Q R : ℕ) : Type 0 where
+record CornerTurn (P : ℤ) (Q R : ℕ) : Type 0 where
   L : ℕ
   M : ℕ
   some : 0 < L * M
@@ -236,7 +236,7 @@ module _ {ux uy vx vy : Float} {X Y X' Y' : ℤ} (a₀ : Step ux X) (a₁ : Step
   product₂ = signed (unlike (sign a₁) (sign b₀)) (a₁ .exact * b₀ .exact)
 
   turn : T (not (le (norm ux uy) tolerance)) → T (not (le (norm vx vy) tolerance)) → T (not (le (crossF ⊘ lengthsF) sin20))
-      → Turn (product₁ -ℤ product₂) (a₀ .exact * a₀ .exact + a₁ .exact * a₁ .exact) (b₀ .exact * b₀ .exact + b₁ .exact * b₁ .exact)
+      → CornerTurn (product₁ -ℤ product₂) (a₀ .exact * a₀ .exact + a₁ .exact * a₁ .exact) (b₀ .exact * b₀ .exact + b₁ .exact * b₁ .exact)
   turn tu tv ts =
       let p = norm-near a₀ a₁ tu in
       let q = norm-near b₀ b₁ tv in
@@ -291,7 +291,7 @@ module _ {ux uy vx vy : Float} {X Y X' Y' : ℤ} (a₀ : Step ux X) (a₁ : Step
       some-of a h = omega (arith, W-pos)
 
 -- so the sine is above 1/3
-turn-sine : (u v : Vector) (P : ℤ) (Q R : ℕ) → Turn P Q R → cross u v ≡ P → squaredLength u ≡ pos Q → squaredLength v ≡ pos R → T (sineAboveThird u v)
+turn-sine : (u v : Vector) (P : ℤ) (Q R : ℕ) → CornerTurn P Q R → cross u v ≡ P → squaredLength u ≡ pos Q → squaredLength v ≡ pos R → T (sineAboveThird u v)
 turn-sine u v P Q R t e f g =
     let N = t .L * t .M in
     let n = nonneg-is (not-negative N (t .above)) in
@@ -319,26 +319,26 @@ corner-tests ax ay bx by cx cy t =
 
 -- A side of two places within 1,001 whose computed length is above 1e-12 is not shorter than 1e-150.
 pub side-long : (ax ay bx by : Float) → Within 1001 ax → Within 1001 ay → Within 1001 bx → Within 1001 by
-    → T (not (le (norm (bx ⊖ ax) (by ⊖ ay)) tolerance)) → T (not (isShort (step ax ay bx by)))
-unfolding step
+    → T (not (le (norm (bx ⊖ ax) (by ⊖ ay)) tolerance)) → T (not (isShort (stepUnits ax ay bx by)))
+unfolding stepUnits
 side-long ax ay bx by Ax Ay Bx By t =
     let p = step-of Ax Bx in
     let q = step-of Ay By in
-    side-test (step ax ay bx by) (p .exact * p .exact + q .exact * q .exact) (exact-length {v = step ax ay bx by} p q) (norm-near p q t .far)
+    side-test (stepUnits ax ay bx by) (p .exact * p .exact + q .exact * q .exact) (exact-length {v = stepUnits ax ay bx by} p q) (norm-near p q t .far)
 
 -- THE SINE THEOREM. For places a, b and c within 1,001: where the f64 test of the corner passes, the exact sine between the step from a to b
 -- and the step from b to c is above 1/3.
 pub sine-theorem : (ax ay bx by cx cy : Float) → Within 1001 ax → Within 1001 ay → Within 1001 bx → Within 1001 by → Within 1001 cx
-    → Within 1001 cy → T (cornerOk ax ay bx by cx cy) → T (sineAboveThird (step ax ay bx by) (step bx by cx cy))
-unfolding cornerOk step cross
+    → Within 1001 cy → T (cornerOk ax ay bx by cx cy) → T (sineAboveThird (stepUnits ax ay bx by) (stepUnits bx by cx cy))
+unfolding cornerOk stepUnits cross
 sine-theorem ax ay bx by cx cy Ax Ay Bx By Cx Cy t =
     let a₀ = step-of Ax Bx in
     let a₁ = step-of Ay By in
     let b₀ = step-of Bx Cx in
     let b₁ = step-of By Cy in
     let test = corner-tests ax ay bx by cx cy t in
-    let u = step ax ay bx by in
-    let v = step bx by cx cy in
+    let u = stepUnits ax ay bx by in
+    let v = stepUnits bx by cx cy in
     turn-sine u v (product₁ a₀ a₁ b₀ b₁ -ℤ product₂ a₀ a₁ b₀ b₁)
     (a₀ .exact * a₀ .exact + a₁ .exact * a₁ .exact) (b₀ .exact * b₀ .exact + b₁ .exact * b₁ .exact)
     (turn a₀ a₁ b₀ b₁ (test .into) (test .out) (test .sine))

@@ -148,8 +148,8 @@ pub record Within (K : ℕ) (x : Float) : Type 0 where
   pub val : Val x sign size
   pub small : size ≤ K * W
 
-abbrev pub within : (K : ℕ) (x : Float) → T (fits binary64 x) → T (isFinite x) → sizeOf x ≤ K * W → Within K x
-within K x t f h = record { sign = signOf x; size = sizeOf x; val = val-of x f t; small = h }
+abbrev pub within-of : (K : ℕ) (x : Float) → T (fits binary64 x) → T (isFinite x) → sizeOf x ≤ K * W → Within K x
+within-of K x t f h = record { sign = signOf x; size = sizeOf x; val = val-of x f t; small = h }
 
 pub within-size : {K : ℕ} {x : Float} → Within K x → sizeOf x ≤ K * W
 within-size {K} {x} p = subst (λ (z : ℕ). z ≤ K * W) (sym (size-val x (p .sign) (p .size) (p .val))) (p .small)

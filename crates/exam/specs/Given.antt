@@ -12,7 +12,7 @@ use Rattle.thresholds.specs.Figures.{thresholdAt, Results}
 use Rattle.thresholds.specs.Kept.{Afresh, enter-unmoved, withdraw-unmoved, enter-kept, withdraw-kept, begin-kept}
 use Rattle.thresholds.specs.Figures.{beginAnswer}
 use Rattle.estimates.specs.declared.EstimateAnswer.{EstimateAnswer}
-use Rattle.estimates.specs.Estimate.{leastOf, greatestOf, estimateAnswer, estimateRefusal, estimateOf, estimated}
+use Rattle.estimates.specs.Estimate.{leastThreshold, greatestThreshold, estimateAnswer, estimateRefusal, estimateOf, estimated}
 use Rattle.estimates.specs.OneOff.{tenthsApart, EqualWithin, one-off, elsewhere, between-corners}
 use Rattle.exam.specs.declared.ResultChange.{ResultChange}
 use Rattle.exam.specs.declared.ResultChange.the-variants.{Begin, Enter, Withdraw}
@@ -123,7 +123,7 @@ estimate-given m t k u v r same =
           subst (λ (a : EstimateAnswer). EqualWithin (tenthsApart x (thresholdAt t id)) (estimateAnswer m (set t id x) k u v) a) (sym same)
           (one-off m t id x k u v here low);
       elsewhere = λ id x apart. elsewhere m t id x k u v apart ∙ sym same;
-      between = subst (λ (a : EstimateAnswer). a .refusal ≡ 0 → (leastOf t (quadOf m k) ≤ a .estimate) × (a .estimate ≤ greatestOf t (quadOf m k)))
+      between = subst (λ (a : EstimateAnswer). a .refusal ≡ 0 → (leastThreshold t (quadOf m k) ≤ a .estimate) × (a .estimate ≤ greatestThreshold t (quadOf m k)))
           (sym same) (between-corners m t k u v);
     }
 

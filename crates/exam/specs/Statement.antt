@@ -8,7 +8,7 @@ use Rattle.lent_mesh.specs.Mesh.{Mesh, quadOf}
 use Rattle.thresholds.specs.Figures.{mostThreshold, thresholdAt, stands, names, Results}
 use Rattle.thresholds.specs.Kept.{Afresh}
 use Rattle.estimates.specs.declared.EstimateAnswer.{EstimateAnswer}
-use Rattle.estimates.specs.Estimate.{leastOf, greatestOf, estimateAnswer, estimated}
+use Rattle.estimates.specs.Estimate.{leastThreshold, greatestThreshold, estimateAnswer, estimated}
 use Rattle.estimates.specs.OneOff.{tenthsApart, EqualWithin}
 use Rattle.exam.specs.declared.ExamRequest.{ExamRequest}
 use Rattle.exam.specs.declared.ExamRequest.the-variants.{Changes, ReadsResults}
@@ -25,7 +25,7 @@ pub record EstimateGiven (m : Mesh) (t : List ℕ) (k u v : ℕ) (r : EstimateAn
   pub one-off : (id x : ℕ) → stands (m .nodes) t id ≡ true → x ≤ mostThreshold
       → EqualWithin (tenthsApart x (thresholdAt t id)) (estimateAnswer m (set t id x) k u v) r
   pub elsewhere : (id x : ℕ) → names (quadOf m k) id ≡ false → estimateAnswer m (set t id x) k u v ≡ r
-  pub between : r .refusal ≡ 0 → (leastOf t (quadOf m k) ≤ r .estimate) × (r .estimate ≤ greatestOf t (quadOf m k))
+  pub between : r .refusal ≡ 0 → (leastThreshold t (quadOf m k) ≤ r .estimate) × (r .estimate ≤ greatestThreshold t (quadOf m k))
 
 -- WHAT A HOST GETS of the request q of a role to the exam of the mesh m and the results x, with a reply list: `r` is answered, `after` and `left` are the
 -- reply list and the results then.

@@ -13,7 +13,7 @@ use Rattle.laws.specs.Loop.{forUp, any-none}
 use Rattle.laws.specs.Tests.{both, or-cases}
 use Rattle.topology.specs.Links.{off, linkOf}
 use Rattle.topology.specs.Walk.{walkBy, prepend}
-use Rattle.topology.specs.Listing.{listing, addLoop}
+use Rattle.topology.specs.Listing.{longLoops, addLoop}
 use Rattle.loops.specs.Walked.{walk-on, walk-last, walk-more, link-node, Onward}
 use Rattle.exam_loops.specs.Loops.{linksBack, arePaired, linksSound, loopNumbered}
 
@@ -148,30 +148,30 @@ numbered-past (m ∷ ls) (suc k) h = numbered-past ls k (omega arith)
 -- ---- what is listed of one node more
 
 module _ (L : ℕ → List ℕ) where
-  pub listing-long : (u : ℕ) → 3 ≤ length (L u) → listing 3 (suc u) L ≡ listing 3 u L ++ L u ∷ []
-  unfolding listing forUp addLoop
+  pub listing-long : (u : ℕ) → 3 ≤ length (L u) → longLoops 3 (suc u) L ≡ longLoops 3 u L ++ L u ∷ []
+  unfolding longLoops forUp addLoop
   listing-long u h = rw (le-leb 3 (length (L u)) h)
 
-  pub listing-short : (u : ℕ) → length (L u) < 3 → listing 3 (suc u) L ≡ listing 3 u L
-  unfolding listing forUp addLoop
+  pub listing-short : (u : ℕ) → length (L u) < 3 → longLoops 3 (suc u) L ≡ longLoops 3 u L
+  unfolding longLoops forUp addLoop
   listing-short u h = by (leb 3 (length (L u))) refl
     where
-      by : (b : Bool) → leb 3 (length (L u)) ≡ b → listing 3 (suc u) L ≡ listing 3 u L
+      by : (b : Bool) → leb 3 (length (L u)) ≡ b → longLoops 3 (suc u) L ≡ longLoops 3 u L
       by true e = absurd (omega (arith, h, leb-true 3 (length (L u)) e))
       by false e = rw e
 
   -- a loop listed from the first u nodes keeps its number
   pub record Stays (k u n : ℕ) : Type 0 where
-    pub same : loopNumbered (listing 3 n L) k ≡ loopNumbered (listing 3 u L) k
-    pub there : k < length (listing 3 n L)
+    pub same : loopNumbered (longLoops 3 n L) k ≡ loopNumbered (longLoops 3 u L) k
+    pub there : k < length (longLoops 3 n L)
 
-  pub listing-stays : (k u n : ℕ) → u ≤ n → k < length (listing 3 u L) → Stays k u n
+  pub listing-stays : (k u n : ℕ) → u ≤ n → k < length (longLoops 3 u L) → Stays k u n
   listing-stays k zero zero h there = record { same = refl; there = there }
   listing-stays k (suc u) zero h there = absurd (omega arith)
   listing-stays k u (suc n) h there = ⊎-elim here (λ less. more (listing-stays k u n (le-of-suc-le-suc less) there)) (eq-or-lt-of-le h)
     where
       here : u ≡ suc n → Stays k u (suc n)
-      here e = record { same = ap (λ (m : ℕ). loopNumbered (listing 3 m L) k) (sym e); there = omega (arith, there, ap (λ (m : ℕ). length (listing 3 m L)) e) }
+      here e = record { same = ap (λ (m : ℕ). loopNumbered (longLoops 3 m L) k) (sym e); there = omega (arith, there, ap (λ (m : ℕ). length (longLoops 3 m L)) e) }
 
       more : Stays k u n → Stays k u (suc n)
       more s = by (leb 3 (length (L n))) refl
@@ -180,8 +180,8 @@ module _ (L : ℕ → List ℕ) where
           by true e =
               let q = listing-long n (leb-true 3 (length (L n)) e) in
               record {
-                same = ap (λ (ls : List (List ℕ)). loopNumbered ls k) q ∙ (numbered-before (listing 3 n L) (L n) k (s .there) ∙ s .same);
-                there = omega (arith, s .there, ap length q, length-append (listing 3 n L) (L n ∷ []));
+                same = ap (λ (ls : List (List ℕ)). loopNumbered ls k) q ∙ (numbered-before (longLoops 3 n L) (L n) k (s .there) ∙ s .same);
+                there = omega (arith, s .there, ap length q, length-append (longLoops 3 n L) (L n ∷ []));
               }
           by false e =
               let q = listing-short n (leb-false 3 (length (L n)) e) in

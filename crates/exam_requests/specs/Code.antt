@@ -38,10 +38,10 @@ pub threshold-same : (n : ℕ) (t : List ℕ) (id v r : ℕ) → v ≡ threshold
 unfolding thresholdReply
 threshold-same n t id v r ev e reply same = rw (← ev, ← e) same
 
-pub estimate-same : (m : Mesh) (t : List ℕ) (k u v : ℕ) (r : EstimateAnswer) → r ≡ estimateAnswer m t k u v
+pub estimate-answer-same : (m : Mesh) (t : List ℕ) (k u v : ℕ) (r : EstimateAnswer) → r ≡ estimateAnswer m t k u v
     → (reply : ExamReply) → reply ≡ replyOr (r .refusal) (Estimate (r .estimate)) → reply ≡ estimateReply m t k u v
 unfolding estimateReply
-estimate-same m t k u v r e reply same = rw (← e) same
+estimate-answer-same m t k u v r e reply same = rw (← e) same
 
 -- ---- what is read of the mesh
 

@@ -85,9 +85,9 @@ estimate-of u v t q r a b d c e ea eb ed ec = rw (← ea, ← eb, ← ed, ← ec
 -- ---- the refusals
 
 module _ (nodes count m k u v : ℕ) (quads t : List ℕ) (e : m ≡ quadCount count quads) where
-  pub no-quad : m ≤ k → 18 ≡ estimateRefusal (mesh nodes (quadCount count quads) quads) t k u v
+  pub estimate-no-quad : m ≤ k → 18 ≡ estimateRefusal (mesh nodes (quadCount count quads) quads) t k u v
   unfolding estimateRefusal
-  no-quad h = rw (← e, le-leb m k h)
+  estimate-no-quad h = rw (← e, le-leb m k h)
 
   module _ (q : QuadIds) (b : Bool) (here : k < m) (eq : q ≡ quadIn quads k) (eb : b ≡ isComplete nodes t q) where
     pub lacks-one : b ≡ false → 18 ≡ estimateRefusal (mesh nodes (quadCount count quads) quads) t k u v

@@ -13,6 +13,7 @@ use lib.ListN.{length, getD, take, drop, replicate, length-append, length-take, 
 use lib.Seq.{take-at, take-length, drop-append-add, getD-append-add, getD-take, getD-drop}
 use lib.Ieee.{Float, nan, binary64, fits, toBits}
 use lib.Ieee.Bits.{ofBits-toBits, toBits-lt}
+use Rattle.laws.specs.Tests.{both}
 use Rattle.laws.specs.Loop.{forUp-same, forUp-keeps, none-found, anyUp, sumUp, sumTurn}
 use Rattle.laws.specs.Sums.{sum-term}
 use Rattle.laws.specs.Tabulate.{tabulate, tabulate-same, tabulate-take, tabulate-length, tabulate-map, tabulate-at}
@@ -23,7 +24,6 @@ use Rattle.outline_file.specs.File.{Request, numberAt, floatAt, blockAt, weight
 use Rattle.outline_file.specs.File.{headPoints, headSound, headRefusal, pointBlocks, pointsRefusal, pointsTurn, blocksRefusal, coordinateAt}
 use Rattle.outline_file.specs.File.{filePoints, fileLength, endRefusal, fileRefusal, requestOf, numberBytes, floatBytes, blockOf, lengthBytes}
 use Rattle.outline_file.specs.File.{headBytes, pointBytes, pointBlock, blocksOf, fileOf, totalPoints, fileable}
-use Rattle.outline_file.specs.RefusalLaws.{both}
 
 -- ---- numbers
 
@@ -377,9 +377,9 @@ module _ (r : Request) (fit : Fileable r) where
   file-points : filePoints (fileOf r) ≡ count
   file-points = ap (λ (b : List ℕ). headPoints b (headLoops b)) file-head ∙ points-are ∙ sym count-is
 
-  pub file-accepted : fileRefusal (fileOf r) ≡ 0
+  pub written-accepted : fileRefusal (fileOf r) ≡ 0
   unfolding fileRefusal endRefusal
-  file-accepted =
+  written-accepted =
       rw (file-points, file-head, head-accepted, blocks-accepted, le-ltb (fileLength count) (length (fileOf r)) (omega (arith, file-length)))
 
   -- ---- it says what the request says
@@ -425,4 +425,4 @@ module _ (r : Request) (fit : Fileable r) where
 -- THE ROUND TRIP
 pub round-trip : (r : Request) → fileable r ≡ true → T (fits binary64 (r .settings .size)) → AllFit (r .coordinates)
     → (fileRefusal (fileOf r) ≡ 0) × (requestOf (fileOf r) ≡ r)
-round-trip r e size floats = let fit = fileable-is r e in (file-accepted r fit, request-back r fit size floats)
+round-trip r e size floats = let fit = fileable-is r e in (written-accepted r fit, request-back r fit size floats)

@@ -261,9 +261,9 @@ module _ (points : List Float) where
     pub within : k ≤ n
     pub same : s ≡ sets file 512 (firstBlocks k)
 
-  pub blocks-start : (file : List ℕ) (n : ℕ) → Blocks file n 0 file
+  pub file-blocks-start : (file : List ℕ) (n : ℕ) → Blocks file n 0 file
   unfolding tabulate flatten
-  blocks-start file n = record { within = omega arith; same = refl }
+  file-blocks-start file n = record { within = omega arith; same = refl }
 
   module _ {file : List ℕ} {n k : ℕ} {s : List ℕ} (l : Blocks file n k s) where
     pub blocks-long : length s ≡ length file
@@ -301,9 +301,9 @@ module _ (points : List Float) where
           place : 512 * (k + 1) ≡ 512 + length (firstBlocks k)
           place = omega (arith, blocks-length k)
 
-    pub blocks-end : n ≡ pointBlocks (length points / 2) → n ≤ k → s ≡ sets file 512 (blocksOf points)
+    pub file-blocks-end : n ≡ pointBlocks (length points / 2) → n ≤ k → s ≡ sets file 512 (blocksOf points)
     unfolding blocksOf
-    blocks-end e h = let all : k ≡ pointBlocks (length points / 2) = omega (arith, l .within) in l .same ∙ ap (λ (j : ℕ). sets file 512 (firstBlocks j)) all
+    file-blocks-end e h = let all : k ≡ pointBlocks (length points / 2) = omega (arith, l .within) in l .same ∙ ap (λ (j : ℕ). sets file 512 (firstBlocks j)) all
 
 -- ---- what a file can hold
 
@@ -328,19 +328,19 @@ module _ {lens : List ℕ} {k sum : ℕ} (l : FewPoints lens k sum) where
   few-end h = omega (arith, l .small, loop-end (sumTurn (λ j. getD lens j 0)) 0 (l .same) h)
 
 module _ (s : Settings) (points : List Float) (lens : List ℕ) where
-  pub no-loops : length lens < 1 → false ≡ fileable (request s points lens)
+  pub no-loops-written : length lens < 1 → false ≡ fileable (request s points lens)
   unfolding fileable
-  no-loops h = rw (lt-leb 1 (length lens) h)
+  no-loops-written h = rw (lt-leb 1 (length lens) h)
 
   module _ (some : 1 ≤ length lens) where
-    pub many-loops : 8 < length lens → false ≡ fileable (request s points lens)
+    pub many-loops-written : 8 < length lens → false ≡ fileable (request s points lens)
     unfolding fileable
-    many-loops h = rw (le-leb 1 (length lens) some, lt-leb (length lens) 8 h)
+    many-loops-written h = rw (le-leb 1 (length lens) some, lt-leb (length lens) 8 h)
 
     module _ (few : length lens ≤ 8) {n : ℕ} (e : n ≡ min (totalPoints lens) 249) where
-      pub many-points : 248 < n → false ≡ fileable (request s points lens)
+      pub many-points-written : 248 < n → false ≡ fileable (request s points lens)
       unfolding fileable
-      many-points h = rw (le-leb 1 (length lens) some, le-leb (length lens) 8 few, lt-leb (totalPoints lens) 248 (omega arith))
+      many-points-written h = rw (le-leb 1 (length lens) some, le-leb (length lens) 8 few, lt-leb (totalPoints lens) 248 (omega arith))
 
       module _ (h : n ≤ 248) where
         total : totalPoints lens ≡ n
@@ -351,9 +351,9 @@ module _ (s : Settings) (points : List Float) (lens : List ℕ) where
         not-adding d = rw (le-leb 1 (length lens) some, le-leb (length lens) 8 few, total, le-leb n 248 h, ne-eqb (length points) (2 * n) d)
 
         module _ (adds : length points ≡ 2 * n) where
-          pub many-sweeps : 65535 < s .sweeps → false ≡ fileable (request s points lens)
+          pub many-sweeps-written : 65535 < s .sweeps → false ≡ fileable (request s points lens)
           unfolding fileable
-          many-sweeps d =
+          many-sweeps-written d =
               rw (
                 le-leb 1 (length lens) some,
                 le-leb (length lens) 8 few,
@@ -383,15 +383,15 @@ module _ (r : Request) (file : List ℕ) {f : Bool} (e : f ≡ fileable r) where
   write-refused h = rw (← e, not-true f h)
 
   module _ (h : not f ≡ false) where
-    pub within : Fileable r
-    within = fileable-is r (sym e ∙ not-false f h)
+    pub is-fileable : Fileable r
+    is-fileable = fileable-is r (sym e ∙ not-false f h)
 
     pub few-coordinates : length (r .coordinates) / 2 ≤ 248
-    few-coordinates = omega (arith, within .points, within .adds)
+    few-coordinates = omega (arith, is-fileable .points, is-fileable .adds)
 
     module _ {n : ℕ} (g : n ≡ fileLength (length (r .coordinates) / 2)) where
       bytes : length (fileOf r) ≡ n
-      bytes = file-length r within ∙ sym g
+      bytes = file-length r is-fileable ∙ sym g
 
       pub write-short : length file < n → fileWritten 0 file ≡ writeFile r file
       unfolding writeFile
@@ -401,7 +401,7 @@ module _ (r : Request) (file : List ℕ) {f : Bool} (e : f ≡ fileable r) where
           → (length (r .coordinates) ≤ 496) × (fileLength (length (r .coordinates) / 2) ≤ length b₁)
       blocks-room le p =
           let long = ap length p ∙ length-sets file 0 (blockOf (headBytes (r .settings) (r .lengths))) in
-          (omega (arith, within .points, within .adds), omega arith)
+          (omega (arith, is-fileable .points, is-fileable .adds), omega arith)
 
       pub write-whole : {b₁ b₂ : List ℕ} → n ≤ length file → b₁ ≡ sets file 0 (blockOf (headBytes (r .settings) (r .lengths)))
           → b₂ ≡ sets b₁ 512 (blocksOf (r .coordinates)) → fileWritten n b₂ ≡ writeFile r file
@@ -413,7 +413,7 @@ module _ (r : Request) (file : List ℕ) {f : Bool} (e : f ≡ fileable r) where
 
           whole : b₂ ≡ overlay (fileOf r) file
           whole =
-              let first : 512 ≡ 0 + length head = omega (arith, head-wide r within) in
+              let first : 512 ≡ 0 + length head = omega (arith, head-wide r is-fileable) in
               q
               ∙ ap₂ (λ (l : List ℕ) (i : ℕ). sets l i (blocksOf (r .coordinates))) p first
               ∙ sym (sets-append file 0 head (blocksOf (r .coordinates)))

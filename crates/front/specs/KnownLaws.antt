@@ -13,7 +13,7 @@ use borrow.Author.Tests.{eqb-true}
 use Rattle.topology.specs.Sums.{frontSum}
 use Rattle.topology.specs.Links.{off, update, at, at-is, link-set}
 use Rattle.topology.specs.Front.{edge-next, next-edge}
-use Rattle.topology.specs.Changes.{Change, remove, add, added}
+use Rattle.topology.specs.Changes.{Change, remove, add, addedSum}
 use Rattle.topology.specs.Placing.{placing}
 use Rattle.front.specs.declared.Counts.{Counts}
 use Rattle.front.specs.declared.Corner.{Corner}
@@ -29,7 +29,7 @@ use Rattle.front.specs.MeshEdges.{pushed, edged, has-flip, has-added, ha
 use Rattle.front.specs.Moved.{kindOf, changesOf}
 use Rattle.front.specs.StateAfter.{stateAfter}
 use Rattle.front.specs.Step.{Grounds, grounds}
-use Rattle.front.specs.Stores.{placeAnswer, placeIfRoom, Places}
+use Rattle.front.specs.Stores.{placeAnswer, placeIfRoom, PlacesQuad}
 
 -- ---- the ends of mesh edges
 
@@ -106,12 +106,12 @@ Has e [] = Unit {0}
 Has e (remove x y ∷ cs) = Has e cs
 Has e (add x y ∷ cs) = (hasEdge e x y ≡ true) × Has e cs
 
-has-some : (e : State) (cs : List Change) → Has e cs → (u v : ℕ) → 0 < added (at u v) cs → hasEdge e u v ≡ true
+has-some : (e : State) (cs : List Change) → Has e cs → (u v : ℕ) → 0 < addedSum (at u v) cs → hasEdge e u v ≡ true
 has-some e [] H u v h = absurd (omega arith)
 has-some e (remove x y ∷ cs) H u v h = has-some e cs H u v h
 has-some e (add x y ∷ cs) H u v h = by (at u v x y) refl (has-some e cs (H .1) u v)
   where
-    by : (k : ℕ) → at u v x y ≡ k → (0 < added (at u v) cs → hasEdge e u v ≡ true) → hasEdge e u v ≡ true
+    by : (k : ℕ) → at u v x y ≡ k → (0 < addedSum (at u v) cs → hasEdge e u v ≡ true) → hasEdge e u v ≡ true
     by zero q later = later (omega (arith, q))
     by (suc k) q later = let i = at-is u v x y (omega (arith, q)) in rw (← i .0, ← i .1) (H .0)
 
@@ -205,10 +205,10 @@ known-after n s ls a b c d S K H =
           let there = next-edge m _ (L .loops) (L .changes .front .loops) x y h q in
           let before : 0 < frontSum (at x y) ls → hasEdge e x y ≡ true =
           λ z. has-kept u m a b C D room x y (P .has x y ∙ K .fronts x y h (edge-next _ (nextOf s) ls (S .front .loops) x y z)) in
-          let more : 0 < added (at x y) (changesOf s a b c d) → hasEdge e x y ≡ true =
+          let more : 0 < addedSum (at x y) (changesOf s a b c d) → hasEdge e x y ≡ true =
           has-some e (changesOf s a b c d)
           (has-placing e c d a b C D (has-ac u m a b C D room) (has-cd u m a b C D room) (has-db u m a b C D room)) x y in
-          either (frontSum (at x y) ls) (added (at x y) (changesOf s a b c d)) (omega (arith, there, L .changes .sums (at x y))) before more;
+          either (frontSum (at x y) ls) (addedSum (at x y) (changesOf s a b c d)) (omega (arith, there, L .changes .sums (at x y))) before more;
     }
   where
     either : {Z : Type 0} (i j : ℕ) → 0 < i + j → (0 < i → Z) → (0 < j → Z) → Z
@@ -226,7 +226,7 @@ known-placed n s ls a b c d S K H full =
 
 module _ (a b : ℕ) (c d : Corner) (s t : State) where
   -- full: the lists are as they were
-  pub placed-full : Places a b c d s Full t → (isFull s a b c d ≡ true) × (t ≡ s)
+  pub placed-full : PlacesQuad a b c d s Full t → (isFull s a b c d ≡ true) × (t ≡ s)
   unfolding placeAnswer placeIfRoom
   placed-full P = by (isFull s a b c d) refl (P .answer) (P .state)
     where
@@ -236,7 +236,7 @@ module _ (a b : ℕ) (c d : Corner) (s t : State) where
       by false h e same = absurd (let z : _≡_ {A = ℕ} 0 1 = cc in omega arith)
 
   -- done: they are those of the state after the quad
-  pub placed-done : (k : Counts) → Places a b c d s (Done k) t → (isFull s a b c d ≡ false) × (t ≡ place a b c d s)
+  pub placed-done : (k : Counts) → PlacesQuad a b c d s (Done k) t → (isFull s a b c d ≡ false) × (t ≡ place a b c d s)
   unfolding placeAnswer placeIfRoom
   placed-done k P = by (isFull s a b c d) refl (P .answer) (P .state)
     where

@@ -7,7 +7,7 @@ use lib.ListN.{length, set, length-set}
 use borrow.Author.Tests.{eq-eqb}
 use Rattle.topology.specs.Sums.{All, one}
 use Rattle.topology.specs.Links.{off, linkOf, link-set}
-use Rattle.topology.specs.Changes.{Change, remove, add, stored, reversed, removed, added, Valid, Within}
+use Rattle.topology.specs.Changes.{Change, remove, add, stored, reversed, removedSum, addedSum, Valid, AmongNodes}
 use Rattle.topology.specs.Placing.{Kind, reused, fresh, placing}
 use Rattle.front.specs.declared.Corner.{Corner}
 use Rattle.front.specs.declared.Corner.the-variants.{Reused, Fresh}
@@ -38,13 +38,13 @@ edgesAfter (add u v ∷ cs) n = edgesAfter cs (n + 1)
 
 -- ---- laws
 
-pub edges-after : (cs : List Change) (n : ℕ) → removed one cs ≤ n → edgesAfter cs n + removed one cs ≡ n + added one cs
+pub edges-after : (cs : List Change) (n : ℕ) → removedSum one cs ≤ n → edgesAfter cs n + removedSum one cs ≡ n + addedSum one cs
 edges-after [] n h = refl
 edges-after (remove u v ∷ cs) n h = omega (arith, edges-after cs (n - 1) (omega arith))
 edges-after (add u v ∷ cs) n h = omega (arith, edges-after cs (n + 1) (omega arith))
 
 -- changes that can be made, one by one, are their stores
-pub changes-stored : (cs : List Change) (s : State) → All (Within (s .counts .nodes)) cs → Valid (linkOf (s .counts .nodes) (s .next)) cs
+pub changes-stored : (cs : List Change) (s : State) → All (AmongNodes (s .counts .nodes)) cs → Valid (linkOf (s .counts .nodes) (s .next)) cs
     → s .counts .nodes ≤ length (s .next)
     → changeFront cs s ≡ withFront s (stored set cs (s .next)) (stored set (reversed cs) (s .prev)) (edgesAfter cs (s .counts .front))
 unfolding removeFront addFront

@@ -56,9 +56,9 @@ pub record Fits (s : State) (a b : ℕ) (c d : Corner) : Type 0 where
 
 -- ---- laws
 
-pub fits : (s : State) (a b : ℕ) (c d : Corner) → isFull s a b c d ≡ false → Fits s a b c d
+pub room-fits : (s : State) (a b : ℕ) (c d : Corner) → isFull s a b c d ≡ false → Fits s a b c d
 unfolding isFull
-fits s a b c d e =
+room-fits s a b c d e =
     let nodes = neither (ltb (nodePlaces s) (s .counts .nodes + added c + added d)) _ e in
     let quads = neither (ltb (quadPlaces s) (s .counts .quads + 1)) _ (nodes .1) in
     record {

@@ -6,7 +6,7 @@ use native.Mathlib.Omega.{arith}
 use lib.ListN.{length, set, length-set}
 use lib.Seq.{getD-set-same, getD-set-other}
 use Rattle.topology.specs.Sums.{All}
-use Rattle.topology.specs.Changes.{Change, stored, reversed, Within, within-reversed, stored-length, stored-past}
+use Rattle.topology.specs.Changes.{Change, stored, reversed, AmongNodes, within-reversed, stored-length, stored-past}
 use Rattle.topology.specs.Placing.{After}
 use Rattle.front.specs.declared.Corner.{Corner}
 use Rattle.front.specs.State.{State, Quad, quadAt, withFront, pushQuad}
@@ -59,7 +59,7 @@ stateAfter u e q cs =
     let t = pushQuad (q .a) (q .b) (q .d) (q .c) (withEdges u (e .edges) (e .counts .edges)) in
     withFront t (stored set cs (t .next)) (stored set (reversed cs) (t .prev)) (edgesAfter cs (t .counts .front))
 
-pub state-frame : (u e : State) (q : Quad) (cs : List Change) → Edged u e → All (Within (u .counts .nodes)) cs → Frame u (stateAfter u e q cs)
+pub state-frame : (u e : State) (q : Quad) (cs : List Change) → Edged u e → All (AmongNodes (u .counts .nodes)) cs → Frame u (stateAfter u e q cs)
 unfolding pushQuad
 state-frame u e q cs E within =
     record {

@@ -8,7 +8,7 @@ use lib.IntN.{ℤ, _+ℤ_}
 use lib.ListN.{length}
 use Rattle.topology.specs.Sums.{All, Even, total, frontSum, one, loop-one}
 use Rattle.topology.specs.Links.{at}
-use Rattle.topology.specs.Changes.{removed, added}
+use Rattle.topology.specs.Changes.{removedSum, addedSum}
 use Rattle.topology.specs.Placing.{Kind, reused, fresh, placing, After, placed, placed-edges}
 use Rattle.topology.specs.Balance.{frontSumℤ, quadSumℤ, Antisymmetric, balance}
 use Rattle.front.specs.declared.Corner.{Corner}
@@ -17,7 +17,7 @@ use Rattle.front.specs.Place.{cornerPoint, idC, idD, addEdges, edgesAdde
 use Rattle.front.specs.Place as front
 use Rattle.front.specs.Sound.{Sound, Frame}
 use Rattle.front.specs.FrameLaws.{frame-trans, frame-node-places, frame-quad-places, frame-edge-places}
-use Rattle.front.specs.Ready.{Choice, Fits, fits}
+use Rattle.front.specs.Ready.{Choice, Fits, room-fits}
 use Rattle.front.specs.Pushed.{Cornered, cornered, withCorners}
 use Rattle.front.specs.MeshEdges.{quad-edged, edges-few}
 use Rattle.front.specs.Moved.{kindOf, changesOf, edgesAfter, edges-after}
@@ -46,7 +46,7 @@ pub record Stepped (n : ℕ) (s : State) (ls : List (List ℕ)) (a b : ℕ) (c d
   pub at-d : node t (idD s c d) ≡ cornerPoint s d
   -- whatever is summed over the edges: the front after and what came off are the front before and what went on
   pub sums : (w : ℕ → ℕ → ℕ)
-      → frontSum w loops + removed w (changesOf s a b c d) ≡ frontSum w ls + added w (changesOf s a b c d)
+      → frontSum w loops + removedSum w (changesOf s a b c d) ≡ frontSum w ls + addedSum w (changesOf s a b c d)
   -- a weight that changes its sign with the direction: the front before is the quad and the front after
   pub balance : (w : ℕ → ℕ → ℤ) → Antisymmetric w
       → frontSumℤ w ls ≡ quadSumℤ w a b (idD s c d) (idC s c) +ℤ frontSumℤ w loops
@@ -66,8 +66,8 @@ has-loop w (l ∷ ls) h = omega arith
 
 -- no more edges come off than there are
 few-removed : (kc kd : Kind) (a b c d before after : ℕ) → 2 ≤ before → 2 ≤ after
-    → after + removed one (placing kc kd a b c d) ≡ before + added one (placing kc kd a b c d)
-    → removed one (placing kc kd a b c d) ≤ before
+    → after + removedSum one (placing kc kd a b c d) ≡ before + addedSum one (placing kc kd a b c d)
+    → removedSum one (placing kc kd a b c d) ≤ before
 few-removed reused reused a b c d before after h k e = omega arith
 few-removed reused fresh a b c d before after h k e = omega arith
 few-removed fresh reused a b c d before after h k e = omega arith
@@ -85,14 +85,14 @@ pub record Grounds (s : State) (ls : List (List ℕ)) (a b : ℕ) (c d : Corner)
   pub is : place a b c d s
       ≡ stateAfter (withCorners c d s) (addEdges a b (idD s c d) (idC s c) (withCorners c d s))
       (record { a = a; b = b; d = idD s c d; c = idC s c }) (changesOf s a b c d)
-  pub few-off : removed one (changesOf s a b c d) ≤ s .counts .front
+  pub few-off : removedSum one (changesOf s a b c d) ≤ s .counts .front
   pub few-edges : addEdges a b (idD s c d) (idC s c) (withCorners c d s) .counts .edges ≤ edgePlaces s
 
 pub grounds : (n : ℕ) (s : State) (ls : List (List ℕ)) (a b : ℕ) (c d : Corner) → Sound n s ls → Choice s a b c d → isFull s a b c d ≡ false
     → Grounds s ls a b c d
 unfolding nodePlaces edgesAdded
 grounds n s ls a b c d S H full =
-    let A = fits s a b c d full in
+    let A = room-fits s a b c d full in
     let X = sides n s ls S a b c d H in
     let C = idC s c in
     let D = idD s c d in

@@ -1,4 +1,4 @@
--- What the code of `place` stores is the state that `place` leaves: `stored`, at the end.
+-- What the code of `place` stores is the state that `place` leaves: `quad-stored`, at the end.
 use Prim.Native.Nat.{ℕ, _+_, _-_, _*_, _<_, _≤_, min, max}
 use mathlib.Core.List.{List}
 use mathlib.Core.Path.{_≡_, refl, sym, _∙_, ap}
@@ -16,7 +16,7 @@ use Rattle.laws.specs.Tests.{both}
 use Rattle.topology.specs.Links.{off}
 use Rattle.topology.specs.Front.{next-of-prev, prev-in}
 use Rattle.topology.specs.Sums.{one}
-use Rattle.topology.specs.Changes.{reversed, removed}
+use Rattle.topology.specs.Changes.{reversed, removedSum}
 use Rattle.topology.specs.Changes as changes
 use Rattle.topology.specs.Placing.{placing}
 use Rattle.front.specs.declared.Counts.{Counts}
@@ -26,14 +26,14 @@ use Rattle.front.specs.declared.Corner.the-variants.{Reused, Fresh}
 use Rattle.front.specs.State.{State, stateOf, Quad, counted, nodePlaces, quadPlaces, edgePlaces, nextOf, prevOf, edgeFrom, edgeTo}
 use Rattle.front.specs.State.{edgeIs, hasEdge, pushNode, pushEdge, pushQuad, addEdge}
 use Rattle.front.specs.Place.{added, cornerId, idC, idD, addEdges, edgesAdded, isFull, place}
-use Rattle.front.specs.Ready.{Chosen, Known, Ready, fits}
+use Rattle.front.specs.Ready.{Chosen, Known, Ready, room-fits}
 use Rattle.front.specs.Pushed.{withCorners}
 use Rattle.front.specs.MeshEdges.{withEdges, edged, has-flip, has-other}
 use Rattle.front.specs.Moved.{kindOf, changesOf, edgesAfter}
 use Rattle.front.specs.StateAfter.{stateAfter}
 use Rattle.front.specs.Step.{grounds}
-use Rattle.front.specs.Stores.{placeAnswer, placeIfRoom, Places, afterQuad, isBeyond, Ids}
-use Rattle.front.specs.Stores.{storeX, storeY, isReused, knownAcross, unless, newEdges, storeEdge, storeEdges, storeQuad, storeNext, storePrev}
+use Rattle.front.specs.Stores.{placeAnswer, placeIfRoom, PlacesQuad, countsWithQuad, isBeyond, Ids}
+use Rattle.front.specs.Stores.{storeX, storeY, reusesNode, knownAcross, unless, newEdges, storeEdge, storeEdges, storeQuad, storeNext, storePrev}
 
 -- ---- full
 
@@ -164,16 +164,16 @@ no-edge s K u v h = by (hasEdge s u v) refl
 -- which sides of a quad are known
 pub record SidesKnown (s : State) (a b : ℕ) (c d : Corner) : Type 0 where
   pub ab : hasEdge s a b ≡ true
-  pub bd : hasEdge s b (idD s c d) ≡ isReused d
+  pub bd : hasEdge s b (idD s c d) ≡ reusesNode d
   pub dc : hasEdge s (idD s c d) (idC s c) ≡ knownAcross (s .edges) (s .counts .edges) c d
-  pub ca : hasEdge s (idC s c) a ≡ isReused c
+  pub ca : hasEdge s (idC s c) a ≡ reusesNode c
 
 module _ (s : State) (a b : ℕ) (c d : Corner) (R : Ready s a b c d) where
-  side-bd : (d : Corner) → Chosen d a (nextOf s b) → hasEdge s b (idD s c d) ≡ isReused d
+  side-bd : (d : Corner) → Chosen d a (nextOf s b) → hasEdge s b (idD s c d) ≡ reusesNode d
   side-bd (Reused id) h = R .known .fronts b id (h .1) (h .0)
   side-bd (Fresh x y) h = no-edge s (R .known) b (s .counts .nodes + added c) (omega arith)
 
-  side-ca : (c : Corner) → Chosen c b (prevOf s a) → hasEdge s (idC s c) a ≡ isReused c
+  side-ca : (c : Corner) → Chosen c b (prevOf s a) → hasEdge s (idC s c) a ≡ reusesNode c
   side-ca (Reused id) h =
       let S = R .sound in
       let next = next-of-prev (s .counts .nodes) (nextOf s) (prevOf s) (R .loops) (S .front) id a (h .1) (h .0) in
@@ -204,8 +204,8 @@ module _ (s : State) (a b : ℕ) (c d : Corner) (R : Ready s a b c d) where
   edges-added = let K = sides-known in rw (K .ab, K .bd, K .dc, K .ca) (omega arith)
 
 -- the edges of a quad in a state u with the new nodes: a to b is there, the others are known or not
-module _ (u : State) (a b C D : ℕ) (c d : Corner) (across : Bool) (ab : hasEdge u a b ≡ true) (bd : hasEdge u b D ≡ isReused d)
-    (dc : hasEdge u D C ≡ across) (ca : hasEdge u C a ≡ isReused c) (a-b : a ≢ b) (a-c : a ≢ C) (a-d : a ≢ D) (c-b : C ≢ b) (c-d : C ≢ D)
+module _ (u : State) (a b C D : ℕ) (c d : Corner) (across : Bool) (ab : hasEdge u a b ≡ true) (bd : hasEdge u b D ≡ reusesNode d)
+    (dc : hasEdge u D C ≡ across) (ca : hasEdge u C a ≡ reusesNode c) (a-b : a ≢ b) (a-c : a ≢ C) (a-d : a ≢ D) (c-b : C ≢ b) (c-d : C ≢ D)
     (room : 2 * addEdges a b D C u .counts .edges ≤ length (u .edges)) where
   abbrev s2 : State
   s2 = addEdge b D u
@@ -227,19 +227,19 @@ module _ (u : State) (a b C D : ℕ) (c d : Corner) (across : Bool) (ab : hasEdg
   room2 = omega (arith, room4, edged C a s3 .more, edged D C s2 .more)
 
   abbrev n1 : ℕ
-  n1 = u .counts .edges + unless (isReused d)
+  n1 = u .counts .edges + unless (reusesNode d)
 
   abbrev n2 : ℕ
   n2 = n1 + unless across
 
   abbrev l1 : List ℕ
-  l1 = storeEdge (isReused d) (u .counts .edges) b D (u .edges)
+  l1 = storeEdge (reusesNode d) (u .counts .edges) b D (u .edges)
 
   abbrev l2 : List ℕ
   l2 = storeEdge across n1 D C l1
 
   two-is : s2 ≡ withEdges u l1 n1
-  two-is = add-is b D u (isReused d) bd
+  two-is = add-is b D u (reusesNode d) bd
 
   three-is : s3 ≡ withEdges u l2 n2
   three-is =
@@ -252,20 +252,20 @@ module _ (u : State) (a b C D : ℕ) (c d : Corner) (across : Bool) (ab : hasEdg
   unfolding storeEdges newEdges
   edges-are =
       let here = has-other D C C a s2 room3 a-d a-c ∙ (has-other b D C a u room2 a-b a-d ∙ ca) in
-      let last = add-is C a (withEdges u l2 n2) (isReused c) (sym (ap (λ (x : State). hasEdge x C a) three-is) ∙ here) in
-      let count : n2 + unless (isReused c) ≡ u .counts .edges + (unless (isReused d) + unless across + unless (isReused c)) = omega arith in
-      whole ∙ (ap (λ (x : State). addEdge C a x) three-is ∙ (last ∙ ap (λ (n : ℕ). withEdges u (storeEdge (isReused c) n2 C a l2) n) count))
+      let last = add-is C a (withEdges u l2 n2) (reusesNode c) (sym (ap (λ (x : State). hasEdge x C a) three-is) ∙ here) in
+      let count : n2 + unless (reusesNode c) ≡ u .counts .edges + (unless (reusesNode d) + unless across + unless (reusesNode c)) = omega arith in
+      whole ∙ (ap (λ (x : State). addEdge C a x) three-is ∙ (last ∙ ap (λ (n : ℕ). withEdges u (storeEdge (reusesNode c) n2 C a l2) n) count))
 
 -- ---- the count of front edges
 
-front-count : (c d : Corner) (a b C D f : ℕ) → removed one (placing (kindOf c) (kindOf d) a b C D) ≤ f
+front-count : (c d : Corner) (a b C D f : ℕ) → removedSum one (placing (kindOf c) (kindOf d) a b C D) ≤ f
     → edgesAfter (placing (kindOf c) (kindOf d) a b C D) f ≡ f + 2 * (added c + added d) - 2
 front-count (Reused c) (Reused d) a b C D f h = omega arith
 front-count (Reused c) (Fresh x y) a b C D f h = omega arith
 front-count (Fresh x y) (Reused d) a b C D f h = omega arith
 front-count (Fresh x y) (Fresh z w) a b C D f h = omega arith
 
-front-enough : (c d : Corner) (a b C D f : ℕ) → removed one (placing (kindOf c) (kindOf d) a b C D) ≤ f → 2 ≤ f + 2 * (added c + added d)
+front-enough : (c d : Corner) (a b C D f : ℕ) → removedSum one (placing (kindOf c) (kindOf d) a b C D) ≤ f → 2 ≤ f + 2 * (added c + added d)
 front-enough (Reused c) (Reused d) a b C D f h = omega arith
 front-enough (Reused c) (Fresh x y) a b C D f h = omega arith
 front-enough (Fresh x y) (Reused d) a b C D f h = omega arith
@@ -279,14 +279,14 @@ storedState s a b c d C D across w =
     let n = s .counts .nodes in
     stateOf (storeX d (n + added c) (storeX c n (s .xs))) (storeY d (n + added c) (storeY c n (s .ys)))
     (storeNext c d a b C D (s .next)) (storePrev c d a b C D (s .prev)) (s .snapshot) (storeQuad (s .counts .quads) a b D C (s .quads))
-    (storeEdges across c d a b C D (s .counts .edges) (s .edges)) (afterQuad (s .counts) c d w)
+    (storeEdges across c d a b C D (s .counts .edges) (s .edges)) (countsWithQuad (s .counts) c d w)
 
-pub stored : (s : State) (a b : ℕ) (c d : Corner) → Ready s a b c d → isFull s a b c d ≡ false
+pub quad-stored : (s : State) (a b : ℕ) (c d : Corner) → Ready s a b c d → isFull s a b c d ≡ false
     → place a b c d s
     ≡ storedState s a b c d (idC s c) (idD s c d) (knownAcross (s .edges) (s .counts .edges) c d)
     (newEdges (knownAcross (s .edges) (s .counts .edges) c d) c d)
 unfolding pushQuad edgePlaces
-stored s a b c d R full =
+quad-stored s a b c d R full =
     let C = idC s c in
     let D = idD s c d in
     let H = grounds (R .sampled) s (R .loops) a b c d (R .sound) (R .choice) full in
@@ -320,7 +320,7 @@ unfolding storeEdge
 length-store true n u v l = refl
 length-store false n u v l = simp length-set
 
-module _ (across : Bool) (c d : Corner) (a b C D n : ℕ) (l : List ℕ) (kd kc : Bool) (r1 r2 : ℕ) (pd : kd ≡ isReused d) (pc : kc ≡ isReused c)
+module _ (across : Bool) (c d : Corner) (a b C D n : ℕ) (l : List ℕ) (kd kc : Bool) (r1 r2 : ℕ) (pd : kd ≡ reusesNode d) (pc : kc ≡ reusesNode c)
     (p1 : r1 ≡ unless kd) (p2 : r2 ≡ unless across) where
   pub first-fits : 2 * (n + newEdges across c d) ≤ length l → 2 * (n + unless kd) ≤ length l
   unfolding newEdges
@@ -358,7 +358,7 @@ module _ (s : State) (a b : ℕ) (c d : Corner) (R : Ready s a b c d) (mc md C D
   beyond-full = rw (pw, pk, pmc, pmd, ← edges-added s a b c d R) (sym (full-beyond s a b c d))
 
   -- nothing is written
-  pub when-full : isBeyond s (mc + md) w ≡ true → Places a b c d s Full s
+  pub when-full : isBeyond s (mc + md) w ≡ true → PlacesQuad a b c d s Full s
   unfolding placeAnswer placeIfRoom
   when-full h = let e = sym beyond-full ∙ h in record { answer = rw e; state = rw e }
 
@@ -366,7 +366,7 @@ module _ (s : State) (a b : ℕ) (c d : Corner) (R : Ready s a b c d) (mc md C D
   unfolding nodePlaces quadPlaces edgePlaces
   when-fits h =
       let full = sym beyond-full ∙ h in
-      let A = fits s a b c d full in
+      let A = room-fits s a b c d full in
       let H = grounds (R .sampled) s (R .loops) a b c d (R .sound) (R .choice) full in
       let X = H .sides in
       let P = H .cornered .pushed in
@@ -387,7 +387,7 @@ module _ (s : State) (a b : ℕ) (c d : Corner) (R : Ready s a b c d) (mc md C D
         ids = (ids (length (s .next)) (omega (arith, A .nodes-fit)), ids (length (s .prev)) (omega (arith, A .nodes-fit)));
         counts = front-enough c d a b (idC s c) (idD s c d) (s .counts .front) (H .few-off);
         room = full;
-        is = rw (eC, eD, pw, pk) (stored s a b c d R full);
+        is = rw (eC, eD, pw, pk) (quad-stored s a b c d R full);
       }
 
 -- what was stored is the state that `place` leaves
@@ -398,8 +398,8 @@ pub when-stored : (s : State) (a b : ℕ) (c d : Corner) (C D : ℕ) (across : B
     → edges ≡ storeEdges across c d a b C D (s .counts .edges) (s .edges)
     → quads ≡ storeQuad (s .counts .quads) a b D C (s .quads)
     → (next ≡ storeNext c d a b C D (s .next)) × (prev ≡ storePrev c d a b C D (s .prev))
-    → k ≡ afterQuad (s .counts) c d w
-    → Places a b c d s (Done k) (stateOf xs ys next prev (s .snapshot) quads edges k)
+    → k ≡ countsWithQuad (s .counts) c d w
+    → PlacesQuad a b c d s (Done k) (stateOf xs ys next prev (s .snapshot) quads edges k)
 unfolding placeAnswer placeIfRoom
 when-stored s a b c d C D across w F px pe pq pn pk =
     record { answer = rw (F .room, F .is, pk); state = rw (F .room, F .is, px .0, px .1, pe, pq, pn .0, pn .1, pk) }

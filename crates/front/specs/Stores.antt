@@ -26,7 +26,7 @@ unfoldable pub placeIfRoom : ℕ → ℕ → Corner → Corner → State → Sta
 placeIfRoom a b c d s = cond (isFull s a b c d) s (place a b c d s)
 
 -- what `place` ensures: of a quad in s it answers r, and leaves t
-pub record Places (a b : ℕ) (c d : Corner) (s : State) (r : Placed) (t : State) : Type 0 where
+pub record PlacesQuad (a b : ℕ) (c d : Corner) (s : State) (r : Placed) (t : State) : Type 0 where
   pub answer : r ≡ placeAnswer a b c d s
   pub state : t ≡ placeIfRoom a b c d s
 
@@ -38,8 +38,8 @@ countsAfter k (Done m) = m
 -- ---- the counts
 
 -- a quad with the far corners c and d adds e mesh edges; each new node adds two front edges, and the quad takes two
-abbrev pub afterQuad : Counts → Corner → Corner → ℕ → Counts
-afterQuad k c d e =
+abbrev pub countsWithQuad : Counts → Corner → Corner → ℕ → Counts
+countsWithQuad k c d e =
     counted (k .nodes + (added c + added d)) (k .quads + 1) (k .edges + e) (k .front + 2 * (added c + added d) - 2)
 
 -- m nodes, a quad and e mesh edges more are beyond those lent
@@ -59,9 +59,9 @@ storeY (Fresh x y) n l = set l n y
 
 -- ---- the mesh edges
 
-abbrev pub isReused : Corner → Bool
-isReused (Reused id) = true
-isReused (Fresh x y) = false
+abbrev pub reusesNode : Corner → Bool
+reusesNode (Reused id) = true
+reusesNode (Fresh x y) = false
 
 -- one of the first n edges joins the far corners. A new corner has no edge yet.
 abbrev pub knownAcross : List ℕ → ℕ → Corner → Corner → Bool
@@ -79,14 +79,14 @@ storeEdge known n u v l = cond known l (set (set l (2 * n) (min u v)) (2 * n + 1
 
 -- how many edges a quad adds: a to b is known, and so are the sides at reused corners
 unfoldable pub newEdges : Bool → Corner → Corner → ℕ
-newEdges across c d = unless (isReused d) + unless across + unless (isReused c)
+newEdges across c d = unless (reusesNode d) + unless across + unless (reusesNode c)
 
 -- the edges b to d, d to c and c to a, from place n on
 unfoldable pub storeEdges : Bool → Corner → Corner → ℕ → ℕ → ℕ → ℕ → ℕ → List ℕ → List ℕ
 storeEdges across c d a b idC idD n l =
-    let n1 = n + unless (isReused d) in
+    let n1 = n + unless (reusesNode d) in
     let n2 = n1 + unless across in
-    storeEdge (isReused c) n2 idC a (storeEdge across n1 idD idC (storeEdge (isReused d) n b idD l))
+    storeEdge (reusesNode c) n2 idC a (storeEdge across n1 idD idC (storeEdge (reusesNode d) n b idD l))
 
 -- ---- the quad
 

@@ -7,7 +7,7 @@ ghost use Rattle.topology.specs.Links.{off};
 ghost use Rattle.front.specs.State.{stateOf, nodeIn};
 ghost use Rattle.front.specs.Place.{added, cornerId};
 ghost use Rattle.front.specs.Ready.{Ready};
-ghost use Rattle.front.specs.Stores.{Places, countsAfter, afterQuad, isBeyond, storeX, storeY, isReused, knownAcross, unless, newEdges};
+ghost use Rattle.front.specs.Stores.{PlacesQuad, countsAfter, countsWithQuad, isBeyond, storeX, storeY, reusesNode, knownAcross, unless, newEdges};
 ghost use Rattle.front.specs.Stores.{storeEdge, storeEdges, storeQuad, storeSide, storeNext, storePrev, Ids, Countable};
 use domain::Point;
 
@@ -72,7 +72,7 @@ impl Corner {
     }
 
     pub fn is_reused(self) -> bool
-        ensures { λ r. ⌜ r ≡ isReused self ⌝ }
+        ensures { λ r. ⌜ r ≡ reusesNode self ⌝ }
     {
         match self {
             Corner::Reused(_) => true,
@@ -85,7 +85,7 @@ impl Counts {
     // The counts after a quad with the far corners c and d, which adds so many mesh edges.
     pub fn after_quad(self, c: Corner, d: Corner, edges: usize) -> Counts
         requires { ⌜ Countable self c d edges ⌝ }
-        ensures { λ r. ⌜ r ≡ afterQuad self c d edges ⌝ }
+        ensures { λ r. ⌜ r ≡ countsWithQuad self c d edges ⌝ }
     {
         let m = c.added() + d.added();
         Counts {
@@ -320,7 +320,7 @@ pub fn place(
 ) -> Placed
     requires { ⌜ Ready (stateOf (now xs) (now ys) (now next) (now prev) (now snapshot) (now quads) (now edges) k) a b c d
         × (across ≡ knownAcross (now edges) (k .edges) c d) ⌝ }
-    ensures { λ r. ⌜ Places a b c d
+    ensures { λ r. ⌜ PlacesQuad a b c d
         (stateOf (now (xs .entry)) (now (ys .entry)) (now (next .entry)) (now (prev .entry)) (now (snapshot .entry)) (now (quads .entry))
         (now (edges .entry)) k)
         r (stateOf (now (xs .exit)) (now (ys .exit)) (now (next .exit)) (now (prev .exit)) (now (snapshot .entry)) (now (quads .exit))

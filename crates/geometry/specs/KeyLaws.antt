@@ -48,16 +48,16 @@ apart-by a b true e = let below = ltb-true a b e in omega arith
 apart-by a b false e = let above = ltb-false a b e in omega arith
 
 -- how far apart two whole numbers are
-pub apart : (a b : ℕ) → natAbs (subℕ a b) ≡ (a - b) + (b - a)
-apart a b = apart-by a b (ltb a b) refl
+pub abs-subℕ : (a b : ℕ) → natAbs (subℕ a b) ≡ (a - b) + (b - a)
+abs-subℕ a b = apart-by a b (ltb a b) refl
 
 pub gap-of : (k l : ℤ) → SFits w64 k → SFits w64 l → gap k l ≡ (offset k - offset l) + (offset l - offset k)
 gap-of (pos a) (pos zero) f g = omega arith
-gap-of (pos a) (pos (suc b)) f g = omega (arith, apart a (suc b))
+gap-of (pos a) (pos (suc b)) f g = omega (arith, abs-subℕ a (suc b))
 gap-of (pos a) (negsuc b) f g = omega (arith, g .sfits)
-gap-of (negsuc a) (pos zero) f g = omega (arith, apart zero (suc a), f .sfits)
+gap-of (negsuc a) (pos zero) f g = omega (arith, abs-subℕ zero (suc a), f .sfits)
 gap-of (negsuc a) (pos (suc b)) f g = omega (arith, f .sfits)
-gap-of (negsuc a) (negsuc b) f g = omega (arith, apart (suc b) (suc a), f .sfits, g .sfits)
+gap-of (negsuc a) (negsuc b) f g = omega (arith, abs-subℕ (suc b) (suc a), f .sfits, g .sfits)
 
 -- what the code of `offset` needs of a negative key: -1 - k is n, in range
 pub record Negative (k : ℤ) : Type 0 where
@@ -105,13 +105,13 @@ back-of k small = toZ-ofZ w64 k (record { sfits = small })
 -- ---- the spans
 
 -- a sum tested against a limit without taking it
-pub within : (a b limit : ℕ) → a ≤ limit → leb b (limit - a) ≡ leb (a + b) limit
-within a b limit h = within-by (leb b (limit - a)) refl
+pub leb-sum-within : (a b limit : ℕ) → a ≤ limit → leb b (limit - a) ≡ leb (a + b) limit
+leb-sum-within a b limit h = within-by (leb b (limit - a)) refl
   where
     within-by : (t : Bool) → leb b (limit - a) ≡ t → t ≡ leb (a + b) limit
     within-by true e = let low = leb-true b (limit - a) e in sym (le-leb (a + b) limit (omega arith))
     within-by false e = let high = leb-false b (limit - a) e in sym (lt-leb (a + b) limit (omega arith))
 
 -- and where the first summand is above it
-pub over : (a b limit : ℕ) → limit < a → leb (a + b) limit ≡ false
-over a b limit h = lt-leb (a + b) limit (omega arith)
+pub leb-sum-over : (a b limit : ℕ) → limit < a → leb (a + b) limit ≡ false
+leb-sum-over a b limit h = lt-leb (a + b) limit (omega arith)

@@ -14,10 +14,10 @@ use lib.Ieee.Scale.{round-same}
 use lib.Ieee.Positive.{positive, above, above-of-le, mul-mono}
 use Rattle.numbers.specs.Float.{_⊕_, _⊖_, _⊗_, _⊘_, zeroF, tolerance, isFinite}
 use Rattle.exact.specs.Corner.{sin20}
-use Rattle.exact.specs.Corner as corner
+use Rattle.exact.specs.Corner.{norm, cornerOk}
 use Rattle.domain.specs.declared.Point.{Point}
 use Rattle.geometry.specs.declared.Corners.{Corners}
-use Rattle.geometry.specs.Plane.{norm, cornerOk}
+use Rattle.geometry.specs.Plane.{convexAt}
 use Rattle.geometry.specs.SignLaws.{HasSign, round-sign, square-sign, sum-sign, root-sign, le-of-not, finite-difference, finite-product}
 
 -- ---- definitions
@@ -37,12 +37,12 @@ lacksLeftTurn p =
 
 -- each corner passes the test of `convex_ccw`
 unfoldable pub cornersTurn : Corners → Bool
-cornersTurn p = cornerOk (p .c) (p .a) (p .b) && (cornerOk (p .a) (p .b) (p .d) && (cornerOk (p .b) (p .d) (p .c) && cornerOk (p .d) (p .c) (p .a)))
+cornersTurn p = convexAt (p .c) (p .a) (p .b) && (convexAt (p .a) (p .b) (p .d) && (convexAt (p .b) (p .d) (p .c) && convexAt (p .d) (p .c) (p .a)))
 
 -- ---- the product of two lengths above 1e-12 is above 0
 
 length-sign : (x y : Float) → T (isFinite x) → T (isFinite y) → HasSign (norm x y) false
-unfolding corner.norm
+unfolding norm
 length-sign x y p q = root-sign (x ⊗ x ⊕ y ⊗ y) (sum-sign (x ⊗ x) (y ⊗ y) (square-sign x p) (square-sign y q))
 
 tolerance-sign : HasSign tolerance false
@@ -166,8 +166,8 @@ steps-fail ux uy vx vy h f =
     let v = length-sign vx vy (second .1) (first .1) in
     fails (le lu tolerance) (le lv tolerance) (le (k ⊘ (lu ⊗ lv)) sin20) (λ p q. quotient-low k (lu ⊗ lv) f h (lengths-above lu lv u v p q))
 
-pub corner-fails : (a b c : Point) → noLeftTurn a b c ≡ true → cornerOk a b c ≡ false
-unfolding noLeftTurn corner.cornerOk
+pub corner-fails : (a b c : Point) → noLeftTurn a b c ≡ true → convexAt a b c ≡ false
+unfolding noLeftTurn cornerOk
 corner-fails a b c e =
     let k = turn a b c in
     let t : T (le k zeroF && isFinite k) = subst T (sym e) tt in

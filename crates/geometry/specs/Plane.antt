@@ -4,14 +4,10 @@
 use mathlib.Core.Bool.{Bool, true, false, not, _&&_, _||_, cond}
 use lib.Ieee.{Float, neg, lt, le}
 use Rattle.numbers.specs.Float.{_⊕_, _⊖_, _⊗_, _⊘_, zeroF, oneF, fourF, tolerance, absF, minF, maxF}
-use Rattle.exact.specs.Corner as corner
+use Rattle.exact.specs.Corner.{norm, cornerOk}
 use Rattle.domain.specs.declared.Point.{Point}
 use Rattle.domain.specs.Outline.{point}
 use Rattle.geometry.specs.declared.Corners.{Corners}
-
--- the root of x·x + y·y
-abbrev pub norm : Float → Float → Float
-norm x y = corner.norm x y
 
 -- `distance`
 unfoldable pub distance : Point → Point → Float
@@ -74,11 +70,11 @@ centroid p =
     point ((p .a .x ⊕ p .b .x ⊕ p .d .x ⊕ p .c .x) ⊘ fourF) ((p .a .y ⊕ p .b .y ⊕ p .d .y ⊕ p .c .y) ⊘ fourF)
 
 -- one corner of `convex_ccw`: both sides above 1e-12, and the sine of the turn from a to b to c above sin 20°
-abbrev pub cornerOk : Point → Point → Point → Bool
-cornerOk a b c = corner.cornerOk (a .x) (a .y) (b .x) (b .y) (c .x) (c .y)
+abbrev pub convexAt : Point → Point → Point → Bool
+convexAt a b c = cornerOk (a .x) (a .y) (b .x) (b .y) (c .x) (c .y)
 
 -- `convex_ccw` at 20 degrees
 unfoldable pub convexCcw : Corners → Bool
 convexCcw p =
-    not (le (doubledArea p) tolerance) && (cornerOk (p .c) (p .a) (p .b) && (cornerOk (p .a) (p .b) (p .d)
-    && (cornerOk (p .b) (p .d) (p .c) && cornerOk (p .d) (p .c) (p .a))))
+    not (le (doubledArea p) tolerance) && (convexAt (p .c) (p .a) (p .b) && (convexAt (p .a) (p .b) (p .d)
+    && (convexAt (p .b) (p .d) (p .c) && convexAt (p .d) (p .c) (p .a))))

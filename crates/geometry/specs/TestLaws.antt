@@ -4,8 +4,8 @@ use mathlib.Core.Path.{_≡_, sym, _∙_}
 use borrow.Author.Tests.{not-true, not-false}
 
 -- `if !f(..)`, taken and left
-pub refused : {x b : Bool} → x ≡ b → not x ≡ true → b ≡ false
-refused e t = sym e ∙ not-true _ t
+pub test-refused : {x b : Bool} → x ≡ b → not x ≡ true → b ≡ false
+test-refused e t = sym e ∙ not-true _ t
 
-pub passed : {x b : Bool} → x ≡ b → not x ≡ false → b ≡ true
-passed e t = sym e ∙ not-false _ t
+pub test-passed : {x b : Bool} → x ≡ b → not x ≡ false → b ≡ true
+test-passed e t = sym e ∙ not-false _ t

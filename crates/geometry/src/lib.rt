@@ -1,7 +1,8 @@
 // The geometry tests of src/alt_crossfield.rs, and the keys that replace its two indexes. Each function equals its definition on every input.
 ghost use mathlib.Core.Path.{_≡_};
 ghost use mathlib.Core.Bool.{_&&_};
-ghost use Rattle.geometry.specs.Plane.{norm, distance, tangent, areaTerm, cross2, doubledArea, leftOf, pointInConvex, onSegment, opposite};
+ghost use Rattle.exact.specs.Corner.{norm};
+ghost use Rattle.geometry.specs.Plane.{distance, tangent, areaTerm, cross2, doubledArea, leftOf, pointInConvex, onSegment, opposite};
 ghost use Rattle.geometry.specs.Plane.{touches, segmentsCross, centroid, convexCcw};
 ghost use Rattle.geometry.specs.Sides.{sideOf, turnOk};
 ghost use Rattle.geometry.specs.LeftTurns.{noLeftTurn, lacksLeftTurn, cornersTurn};

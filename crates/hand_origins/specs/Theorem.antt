@@ -17,7 +17,7 @@ use Rattle.direction.specs.Record.{FieldRecord}
 use Rattle.front.specs.declared.Corner.{Corner}
 use Rattle.front.specs.State.{State, nodePlaces, quadAt}
 use Rattle.front.specs.Place.{added, cornerId, idC, idD, place, isFull}
-use Rattle.front.specs.Ready.{fits}
+use Rattle.front.specs.Ready.{room-fits}
 use Rattle.front.specs.Sampling.{sampledCount, fromBoundary}
 use Rattle.lent_mesh.specs.declared.QuadIds.{QuadIds}
 use Rattle.lent_mesh.specs.Mesh.{quadIn}
@@ -30,7 +30,7 @@ use Rattle.paving.specs.Reach.{Placement}
 use Rattle.paving.specs.ReachLaws.{tried}
 use Rattle.books.specs.Holds.{BooksHold}
 use Rattle.books.specs.BookLaws.{frame-quad}
-use Rattle.books.specs.Step.{Stepped, step}
+use Rattle.books.specs.Step.{Stepped, answered-step}
 use Rattle.books_hold.specs.Stages.{standing}
 use Rattle.books_hold.specs.Runs.{AcceptedRun, start, reached-holds}
 use Rattle.origins.specs.Origins.{pushOrigin, quadOrigins, originsAfter, OneOrigin}
@@ -101,7 +101,7 @@ module _ (o : Outline) (size : Float) (field : FieldRecord) (s : State) (F : Fro
     placed : Stepped (sampledCount o size) s (standing (start o size (F .lent) (F .accepted) .sound) (F .reached .by) .loops) a b c d (place a b c d s)
     placed =
         let Y = standing (start o size (F .lent) (F .accepted) .sound) (F .reached .by) in
-        step (sampledCount o size) s (Y .loops) o size a b c d (Y .sound) placement
+        answered-step (sampledCount o size) s (Y .loops) o size a b c d (Y .sound) placement
 
     abbrev t : State
     t = place a b c d s
@@ -132,7 +132,7 @@ module _ (o : Outline) (size : Float) (field : FieldRecord) (s : State) (F : Fro
         let m = n + added c in
         let count-c = push-counts c n n (B .0) (omega arith) in
         let count-d = push-counts d n m (B .1) (omega arith) in
-        let enough : m + added d ≤ length before = omega (arith, room, fits s a b c d full .nodes-fit) in
+        let enough : m + added d ≤ length before = omega (arith, room, room-fits s a b c d full .nodes-fit) in
         let more : t .counts .nodes ≡ n + (added c + added d) = omega (arith, placed .nodes) in
         let first : pushAt a C n l ≡ overlay (pushOrigin a C L) before =
         ap (pushAt a C n) N ∙ push-over a C n L before long (S .id-a) (omega (arith, count-c, enough)) in

@@ -17,7 +17,7 @@ use Rattle.front.specs.State.{State, stateOf, counted, withFront, edgeIn, hasEd
 use Rattle.front.specs.MeshEdges.{withEdges, quad-edged}
 use Rattle.front.specs.Stores.{storeX, storeY, storeQuad}
 use Rattle.front.specs.Place.{added, cornerId, pushCorner, addEdges, takeOff, putOn, moveFront, place}
-use Rattle.mesh_changes.specs.Parts.{frontIn, edgesIn, nodesIn}
+use Rattle.mesh_changes.specs.Parts.{frontIn, edgesIn, nodesAlone}
 
 -- ---- parts: `over s p` is s with the part taken from p, and `bare s` has of s what a change reads and never writes
 
@@ -30,8 +30,8 @@ module _ (over : State → State → State) (bare : State → State) (same : (s 
   alone F f s p = f (bare s) p ∙ ap (λ (x : State). over (bare s) (F (over x p))) (same s)
 
   -- one change after another
-  pub then : (F G : State → State) → Local F → Local G → Local (λ s. G (F s))
-  then F G f g s p =
+  pub local-then : (F G : State → State) → Local F → Local G → Local (λ s. G (F s))
+  local-then F G f g s p =
       let X = F (over (bare s) p) in
       ap G (f s p) ∙ (g s X ∙ ap (λ (x : State). over s (G x)) (sym (alone F f s p)))
 
@@ -84,7 +84,7 @@ move-local c d a b idD idC =
     front-then F5 (putOn d idD b) L5 (put-local d idD b)
   where
     front-then : (F G : State → State) → FrontLocal F → FrontLocal G → FrontLocal (λ s. G (F s))
-    front-then F G f g = then overFront bareFront (λ s. refl) F G f g
+    front-then F G f g = local-then overFront bareFront (λ s. refl) F G f g
 
 -- ---- the mesh edges
 
@@ -117,7 +117,7 @@ edges-local a b d c =
     edges-then F3 (addEdge c a) L3 (edge-local c a)
   where
     edges-then : (F G : State → State) → EdgesLocal F → EdgesLocal G → EdgesLocal (λ s. G (F s))
-    edges-then F G f g = then overEdges bareEdges (λ s. refl) F G f g
+    edges-then F G f g = local-then overEdges bareEdges (λ s. refl) F G f g
 
 -- ---- the new nodes
 
@@ -127,7 +127,7 @@ overNodes s p =
     (counted (p .counts .nodes) (s .counts .quads) (s .counts .edges) (s .counts .front))
 
 abbrev pub bareNodes : State → State
-bareNodes s = nodesIn [] [] [] [] 0
+bareNodes s = nodesAlone [] [] [] [] 0
 
 abbrev pub NodesLocal : (State → State) → Type 0
 NodesLocal F = Local overNodes bareNodes (λ s. refl) F
@@ -138,14 +138,14 @@ corner-local (Reused id) s p = refl
 corner-local (Fresh x y) s p = refl
 
 corners-local : (c d : Corner) → NodesLocal (λ s. pushCorner d (pushCorner c s))
-corners-local c d = then overNodes bareNodes (λ s. refl) (pushCorner c) (pushCorner d) (corner-local c) (corner-local d)
+corners-local c d = local-then overNodes bareNodes (λ s. refl) (pushCorner c) (pushCorner d) (corner-local c) (corner-local d)
 
 -- ---- the whole: each part as the code left it
 
 module _ (a b : ℕ) (c d : Corner) (xs ys : List Float) (next prev snapshot quads edges : List ℕ) (k : Counts) where
   pub parts-placed : {xs' ys' : List Float} {next' prev' next'' prev'' quads' edges' : List ℕ} {n' e' f' C D : ℕ}
       → C ≡ cornerId (k .nodes) c → D ≡ cornerId (k .nodes + added c) d
-      → nodesIn xs' ys' next' prev' n' ≡ pushCorner d (pushCorner c (nodesIn xs ys next prev (k .nodes)))
+      → nodesAlone xs' ys' next' prev' n' ≡ pushCorner d (pushCorner c (nodesAlone xs ys next prev (k .nodes)))
       → edgesIn edges' e' ≡ addEdges a b D C (edgesIn edges (k .edges))
       → quads' ≡ storeQuad (k .quads) a b D C quads
       → frontIn next'' prev'' n' f' ≡ moveFront c d a b D C (frontIn next' prev' n' (k .front))

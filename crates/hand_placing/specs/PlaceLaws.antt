@@ -33,15 +33,15 @@ edge-fits : (edges : List ℕ) (n u v most : ℕ) → 2 * addEdge u v (edgesIn e
 unfolding hasEdge
 edge-fits edges n u v most h = omega (arith, added-count u v (edgesIn edges n))
 
-pub first-fits : (edges : List ℕ) (n u v w : ℕ) → 2 * addEdge v w (addEdge u v (edgesIn edges n)) .counts .edges ≤ length edges
+pub first-edge-fits : (edges : List ℕ) (n u v w : ℕ) → 2 * addEdge v w (addEdge u v (edgesIn edges n)) .counts .edges ≤ length edges
     → 2 * (n + unless (edgeIn edges n u v)) ≤ length edges
-first-fits edges n u v w h =
+first-edge-fits edges n u v w h =
     edge-fits edges n u v (length edges) (omega (arith, edged v w (addEdge u v (edgesIn edges n)) .more))
 
-pub second-fits : (edges after : List ℕ) (n m u v w : ℕ) → edgesIn after m ≡ addEdge u v (edgesIn edges n) → length edges ≤ length after
+pub second-edge-fits : (edges after : List ℕ) (n m u v w : ℕ) → edgesIn after m ≡ addEdge u v (edgesIn edges n) → length edges ≤ length after
     → 2 * addEdge v w (addEdge u v (edgesIn edges n)) .counts .edges ≤ length edges
     → 2 * (m + unless (edgeIn after m v w)) ≤ length after
-second-fits edges after n m u v w e long h =
+second-edge-fits edges after n m u v w e long h =
     edge-fits after m v w (length after) (rw e (omega arith))
 
 pub first-pair : (edges : List ℕ) (n a b d c : ℕ) → 2 * addEdges a b d c (edgesIn edges n) .counts .edges ≤ length edges

@@ -9,7 +9,7 @@ ghost use Rattle.front.specs.Place.{added, pushCorner, addEdges, takeOff, putOn
 ghost use Rattle.front.specs.Stores.{Ids};
 ghost use Rattle.mesh_check.specs.Check.{lentState};
 ghost use Rattle.mesh_check.specs.Passed.{MeshRoom};
-ghost use Rattle.mesh_changes.specs.Parts.{frontIn, edgesIn, nodesIn, NodesFit};
+ghost use Rattle.mesh_changes.specs.Parts.{frontIn, edgesIn, nodesAlone, NodesFit};
 ghost use Rattle.hand_placing.specs.Room.{QuadRoom};
 use front::Corner;
 use front::Counts;
@@ -143,8 +143,8 @@ fn new_corner(
     n: u32,
 ) -> u32
     requires { ⌜ NodesFit (now xs) (now ys) (now next) (now prev) (n + added c) ⌝ }
-    ensures { λ r. ⌜ (nodesIn (now (xs .exit)) (now (ys .exit)) (now (next .exit)) (now (prev .exit)) r
-        ≡ pushCorner c (nodesIn (now (xs .entry)) (now (ys .entry)) (now (next .entry)) (now (prev .entry)) n)) × (r ≡ n + added c) ⌝ }
+    ensures { λ r. ⌜ (nodesAlone (now (xs .exit)) (now (ys .exit)) (now (next .exit)) (now (prev .exit)) r
+        ≡ pushCorner c (nodesAlone (now (xs .entry)) (now (ys .entry)) (now (next .entry)) (now (prev .entry)) n)) × (r ≡ n + added c) ⌝ }
 {
     match c {
         Corner::Reused(_) => n,
@@ -165,8 +165,8 @@ fn new_corners(
     n: u32,
 ) -> u32
     requires { ⌜ NodesFit (now xs) (now ys) (now next) (now prev) (n + (added c + added d)) ⌝ }
-    ensures { λ r. ⌜ (nodesIn (now (xs .exit)) (now (ys .exit)) (now (next .exit)) (now (prev .exit)) r
-        ≡ pushCorner d (pushCorner c (nodesIn (now (xs .entry)) (now (ys .entry)) (now (next .entry)) (now (prev .entry)) n)))
+    ensures { λ r. ⌜ (nodesAlone (now (xs .exit)) (now (ys .exit)) (now (next .exit)) (now (prev .exit)) r
+        ≡ pushCorner d (pushCorner c (nodesAlone (now (xs .entry)) (now (ys .entry)) (now (next .entry)) (now (prev .entry)) n)))
         × (r ≡ n + (added c + added d)) ⌝ }
 {
     let m = new_corner(c, xs, ys, next, prev, n);

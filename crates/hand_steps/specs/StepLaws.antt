@@ -56,8 +56,8 @@ next-long xs ys next prev origins quads edges k e z =
 -- ---- the placing
 
 module _ (a b : ℕ) (c d : Corner) (s : State) {t : Attempt} (q : t ≡ Quad c d) {r : Bool} (e : r ≡ isFull s a b c d) where
-  pub settle-full : r ≡ true → handled s Full ≡ settledOn a b t s
-  settle-full f = rw (q, ← e, f)
+  pub handled-full : r ≡ true → handled s Full ≡ settledOn a b t s
+  handled-full f = rw (q, ← e, f)
 
   pub settle-placed : r ≡ false → {left : State} → left ≡ place a b c d s → handled left Placed ≡ settledOn a b t s
   settle-placed f p = rw (q, ← e, f) (ap (λ (x : State). handled x Placed) p)

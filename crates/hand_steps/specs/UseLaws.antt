@@ -131,10 +131,10 @@ module _ (o : Outline) (size : Float) (field : FieldRecord) (s : State) (a b : �
 -- ---- how many nodes a placing leaves: no fewer, and no more than there are places
 
 module _ (o : Outline) (size : Float) (field : FieldRecord) (s : State) (a b : ℕ) (S : OnFront s a b) where
-  abbrev Grown : ℕ → Type 0
-  Grown m = (s .counts .nodes ≤ m) × (m ≤ nodePlaces s)
+  abbrev NodesGrown : ℕ → Type 0
+  NodesGrown m = (s .counts .nodes ≤ m) × (m ≤ nodePlaces s)
 
-  same-grown : Grown (s .counts .nodes)
+  same-grown : NodesGrown (s .counts .nodes)
   unfolding beyondPlaces
   same-grown = (omega arith, ltb-false _ _ (neither (ltb (nodePlaces s) (s .counts .nodes)) _ (S .passes .counts) .0))
 
@@ -142,12 +142,12 @@ module _ (o : Outline) (size : Float) (field : FieldRecord) (s : State) (a b : �
   abbrev quads-or-edges : Corner → Corner → Bool
   quads-or-edges c d = ltb (quadPlaces s) (s .counts .quads + 1) || ltb (edgePlaces s) (s .counts .edges + edgesAdded s a b (idD s c d) (idC s c))
 
-  settled-grown : (t : Attempt) → Grown (settledOn a b t s .state .counts .nodes)
+  settled-grown : (t : Attempt) → NodesGrown (settledOn a b t s .state .counts .nodes)
   unfolding isFull
   settled-grown Nothing = same-grown
   settled-grown (Quad c d) = by (isFull s a b c d) refl
     where
-      by : (full : Bool) → isFull s a b c d ≡ full → Grown (cond full (handled s Full) (handled (place a b c d s) Placed) .state .counts .nodes)
+      by : (full : Bool) → isFull s a b c d ≡ full → NodesGrown (cond full (handled s Full) (handled (place a b c d s) Placed) .state .counts .nodes)
       by true f = same-grown
       by false f =
           let N = placed-nodes a b c d s in
@@ -155,11 +155,11 @@ module _ (o : Outline) (size : Float) (field : FieldRecord) (s : State) (a b : �
           let first : ltb (nodePlaces s) m ≡ false = neither (ltb (nodePlaces s) m) (quads-or-edges c d) f .0 in
           (omega (arith, N), omega (arith, N, ltb-false (nodePlaces s) m first))
 
-  pub place-grown : Grown (placeOn o size field a b s .state .counts .nodes)
+  pub place-grown : NodesGrown (placeOn o size field a b s .state .counts .nodes)
   unfolding placeOn
   place-grown = by (leb mostQuads (s .counts .quads))
     where
-      by : (cap : Bool) → Grown (cond cap (handled s Cap) (settledOn a b (tryEdge o size field s a b) s) .state .counts .nodes)
+      by : (cap : Bool) → NodesGrown (cond cap (handled s Cap) (settledOn a b (tryEdge o size field s a b) s) .state .counts .nodes)
       by true = same-grown
       by false = settled-grown (tryEdge o size field s a b)
 

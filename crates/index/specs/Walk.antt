@@ -56,6 +56,6 @@ pub record Stands (pool : List ℕ) (r : Rect) (rest : List ℕ) (c : Cursor) : 
   pub all : ahead pool r c ≡ rest
 
 -- d is the cursor after c: its owner has been visited, and the rest is left
-pub record After (pool : List ℕ) (r : Rect) (c d : Cursor) : Type 0 where
+pub record NextCursor (pool : List ℕ) (r : Rect) (c d : Cursor) : Type 0 where
   pub at : over d ≡ false → At pool d
   pub rest : ahead pool r c ≡ ownAt (length pool) pool (c .t) ∷ ahead pool r d

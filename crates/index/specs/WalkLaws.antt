@@ -15,7 +15,7 @@ use Rattle.index.specs.declared.Cursor.{Cursor}
 use Rattle.pools.specs.Pool.{none, cells, capacity, ownAt, linkAt, headAt, used, falling, chain, anyOf, cellOf, chainAt, span, filed}
 use Rattle.pools.specs.Pool.{Filed, Indexed}
 use Rattle.key_rects.specs.Rects.{Meets}
-use Rattle.index.specs.Walk.{across, columns, rows, visited, over, rowAhead, ahead, At, InRow, Stands, After}
+use Rattle.index.specs.Walk.{across, columns, rows, visited, over, rowAhead, ahead, At, InRow, Stands, NextCursor}
 use Rattle.pools.specs.ChainLaws.{any-has, any-left, falling-high, falling-step, falling-on, falling-last, falling-keeps}
 use Rattle.pools.specs.ChainLaws.{below-or-not}
 use Rattle.index.specs.AcrossLaws.{across-from, across-more, across-end, across-empty, across-none, across-some}
@@ -96,7 +96,7 @@ module _ {pool : List ℕ} {r : Rect} {test : ℕ → Bool} where
     walk-none e = rw e at (w .same)
 
     -- `after`, where the cursor's item fails
-    pub walk-next : {d : Cursor} → test (ownAt (length pool) pool (c .t)) ≡ false → After pool r c d → Walk pool r test answer d
+    pub walk-next : {d : Cursor} → test (ownAt (length pool) pool (c .t)) ≡ false → NextCursor pool r c d → Walk pool r test answer d
     unfolding anyOf
     walk-next {d} fails a =
         record {
@@ -117,7 +117,7 @@ module _ {pool : List ℕ} {r : Rect} {test : ℕ → Bool} where
         ∙ (rw on at (w .same))
 
 -- the measure falls
-pub walk-less : {pool : List ℕ} {r : Rect} {c d : Cursor} → After pool r c d → length (ahead pool r d) < length (ahead pool r c)
+pub walk-less : {pool : List ℕ} {r : Rect} {c d : Cursor} → NextCursor pool r c d → length (ahead pool r d) < length (ahead pool r c)
 walk-less a = omega (arith, ap length (a .rest))
 
 -- ---- how the code finds its places
@@ -199,9 +199,9 @@ row-stands {pool} r {j} {rest} {c} found on =
     }
 
 -- none in it
-pub row-over : {pool : List ℕ} {right j : ℕ} {rest : List ℕ} {c : Cursor} → InRow pool right j rest c → over c ≡ true → rest ≡ []
+pub row-walked : {pool : List ℕ} {right j : ℕ} {rest : List ℕ} {c : Cursor} → InRow pool right j rest c → over c ≡ true → rest ≡ []
 unfolding rowAhead
-row-over found e = sym (found .all) ∙ rw e refl
+row-walked found e = sym (found .all) ∙ rw e refl
 
 -- nothing is left of the walk
 pub stands-none : {pool : List ℕ} {r : Rect} {rest : List ℕ} {c : Cursor} → over c ≡ true → rest ≡ [] → Stands pool r rest c
@@ -218,7 +218,7 @@ module _ {pool : List ℕ} (r : Rect) {c : Cursor} (at : At pool c) where
 
   -- the next place of the chain
   pub after-link : linkAt m pool (c .t) < c .t
-      → After pool r c (record { i = c .i; j = c .j; cell = c .cell; t = linkAt m pool (c .t) })
+      → NextCursor pool r c (record { i = c .i; j = c .j; cell = c .cell; t = linkAt m pool (c .t) })
   unfolding ahead rowAhead chain over
   after-link less =
       let off = ne-eqb (linkAt m pool (c .t)) none (λ is-none. omega (arith, place-small m (c .t) (at .place))) in
@@ -233,7 +233,7 @@ module _ {pool : List ℕ} (r : Rect) {c : Cursor} (at : At pool c) where
 
   -- the chain ends: the rest is what is left of the row, and then the later rows
   pub after-chain : {d : Cursor} → c .t ≤ linkAt m pool (c .t)
-      → Stands pool r (columns pool (c .j) (r .right - c .i) (c .i + 1) ++ rows pool r (r .high - c .j) (c .j + 1)) d → After pool r c d
+      → Stands pool r (columns pool (c .j) (r .right - c .i) (c .i + 1) ++ rows pool r (r .high - c .j) (c .j + 1)) d → NextCursor pool r c d
   unfolding ahead rowAhead chain
   after-chain last s =
       let row = columns pool (c .j) (r .right - c .i) (c .i + 1) in

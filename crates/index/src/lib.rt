@@ -5,7 +5,7 @@ ghost use mathlib.Core.Bool.{true};
 ghost use Prim.Native.Nat.{_+_, _-_, _≤_, _<_};
 ghost use lib.ListN.{length};
 ghost use Rattle.pools.specs.Pool.{cells, ownAt, cellOf, span};
-ghost use Rattle.index.specs.Walk.{columns, rows, visited, over, At, InRow, Stands, After};
+ghost use Rattle.index.specs.Walk.{columns, rows, visited, over, At, InRow, Stands, NextCursor};
 use pools::NONE;
 use pools::Rect;
 
@@ -123,7 +123,7 @@ pub fn first(pool: &[u32], r: Rect) -> Cursor
 // The place after the cursor's.
 pub fn after(pool: &[u32], r: Rect, c: Cursor) -> Cursor
     requires { ⌜ At (now pool) c ⌝ }
-    ensures { λ d. ⌜ After (now (pool .entry)) r c d ⌝ }
+    ensures { λ d. ⌜ NextCursor (now (pool .entry)) r c d ⌝ }
 {
     let t = c.t;
     let at = 2 + pools::cells_of(pool.len()) + 2 * (t as usize);

@@ -14,8 +14,8 @@ use Rattle.geometry.specs.declared.Key.{Key}
 use Rattle.geometry.specs.declared.Corners.{Corners}
 use Rattle.geometry.specs.Keys.{gap, atMost, lesser, greater, spansOf, rangesMeet, rectanglesMeet, nearKeys, between}
 use Rattle.geometry.specs.Keys.{keyOf, edgeBucket, spansKept, isTooClose, tooCloseAt, lowest, highest, isInBox, inBoxAt, isCandidate, candidateAt}
-use Rattle.geometry.specs.KeyLaws.{at-most, apart}
-use Rattle.pools.specs.Pool.{Within}
+use Rattle.geometry.specs.KeyLaws.{at-most, abs-subℕ}
+use Rattle.pools.specs.Pool.{InRect}
 use Rattle.key_rects.specs.Rects.{shifted, rectOf, rectAt, rectAround, rectEmpty, nodeRect, edgeRect, Meets}
 
 -- ---- what the code computes
@@ -55,11 +55,11 @@ shifted-order k l e = in-order k l (at-most k l ∙ e)
 pub shifted-near : (k l : ℤ) → (shifted k ≤ shifted l + gap k l) × (shifted l ≤ shifted k + gap k l)
 unfolding shifted
 shifted-near (pos a) (pos zero) = omega arith
-shifted-near (pos a) (pos (suc b)) = omega (arith, apart a (suc b))
+shifted-near (pos a) (pos (suc b)) = omega (arith, abs-subℕ a (suc b))
 shifted-near (pos a) (negsuc b) = omega arith
-shifted-near (negsuc a) (pos zero) = omega (arith, apart zero (suc a))
+shifted-near (negsuc a) (pos zero) = omega (arith, abs-subℕ zero (suc a))
 shifted-near (negsuc a) (pos (suc b)) = omega arith
-shifted-near (negsuc a) (negsuc b) = omega (arith, apart (suc b) (suc a))
+shifted-near (negsuc a) (negsuc b) = omega (arith, abs-subℕ (suc b) (suc a))
 
 -- ---- rectangles that meet
 
@@ -136,7 +136,7 @@ rectangles-meet k l m n e =
     }
 
 -- no key lies in the empty rectangle
-pub empty-none : (i j : ℕ) → Within rectEmpty i j → ⊥
+pub empty-none : (i j : ℕ) → InRect rectEmpty i j → ⊥
 unfolding rectEmpty
 empty-none i j w = omega (arith, w .left, w .right)
 

@@ -7,7 +7,7 @@ use Rattle.geometry.specs.Keys.{keyOf, edgeBucket, spansKept}
 use lib.IntN.{ℤ, pos, negsuc}
 use Rattle.geometry.specs.declared.Key.{Key}
 use Rattle.pools.specs.declared.Rect.{Rect}
-use Rattle.pools.specs.Pool.{Within}
+use Rattle.pools.specs.Pool.{InRect}
 
 -- A key from -2^20 to 2^20, moved up by 2^20 + 2; a key beyond is taken for the nearest of these. So keys stay in order, and no two move apart.
 unfoldable pub shifted : ℤ → ℕ
@@ -52,5 +52,5 @@ edgeRect size c d =
 pub record Meets (r s : Rect) : Type 0 where
   pub i : ℕ
   pub j : ℕ
-  pub first : Within r i j
-  pub second : Within s i j
+  pub first : InRect r i j
+  pub second : InRect s i j

@@ -34,12 +34,12 @@ abbrev pub fourthPoint : ℕ → ℕ
 fourthPoint k = k % 16
 
 -- the quad, which runs first, second, third, fourth
-abbrev pub quadOf : ℕ → Corners
-quadOf k = record { a = latticePoint (firstPoint k); b = latticePoint (secondPoint k); d = latticePoint (thirdPoint k); c = latticePoint (fourthPoint k) }
+abbrev pub latticeQuad : ℕ → Corners
+latticeQuad k = record { a = latticePoint (firstPoint k); b = latticePoint (secondPoint k); d = latticePoint (thirdPoint k); c = latticePoint (fourthPoint k) }
 
 -- `convex_ccw` at 20 degrees accepts the four
 unfoldable pub acceptedFour : ℕ → Bool
-acceptedFour k = convexCcw (quadOf k)
+acceptedFour k = convexCcw (latticeQuad k)
 
 -- ---- in integers
 

@@ -1,4 +1,4 @@
--- On the lattice the fours that `convex_ccw` accepts at 20 degrees are those that turn left at every corner with a sine above 1/3: `same`, the
+-- On the lattice the fours that `convex_ccw` accepts at 20 degrees are those that turn left at every corner with a sine above 1/3: `fours-same`, the
 -- last statement. Floats to integers is the sine theorem of crate exact, integers to floats the tables. Assumes nothing.
 use mathlib.Core.Path.{_≡_, refl, sym, ap, ap₂, _∙_, subst}
 use mathlib.Core.List.{[], _∷_, _++_}
@@ -18,12 +18,12 @@ use Rattle.laws.specs.Certificate.{Nonneg, of-<ℤ, to-le, sub-pos, zero-of, hy
 use Rattle.numbers.specs.Float.{_⊕_, _⊖_, _⊗_, toFloat, zeroF, tolerance}
 use Rattle.exact.specs.Units.{W, Val, Within, units-val}
 use Rattle.exact.specs.Units as exact
-use Rattle.exact.specs.Corner.{Vector, step, cross, squaredLength, sineAboveThird, cornerOk}
+use Rattle.exact.specs.Corner.{Vector, stepUnits, cross, squaredLength, sineAboveThird, cornerOk}
 use Rattle.exact.specs.Sine.{sine-theorem}
 use Rattle.geometry.specs.Plane.{convexCcw, doubledArea, areaTerm}
 use Rattle.lattice.specs.Fours.{latticePoint, firstPoint, secondPoint, thirdPoint, fourthPoint, acceptedFour, cornerTurns, aboveThird, pointsOf, fourTurn, fours}
-use Rattle.lattice.specs.Tables.{floatOf, difference, product, sum-is, zero-is, above-tolerance, stepsOk, gridStep, corner-is}
-use Rattle.lattice.specs.Scale.{scaled, unscale}
+use Rattle.lattice.specs.Tables.{floatOf, small-difference, product, sum-is, zero-is, above-tolerance, stepsOk, gridStep, corner-is}
+use Rattle.lattice.specs.Scale.{scaledBy, unscale}
 
 -- ---- floats to integers
 
@@ -49,8 +49,8 @@ unfoldable pub vectorOf : ℤ → ℤ → Vector
 vectorOf x y = record { x = x; y = y }
 
 step-scaled : (ax ay bx by : ℕ) → ax < 4 → ay < 4 → bx < 4 → by < 4
-    → step (toFloat ax) (toFloat ay) (toFloat bx) (toFloat by) ≡ scaled (pos W) (stepZ ax ay bx by)
-unfolding step vectorOf
+    → stepUnits (toFloat ax) (toFloat ay) (toFloat bx) (toFloat by) ≡ scaledBy (pos W) (stepZ ax ay bx by)
+unfolding stepUnits vectorOf
 step-scaled ax ay bx by p q r s = ap₂ vectorOf (along ax bx p r) (along ay by q s)
   where
     along : (a b : ℕ) → a < 4 → b < 4 → exact.units (toFloat b) -ℤ exact.units (toFloat a) ≡ pos W *ℤ (pos b -ℤ pos a)
@@ -60,8 +60,8 @@ step-scaled ax ay bx by p q r s = ap₂ vectorOf (along ax bx p r) (along ay by 
 
 -- ---- integers to floats
 
-pub shifted : (n a b : ℕ) → a ≤ n → pos b -ℤ pos a ≡ pos (b + n - a) -ℤ pos n
-shifted n a b h =
+pub shifted-difference : (n a b : ℕ) → a ≤ n → pos b -ℤ pos a ≡ pos (b + n - a) -ℤ pos n
+shifted-difference n a b h =
     ring (pos b ∷ pos n ∷ pos a ∷ []) (var 0 -ᵉ var 2) (var 0 +ᵉ var 1 -ᵉ var 2 -ᵉ var 1) tt
     ∙ ap (λ (z : ℤ). z -ℤ pos n) (sub-pos a (b + n) (omega arith))
 
@@ -73,8 +73,8 @@ module _ {ax ay bx by cx cy : ℕ} (Ax : ax < 4) (Ay : ay < 4) (Bx : bx < 4) (By
       let s = sine-theorem (toFloat ax) (toFloat ay) (toFloat bx) (toFloat by) (toFloat cx) (toFloat cy)
       (within ax Ax) (within ay Ay) (within bx Bx) (within by By) (within cx Cx) (within cy Cy) t in
       unscale W (stepZ ax ay bx by) (stepZ bx by cx cy)
-      (subst (λ (v : Vector). T (sineAboveThird (scaled (pos W) (stepZ ax ay bx by)) v)) (step-scaled bx by cx cy Bx By Cx Cy)
-      (subst (λ (u : Vector). T (sineAboveThird u (step (toFloat bx) (toFloat by) (toFloat cx) (toFloat cy)))) (step-scaled ax ay bx by Ax Ay Bx By) s))
+      (subst (λ (v : Vector). T (sineAboveThird (scaledBy (pos W) (stepZ ax ay bx by)) v)) (step-scaled bx by cx cy Bx By Cx Cy)
+      (subst (λ (u : Vector). T (sineAboveThird u (stepUnits (toFloat bx) (toFloat by) (toFloat cx) (toFloat cy)))) (step-scaled ax ay bx by Ax Ay Bx By) s))
 
   int-to-float : T (sineAboveThird (stepZ ax ay bx by) (stepZ bx by cx cy))
       → T (cornerOk (toFloat ax) (toFloat ay) (toFloat bx) (toFloat by) (toFloat cx) (toFloat cy))
@@ -84,13 +84,13 @@ module _ {ax ay bx by cx cy : ℕ} (Ax : ax < 4) (Ay : ay < 4) (Bx : bx < 4) (By
       let j = by + 3 - ay in
       let k = cx + 3 - bx in
       let l = cy + 3 - by in
-      let u : stepZ ax ay bx by ≡ gridStep i j = ap₂ vectorOf (shifted 3 ax bx (omega arith)) (shifted 3 ay by (omega arith)) in
-      let v : stepZ bx by cx cy ≡ gridStep k l = ap₂ vectorOf (shifted 3 bx cx (omega arith)) (shifted 3 by cy (omega arith)) in
+      let u : stepZ ax ay bx by ≡ gridStep i j = ap₂ vectorOf (shifted-difference 3 ax bx (omega arith)) (shifted-difference 3 ay by (omega arith)) in
+      let v : stepZ bx by cx cy ≡ gridStep k l = ap₂ vectorOf (shifted-difference 3 bx cx (omega arith)) (shifted-difference 3 by cy (omega arith)) in
       let s : T (sineAboveThird (gridStep i j) (gridStep k l)) =
       subst (λ (z : Vector). T (sineAboveThird (gridStep i j) z)) v (subst (λ (z : Vector). T (sineAboveThird z (stepZ bx by cx cy))) u t) in
       let r = corner-is i j k l (omega arith) (omega arith) (omega arith) (omega arith) s in
       let along : (a b : ℕ) → a < 4 → b < 4 → floatOf (pos (b + 3 - a) -ℤ pos 3) ≡ toFloat b ⊖ toFloat a =
-      λ a b p q. sym (difference a b (omega arith) (omega arith) ∙ ap floatOf (shifted 3 a b (omega arith))) in
+      λ a b p q. sym (small-difference a b (omega arith) (omega arith) ∙ ap floatOf (shifted-difference 3 a b (omega arith))) in
       subst (λ (z : Float). T (stepsOk (toFloat bx ⊖ toFloat ax) (toFloat by ⊖ toFloat ay) (toFloat cx ⊖ toFloat bx) z)) (along by cy By Cy)
       (subst (λ (z : Float). T (stepsOk (toFloat bx ⊖ toFloat ax) (toFloat by ⊖ toFloat ay) z (floatOf (pos l -ℤ pos 3)))) (along bx cx Bx Cx)
       (subst (λ (z : Float). T (stepsOk (toFloat bx ⊖ toFloat ax) z (floatOf (pos k -ℤ pos 3)) (floatOf (pos l -ℤ pos 3)))) (along ay by Ay By)
@@ -111,7 +111,7 @@ term-is ax ay bx by p q r s =
     let h = nine ax by p s in
     let k = nine bx ay r q in
     ap₂ (λ (x y : Float). x ⊖ y) (product ax by p s) (product bx ay r q)
-    ∙ difference (bx * ay) (ax * by) (omega arith) (omega arith) ∙ ap floatOf (shifted 9 (bx * ay) (ax * by) k)
+    ∙ small-difference (bx * ay) (ax * by) (omega arith) (omega arith) ∙ ap floatOf (shifted-difference 9 (bx * ay) (ax * by) k)
 
 -- four summands, each from -9 to 9, one after the other
 four-sum : (i j k l : ℕ) → i < 19 → j < 19 → k < 19 → l < 19
@@ -156,7 +156,7 @@ module _ {ax ay bx by dx dy cx cy : ℕ} (Ax : ax < 4) (Ay : ay < 4) (Bx : bx < 
   part-low ax ay bx by h k = let n = nine ax by h k in omega arith
 
   part-is : (ax ay bx by : ℕ) → ay < 4 → bx < 4 → pos ax *ℤ pos by -ℤ pos bx *ℤ pos ay -ℤ (pos (part ax ay bx by) -ℤ pos 9) ≡ pos 0
-  part-is ax ay bx by h k = zero-of (shifted 9 (bx * ay) (ax * by) (nine bx ay k h))
+  part-is ax ay bx by h k = zero-of (shifted-difference 9 (bx * ay) (ax * by) (nine bx ay k h))
 
   area-is : areaF ≡ floatOf (pos parts -ℤ pos 36)
   area-is =
@@ -257,6 +257,6 @@ test-same k h =
 
 -- THE THEOREM. The list of the fours that `convex_ccw` accepts at 20 degrees is the list of those that turn left at every corner with a sine
 -- above 1/3, worked out in integers.
-pub same : fours acceptedFour ≡ fours aboveThird
+pub fours-same : fours acceptedFour ≡ fours aboveThird
 unfolding fours
-same = forUp-same 65536 (fourTurn acceptedFour) (fourTurn aboveThird) [] (λ i l h. ap (λ (b : Bool). cond b (l ++ pointsOf i) l) (test-same i h))
+fours-same = forUp-same 65536 (fourTurn acceptedFour) (fourTurn aboveThird) [] (λ i l h. ap (λ (b : Bool). cond b (l ++ pointsOf i) l) (test-same i h))

@@ -74,8 +74,8 @@ differences : anyUp 10 (λ b. anyUp 10 (λ a. not (sameF (toFloat b ⊖ toFloat 
 unfolding anyUp forUp sameF sameZ ofInt add sub neg round sum units odd size span climb trailingZeros
 differences = refl
 
-pub difference : (a b : ℕ) → a < 10 → b < 10 → toFloat b ⊖ toFloat a ≡ floatOf (pos b -ℤ pos a)
-difference a b h k = same-of _ _ (any-none _ 10 (any-none _ 10 differences b k) a h)
+pub small-difference : (a b : ℕ) → a < 10 → b < 10 → toFloat b ⊖ toFloat a ≡ floatOf (pos b -ℤ pos a)
+small-difference a b h k = same-of _ _ (any-none _ 10 (any-none _ 10 differences b k) a h)
 
 products : anyUp 4 (λ a. anyUp 4 (λ b. not (sameF (toFloat a ⊗ toFloat b) (toFloat (a * b))))) ≡ false
 unfolding anyUp forUp sameF sameZ ofInt mul round units odd size span climb trailingZeros

@@ -2,7 +2,7 @@
 use mathlib.Core.Path.{_≡_}
 use Prim.Native.Nat.{ℕ, _+_, _*_, _<_}
 use Rattle.lattice.specs.Fours.{firstPoint, secondPoint, thirdPoint, fourthPoint, acceptedFour, aboveThird, fours}
-use Rattle.lattice.specs.Same.{same}
+use Rattle.lattice.specs.Same.{fours-same}
 use Rattle.lattice.specs.Order.{NumbersBelow, numbersBelow, writtenOut, Before, fours-written, numbers-below-are, dictionary, every-four, accepted-any-start}
 
 -- a, b, d and c as one number, the first point its highest digit to the base 16
@@ -31,5 +31,5 @@ every-small-quad = record {
   ordered = dictionary;
   asked = every-four;
   starts = accepted-any-start;
-  integers = same;
+  integers = fours-same;
 }

@@ -129,9 +129,9 @@ loops-start lengths loops n p = left-start _ p
 pub loops-end : (lengths loops : List ℕ) (n k a : ℕ) → min n (length lengths) ≤ k → loopsFrom lengths loops n k a ≡ []
 loops-end lengths loops n k a h = rows-end (code "l") _ _ (taken-end lengths n k h)
 
-pub loops-next : (lengths loops : List ℕ) (n k a e : ℕ) → k < n → k < length lengths → e ≡ a + min (getD lengths k 0) (length loops - a)
+pub rows-next : (lengths loops : List ℕ) (n k a e : ℕ) → k < n → k < length lengths → e ≡ a + min (getD lengths k 0) (length loops - a)
     → loopsFrom lengths loops n k a ≡ row (code "l") (take (e - a) (drop a loops)) ++ loopsFrom lengths loops n (k + 1) e
-loops-next lengths loops n k a e h hk end =
+rows-next lengths loops n k a e h hk end =
     let m : ℕ = getD lengths k 0 in
     let cut : e - a ≡ min m (length (drop a loops)) = rw length-drop (omega arith) in
     let past : drop e loops ≡ drop m (drop a loops) =

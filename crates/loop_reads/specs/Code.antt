@@ -13,7 +13,7 @@ use borrow.Author.Tests.{ltb-false, lt-ltb, le-ltb, ne-eqb, eq-eqb}
 use Rattle.laws.specs.Loop.{forUp, Scan, scan-hit, scan-next, scan-none}
 use Rattle.topology.specs.Links.{off, linkOf, link-in, link-read}
 use Rattle.topology.specs.Walk.{walkBy, prepend, walk-off}
-use Rattle.topology.specs.Listing.{listing, walks}
+use Rattle.topology.specs.Listing.{longLoops, walks}
 use Rattle.laws.specs.Overlay.{overlay}
 use Rattle.loop_reads.specs.declared.FoundLoop.{FoundLoop}
 use Rattle.exam_loops.specs.Loops.{linksBack, arePaired, linksSound, linkedLoops, loopNumbered, loopReading, loopRead, readInto, readLoop}
@@ -72,22 +72,22 @@ module _ (n : ℕ) (next prev : List ℕ) where
 -- ---- how many nodes a walk takes
 
 -- what is left of a walk, after c nodes: none where it doesn't come to its end
-unfoldable pub after : ℕ → ℕ → ℕ
-after c zero = zero
-after c (suc m) = c + suc m
+unfoldable pub walkAfter : ℕ → ℕ → ℕ
+walkAfter c zero = zero
+walkAfter c (suc m) = c + suc m
 
-prepend-length : (u : ℕ) (l : List ℕ) → length (prepend u l) ≡ after 1 (length l)
-unfolding prepend after
+prepend-length : (u : ℕ) (l : List ℕ) → length (prepend u l) ≡ walkAfter 1 (length l)
+unfolding prepend walkAfter
 prepend-length u [] = refl
 prepend-length u (x ∷ l) = omega arith
 
-after-none : (m : ℕ) → after 0 m ≡ m
-unfolding after
+after-none : (m : ℕ) → walkAfter 0 m ≡ m
+unfolding walkAfter
 after-none zero = refl
 after-none (suc m) = omega arith
 
-after-one : (c m : ℕ) → after c (after 1 m) ≡ after (c + 1) m
-unfolding after
+after-one : (c m : ℕ) → walkAfter c (walkAfter 1 m) ≡ walkAfter (c + 1) m
+unfolding walkAfter
 after-one c zero = refl
 after-one c (suc m) = let two : 1 + suc m ≡ suc (suc m) = omega arith in rw two (omega arith)
 
@@ -95,7 +95,7 @@ module _ (f : ℕ → ℕ) (n z : ℕ) where
   -- the invariant of `walk_length`: c nodes are taken, and the walk goes on from u
   pub record Stepping (u c : ℕ) : Type 0 where
     pub within : c ≤ n
-    pub same : length (walkBy f n z z) ≡ after c (length (walkBy f (n - c) z u))
+    pub same : length (walkBy f n z z) ≡ walkAfter c (length (walkBy f (n - c) z u))
 
   pub stepping-start : Stepping z 0
   stepping-start =
@@ -104,11 +104,11 @@ module _ (f : ℕ → ℕ) (n z : ℕ) where
 
   module _ {u c : ℕ} (s : Stepping u c) where
     -- the walk from u is l
-    ends-as : (l : List ℕ) → walkBy f (n - c) z u ≡ l → after c (length l) ≡ length (walkBy f n z z)
-    ends-as l e = ap (λ (m : List ℕ). after c (length m)) (sym e) ∙ sym (s .same)
+    ends-as : (l : List ℕ) → walkBy f (n - c) z u ≡ l → walkAfter c (length l) ≡ length (walkBy f n z z)
+    ends-as l e = ap (λ (m : List ℕ). walkAfter c (length m)) (sym e) ∙ sym (s .same)
 
     pub stepping-out : n ≤ c → 0 ≡ length (walkBy f n z z)
-    unfolding walkBy after
+    unfolding walkBy walkAfter
     stepping-out h = let none : n - c ≡ 0 = omega arith in ends-as [] (ap (λ (k : ℕ). walkBy f k z u) none)
 
     module _ (h : c < n) where
@@ -117,16 +117,16 @@ module _ (f : ℕ → ℕ) (n z : ℕ) where
       fuel = omega arith
 
       pub stepping-under : u < z → 0 ≡ length (walkBy f n z z)
-      unfolding after
+      unfolding walkAfter
       stepping-under low = ends-as [] (ap (λ (k : ℕ). walkBy f k z u) fuel ∙ walk-under f (n - (c + 1)) z u low)
 
       pub stepping-off : (v : ℕ) → v ≡ f u → v ≡ off → 0 ≡ length (walkBy f n z z)
-      unfolding after
+      unfolding walkAfter
       stepping-off v e o = ends-as [] (walk-off f (n - c) z u (sym e ∙ o))
 
       module _ (v : ℕ) (e : v ≡ f u) (high : z ≤ u) (on : v ≢ off) where
         pub stepping-end : v ≡ z → c + 1 ≡ length (walkBy f n z z)
-        unfolding after
+        unfolding walkAfter
         stepping-end back =
             ends-as (u ∷ []) (ap (λ (k : ℕ). walkBy f k z u) fuel ∙ walk-closed f (n - (c + 1)) z u high (λ q. on (e ∙ q)) (sym e ∙ back))
 
@@ -138,7 +138,7 @@ module _ (f : ℕ → ℕ) (n z : ℕ) where
             ∙ (walk-onward f (n - (c + 1)) z u high (λ q. on (e ∙ q)) (λ q. other (e ∙ q)) ∙ ap (λ (w : ℕ). prepend u (walkBy f (n - (c + 1)) z w)) (sym e)) in
             record {
               within = omega arith;
-              same = sym (ends-as (prepend u rest) on-to) ∙ (ap (after c) (prepend-length u rest) ∙ after-one c (length rest));
+              same = sym (ends-as (prepend u rest) on-to) ∙ (ap (walkAfter c) (prepend-length u rest) ∙ after-one c (length rest));
             }
 
 -- where the link back is to a node below u, no loop starts at u
@@ -163,7 +163,7 @@ module _ (f : ℕ → ℕ) (n k : ℕ) where
     pub seen : length (walks 3 u n f) + left ≡ k
 
   pub finding-start : Finding k 0
-  unfolding listing forUp
+  unfolding longLoops forUp
   finding-start = record { within = omega arith; seen = omega arith }
 
   -- the walk from u

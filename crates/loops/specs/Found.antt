@@ -13,8 +13,8 @@ use Rattle.topology.specs.Sums.{All, total, pathSum, loopSum}
 use Rattle.topology.specs.Links.{off, delta, delta-same}
 use Rattle.topology.specs.Front.{Loops}
 use Rattle.topology.specs.Walk.{walkBy, count, least, leastFrom, turnTo, loopFrom, Cycle}
-use Rattle.topology.specs.Walk.{least-le, turn-sum, turn-length, cycles, once, nodes, outside, walk-loop}
-use Rattle.topology.specs.Listing.{listing, walks, ifListed, total-one, total-add, total-listing}
+use Rattle.topology.specs.Walk.{least-le, turn-sum, turn-to-length, cycles, once, nodes, outside, walk-loop}
+use Rattle.topology.specs.Listing.{longLoops, walks, ifListed, total-one, total-add, total-listing}
 use Rattle.loops.specs.Walked.{walk-last, walk-more}
 
 -- ---- counts
@@ -78,9 +78,9 @@ all-reached f u (l ∷ ls) c =
 
 -- ---- a walk begins where it starts
 
-pub starts : (f : ℕ → ℕ) (k z u : ℕ) → 0 < length (walkBy f k z u) → 0 < count u (walkBy f k z u)
+pub walk-starts : (f : ℕ → ℕ) (k z u : ℕ) → 0 < length (walkBy f k z u) → 0 < count u (walkBy f k z u)
 unfolding count
-starts f k z u h = by (eqb (f u) z) refl
+walk-starts f k z u h = by (eqb (f u) z) refl
   where
     by : (b : Bool) → eqb (f u) z ≡ b → 0 < count u (walkBy f k z u)
     by true e = rw (walk-last f k z u h (eqb-true (f u) z e)) (omega (arith, delta-same u u refl))
@@ -96,8 +96,8 @@ counts-some u (x ∷ l) h = omega arith
 -- ls are the loops of the links f, and have m ids at most
 module _ (n : ℕ) (f : ℕ → ℕ) (ls : List (List ℕ)) (L : Loops n f ls) (m : ℕ) (few : total length ls ≤ m) where
   -- the walks from the nodes below u find the loops whose smallest ids are below u
-  pub found-from : (k u : ℕ) → walks k u m f ≡ listing k u (λ v. loopFrom v ls)
-  found-from k u = ap (listing k u) (fun-ext (λ v. walk-loop n f ls L m v few))
+  pub found-from : (k u : ℕ) → walks k u m f ≡ longLoops k u (λ v. loopFrom v ls)
+  found-from k u = ap (longLoops k u) (fun-ext (λ v. walk-loop n f ls L m v few))
 
   found-total : (k : ℕ) (r : List ℕ → ℕ) → ((u : ℕ) (l : List ℕ) → r (turnTo u l) ≡ r l) → (u : ℕ)
       → total r (walks (suc k) u m f) ≡ total (λ l. cond (ltb (least l) u) (ifListed (suc k) r l) 0) ls
@@ -116,7 +116,7 @@ module _ (n : ℕ) (f : ℕ → ℕ) (ls : List (List ℕ)) (L : Loops n f ls) (
 
   -- their ids are no more than m
   pub found-ids : (k u : ℕ) → total length (walks (suc k) u m f) ≤ m
-  found-ids k u = omega (arith, found-le k length length turn-length (listed-le (suc k) length) u)
+  found-ids k u = omega (arith, found-le k length length turn-to-length (listed-le (suc k) length) u)
 
   -- and they no more than the loops
   pub found-number : (k u : ℕ) → length (walks (suc k) u m f) ≤ length ls
@@ -134,13 +134,13 @@ module _ (n : ℕ) (f : ℕ → ℕ) (ls : List (List ℕ)) (L : Loops n f ls) (
 
   -- the ids of one walk more
   pub found-more : (v u : ℕ) → total (count v) (walks 1 (suc u) m f) ≡ total (count v) (walks 1 u m f) + count v (walkBy f m u u)
-  unfolding listing forUp
+  unfolding longLoops forUp
   found-more v u = omega (arith, total-add (count v) 1 (walkBy f m u u) (walks 1 u m f), listed-count v (walkBy f m u u))
 
   -- what is listed of one walk more
   pub found-long : (r : List ℕ → ℕ) (u : ℕ) → 3 ≤ length (walkBy f m u u)
       → total r (walks 3 (suc u) m f) ≡ total r (walks 3 u m f) + r (walkBy f m u u)
-  unfolding listing forUp
+  unfolding longLoops forUp
   found-long r u h = omega (arith, total-add r 3 (walkBy f m u u) (walks 3 u m f), listed-long r (walkBy f m u u) h)
 
   -- u itself is found from the nodes up to it, if it is on a loop

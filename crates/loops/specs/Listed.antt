@@ -25,8 +25,8 @@ abbrev pub lists : List ℕ → List ℕ → List ℕ → Listed → Lists
 lists marks loops lengths listed = record { marks = marks; loops = loops; lengths = lengths; listed = listed }
 
 -- so many loops, with so many ids in all of them
-abbrev pub counted : ℕ → ℕ → Listed
-counted count ids = record { count = count; ids = ids }
+abbrev pub listedOf : ℕ → ℕ → Listed
+listedOf count ids = record { count = count; ids = ids }
 
 -- `front_loops`, from the counts and the links alone
 unfoldable pub loopsIn : Counts → List ℕ → List (List ℕ)
@@ -39,7 +39,7 @@ frontMark f u = cond (eqb (f u) off) 0 1
 -- The ids of the loops ms one after the other, each loop's length, and their numbers.
 unfoldable pub written : List ℕ → List ℕ → List ℕ → List (List ℕ) → Lists
 written marks loops lengths ms =
-    lists marks (overlay (flatten ms) loops) (overlay (map length ms) lengths) (counted (length ms) (length (flatten ms)))
+    lists marks (overlay (flatten ms) loops) (overlay (map length ms) lengths) (listedOf (length ms) (length (flatten ms)))
 
 -- `front_loops` on lent lists
 unfoldable pub listedIn : Counts → List ℕ → List ℕ → List ℕ → List ℕ → Lists

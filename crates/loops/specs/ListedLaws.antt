@@ -22,14 +22,14 @@ use Rattle.front.specs.State.{State, nextOf, nodePlaces}
 use Rattle.front.specs.Sound.{Sound}
 use Rattle.front.specs.declared.Counts.{Counts}
 use Rattle.paving.specs.Loops.{frontLoops}
-use Rattle.loops.specs.Listed.{Lists, lists, counted, loopsIn, frontMark, written, listedIn, Listable}
+use Rattle.loops.specs.Listed.{Lists, lists, listedOf, loopsIn, frontMark, written, listedIn, Listable}
 use Rattle.loops.specs.Walked.{linksIn}
 use Rattle.loops.specs.Found.{count-turn, listed-count, on-loop}
 use Rattle.loops.specs.Visits.{visit, visitAll, marksAfter, after-length, after-at, visits-written, Startable}
 
 -- the marks of the first n nodes cleared
-abbrev pub cleared : ℕ → List ℕ → List ℕ
-cleared n marks = overlay (tabulate n (λ _. 0)) marks
+abbrev pub clearedMarks : ℕ → List ℕ → List ℕ
+clearedMarks n marks = overlay (tabulate n (λ _. 0)) marks
 
 -- ---- the marks at the end
 
@@ -63,23 +63,23 @@ module _ (n : ℕ) (f : ℕ → ℕ) (ls : List (List ℕ)) (L : Loops n f ls) w
       by (suc k) e = absurd (omega (arith, nodes n f ls L v (omega (arith, e))))
 
   module _ (marks : List ℕ) (fits : n ≤ length marks) where
-    clear-fits : n ≤ length (cleared n marks)
+    clear-fits : n ≤ length (clearedMarks n marks)
     clear-fits = omega (arith, filled-length (λ _. 0) marks n fits)
 
-    marks-end : marksAfter (λ u. walkBy f n u u) n (cleared n marks) ≡ overlay (tabulate n (frontMark f)) marks
+    marks-end : marksAfter (λ u. walkBy f n u u) n (clearedMarks n marks) ≡ overlay (tabulate n (frontMark f)) marks
     marks-end =
-        ext-getD 0 (marksAfter (λ u. walkBy f n u u) n (cleared n marks)) (overlay (tabulate n (frontMark f)) marks)
-        (after-length n f ls L n few (cleared n marks) clear-fits n ∙ (filled-length _ marks n fits ∙ sym (filled-length (frontMark f) marks n fits)))
+        ext-getD 0 (marksAfter (λ u. walkBy f n u u) n (clearedMarks n marks)) (overlay (tabulate n (frontMark f)) marks)
+        (after-length n f ls L n few (clearedMarks n marks) clear-fits n ∙ (filled-length _ marks n fits ∙ sym (filled-length (frontMark f) marks n fits)))
         (λ v h. by v (ltb v n) refl)
       where
-        mark : (v : ℕ) → getD (marksAfter (λ u. walkBy f n u u) n (cleared n marks)) v 0
-            ≡ cond (ltb 0 (total (count v) ls)) 1 (getD (cleared n marks) v 0)
+        mark : (v : ℕ) → getD (marksAfter (λ u. walkBy f n u u) n (clearedMarks n marks)) v 0
+            ≡ cond (ltb 0 (total (count v) ls)) 1 (getD (clearedMarks n marks) v 0)
         mark v =
-            after-at n f ls L n few (cleared n marks) clear-fits n v
-            ∙ ap (λ (k : ℕ). cond (ltb 0 k) 1 (getD (cleared n marks) v 0)) (found-all v)
+            after-at n f ls L n few (clearedMarks n marks) clear-fits n v
+            ∙ ap (λ (k : ℕ). cond (ltb 0 k) 1 (getD (clearedMarks n marks) v 0)) (found-all v)
 
         by : (v : ℕ) (b : Bool) → ltb v n ≡ b
-            → getD (marksAfter (λ u. walkBy f n u u) n (cleared n marks)) v 0 ≡ getD (overlay (tabulate n (frontMark f)) marks) v 0
+            → getD (marksAfter (λ u. walkBy f n u u) n (clearedMarks n marks)) v 0 ≡ getD (overlay (tabulate n (frontMark f)) marks) v 0
         by v true e =
             let h = ltb-true v n e in
             mark v
@@ -93,10 +93,10 @@ module _ (n : ℕ) (f : ℕ → ℕ) (ls : List (List ℕ)) (L : Loops n f ls) w
 
     -- all nodes visited
     visits-end : (loops lengths : List ℕ) → n ≤ length loops → length ls ≤ length lengths
-        → forUp n (visit (λ u. walkBy f n u u)) (lists (cleared n marks) loops lengths (counted 0 0))
+        → forUp n (visit (λ u. walkBy f n u u)) (lists (clearedMarks n marks) loops lengths (listedOf 0 0))
         ≡ written (overlay (tabulate n (frontMark f)) marks) loops lengths (walks 3 n n f)
     visits-end loops lengths loops-fit lengths-fit =
-        visits-written n f ls L n few (cleared n marks) clear-fits loops lengths loops-fit lengths-fit n
+        visits-written n f ls L n few (clearedMarks n marks) clear-fits loops lengths loops-fit lengths-fit n
         ∙ ap (λ (m : List ℕ). written m loops lengths (walks 3 n n f)) marks-end
 
 -- ---- the links of the first n nodes
@@ -115,7 +115,7 @@ module _ {k : Counts} {next marks loops lengths : List ℕ} (p : Listable k next
   same-links =
       ap (λ (n : ℕ). linkOf n (take (k .nodes) next)) (length-take-le (k .nodes) next (p .next-fits)) ∙ links-take (k .nodes) next
 
-  cleared-startable : Startable (take (k .nodes) next) (cleared (k .nodes) marks) loops lengths
+  cleared-startable : Startable (take (k .nodes) next) (clearedMarks (k .nodes) marks) loops lengths
   cleared-startable =
       let n = k .nodes in
       let long = length-take-le n next (p .next-fits) in
@@ -130,13 +130,13 @@ module _ {k : Counts} {next marks loops lengths : List ℕ} (p : Listable k next
       }
 
   -- all nodes visited: that is what is to be listed
-  visited-listed : visitAll (take (k .nodes) next) (cleared (k .nodes) marks) loops lengths ≡ listedIn k next marks loops lengths
+  visited-listed : visitAll (take (k .nodes) next) (clearedMarks (k .nodes) marks) loops lengths ≡ listedIn k next marks loops lengths
   unfolding visitAll listedIn loopsIn
   visited-listed =
       let n = k .nodes in
       let f = linkOf n next in
       let turn : ℕ → (ℕ → ℕ) → Lists =
-      λ m g. forUp m (visit (λ u. walkBy g m u u)) (lists (cleared n marks) loops lengths (counted 0 0)) in
+      λ m g. forUp m (visit (λ u. walkBy g m u u)) (lists (clearedMarks n marks) loops lengths (listedOf 0 0)) in
       let edges : total length (p .front) ≤ k .front = omega (arith, p .edges, front-one (p .front)) in
       ap (λ (g : ℕ → ℕ). turn (length (take n next)) g) same-links
       ∙ (
@@ -149,11 +149,11 @@ module _ {k : Counts} {next marks loops lengths : List ℕ} (p : Listable k next
       )
 
   -- after `clear_marks`, `list_all` may be called
-  pub startable : (marks₁ : List ℕ) → marks₁ ≡ cleared (k .nodes) marks → Startable (take (k .nodes) next) marks₁ loops lengths
+  pub startable : (marks₁ : List ℕ) → marks₁ ≡ clearedMarks (k .nodes) marks → Startable (take (k .nodes) next) marks₁ loops lengths
   startable marks₁ e = subst (λ (m : List ℕ). Startable (take (k .nodes) next) m loops lengths) (sym e) cleared-startable
 
   -- and gives what is to be listed
-  pub listed-all : (marks₁ : List ℕ) (s : Lists) → marks₁ ≡ cleared (k .nodes) marks → s ≡ visitAll (take (k .nodes) next) marks₁ loops lengths
+  pub listed-all : (marks₁ : List ℕ) (s : Lists) → marks₁ ≡ clearedMarks (k .nodes) marks → s ≡ visitAll (take (k .nodes) next) marks₁ loops lengths
       → s ≡ listedIn k next marks loops lengths
   listed-all marks₁ s e r = r ∙ (ap (λ (m : List ℕ). visitAll (take (k .nodes) next) m loops lengths) e ∙ visited-listed)
 

@@ -15,33 +15,33 @@ use Rattle.topology.specs.Sums.{total}
 use Rattle.topology.specs.Links.{off, delta, delta-same, delta-other}
 use Rattle.topology.specs.Front.{Loops, no-self}
 use Rattle.topology.specs.Walk.{walkBy, count, once, walk-off}
-use Rattle.topology.specs.Listing.{listing, walks, addLoop, total-one}
+use Rattle.topology.specs.Listing.{longLoops, walks, addLoop, total-one}
 use Rattle.topology.specs.Pigeonhole.{ids-most}
 use Rattle.loops.specs.declared.Listed.{Listed}
-use Rattle.loops.specs.Listed.{Lists, lists, counted, written}
+use Rattle.loops.specs.Listed.{Lists, lists, listedOf, written}
 use Rattle.loops.specs.Walked.{linksIn, walkIn, markAll, mark-length, walk-on, walk-last, walk-more, walk-length, entry-read, link-node}
 use Rattle.loops.specs.Walked.{Walkable, Walked}
-use Rattle.loops.specs.Found.{found-ids, found-number, found-more, found-reached, walk-nodes, on-loop, found-long, starts, counts-some}
+use Rattle.loops.specs.Found.{found-ids, found-number, found-more, found-reached, walk-nodes, on-loop, found-long, walk-starts, counts-some}
 
 -- ---- definitions
 
 -- the loop l found: marked, and listed where it has three ids or more
-unfoldable pub visited : List ℕ → Lists → Lists
-visited l s =
+unfoldable pub loopVisited : List ℕ → Lists → Lists
+loopVisited l s =
     let marks = markAll l (s .marks) in
     let at = s .listed .ids in
     let k = s .listed .count in
     cond (leb 3 (length l))
-    (lists marks (sets (s .loops) at l) (set (s .lengths) k (length l)) (counted (k + 1) (at + length l)))
+    (lists marks (sets (s .loops) at l) (set (s .lengths) k (length l)) (listedOf (k + 1) (at + length l)))
     (lists marks (s .loops) (s .lengths) (s .listed))
 
 -- the turn of node u, from which the walk finds `walk u`
 abbrev pub visit : (ℕ → List ℕ) → ℕ → Lists → Lists
-visit walk u s = visited (walk u) s
+visit walk u s = loopVisited (walk u) s
 
 -- all nodes visited, from lists with nothing listed
 unfoldable pub visitAll : List ℕ → List ℕ → List ℕ → List ℕ → Lists
-visitAll next marks loops lengths = forUp (length next) (visit (walkIn next)) (lists marks loops lengths (counted 0 0))
+visitAll next marks loops lengths = forUp (length next) (visit (walkIn next)) (lists marks loops lengths (listedOf 0 0))
 
 -- what `list_from` asks of the lists so far: node u is marked where its loop was found before, and there is room for its loop
 pub record Visitable (next : List ℕ) (s : Lists) (u : ℕ) : Type 0 where
@@ -67,8 +67,8 @@ pub record Startable (next marks loops lengths : List ℕ) : Type 0 where
 
 module _ {next : List ℕ} {marks loops lengths : List ℕ} {listed : Listed} {u : ℕ}
     (v : Visitable next (lists marks loops lengths listed) u) where
-  none : walkIn next u ≡ [] → lists marks loops lengths listed ≡ visited (walkIn next u) (lists marks loops lengths listed)
-  unfolding visited markAll
+  none : walkIn next u ≡ [] → lists marks loops lengths listed ≡ loopVisited (walkIn next u) (lists marks loops lengths listed)
+  unfolding loopVisited markAll
   none e = rw e
 
   -- the length of a loop fits a node's place
@@ -76,11 +76,11 @@ module _ {next : List ℕ} {marks loops lengths : List ℕ} {listed : Listed} {u
   visit-small d = omega (arith, d .after, walk-length (linksIn next) (length next) u u, v .few)
 
   -- off the front
-  pub visit-off : getD next u 0 ≡ off → lists marks loops lengths listed ≡ visited (walkIn next u) (lists marks loops lengths listed)
+  pub visit-off : getD next u 0 ≡ off → lists marks loops lengths listed ≡ loopVisited (walkIn next u) (lists marks loops lengths listed)
   visit-off e = none (walk-off (linksIn next) (length next) u u (sym (entry-read next u (v .node)) ∙ e))
 
   -- on a loop found before
-  pub visit-marked : getD marks u 0 ≡ 1 → lists marks loops lengths listed ≡ visited (walkIn next u) (lists marks loops lengths listed)
+  pub visit-marked : getD marks u 0 ≡ 1 → lists marks loops lengths listed ≡ loopVisited (walkIn next u) (lists marks loops lengths listed)
   visit-marked e = none (v .marked e)
 
   -- the smallest id of its loop
@@ -104,8 +104,8 @@ module _ {next : List ℕ} {marks loops lengths : List ℕ} {listed : Listed} {u
 
     -- a loop of two
     pub visit-two : getD next (getD next u 0) 0 ≡ u
-        → lists (set (set marks u 1) (getD next u 0) 1) loops lengths listed ≡ visited (walkIn next u) (lists marks loops lengths listed)
-    unfolding visited markAll
+        → lists (set (set marks u 1) (getD next u 0) 1) loops lengths listed ≡ loopVisited (walkIn next u) (lists marks loops lengths listed)
+    unfolding loopVisited markAll
     visit-two e =
         let s = second in
         let w = getD next u 0 in
@@ -129,9 +129,9 @@ module _ {next : List ℕ} {marks loops lengths : List ℕ} {listed : Listed} {u
 
     pub visit-listed : (marks₁ loops₁ : List ℕ) (end : ℕ) → getD next (getD next u 0) 0 ≢ u
         → Walked next marks loops u (listed .ids) marks₁ loops₁ end
-        → lists marks₁ loops₁ (set lengths (listed .count) (end - listed .ids)) (counted (listed .count + 1) end)
-        ≡ visited (walkIn next u) (lists marks loops lengths listed)
-    unfolding visited
+        → lists marks₁ loops₁ (set lengths (listed .count) (end - listed .ids)) (listedOf (listed .count + 1) end)
+        ≡ loopVisited (walkIn next u) (lists marks loops lengths listed)
+    unfolding loopVisited
     visit-listed marks₁ loops₁ end other d =
         let long : end - listed .ids ≡ length (walkIn next u) = omega (arith, d .after) in
         rw (le-leb 3 (length (walkIn next u)) (visit-long other), long, d .marked, d .ids, d .after)
@@ -154,15 +154,15 @@ map-more (m ∷ ms) l = ap (λ (t : List ℕ). length m ∷ t) (map-more ms l)
 
 visited-written : (l : List ℕ) (ms : List (List ℕ)) (marks loops lengths : List ℕ) → total length (addLoop 3 l ms) ≤ length loops
     → length (addLoop 3 l ms) ≤ length lengths
-    → visited l (written marks loops lengths ms) ≡ written (markAll l marks) loops lengths (addLoop 3 l ms)
-unfolding visited written addLoop
+    → loopVisited l (written marks loops lengths ms) ≡ written (markAll l marks) loops lengths (addLoop 3 l ms)
+unfolding loopVisited written addLoop
 visited-written l ms marks loops lengths = by (leb 3 (length l))
   where
     by : (b : Bool) → total length (cond b (ms ++ l ∷ []) ms) ≤ length loops → length (cond b (ms ++ l ∷ []) ms) ≤ length lengths
         → cond b
         (lists (markAll l marks) (sets (overlay (flatten ms) loops) (length (flatten ms)) l)
-        (set (overlay (map length ms) lengths) (length ms) (length l)) (counted (length ms + 1) (length (flatten ms) + length l)))
-        (lists (markAll l marks) (overlay (flatten ms) loops) (overlay (map length ms) lengths) (counted (length ms) (length (flatten ms))))
+        (set (overlay (map length ms) lengths) (length ms) (length l)) (listedOf (length ms + 1) (length (flatten ms) + length l)))
+        (lists (markAll l marks) (overlay (flatten ms) loops) (overlay (map length ms) lengths) (listedOf (length ms) (length (flatten ms))))
         ≡ written (markAll l marks) loops lengths (cond b (ms ++ l ∷ []) ms)
     by true h k =
         let flat = flatten-more ms l in
@@ -173,7 +173,7 @@ visited-written l ms marks loops lengths = by (leb 3 (length l))
         rw (long, more, flat, map-more ms l, ids, each)
     by false h k = refl
 
-nothing : (marks loops lengths : List ℕ) → lists marks loops lengths (counted 0 0) ≡ written marks loops lengths []
+nothing : (marks loops lengths : List ℕ) → lists marks loops lengths (listedOf 0 0) ≡ written marks loops lengths []
 unfolding written overlay flatten
 nothing marks loops lengths = refl
 
@@ -231,7 +231,7 @@ module _ (n : ℕ) (f : ℕ → ℕ) (ls : List (List ℕ)) (L : Loops n f ls) (
 
   -- a node is marked where a walk found it
   pub after-at : (u v : ℕ) → getD (marksAfter walk u marks) v 0 ≡ cond (ltb 0 (total (count v) (walks 1 u m f))) 1 (getD marks v 0)
-  unfolding marksAfter forUp listing total
+  unfolding marksAfter forUp longLoops total
   after-at zero v = refl
   after-at (suc u) v =
       mark-at (walk u) (marksAfter walk u marks) v (λ x h. omega (arith, walk-nodes n f ls L m few x u h, after-length u))
@@ -245,11 +245,11 @@ module _ (n : ℕ) (f : ℕ → ℕ) (ls : List (List ℕ)) (L : Loops n f ls) (
 
   -- the lists after the turns of the nodes below u
   pub visits-written : (loops lengths : List ℕ) → m ≤ length loops → length ls ≤ length lengths → (u : ℕ)
-      → forUp u (visit walk) (lists marks loops lengths (counted 0 0)) ≡ written (marksAfter walk u marks) loops lengths (walks 3 u m f)
-  unfolding forUp marksAfter listing
+      → forUp u (visit walk) (lists marks loops lengths (listedOf 0 0)) ≡ written (marksAfter walk u marks) loops lengths (walks 3 u m f)
+  unfolding forUp marksAfter longLoops
   visits-written loops lengths loops-fit lengths-fit zero = nothing marks loops lengths
   visits-written loops lengths loops-fit lengths-fit (suc u) =
-      ap (visited (walk u)) (visits-written loops lengths loops-fit lengths-fit u)
+      ap (loopVisited (walk u)) (visits-written loops lengths loops-fit lengths-fit u)
       ∙ visited-written (walk u) (walks 3 u m f) (marksAfter walk u marks) loops lengths
       (omega (arith, found-ids n f ls L m few 2 (suc u), loops-fit)) (omega (arith, found-number n f ls L m few 2 (suc u), lengths-fit))
 
@@ -260,7 +260,7 @@ module _ {next marks loops lengths : List ℕ} (p : Startable next marks loops l
   few-ids = ids-most (length next) (linksIn next) (p .front) (p .links)
 
   -- the lists after the turns of the nodes below u
-  below-written : (u : ℕ) → forUp u (visit (walkIn next)) (lists marks loops lengths (counted 0 0))
+  below-written : (u : ℕ) → forUp u (visit (walkIn next)) (lists marks loops lengths (listedOf 0 0))
       ≡ written (marksAfter (walkIn next) u marks) loops lengths (walks 3 u (length next) (linksIn next))
   below-written u =
       visits-written (length next) (linksIn next) (p .front) (p .links) (length next) few-ids marks (p .marks-fit) loops lengths (p .loops-fit)
@@ -292,7 +292,7 @@ module _ {next marks loops lengths : List ℕ} (p : Startable next marks loops l
         by k q [] s = s
         by zero q (x ∷ l) s = absurd (omega (arith, mark-before, e, ap (λ (j : ℕ). cond {A = ℕ} (ltb 0 j) 1 0) q))
         by (suc k) q (x ∷ l) s =
-            let walked = starts (linksIn next) (length next) u u (omega (arith, ap length s)) in
+            let walked = walk-starts (linksIn next) (length next) u u (omega (arith, ap length s)) in
             absurd (omega (arith, q, walked, before-walk, once (length next) (linksIn next) (p .front) (p .links) u))
 
     is-fresh : getD (marksAfter (walkIn next) u marks) u 0 ≢ 1 → linksIn next u ≢ off → 0 < length (walkIn next u)
@@ -357,18 +357,18 @@ pub record Visiting (next : List ℕ) (a : Lists) (i : ℕ) (s : Lists) : Type 0
 pub visiting-start : (next : List ℕ) (a : Lists) → Visiting next a 0 a
 visiting-start next a = record { turns = loop-start (visit (walkIn next)) a (length next) }
 
-pub visiting-next : {next : List ℕ} {a s : Lists} {i : ℕ} (t : Lists) → Visiting next a i s → i < length next → t ≡ visited (walkIn next i) s
+pub visiting-next : {next : List ℕ} {a s : Lists} {i : ℕ} (t : Lists) → Visiting next a i s → i < length next → t ≡ loopVisited (walkIn next i) s
     → Visiting next a (i + 1) t
 visiting-next {next} {a} {s} {i} t l h e = subst (Visiting next a (i + 1)) (sym e) (record { turns = loop-next (visit (walkIn next)) a (l .turns) h })
 
-pub visiting-end : {next marks loops lengths : List ℕ} {s : Lists} {i : ℕ} → Visiting next (lists marks loops lengths (counted 0 0)) i s
+pub visiting-end : {next marks loops lengths : List ℕ} {s : Lists} {i : ℕ} → Visiting next (lists marks loops lengths (listedOf 0 0)) i s
     → length next ≤ i → s ≡ visitAll next marks loops lengths
 unfolding visitAll
-visiting-end {next} {marks} {loops} {lengths} l h = loop-end (visit (walkIn next)) (lists marks loops lengths (counted 0 0)) (l .turns) h
+visiting-end {next} {marks} {loops} {lengths} l h = loop-end (visit (walkIn next)) (lists marks loops lengths (listedOf 0 0)) (l .turns) h
 
 -- the node of the next turn can be visited
 pub visiting-visitable : {next marks loops lengths : List ℕ} {s : Lists} {i : ℕ} → Startable next marks loops lengths
-    → Visiting next (lists marks loops lengths (counted 0 0)) i s → i < length next → Visitable next s i
+    → Visiting next (lists marks loops lengths (listedOf 0 0)) i s → i < length next → Visitable next s i
 visiting-visitable {next} {i = i} p l h =
     subst (λ (t : Lists). Visitable next t i) (sym (l .turns .same ∙ below-written p i)) (below-visitable p i h)
 
@@ -378,13 +378,13 @@ pub record SameLengths (a s : Lists) : Type 0 where
   pub loops : length (s .loops) ≡ length (a .loops)
   pub lengths : length (s .lengths) ≡ length (a .lengths)
 
-visited-lengths : (a : Lists) (l : List ℕ) (s : Lists) → SameLengths a s → SameLengths a (visited l s)
-unfolding visited
+visited-lengths : (a : Lists) (l : List ℕ) (s : Lists) → SameLengths a s → SameLengths a (loopVisited l s)
+unfolding loopVisited
 visited-lengths a l s k = by (leb 3 (length l))
   where
     by : (b : Bool) → SameLengths a (cond b
         (lists (markAll l (s .marks)) (sets (s .loops) (s .listed .ids) l) (set (s .lengths) (s .listed .count) (length l))
-        (counted (s .listed .count + 1) (s .listed .ids + length l)))
+        (listedOf (s .listed .count + 1) (s .listed .ids + length l)))
         (lists (markAll l (s .marks)) (s .loops) (s .lengths) (s .listed)))
     by true =
         record {

@@ -4,8 +4,8 @@ ghost use Prim.Native.Nat.{_≤_};
 ghost use lib.ListN.{length};
 ghost use Rattle.loops.specs.Listed.{lists, listedIn, Listable};
 ghost use Rattle.loops.specs.Walked.{walkIn, Walkable, Walked};
-ghost use Rattle.loops.specs.Visits.{visited, visitAll, Visitable, Startable};
-ghost use Rattle.loops.specs.ListedLaws.{cleared};
+ghost use Rattle.loops.specs.Visits.{loopVisited, visitAll, Visitable, Startable};
+ghost use Rattle.loops.specs.ListedLaws.{clearedMarks};
 use front::Counts;
 use front::OFF;
 
@@ -18,7 +18,7 @@ pub struct Listed {
 // Takes the marks off the first `n` nodes.
 fn clear_marks(marks: &mut [u32], n: usize)
     requires { ⌜ n ≤ length (now marks) ⌝ }
-    ensures { λ r. ⌜ now (marks .exit) ≡ cleared n (now (marks .entry)) ⌝ }
+    ensures { λ r. ⌜ now (marks .exit) ≡ clearedMarks n (now (marks .entry)) ⌝ }
 {
     let mut i = 0;
     while i < n {
@@ -57,7 +57,7 @@ fn list_from(
 ) -> Listed
     requires { ⌜ Visitable (now next) (lists (now marks) (now loops) (now lengths) «so_far») u ⌝ }
     ensures { λ r. ⌜ lists (now (marks .exit)) (now (loops .exit)) (now (lengths .exit)) r
-        ≡ visited (walkIn (now (next .entry)) u) (lists (now (marks .entry)) (now (loops .entry)) (now (lengths .entry)) «so_far») ⌝ }
+        ≡ loopVisited (walkIn (now (next .entry)) u) (lists (now (marks .entry)) (now (loops .entry)) (now (lengths .entry)) «so_far») ⌝ }
 {
     let node = u as usize;
     let v = next[node];

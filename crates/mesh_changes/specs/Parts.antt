@@ -15,8 +15,8 @@ abbrev pub edgesIn : List ℕ → ℕ → State
 edgesIn edges n = stateOf [] [] [] [] [] [] edges (counted 0 0 n 0)
 
 -- the state of nodes alone, with their links
-abbrev pub nodesIn : List Float → List Float → List ℕ → List ℕ → ℕ → State
-nodesIn xs ys next prev n = stateOf xs ys next prev [] [] [] (counted n 0 0 0)
+abbrev pub nodesAlone : List Float → List Float → List ℕ → List ℕ → ℕ → State
+nodesAlone xs ys next prev n = stateOf xs ys next prev [] [] [] (counted n 0 0 0)
 
 -- ---- what the code asks of the lists
 

@@ -7,7 +7,7 @@ ghost use Rattle.domain.specs.Outline.{point};
 ghost use Rattle.front.specs.State.{edgeIn, pushNode, addEdge, removeFront, addFront};
 ghost use Rattle.front.specs.Place.{missing, edgesAdded};
 ghost use Rattle.front.specs.Stores.{unless, storeQuad};
-ghost use Rattle.mesh_changes.specs.Parts.{frontIn, edgesIn, nodesIn, NodesFit};
+ghost use Rattle.mesh_changes.specs.Parts.{frontIn, edgesIn, nodesAlone, NodesFit};
 use front::OFF;
 
 // ---- the mesh edges
@@ -110,8 +110,8 @@ pub fn new_node(
     y: f64,
 )
     requires { ⌜ NodesFit (now xs) (now ys) (now next) (now prev) (n + 1) ⌝ }
-    ensures { λ r. ⌜ nodesIn (now (xs .exit)) (now (ys .exit)) (now (next .exit)) (now (prev .exit)) (n + 1)
-        ≡ pushNode (point x y) (nodesIn (now (xs .entry)) (now (ys .entry)) (now (next .entry)) (now (prev .entry)) n) ⌝ }
+    ensures { λ r. ⌜ nodesAlone (now (xs .exit)) (now (ys .exit)) (now (next .exit)) (now (prev .exit)) (n + 1)
+        ≡ pushNode (point x y) (nodesAlone (now (xs .entry)) (now (ys .entry)) (now (next .entry)) (now (prev .entry)) n) ⌝ }
 {
     let i = n as usize;
     xs[i] = x;

@@ -29,17 +29,17 @@ off-same l m e = ap (λ (n : ℕ). replicate n off) e
 -- ---- the places
 
 module _ (s : State) (n q e : ℕ) where
-  pub nodes-beyond : nodePlaces s < n → true ≡ beyondPlaces s n q e
+  pub nodes-beyond-places : nodePlaces s < n → true ≡ beyondPlaces s n q e
   unfolding beyondPlaces
-  nodes-beyond h = rw (lt-ltb _ _ h)
+  nodes-beyond-places h = rw (lt-ltb _ _ h)
 
-  pub quads-beyond : n ≤ nodePlaces s → quadPlaces s < q → true ≡ beyondPlaces s n q e
+  pub quads-beyond-places : n ≤ nodePlaces s → quadPlaces s < q → true ≡ beyondPlaces s n q e
   unfolding beyondPlaces
-  quads-beyond h k = rw (le-ltb _ _ h, lt-ltb _ _ k)
+  quads-beyond-places h k = rw (le-ltb _ _ h, lt-ltb _ _ k)
 
-  pub edges-beyond : n ≤ nodePlaces s → q ≤ quadPlaces s → ltb (edgePlaces s) e ≡ beyondPlaces s n q e
+  pub edges-beyond-places : n ≤ nodePlaces s → q ≤ quadPlaces s → ltb (edgePlaces s) e ≡ beyondPlaces s n q e
   unfolding beyondPlaces
-  edges-beyond h k = rw (le-ltb _ _ h, le-ltb _ _ k)
+  edges-beyond-places h k = rw (le-ltb _ _ h, le-ltb _ _ k)
 
 -- ---- the ids
 

@@ -94,7 +94,7 @@ meshes =
       no-number = refl;
     }
 
-pub record Edges : Type 0 where
+pub record EdgeRefusals : Type 0 where
   pub there : edgeRefusal (counts 2 0 0 2) 0 1 ≡ 0
   -- a node off the front has no edge, not even to the mark of none
   pub mark : edgeRefusal (linksOf (none ∷ []) 1) 0 none ≡ 24
@@ -103,6 +103,6 @@ pub record Edges : Type 0 where
   -- no node
   pub past : edgeRefusal (linksOf (1 ∷ none ∷ []) 2) 2 1 ≡ 24
 
-pub edges-refused : Edges
+pub edges-refused : EdgeRefusals
 unfolding linkOf allOff edgeRefusal
 edges-refused = record { there = refl; mark = refl; reversed = refl; past = refl }

@@ -14,7 +14,7 @@ use lib.Ieee.{Float, binary64, fits, isNan, lt, le}
 use lib.Ieee.Fits.{add-fits, sub-fits}
 use Rattle.laws.specs.Ring.{var, num, _-ᵉ_, neg}
 use Rattle.laws.specs.Certificate.{nonneg, of-≤ℤ, to-≤ℤ, to-le, hyp, _⊞_, prove}
-use Rattle.numbers.specs.Float.{_⊕_, _⊖_, _⊗_, zeroF, minF, maxF}
+use Rattle.numbers.specs.Float.{_⊕_, _⊖_, _⊗_, zeroF}
 use Rattle.exact.specs.Units.{W-pos, signed, units, Within, widen}
 use Rattle.exact.specs.Order.{le-val}
 use Rattle.exact.specs.Keeps.{difference-rounds, double-rounds, rounds-keep-over, zero-fits, zero-within, zero-units}
@@ -27,9 +27,9 @@ use Rattle.domain.specs.Accepted.{AllFit, PointFits, PointWithin, LoopWithin, a
 use Rattle.domain.specs.Queries.{squaredDistance, footOf}
 use Rattle.domain.specs.Search.{searched}
 use Rattle.blocks.specs.declared.Extent.{Extent}
-use Rattle.blocks.specs.Blocks.{reachOf, isFarther, ExtentWithin, Covers}
+use Rattle.blocks.specs.Blocks.{lowerOf, higherOf, reachOf, isFarther, ExtentWithin, Covers}
 use Rattle.blocks.specs.OrderLaws.{lt-cut}
-use Rattle.blocks.specs.ReachLaws.{point-fits, after-fits, within-number, le-of-lt-true, le-of-lt-false, lt-false-of-le, min-fits, max-fits}
+use Rattle.blocks.specs.ReachLaws.{point-fits, after-fits, within-number, le-of-lt-true, le-of-lt-false, lt-false-of-le, lower-fits, higher-fits}
 use Rattle.blocks.specs.ReachLaws.{Highest, Lowest, reach-0, reach-1, reach-2, reach-3}
 use Rattle.nearest.specs.Far.{moderateBound, ModeratePoint, spanGap, extentSquared, isFar}
 
@@ -83,11 +83,11 @@ module _ (p a b : Point) (m : ModeratePoint p) (e : EndsWithin a b) where
   abbrev B : PointWithin 1000 1000 b
   B = e .b-within
 
-  least-fits : (u v : Float) → T (fits binary64 u) → T (fits binary64 v) → T (fits binary64 (minF (minF u v) (u ⊕ (v ⊖ u))))
-  least-fits u v f g = min-fits _ _ (min-fits u v f g) (add-fits binary64 u (v ⊖ u))
+  least-fits : (u v : Float) → T (fits binary64 u) → T (fits binary64 v) → T (fits binary64 (lowerOf (lowerOf u v) (u ⊕ (v ⊖ u))))
+  least-fits u v f g = lower-fits _ _ (lower-fits u v f g) (add-fits binary64 u (v ⊖ u))
 
-  most-fits : (u v : Float) → T (fits binary64 u) → T (fits binary64 v) → T (fits binary64 (maxF (maxF u v) (u ⊕ (v ⊖ u))))
-  most-fits u v f g = max-fits _ _ (max-fits u v f g) (add-fits binary64 u (v ⊖ u))
+  most-fits : (u v : Float) → T (fits binary64 u) → T (fits binary64 v) → T (fits binary64 (higherOf (higherOf u v) (u ⊕ (v ⊖ u))))
+  most-fits u v f g = higher-fits _ _ (higher-fits u v f g) (add-fits binary64 u (v ⊖ u))
 
   pub foot-lies : FootLies a b (footOf p a b)
   unfolding footOf reachOf

@@ -13,7 +13,7 @@ use lib.Ieee.{Float, nan, inf, fin, binary64, fits, lt, le, eq, ofBits}
 use Rattle.laws.specs.Loop.{forUp}
 use Rattle.laws.specs.Tests.{both}
 use Rattle.numbers.specs.Float.{bits, isFinite, absF}
-use Rattle.exact.specs.Units.{W, Val, signOf, sizeOf, val-of, abs-val, Within, within}
+use Rattle.exact.specs.Units.{W, Val, signOf, sizeOf, val-of, abs-val, Within, within-of}
 use Rattle.exact.specs.Order.{le-val}
 use Rattle.domain.specs.declared.Point.{Point}
 use Rattle.domain.specs.declared.Search.{Search}
@@ -48,7 +48,7 @@ coordinate-moderate x f e t =
     let h : T (le (absF x) moderateF) = rw (← e, t) tt in
     let i = finite-abs x h in
     let v = abs-val x (signOf x) (sizeOf x) (val-of x i f) in
-    within moderateBound x f i (leb→le (sizeOf x) (moderateBound * W) (le-val (absF x) moderateF false false (sizeOf x) (moderateBound * W) v moderate-val .0 h .le))
+    within-of moderateBound x f i (leb→le (sizeOf x) (moderateBound * W) (le-val (absF x) moderateF false false (sizeOf x) (moderateBound * W) v moderate-val .0 h .le))
 
 -- ---- the block at which a loop by blocks stands
 

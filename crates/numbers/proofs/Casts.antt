@@ -12,7 +12,7 @@ use lib.Ieee.{Float, nan, inf, fin, up, down, ne}
 use lib.Ieee.Exact.{HasValue}
 use lib.Ieee.Fits.{down-pos}
 use lib.Ieee.Nearest.{div-same, div-mono}
-use Rattle.numbers.specs.Whole.{ceilDiv, sizeOf, floorInt, ceilCount}
+use Rattle.numbers.specs.Whole.{ceilDiv, sizeOfBits, floorInt, ceilCount}
 use Rattle.numbers.proofs.Patterns.{is-nan, not-nan, size-pos, Pattern, value, finite-or-not}
 use Rattle.numbers.proofs.Whole.{ceil-le, ceil-over, ceil-same, size-over, size-under}
 
@@ -53,13 +53,13 @@ ceil-ge : (a c r : ℕ) → 0 < c → r * c ≤ a → r ≤ ceilDiv a c
 ceil-ge a c r C h = le-trans (le-div-iff-mul-le C .1 h) (div-mono a c (a + (c - 1)) c C C (mul-le-mul-right c (omega arith)))
 
 -- what is 2 ^ 63 or less
-size-up-to : (m : ℕ) → m ≤ 0x43e0_0000_0000_0000 → sizeOf m ≤ 2 ^ 63 * 2 ^ 1074
+size-up-to : (m : ℕ) → m ≤ 0x43e0_0000_0000_0000 → sizeOfBits m ≤ 2 ^ 63 * 2 ^ 1074
 size-up-to m h = go (eq-or-lt-of-le h)
   where
-    at-top : sizeOf 0x43e0_0000_0000_0000 ≤ 2 ^ 63 * 2 ^ 1074
-    at-top = unfold sizeOf in lit≤ tt
+    at-top : sizeOfBits 0x43e0_0000_0000_0000 ≤ 2 ^ 63 * 2 ^ 1074
+    at-top = unfold sizeOfBits in lit≤ tt
 
-    go : (m ≡ 0x43e0_0000_0000_0000) ⊎ (m < 0x43e0_0000_0000_0000) → sizeOf m ≤ 2 ^ 63 * 2 ^ 1074
+    go : (m ≡ 0x43e0_0000_0000_0000) ⊎ (m < 0x43e0_0000_0000_0000) → sizeOfBits m ≤ 2 ^ 63 * 2 ^ 1074
     go (inl e) = rw e at-top
     go (inr l) = le-of-lt (size-under m 63 (omega arith))
 
@@ -70,10 +70,10 @@ floor-nan x h = rw (is-nan x h) (unfold floorInt in refl)
 
 -- below 2 ^ 63
 pub floor-in : (x : Float) (m : ℕ) → Pattern x false m → m < 0x43e0_0000_0000_0000
-    → (sizeOf m / 2 ^ 1074 < 2 ^ 63) × (pos (sizeOf m / 2 ^ 1074) ≡ floorInt x)
+    → (sizeOfBits m / 2 ^ 1074 < 2 ^ 63) × (pos (sizeOfBits m / 2 ^ 1074) ≡ floorInt x)
 floor-in x m p h =
-    let r : sizeOf m / 2 ^ 1074 < 2 ^ 63 = div-lt-iff-lt-mul unit .1 (size-under m 63 (omega arith)) in
-    (r, ap pos (fits (sizeOf m / 2 ^ 1074) r) ∙ sym (floor-plus x (sizeOf m) (value x false m p (omega arith))))
+    let r : sizeOfBits m / 2 ^ 1074 < 2 ^ 63 = div-lt-iff-lt-mul unit .1 (size-under m 63 (omega arith)) in
+    (r, ap pos (fits (sizeOfBits m / 2 ^ 1074) r) ∙ sym (floor-plus x (sizeOfBits m) (value x false m p (omega arith))))
   where
     fits : (a : ℕ) → a < 2 ^ 63 → a ≡ min a (2 ^ 63 - 1)
     fits a h = omega arith
@@ -81,7 +81,7 @@ floor-in x m p h =
 -- from 2 ^ 63 on
 pub floor-over : (x : Float) (m : ℕ) → Pattern x false m → ne x x ≡ false → 0x43e0_0000_0000_0000 ≤ m → pos (2 ^ 63 - 1) ≡ floorInt x
 floor-over x m p n h =
-    ⊎-elim (λ v. ap pos (cut (sizeOf m / 2 ^ 1074) (le-div-iff-mul-le unit .1 (size-over m 63 (omega arith)))) ∙ sym (floor-plus x (sizeOf m) v))
+    ⊎-elim (λ v. ap pos (cut (sizeOfBits m / 2 ^ 1074) (le-div-iff-mul-le unit .1 (size-over m 63 (omega arith)))) ∙ sym (floor-plus x (sizeOfBits m) v))
     (λ e. at-inf ∙ ap floorInt (sym e))
     (finite-or-not x false m p (not-nan x n))
   where
@@ -92,20 +92,20 @@ floor-over x m p n h =
     cut a h = omega arith
 
 pub floor-minus-zero : (x : Float) (m : ℕ) → Pattern x true m → m ≡ 0 → pos 0 ≡ floorInt x
-floor-minus-zero x m p e = sym (floor-minus x (sizeOf m) (value x true m p (omega arith)) ∙ rw e at-zero)
+floor-minus-zero x m p e = sym (floor-minus x (sizeOfBits m) (value x true m p (omega arith)) ∙ rw e at-zero)
   where
-    at-zero : negℤ (pos (min (ceilDiv (sizeOf 0) (2 ^ 1074)) (2 ^ 63))) ≡ pos 0
-    at-zero = unfold sizeOf in refl
+    at-zero : negℤ (pos (min (ceilDiv (sizeOfBits 0) (2 ^ 1074)) (2 ^ 63))) ≡ pos 0
+    at-zero = unfold sizeOfBits in refl
 
 -- from -2 ^ 63 on
 pub floor-minus-in : (x : Float) (m : ℕ) → Pattern x true m → (m ≡ 0 → ⊥) → m ≤ 0x43e0_0000_0000_0000
-    → (1 ≤ ceilDiv (sizeOf m) (2 ^ 1074)) × (ceilDiv (sizeOf m) (2 ^ 1074) ≤ 2 ^ 63) × (negℤ (pos (ceilDiv (sizeOf m) (2 ^ 1074))) ≡ floorInt x)
+    → (1 ≤ ceilDiv (sizeOfBits m) (2 ^ 1074)) × (ceilDiv (sizeOfBits m) (2 ^ 1074) ≤ 2 ^ 63) × (negℤ (pos (ceilDiv (sizeOfBits m) (2 ^ 1074))) ≡ floorInt x)
 floor-minus-in x m p n h =
-    let r = ceilDiv (sizeOf m) (2 ^ 1074) in
-    let hi : r ≤ 2 ^ 63 = ceil-le (sizeOf m) (2 ^ 1074) (2 ^ 63) unit (size-up-to m h) in (
-      ceil-over (sizeOf m) (2 ^ 1074) 0 unit (size-pos m (omega arith)),
+    let r = ceilDiv (sizeOfBits m) (2 ^ 1074) in
+    let hi : r ≤ 2 ^ 63 = ceil-le (sizeOfBits m) (2 ^ 1074) (2 ^ 63) unit (size-up-to m h) in (
+      ceil-over (sizeOfBits m) (2 ^ 1074) 0 unit (size-pos m (omega arith)),
       hi,
-      ap (λ (y : ℕ). negℤ (pos y)) (fits r hi) ∙ sym (floor-minus x (sizeOf m) (value x true m p (omega arith))),
+      ap (λ (y : ℕ). negℤ (pos y)) (fits r hi) ∙ sym (floor-minus x (sizeOfBits m) (value x true m p (omega arith))),
     )
   where
     fits : (a : ℕ) → a ≤ 2 ^ 63 → a ≡ min a (2 ^ 63)
@@ -114,9 +114,9 @@ floor-minus-in x m p n h =
 -- up to -2 ^ 63
 pub floor-under : (x : Float) (m : ℕ) → Pattern x true m → ne x x ≡ false → 0x43e0_0000_0000_0000 ≤ m → negsuc (2 ^ 63 - 1) ≡ floorInt x
 floor-under x m p n h =
-    let r = ceilDiv (sizeOf m) (2 ^ 1074) in
-    let l : 2 ^ 63 ≤ r = ceil-ge (sizeOf m) (2 ^ 1074) (2 ^ 63) unit (size-over m 63 (omega arith)) in
-    ⊎-elim (λ v. ap (λ (y : ℕ). negℤ (pos y)) (cut r l) ∙ sym (floor-minus x (sizeOf m) v)) (λ e. at-inf ∙ ap floorInt (sym e))
+    let r = ceilDiv (sizeOfBits m) (2 ^ 1074) in
+    let l : 2 ^ 63 ≤ r = ceil-ge (sizeOfBits m) (2 ^ 1074) (2 ^ 63) unit (size-over m 63 (omega arith)) in
+    ⊎-elim (λ v. ap (λ (y : ℕ). negℤ (pos y)) (cut r l) ∙ sym (floor-minus x (sizeOfBits m) v)) (λ e. at-inf ∙ ap floorInt (sym e))
     (finite-or-not x true m p (not-nan x n))
   where
     at-inf : negsuc (2 ^ 63 - 1) ≡ floorInt (inf true)
@@ -132,8 +132,8 @@ count-nan x h = rw (is-nan x h) (unfold ceilCount in refl)
 
 -- below 2 ^ 64
 pub count-in : (x : Float) (m : ℕ) → Pattern x false m → m < 0x43f0_0000_0000_0000
-    → ceilDiv (sizeOf m) (2 ^ 1074) < 2 ^ 64 → ceilDiv (sizeOf m) (2 ^ 1074) ≡ ceilCount x
-count-in x m p h f = fits (ceilDiv (sizeOf m) (2 ^ 1074)) f ∙ sym (count-plus x (sizeOf m) (value x false m p (omega arith)))
+    → ceilDiv (sizeOfBits m) (2 ^ 1074) < 2 ^ 64 → ceilDiv (sizeOfBits m) (2 ^ 1074) ≡ ceilCount x
+count-in x m p h f = fits (ceilDiv (sizeOfBits m) (2 ^ 1074)) f ∙ sym (count-plus x (sizeOfBits m) (value x false m p (omega arith)))
   where
     fits : (a : ℕ) → a < 2 ^ 64 → a ≡ min a (2 ^ 64 - 1)
     fits a h = omega arith
@@ -141,9 +141,9 @@ count-in x m p h f = fits (ceilDiv (sizeOf m) (2 ^ 1074)) f ∙ sym (count-plus 
 -- from 2 ^ 64 on
 pub count-over : (x : Float) (m : ℕ) → Pattern x false m → ne x x ≡ false → 0x43f0_0000_0000_0000 ≤ m → 2 ^ 64 - 1 ≡ ceilCount x
 count-over x m p n h =
-    let r = ceilDiv (sizeOf m) (2 ^ 1074) in
-    let l : 2 ^ 64 ≤ r = ceil-ge (sizeOf m) (2 ^ 1074) (2 ^ 64) unit (size-over m 64 (omega arith)) in
-    ⊎-elim (λ v. cut r l ∙ sym (count-plus x (sizeOf m) v)) (λ e. at-inf ∙ ap ceilCount (sym e))
+    let r = ceilDiv (sizeOfBits m) (2 ^ 1074) in
+    let l : 2 ^ 64 ≤ r = ceil-ge (sizeOfBits m) (2 ^ 1074) (2 ^ 64) unit (size-over m 64 (omega arith)) in
+    ⊎-elim (λ v. cut r l ∙ sym (count-plus x (sizeOfBits m) v)) (λ e. at-inf ∙ ap ceilCount (sym e))
     (finite-or-not x false m p (not-nan x n))
   where
     at-inf : 2 ^ 64 - 1 ≡ ceilCount (inf false)
@@ -154,7 +154,7 @@ count-over x m p n h =
 
 -- below zero
 pub count-none : (x : Float) (m : ℕ) → Pattern x true m → ne x x ≡ false → 0 ≡ ceilCount x
-count-none x m p n = ⊎-elim (λ v. count-minus x (sizeOf m) v) (λ e. at-inf ∙ ap ceilCount (sym e)) (finite-or-not x true m p (not-nan x n))
+count-none x m p n = ⊎-elim (λ v. count-minus x (sizeOfBits m) v) (λ e. at-inf ∙ ap ceilCount (sym e)) (finite-or-not x true m p (not-nan x n))
   where
     at-inf : 0 ≡ ceilCount (inf true)
     at-inf = unfold ceilCount in refl

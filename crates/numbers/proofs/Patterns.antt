@@ -14,7 +14,7 @@ use lib.Ieee.Bits.{is-true, is-false, cond-no, ofBits-toBits, toBits-lt, nanBits
 use lib.Ieee.Compare.{nan-differs, differs-from-itself}
 use lib.Ieee.Exact.{HasValue, odd-sign}
 use Rattle.numbers.specs.RootUnits.{below-top, units-odd}
-use Rattle.numbers.specs.Whole.{sizeOf}
+use Rattle.numbers.specs.Whole.{sizeOfBits}
 
 -- ---- NaN
 
@@ -84,12 +84,12 @@ subnormal s t = refl
 
 -- ---- its value
 
-pub size-low : (m : ℕ) → m < 2 ^ 52 → sizeOf m ≡ m
-unfolding sizeOf
+pub size-low : (m : ℕ) → m < 2 ^ 52 → sizeOfBits m ≡ m
+unfolding sizeOfBits
 size-low m h = rw (is-true (ltb m (2 ^ 52)) (lt→ltb m (2 ^ 52) h))
 
-pub size-high : (m : ℕ) → 2 ^ 52 ≤ m → sizeOf m ≡ (m % 2 ^ 52 + 2 ^ 52) * 2 ^ (m / 2 ^ 52 - 1)
-unfolding sizeOf
+pub size-high : (m : ℕ) → 2 ^ 52 ≤ m → sizeOfBits m ≡ (m % 2 ^ 52 + 2 ^ 52) * 2 ^ (m / 2 ^ 52 - 1)
+unfolding sizeOfBits
 size-high m h = rw (is-false (ltb m (2 ^ 52)) (le→nltb m (2 ^ 52) h))
 
 pub below-or-not : (m k : ℕ) → (m < k) ⊎ (k ≤ m)
@@ -99,14 +99,14 @@ below-or-not m k = go (ltb m k) (ltb→lt m k) (nltb→le m k)
     go true p q = inl (p tt)
     go false p q = inr (q tt)
 
-pub size-pos : (m : ℕ) → 0 < m → 0 < sizeOf m
+pub size-pos : (m : ℕ) → 0 < m → 0 < sizeOfBits m
 size-pos m h = go (below-or-not m (2 ^ 52))
   where
-    go : (m < 2 ^ 52) ⊎ (2 ^ 52 ≤ m) → 0 < sizeOf m
+    go : (m < 2 ^ 52) ⊎ (2 ^ 52 ≤ m) → 0 < sizeOfBits m
     go (inl l) = rw (size-low m l) h
     go (inr g) = rw (size-high m g) (mul-pos (omega arith) (pow-pos (m / 2 ^ 52 - 1)))
 
-field-value : (s : Bool) (x t m : ℕ) → x < 2047 → m / 2 ^ 52 ≡ x → m % 2 ^ 52 ≡ t → HasValue (ofFields binary64 s x t) s (sizeOf m) (2 ^ 1074)
+field-value : (s : Bool) (x t m : ℕ) → x < 2047 → m / 2 ^ 52 ≡ x → m % 2 ^ 52 ≡ t → HasValue (ofFields binary64 s x t) s (sizeOfBits m) (2 ^ 1074)
 field-value s zero t m h e f =
     rw (subnormal s t, size-low m (omega arith))
     (subst (λ (y : ℕ). HasValue (odd 53 s t 0 1074) s y (2 ^ 1074)) same (odd-sign 53 s t 0 1074))
@@ -152,7 +152,7 @@ module _ (x : Float) (s : Bool) (m : ℕ) (p : Pattern x s m) where
   is-fields : x ≡ ofFields binary64 s (m / 2 ^ 52) (m % 2 ^ 52)
   is-fields = p .is ∙ fields s m (p .small)
 
-  pub value : m < 0x7ff0_0000_0000_0000 → HasValue x s (sizeOf m) (2 ^ 1074)
+  pub value : m < 0x7ff0_0000_0000_0000 → HasValue x s (sizeOfBits m) (2 ^ 1074)
   value h = rw is-fields (field-value s (m / 2 ^ 52) (m % 2 ^ 52) m (omega arith) refl refl)
 
   pub infinite : 0x7ff0_0000_0000_0000 ≤ m → isNan x ≡ false → x ≡ inf s
@@ -164,10 +164,10 @@ module _ (x : Float) (s : Bool) (m : ℕ) (p : Pattern x s m) where
       top m h l = omega arith
 
   -- a number is finite, with its value, or infinite
-  pub finite-or-not : isNan x ≡ false → (HasValue x s (sizeOf m) (2 ^ 1074)) ⊎ (x ≡ inf s)
+  pub finite-or-not : isNan x ≡ false → (HasValue x s (sizeOfBits m) (2 ^ 1074)) ⊎ (x ≡ inf s)
   finite-or-not n = go (below-or-not m 0x7ff0_0000_0000_0000)
     where
-      go : (m < 0x7ff0_0000_0000_0000) ⊎ (0x7ff0_0000_0000_0000 ≤ m) → (HasValue x s (sizeOf m) (2 ^ 1074)) ⊎ (x ≡ inf s)
+      go : (m < 0x7ff0_0000_0000_0000) ⊎ (0x7ff0_0000_0000_0000 ≤ m) → (HasValue x s (sizeOfBits m) (2 ^ 1074)) ⊎ (x ≡ inf s)
       go (inl h) = inl (value h)
       go (inr h) = inr (infinite h n)
 

@@ -13,7 +13,7 @@ use lib.Ieee.{Float, nan, inf, binary64, ofBits, toBits, isNan, fits, ne, div}
 use lib.Ieee.Bits.{ofBits-toBits}
 use Rattle.numbers.specs.Root.{root, rootUnits, NearRoot, RootBits}
 use Rattle.numbers.specs.RootUnits.{root-value, root-minus, Split, rounds}
-use Rattle.numbers.specs.Whole.{sizeOf}
+use Rattle.numbers.specs.Whole.{sizeOfBits}
 use Rattle.numbers.proofs.Patterns.{is-nan, not-nan, size-low, size-high, size-pos, Pattern, plus, minus-sign, value, infinite, finite-or-not}
 use Rattle.numbers.proofs.Patterns.{units-bits}
 
@@ -55,8 +55,8 @@ module _ (x : Float) (f : T (fits binary64 x)) where
 
 -- ---- a value above zero
 
-root-size : (x : Float) (b : ℕ) → Pattern x false b → 0 < b → b < 0x7ff0_0000_0000_0000 → root x ≡ rootUnits (sizeOf b * 2 ^ 1074)
-root-size x b p h k = root-value x (sizeOf b) (value x false b p k) (size-pos b h)
+root-size : (x : Float) (b : ℕ) → Pattern x false b → 0 < b → b < 0x7ff0_0000_0000_0000 → root x ≡ rootUnits (sizeOfBits b * 2 ^ 1074)
+root-size x b p h k = root-value x (sizeOfBits b) (value x false b p k) (size-pos b h)
 
 pub of-normal : (x : Float) (b : ℕ) → Pattern x false b → 2 ^ 52 ≤ b → b < 0x7ff0_0000_0000_0000
     → root x ≡ rootUnits ((b % 2 ^ 52 + 2 ^ 52) * 2 ^ 52 * 2 ^ (b / 2 ^ 52 + 1021))
@@ -128,7 +128,7 @@ unfolding toBits
 inf-bits = refl
 
 below-zero : (x : Float) (m : ℕ) → Pattern x true m → isNan x ≡ false → 0 < m → root x ≡ nan
-below-zero x m p n h = ⊎-elim (λ v. root-minus x (sizeOf m) v (size-pos m h)) (λ e. ap root e ∙ at-inf) (finite-or-not x true m p n)
+below-zero x m p n h = ⊎-elim (λ v. root-minus x (sizeOfBits m) v (size-pos m h)) (λ e. ap root e ∙ at-inf) (finite-or-not x true m p n)
   where
     at-inf : root (inf true) ≡ nan
     at-inf = unfold root in refl

@@ -11,7 +11,7 @@ use lib.Ieee.Bits.{toBits-lt}
 use lib.Ieee.Exact.{HasValue}
 use borrow.Author.Tests.{leb-true, leb-false}
 use Rattle.numbers.specs.Float.{isFinite}
-use Rattle.numbers.specs.Whole.{sizeOf}
+use Rattle.numbers.specs.Whole.{sizeOfBits}
 use Rattle.numbers.specs.TakenApart.{IsParts}
 use Rattle.numbers.proofs.Patterns.{size-low, size-high, Pattern, plus, minus-sign, finite-or-not}
 
@@ -48,7 +48,7 @@ pattern-of x f = go (leb (2 ^ 63) (toBits binary64 x)) refl
     go false e = let h = leb-false (2 ^ 63) (toBits binary64 x) e in subst (Pattern x false) (below (toBits binary64 x) h) (plus x f h)
 
 pub finite-value : (x : Float) → T (fits binary64 x) → T (isFinite x)
-    → HasValue x (leb (2 ^ 63) (toBits binary64 x)) (sizeOf (toBits binary64 x % 2 ^ 63)) (2 ^ 1074)
+    → HasValue x (leb (2 ^ 63) (toBits binary64 x)) (sizeOfBits (toBits binary64 x % 2 ^ 63)) (2 ^ 1074)
 finite-value x f n =
     let s = leb (2 ^ 63) (toBits binary64 x) in
     elim (finite-or-not x s (toBits binary64 x % 2 ^ 63) (pattern-of x f) (finite-no-nan x n)) [ inl v ↦ v | inr e ↦ absurd (no-inf x s n e) ]

@@ -71,15 +71,15 @@ near-unique n a b h k =
 -- ---- the nearest whole number: `nearest` picks it
 
 -- what `compare` says
-abbrev pub Compared : Ordering → ℕ → ℕ → Type 0
-Compared Ordering·lt a b = a < b
-Compared Ordering·eq a b = a ≡ b
-Compared Ordering·gt a b = b < a
+abbrev pub CompareSays : Ordering → ℕ → ℕ → Type 0
+CompareSays Ordering·lt a b = a < b
+CompareSays Ordering·eq a b = a ≡ b
+CompareSays Ordering·gt a b = b < a
 
-pub compared : (a b : ℕ) → Compared (compare a b) a b
-compared a b = go (compare a b) (leb→le a b) (nleb→lt a b) (eqb→eq a b) (λ (e : a ≡ b). subst (λ (x : ℕ). T (eqb a x)) e (eqb-refl a))
+pub compare-says : (a b : ℕ) → CompareSays (compare a b) a b
+compare-says a b = go (compare a b) (leb→le a b) (nleb→lt a b) (eqb→eq a b) (λ (e : a ≡ b). subst (λ (x : ℕ). T (eqb a x)) e (eqb-refl a))
   where
-    go : (o : Ordering) → (T (isLe o) → a ≤ b) → (T (not (isLe o)) → b < a) → (T (isEq o) → a ≡ b) → (a ≡ b → T (isEq o)) → Compared o a b
+    go : (o : Ordering) → (T (isLe o) → a ≤ b) → (T (not (isLe o)) → b < a) → (T (isEq o) → a ≡ b) → (a ≡ b → T (isEq o)) → CompareSays o a b
     go Ordering·lt h k e n = lt-of-le-ne (h tt) n
     go Ordering·eq h k e n = e tt
     go Ordering·gt h k e n = k tt
@@ -91,7 +91,7 @@ no-tie n q e = go (q * q) (omega arith)
     go : (s : ℕ) → 4 * n ≡ 4 * s + 4 * q + 1 → ⊥
     go s h = omega arith
 
-pick : (n q c : ℕ) → 0 < n → 0 < c → IsRoot n q → (o : Ordering) → Compared o (4 * (n * c)) ((2 * q + 1) * (2 * q + 1) * c) → NearRoot n (nearest q o)
+pick : (n q c : ℕ) → 0 < n → 0 < c → IsRoot n q → (o : Ordering) → CompareSays o (4 * (n * c)) ((2 * q + 1) * (2 * q + 1) * c) → NearRoot n (nearest q o)
 pick n zero c N C r o x = absurd (none (r .under))
   where
     none : n < suc 0 * suc 0 → ⊥
@@ -112,4 +112,4 @@ picked n c = let q = isqrt n in nearest q (compare (4 * (n * c)) ((2 * q + 1) * 
 pub picked-near : (n c : ℕ) → 0 < n → 0 < c → NearRoot n (picked n c)
 picked-near n c N C =
     let q = isqrt n in
-    pick n q c N C (isqrt-root n) (compare (4 * (n * c)) ((2 * q + 1) * (2 * q + 1) * c)) (compared (4 * (n * c)) ((2 * q + 1) * (2 * q + 1) * c))
+    pick n q c N C (isqrt-root n) (compare (4 * (n * c)) ((2 * q + 1) * (2 * q + 1) * c)) (compare-says (4 * (n * c)) ((2 * q + 1) * (2 * q + 1) * c))

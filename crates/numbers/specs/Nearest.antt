@@ -20,7 +20,7 @@ use lib.Ieee.Fits.{down-pos, up-pos, odd-fits, and-l, and-r}
 use lib.Ieee.Positive.{first-pos}
 use Rattle.numbers.specs.Root.{rootUnits, root, NearRoot}
 use Rattle.numbers.specs.Isqrt.{four-is, four-pos, picked, picked-near}
-use Rattle.numbers.specs.RootUnits.{zero-units, root-value, Split, split-even, split-odd, rounds, below-top, units-odd}
+use Rattle.numbers.specs.RootUnits.{no-zero-units, root-value, Split, split-even, split-odd, rounds, below-top, units-odd}
 
 -- x is n units, and has no minus sign
 abbrev pub IsUnits : Float → ℕ → Type 0
@@ -28,7 +28,7 @@ IsUnits x n = HasValue x false n (2 ^ 1074)
 
 -- ---- a double is m * 2 ^ j units, with m below 2 ^ 53
 
-pub record Digits (n : ℕ) : Type 0 where
+pub record Representable (n : ℕ) : Type 0 where
   pub m : ℕ
   pub j : ℕ
   pub is : n ≡ m * 2 ^ j
@@ -58,12 +58,12 @@ under-top v d n h e =
     let t : 2 ^ 1024 * d * 2 ^ 1074 ≡ 2 ^ 2098 * d = mul-right-comm (2 ^ 1024) d (2 ^ 1074) ∙ ap (λ (y : ℕ). y * d) (sym (pow-add 2 1024 1074)) in
     lt-of-mul-lt-mul-right d (lt-of-le-of-lt (le-of-eq (sym e)) (lt-of-lt-of-le (mul-lt-mul-of-pos-right h (pow-pos 1074)) (le-of-eq t)))
 
-pub digits-of : (x : Float) (n : ℕ) → T (fits binary64 x) → IsUnits x n → Digits n
+pub digits-of : (x : Float) (n : ℕ) → T (fits binary64 x) → IsUnits x n → Representable n
 unfolding fits
 digits-of nan n f v = absurd v
 digits-of (inf s) n f v = absurd v
 digits-of (fin s zero e) zero f v = record { m = 0; j = 0; is = refl; small = pow-pos 53; top = pow-pos 2098 }
-digits-of (fin s zero e) (suc n) f v = absurd (zero-units (suc n) (down e) (up e) (down-pos e) (v .1) (zero-lt-suc n))
+digits-of (fin s zero e) (suc n) f v = absurd (no-zero-units (suc n) (down e) (up e) (down-pos e) (v .1) (zero-lt-suc n))
 digits-of (fin s (suc m) e) n f v =
     let A = eqb (suc m % 2) 1 in
     let B = ltb (suc m) (2 ^ 53) in
@@ -73,12 +73,12 @@ digits-of (fin s (suc m) e) n f v =
     (ltb→lt (suc m) (2 ^ 53) (and-r A B (and-l (A && B) C (and-l (A && B && C) D f))))
     (under-top (suc m * up e) (down e) n (ltb→lt (suc m * up e) (2 ^ 1024 * down e) (and-r (A && B && C) D f)) (v .1))
   where
-    go : (e : ℤ) → suc m * up e * 2 ^ 1074 ≡ n * down e → down e ≤ 2 ^ 1074 → suc m < 2 ^ 53 → n < 2 ^ 2098 → Digits n
+    go : (e : ℤ) → suc m * up e * 2 ^ 1074 ≡ n * down e → down e ≤ 2 ^ 1074 → suc m < 2 ^ 53 → n < 2 ^ 2098 → Representable n
     go (pos a) h c b t = record { m = suc m; j = a + 1074; is = whole-up (suc m) a n h; small = b; top = t }
     go (negsuc a) h c b t = record { m = suc m; j = 1074 - suc a; is = whole-down (suc m) a n (exponent-le (suc a) 1074 c) h; small = b; top = t }
 
 -- from 2 ^ (52 + k) units on there are only multiples of 2 ^ k
-multiple : (n k : ℕ) → Digits n → 2 ^ (52 + k) ≤ n → (B : ℕ) × (n ≡ B * 2 ^ k)
+multiple : (n k : ℕ) → Representable n → 2 ^ (52 + k) ≤ n → (B : ℕ) × (n ≡ B * 2 ^ k)
 multiple n k d h =
     let m = d .m in
     let j = d .j in
@@ -106,7 +106,7 @@ record Normal (n : ℕ) : Type 0 where
   low : p ≤ 3067
   same : n * 2 ^ 1074 ≡ sig * 2 ^ 52 * 2 ^ p
 
-normalize : (n : ℕ) → 0 < n → Digits n → Normal n
+normalize : (n : ℕ) → 0 < n → Representable n → Normal n
 normalize n h d =
     let m = d .m in
     let M : 0 < m = first-pos m (2 ^ d .j) (lt-of-lt-of-le h (le-of-eq (d .is))) in
@@ -177,8 +177,8 @@ pub record Rounded (x : Float) (n : ℕ) : Type 0 where
 units-fits : (q k : ℕ) → q < 2 ^ 53 → q * 2 ^ k < 2 ^ 2098 → T (fits binary64 (units binary64 false q k))
 units-fits q k h t = rw (units-odd q k t) (odd-fits binary64 54 false q k (omega arith) (le-of-lt h) t)
 
-pub rounded : (x : Float) (n : ℕ) → T (fits binary64 x) → IsUnits x n → 0 < n → Rounded x n
-rounded x n f v h =
+pub is-rounded : (x : Float) (n : ℕ) → T (fits binary64 x) → IsUnits x n → 0 < n → Rounded x n
+is-rounded x n f v h =
     let w = normalize n h (digits-of x n f v) in
     let sp = either-split (w .sig) (w .p) (w .reach) (w .under) in
     let k = w .p / 2 in
@@ -236,10 +236,10 @@ root-zero (fin s (suc m) e) v = absurd (no (v .1))
     no : suc m * up e * 2 ^ 1074 ≡ 0 * down e → ⊥
     no h = lt-irrefl 0 (subst (λ (z : ℕ). 0 < z) (h ∙ zero-mul (down e)) (mul-pos (mul-pos (zero-lt-suc m) (up-pos e)) (pow-pos 1074)))
 
-pub root-law : (x : Float) → T (fits binary64 x) → (n : ℕ) → IsUnits x n → Rooted (root x) (n * 2 ^ 1074)
-root-law x f zero v = record { L = 0; val = subst (λ (z : Float). IsUnits z 0) (sym (root-zero x v)) v; lower = lit≤ tt; upper = lit≤ tt }
-root-law x f (suc n) v =
-    let w = rounded x (suc n) f v (zero-lt-suc n) in
+pub root-units-law : (x : Float) → T (fits binary64 x) → (n : ℕ) → IsUnits x n → Rooted (root x) (n * 2 ^ 1074)
+root-units-law x f zero v = record { L = 0; val = subst (λ (z : Float). IsUnits z 0) (sym (root-zero x v)) v; lower = lit≤ tt; upper = lit≤ tt }
+root-units-law x f (suc n) v =
+    let w = is-rounded x (suc n) f v (zero-lt-suc n) in
     let square = times (w .Q) (2 ^ w .k) (4 ^ w .k) (sym (four-is (w .k))) in
     let large = le-trans (lit≤ tt) (w .digits) in
     record {
@@ -282,7 +282,7 @@ least-under N U c b e L h =
     more : (a : ℕ) {d : ℕ} → suc a * suc a ≤ d → a * a < d
     more a h = omega arith
 
-under-all : (N Q k b : ℕ) → NearRoot N Q → 2 ^ 104 ≤ N → 2 ^ 52 ≤ Q → Digits b → b < Q * 2 ^ k → (Q * 2 ^ k + b) * (Q * 2 ^ k + b) < 4 * (N * 4 ^ k)
+under-all : (N Q k b : ℕ) → NearRoot N Q → 2 ^ 104 ≤ N → 2 ^ 52 ≤ Q → Representable b → b < Q * 2 ^ k → (Q * 2 ^ k + b) * (Q * 2 ^ k + b) < 4 * (N * 4 ^ k)
 under-all N zero k b near L D d h = absurd (none D)
   where
     none : 2 ^ 52 ≤ 0 → ⊥
@@ -303,7 +303,7 @@ under-all N (suc P) k b near L D d h = go (leb (2 ^ (52 + k)) b) (leb→le (2 ^ 
         step-under N P (2 ^ k) (4 ^ k) b e (four-pos k) near (le-trans (le-of-eq (m .1)) (mul-le-mul-right (2 ^ k) (le-of-suc-le-suc fewer)))
     go false y z = at (eq-or-lt-of-le D) (lt-of-lt-of-le (z tt) (le-of-eq (pow-add 2 52 k)))
 
-over-all : (N Q k b : ℕ) → NearRoot N Q → 2 ^ 52 ≤ Q → Digits b → Q * 2 ^ k < b → 4 * (N * 4 ^ k) < (Q * 2 ^ k + b) * (Q * 2 ^ k + b)
+over-all : (N Q k b : ℕ) → NearRoot N Q → 2 ^ 52 ≤ Q → Representable b → Q * 2 ^ k < b → 4 * (N * 4 ^ k) < (Q * 2 ^ k + b) * (Q * 2 ^ k + b)
 over-all N Q k b near D d h =
     let m = multiple b k d (le-trans (le-trans (le-of-eq (pow-add 2 52 k)) (mul-le-mul-right (2 ^ k) D)) (le-of-lt h)) in
     subst (λ (y : ℕ). 4 * (N * 4 ^ k) < (Q * 2 ^ k + y) * (Q * 2 ^ k + y)) (sym (m .1))
@@ -326,7 +326,7 @@ pub record NearestFloat (n : ℕ) (y : Float) : Type 0 where
 -- The root of a double x above 0, of n units, is the nearest double.
 pub nearest-root : (x : Float) (n : ℕ) → T (fits binary64 x) → IsUnits x n → 0 < n → NearestFloat n (root x)
 nearest-root x n f v h =
-    let w = rounded x n f v h in
+    let w = is-rounded x n f v h in
     record {
       held = w .held;
       r = w .Q * 2 ^ w .k;

@@ -22,14 +22,14 @@ no-zero : (a d : ℕ) → 0 < a → 0 < d → 0 ≡ a * d → ⊥
 no-zero a d h k e = lt-irrefl 0 (subst (λ (x : ℕ). 0 < x) (sym e) (mul-pos h k))
 
 -- a zero has no units
-pub zero-units : (a d u : ℕ) → 0 < d → 0 * u * 2 ^ 1074 ≡ a * d → 0 < a → ⊥
-zero-units a d u D e h = no-zero a d h D (sym (ap (λ (z : ℕ). z * 2 ^ 1074) (zero-mul u) ∙ zero-mul (2 ^ 1074)) ∙ e)
+pub no-zero-units : (a d u : ℕ) → 0 < d → 0 * u * 2 ^ 1074 ≡ a * d → 0 < a → ⊥
+no-zero-units a d u D e h = no-zero a d h D (sym (ap (λ (z : ℕ). z * 2 ^ 1074) (zero-mul u) ∙ zero-mul (2 ^ 1074)) ∙ e)
 
 pub root-value : (x : Float) (a : ℕ) → HasValue x false a (2 ^ 1074) → 0 < a → root x ≡ rootUnits (a * 2 ^ 1074)
 unfolding root
 root-value nan a v h = absurd v
 root-value (inf s) a v h = absurd v
-root-value (fin s zero e) a v h = absurd (zero-units a (down e) (up e) (down-pos e) (v .1) h)
+root-value (fin s zero e) a v h = absurd (no-zero-units a (down e) (up e) (down-pos e) (v .1) h)
 root-value (fin true (suc m) e) a v h = absurd (true≢false (v .0))
 root-value (fin false (suc m) e) a v h =
     ap (λ (y : ℕ). rootUnits (y / down e))
@@ -43,7 +43,7 @@ pub root-minus : (x : Float) (a : ℕ) → HasValue x true a (2 ^ 1074) → 0 < 
 unfolding root
 root-minus nan a v h = absurd v
 root-minus (inf s) a v h = absurd v
-root-minus (fin s zero e) a v h = absurd (zero-units a (down e) (up e) (down-pos e) (v .1) h)
+root-minus (fin s zero e) a v h = absurd (no-zero-units a (down e) (up e) (down-pos e) (v .1) h)
 root-minus (fin false (suc m) e) a v h = absurd (false≢true (v .0))
 root-minus (fin true (suc m) e) a v h = refl
 

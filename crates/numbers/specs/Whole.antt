@@ -27,5 +27,5 @@ ceilCount (inf s) = cond s 0 (2 ^ 64 - 1)
 ceilCount (fin s m e) = cond s 0 (min (ceilDiv (m * up e) (down e)) (2 ^ 64 - 1))
 
 -- the size of the double whose bits are b, the sign clear, in units of 2 ^ -1074
-unfoldable pub sizeOf : ℕ → ℕ
-sizeOf b = cond (ltb b (2 ^ 52)) b ((b % 2 ^ 52 + 2 ^ 52) * 2 ^ (b / 2 ^ 52 - 1))
+unfoldable pub sizeOfBits : ℕ → ℕ
+sizeOfBits b = cond (ltb b (2 ^ 52)) b ((b % 2 ^ 52 + 2 ^ 52) * 2 ^ (b / 2 ^ 52 - 1))

@@ -4,7 +4,7 @@ ghost use Prim.Native.Nat.{_+_, _*_, _/_, _%_, _^_, min, max, _≤_, _<_};
 ghost use lib.Dec.{T};
 ghost use Rattle.numbers.specs.Root.{NearRoot, RootBits, rootUnits, root};
 ghost use Rattle.numbers.specs.Float.{toFloat, isFinite, absF, minF, maxF, clampF};
-ghost use Rattle.numbers.specs.Whole.{ceilDiv, sizeOf, floorInt, floorQuotient, ceilCount};
+ghost use Rattle.numbers.specs.Whole.{ceilDiv, sizeOfBits, floorInt, floorQuotient, ceilCount};
 ghost use Rattle.numbers.specs.TakenApart.{IsParts};
 
 // The whole number nearest to the root of s * 2^52, digit by digit.
@@ -150,7 +150,7 @@ pub extern "C" fn sqrt_f64(x: f64) -> f64
 // The value of the bits b, whose sign is clear and which is below 2^64, without its fraction.
 fn floor_bits(b: u64) -> u64
     requires { ⌜ b < 0x43f0_0000_0000_0000 ⌝ }
-    ensures { λ r. ⌜ r ≡ sizeOf b / 2 ^ 1074 ⌝ }
+    ensures { λ r. ⌜ r ≡ sizeOfBits b / 2 ^ 1074 ⌝ }
 {
     let e = b / 4503599627370496;
     if e < 1023 {
@@ -167,7 +167,7 @@ fn floor_bits(b: u64) -> u64
 // The value of the bits b, whose sign is clear and which is below 2^64, rounded up.
 fn ceil_bits(b: u64) -> u64
     requires { ⌜ b < 0x43f0_0000_0000_0000 ⌝ }
-    ensures { λ r. ⌜ r ≡ ceilDiv (sizeOf b) (2 ^ 1074) ⌝ }
+    ensures { λ r. ⌜ r ≡ ceilDiv (sizeOfBits b) (2 ^ 1074) ⌝ }
 {
     let e = b / 4503599627370496;
     if b == 0 {

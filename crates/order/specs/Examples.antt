@@ -38,6 +38,6 @@ unfolding orderAnswer orderOf quadCount namesEachOnce firstEarly tooEarly needs 
 empty = refl
 
 -- seven numbers are one whole quad
-pub whole : orderAnswer 2 (0 ∷ 1 ∷ 2 ∷ 3 ∷ 3 ∷ 2 ∷ 4 ∷ []) (0 ∷ []) ≡ orderAccepted
+pub whole-quad : orderAnswer 2 (0 ∷ 1 ∷ 2 ∷ 3 ∷ 3 ∷ 2 ∷ 4 ∷ []) (0 ∷ []) ≡ orderAccepted
 unfolding orderAnswer orderOf quadCount namesEachOnce firstEarly tooEarly needs laysFor lays quadIn firstPlace run anyUp forUp
-whole = refl
+whole-quad = refl

@@ -9,8 +9,8 @@ ghost use lib.ListN.{length, getD};
 ghost use Rattle.exact.specs.Units.{Within, signed};
 ghost use Rattle.domain.specs.Accepted.{PointWithin};
 ghost use Rattle.orientation.specs.Limbs.{B, value, Small, order, decided};
-ghost use Rattle.orientation.specs.Sums.{Grown, Added, Digital, three, amount, crossed, IsDigits, IsCoordinates};
-ghost use Rattle.orientation.specs.Orient.{place, orient, sideOf};
+ghost use Rattle.orientation.specs.Sums.{Grown, DifferenceGrown, Digital, three, amount, crossed, IsDigits, IsCoordinates};
+ghost use Rattle.orientation.specs.Orient.{inUnits, orient, sideNumber};
 
 // A coordinate: its sign, and its size as d0 + d1·2^28 + d2·2^56, moved up by `place` limbs, of the smallest f64 above 0.
 pub struct Digits {
@@ -88,7 +88,7 @@ fn add_product(acc: &mut [u64], x: Digits, y: Digits)
 fn add_signed(plus: &mut [u64], minus: &mut [u64], x: Digits, y: Digits, negative: bool)
     requires { ⌜ (length (now plus) ≡ 77) × (length (now minus) ≡ 77) × Digital x × Digital y
         × Small (45 * (B * B)) (now plus) × Small (45 * (B * B)) (now minus) ⌝ }
-    ensures { λ r. ⌜ Added (now (plus .entry)) (now (minus .entry)) (now (plus .exit)) (now (minus .exit)) (signed negative (amount x * amount y)) (9 * (B * B)) ⌝ }
+    ensures { λ r. ⌜ DifferenceGrown (now (plus .entry)) (now (minus .entry)) (now (plus .exit)) (now (minus .exit)) (signed negative (amount x * amount y)) (9 * (B * B)) ⌝ }
 {
     if negative {
         add_product(minus, x, y);
@@ -102,7 +102,7 @@ fn add_cross(plus: &mut [u64], minus: &mut [u64], p: Coordinates, q: Coordinates
     requires { ⌜ (length (now plus) ≡ 77) × (length (now minus) ≡ 77)
         × Digital (p .x) × Digital (p .y) × Digital (q .x) × Digital (q .y)
         × Small (36 * (B * B)) (now plus) × Small (36 * (B * B)) (now minus) ⌝ }
-    ensures { λ r. ⌜ Added (now (plus .entry)) (now (minus .entry)) (now (plus .exit)) (now (minus .exit))
+    ensures { λ r. ⌜ DifferenceGrown (now (plus .entry)) (now (minus .entry)) (now (plus .exit)) (now (minus .exit))
         (crossed p q) (18 * (B * B)) ⌝ }
 {
     let px = p.x;
@@ -146,7 +146,7 @@ fn compare(p: &[u64], n: &[u64]) -> u32
 // 0 where a, b and c lie on one line, 1 where c lies to the left of the way from a to b, 2 where it lies to the right.
 pub fn side(a: Point, b: Point, c: Point) -> u32
     requires { ⌜ PointWithin 1000 1000 a × PointWithin 1000 1000 b × PointWithin 1000 1000 c ⌝ }
-    ensures { λ r. ⌜ r ≡ sideOf (orient (place a) (place b) (place c)) ⌝ }
+    ensures { λ r. ⌜ r ≡ sideNumber (orient (inUnits a) (inUnits b) (inUnits c)) ⌝ }
 {
     let p = coordinates_of(a);
     let q = coordinates_of(b);

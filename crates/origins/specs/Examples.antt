@@ -70,6 +70,6 @@ unfolding opened
 holed-origins = refl
 
 -- quads that no run places, to show the rule: one on the edge 16 to 17 of the hole with c = 20 and d = 21 new, then one on 0 to 1
-pub hole-first : originsAfter holedSquare twoF (16 ∷ 17 ∷ 21 ∷ 20 ∷ 0 ∷ 1 ∷ 23 ∷ 22 ∷ []) 2 ≡ samples (1 ∷ 1 ∷ 0 ∷ 0 ∷ [])
+pub hole-first-origins : originsAfter holedSquare twoF (16 ∷ 17 ∷ 21 ∷ 20 ∷ 0 ∷ 1 ∷ 23 ∷ 22 ∷ []) 2 ≡ samples (1 ∷ 1 ∷ 0 ∷ 0 ∷ [])
 unfolding opened
-hole-first = refl
+hole-first-origins = refl

@@ -24,7 +24,7 @@ use Rattle.sampled.specs.Rings.{ring-longest, ring-in, ids-all}
 use Rattle.sampled.specs.Cuts.{loopCuts, cuts-length}
 use Rattle.sampled.specs.Turn.{sampled-count, cuts-three, split-count}
 use Rattle.sampled.specs.Outlines.{Threes}
-use Rattle.sampled.specs.Begun.{Places, stateAt, fits, ready, refusal-places, begun}
+use Rattle.sampled.specs.Begun.{Places, stateAt, turn-fits, turn-ready, refusal-places, begun}
 use Rattle.sampled.specs.Starts.{room-for, starts}
 use Rattle.origins.specs.Origins.{originOf, loopOrigins, sampledOrigins, SameAlong}
 use Rattle.origins.specs.Steps.{Numbered}
@@ -140,8 +140,8 @@ module _ (o : Outline) (size : Float) (lent : State) (three : Threes o) (P : Pla
   unfolding ringOf loopNodes
   loop-has k h =
       let s = stateAt o size lent k in
-      let A = ready o size lent three P k (omega arith) in
-      let f = fits o size lent three P k h A in
+      let A = turn-ready o size lent three P k (omega arith) in
+      let f = turn-fits o size lent three P k h A in
       let l = loopAt o k in
       let t = sampleLoop size l s in
       let r = ringIn k (s .counts .nodes) t in

@@ -18,7 +18,7 @@ use Rattle.domain.specs.OutlineLaws.{start-next, shaped}
 use Rattle.direction.specs.Record.{FieldRecord}
 use Rattle.front.specs.State.{State, nodePlaces}
 use Rattle.front.specs.Sampling.{loopCount, loopParts, loopNodes, sampledCount, frontRefusal, fromBoundary}
-use Rattle.paving.specs.Advance.{Paved, advance}
+use Rattle.paving.specs.Advance.{EndedPaving, advance}
 use Rattle.lent_mesh.specs.declared.QuadIds.{QuadIds}
 use Rattle.lent_mesh.specs.Mesh.{quadIn}
 use Rattle.loops.specs.Walked.{sets-more}
@@ -172,11 +172,11 @@ push-same id n e = rw (eq-eqb id n e)
 pub push-other : (id n : ℕ) → (id ≡ n → ⊥) → pushCount id n ≡ n
 push-other id n e = rw (ne-eqb id n e)
 
-pub at-same : (a id n : ℕ) (l : List ℕ) → id ≡ n → set l n (originOf l a) ≡ pushAt a id n l
-at-same a id n l e = rw (eq-eqb id n e)
+pub push-at-same : (a id n : ℕ) (l : List ℕ) → id ≡ n → set l n (originOf l a) ≡ pushAt a id n l
+push-at-same a id n l e = rw (eq-eqb id n e)
 
-pub at-other : (a id n : ℕ) (l : List ℕ) → (id ≡ n → ⊥) → l ≡ pushAt a id n l
-at-other a id n l e = rw (ne-eqb id n e)
+pub push-at-other : (a id n : ℕ) (l : List ℕ) → (id ≡ n → ⊥) → l ≡ pushAt a id n l
+push-at-other a id n l e = rw (ne-eqb id n e)
 
 push-more : (id n : ℕ) → n ≤ pushCount id n
 push-more id n = by (eqb id n)
@@ -327,10 +327,10 @@ module _ (o : Outline) (size : Float) (lent s : State) (fine : outlineRefusal o 
       }
 
 -- of a paving, from a sampled outline that isn't refused
-pub advance-numberable : (o : Outline) (size : Float) (lent : State) → AcceptedRun o size lent → (field : FieldRecord) (passes : ℕ) (end : Paved)
+pub advance-numberable : (o : Outline) (size : Float) (lent : State) → AcceptedRun o size lent → (field : FieldRecord) (passes : ℕ) (end : EndedPaving)
     → end ≡ advance o size field passes (fromBoundary o size lent) → (places : ℕ) → end .state .counts .nodes ≤ places
     → Numberable o size (end .state .quads) (end .state .counts .quads) places
 advance-numberable o size lent A field passes end e places room =
-    subst⁻¹ (λ (p : Paved). p .state .counts .nodes ≤ places → Numberable o size (p .state .quads) (p .state .counts .quads) places) e
+    subst⁻¹ (λ (p : EndedPaving). p .state .counts .nodes ≤ places → Numberable o size (p .state .quads) (p .state .counts .quads) places) e
     (booked-numberable o size lent _ (A .outline) (A .front) (advance-holds o size lent A field passes) places
     (omega (arith, advance-facts o size lent A field passes .few))) room

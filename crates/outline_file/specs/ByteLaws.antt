@@ -127,13 +127,13 @@ Adding b i sum = Loop (sumTurn (weightedByte b)) 0 510 i sum
 pub weight : (b : List ℕ) (i : ℕ) → AreBytes b → i < 510 → weightedByte b i ≤ 510 * 255
 weight b i h lt = mul-le-mul {n₁ = i + 1} {m₁ = getD b i 0} {n₂ = 510} {m₂ = 255} (omega arith) (omega (arith, h i))
 
-pub sum-small : (b : List ℕ) (n : ℕ) → AreBytes b → n ≤ 510 → sumUp n (weightedByte b) ≤ 130050 * n
-sum-small b zero h le = rw sum-zero (omega arith)
-sum-small b (suc n) h le = rw sum-suc (omega (arith, sum-small b n h (omega arith), weight b n h (omega arith)))
+pub weighted-sum-small : (b : List ℕ) (n : ℕ) → AreBytes b → n ≤ 510 → sumUp n (weightedByte b) ≤ 130050 * n
+weighted-sum-small b zero h le = rw sum-zero (omega arith)
+weighted-sum-small b (suc n) h le = rw sum-suc (omega (arith, weighted-sum-small b n h (omega arith), weight b n h (omega arith)))
 
 pub sum-fits : (b : List ℕ) {i sum : ℕ} → Adding b i sum → AreBytes b → sum ≤ 130050 * 510
 unfolding sumUp
-sum-fits b {i} l h = rw (l .same) (omega (arith, sum-small b i h (l .within), l .within))
+sum-fits b {i} l h = rw (l .same) (omega (arith, weighted-sum-small b i h (l .within), l .within))
 
 pub check-end : (b : List ℕ) {i sum : ℕ} → Adding b i sum → 510 ≤ i → sum % 65521 ≡ checkOf b
 unfolding checkOf sumUp

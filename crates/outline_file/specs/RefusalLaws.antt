@@ -1,6 +1,6 @@
 -- Laws of the refusals: each way out of the code is a case of a definition. Assumes nothing.
 use mathlib.Core.Path.{_≡_, refl, sym, ap, ap₂, _∙_, subst}
-use mathlib.Core.Bool.{Bool, true, false, _&&_, cond, true≢false}
+use mathlib.Core.Bool.{Bool, true, false, cond}
 use mathlib.Core.List.{List}
 use Prim.Native.Nat.{ℕ, _+_, _-_, _*_, _≤_, _<_, min}
 use native.Mathlib.Omega.{arith}
@@ -8,6 +8,7 @@ use borrow.Author.Tests.{lt-ltb, le-ltb, le-leb, lt-leb, eq-eqb, ne-eqb, ltb-fal
 use lib.Dec.{leb, ltb, eqb}
 use lib.ListN.{length}
 use Rattle.laws.specs.Loop.{Loop, loop-start, loop-end, loop-next, sumUp, sumTurn, forUp-stays}
+use Rattle.laws.specs.Tests.{both}
 use Rattle.domain.specs.Outline.{firstOf}
 use Rattle.domain.specs.RefusalLaws.{first-stays}
 use Rattle.domain.specs.Accepted.{first-zero}
@@ -96,10 +97,6 @@ pub record HeadSound (h : List ℕ) : Type 0 where
   pub few : headLoops h ≤ 8
   pub points : headPoints h (headLoops h) ≤ 248
   pub zeros : zeroFrom h (14 + 2 * headLoops h) ≡ true
-
-pub both : (s t : Bool) → s && t ≡ true → (s ≡ true) × (t ≡ true)
-both true t e = (refl, e)
-both false t e = absurd (true≢false (sym e))
 
 pub head-sound : (h : List ℕ) → headSound h ≡ true → HeadSound h
 unfolding headSound

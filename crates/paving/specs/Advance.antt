@@ -18,11 +18,11 @@ use Rattle.paving.specs.declared.End.the-variants.{Still, Passes, Cap, F
 use Rattle.paving.specs.Attempt.{tryEdge}
 
 -- a paving that has ended
-pub record Paved : Type 0 where
+pub record EndedPaving : Type 0 where
   pub state : State
   pub end : End
 
-abbrev pub paved : State → End → Paved
+abbrev pub paved : State → End → EndedPaving
 paved s e = record { state = s; end = e }
 
 -- ---- a pass
@@ -40,7 +40,7 @@ mostQuads = 250000
 
 -- what a pass leaves: a state for the next pass, or the end
 abbrev pub Passed : Type 0
-Passed = Turn State Paved
+Passed = Turn State EndedPaving
 
 -- after a quad: the end at the cap, or on
 unfoldable pub afterQuad : State → Turn Passing Passed
@@ -98,9 +98,9 @@ mostPasses = 600
 abbrev pub passesTurn : Outline → Float → FieldRecord → ℕ → State → Passed
 passesTurn o size field k s = pass o size field s
 
-abbrev pub allUsed : State → Paved
+abbrev pub allUsed : State → EndedPaving
 allUsed s = paved s Passes
 
 -- `advance`: at most the lesser of the number given and 600 passes
-unfoldable pub advance : Outline → Float → FieldRecord → ℕ → State → Paved
+unfoldable pub advance : Outline → Float → FieldRecord → ℕ → State → EndedPaving
 advance o size field n s = run (min n mostPasses) (passesTurn o size field) allUsed s

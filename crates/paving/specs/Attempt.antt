@@ -6,7 +6,8 @@ use lib.Ieee.{Float, neg, le}
 use Rattle.numbers.specs.Float.{_⊕_, _⊖_, _⊗_, _⊘_, bits, tolerance}
 use Rattle.domain.specs.declared.Point.{Point}
 use Rattle.domain.specs.Outline.{Outline, point}
-use Rattle.geometry.specs.Plane.{norm, distance}
+use Rattle.exact.specs.Corner.{norm}
+use Rattle.geometry.specs.Plane.{distance}
 use Rattle.direction.specs.Record.{FieldRecord}
 use Rattle.direction.specs.Direction.{nearestDirection}
 use Rattle.front.specs.declared.Corner.{Corner}

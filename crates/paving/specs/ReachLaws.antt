@@ -9,7 +9,7 @@ use Rattle.laws.specs.Loop.{Turn, go, out, Kept, run-keeps}
 use Rattle.numbers.specs.Float.{_⊖_, tolerance}
 use Rattle.domain.specs.declared.Point.{Point}
 use Rattle.domain.specs.Outline.{Outline}
-use Rattle.geometry.specs.Plane.{norm}
+use Rattle.exact.specs.Corner.{norm}
 use Rattle.direction.specs.Record.{FieldRecord}
 use Rattle.direction.specs.Direction.{nearestDirection}
 use Rattle.front.specs.declared.Corner.{Corner}
@@ -19,7 +19,7 @@ use Rattle.paving.specs.declared.Attempt.{Attempt}
 use Rattle.paving.specs.declared.Attempt.the-variants.{Nothing, Quad}
 use Rattle.paving.specs.declared.End.the-variants.{Still, Passes, Cap, Full}
 use Rattle.paving.specs.Attempt.{attemptQuad, orElse, normalOf, tryToward, tryEdge}
-use Rattle.paving.specs.Advance.{Paved, paved, Passing, passing, Passed, mostQuads, afterQuad, settle, isThere, passTurn, withSnapshot}
+use Rattle.paving.specs.Advance.{EndedPaving, paved, Passing, passing, Passed, mostQuads, afterQuad, settle, isThere, passTurn, withSnapshot}
 use Rattle.paving.specs.Advance.{afterPass, pass, mostPasses, passesTurn, allUsed, advance}
 use Rattle.paving.specs.Reach.{Placement, Reaches, begin, snapshot, placed}
 
@@ -78,7 +78,7 @@ module _ (o : Outline) (size : Float) (s : State) where
   abbrev pub AtPassing : Passing → Type 0
   AtPassing p = Reached o size s (p .state)
 
-  abbrev pub AtEnd : Paved → Type 0
+  abbrev pub AtEnd : EndedPaving → Type 0
   AtEnd e = Reached o size s (e .state)
 
   abbrev pub AtPassed : Passed → Type 0

@@ -52,8 +52,8 @@ drawable o size e =
     let five = first-zero (sizeRefusal size) (boundsRefusal (bounds o)) (one .1) in
     record { outline = one .0; sized = five .0; box = five .1 }
 
-pub drawn-shape : (o : Outline) (size : Float) → drawnRefusal o size ≡ 0 → misshapen o ≡ false
-drawn-shape o size none = accepted o (drawable o size none .outline) .shape
+pub drawn-size-shape : (o : Outline) (size : Float) → drawnRefusal o size ≡ 0 → misshapen o ≡ false
+drawn-size-shape o size none = accepted o (drawable o size none .outline) .shape
 
 module _ (o : Outline) (size : Float) (doubles : OutlineFits o) (held : T (fits binary64 size)) where
   pub field-few : {b : Bounds} → drawnRefusal o size ≡ 0 → b ≡ bounds o → gridNodes (gridOf b size) ≤ mostFieldNodes
@@ -62,19 +62,19 @@ module _ (o : Outline) (size : Float) (doubles : OutlineFits o) (held : T (fits 
   pub made-few : {b : Bounds} {g : Grid} → drawnRefusal o size ≡ 0 → b ≡ bounds o → g ≡ gridOf b size → gridNodes g ≤ mostFieldNodes
   made-few none same made = le-trans (le-of-eq (ap gridNodes made)) (field-few none same)
 
-  pub front-few : drawnRefusal o size ≡ 0 → sampledCount o size ≤ 2400000000
-  front-few none = let d = drawable o size none in sampled-few o size doubles (d .outline) (sized size held (d .sized))
+  pub drawn-few : drawnRefusal o size ≡ 0 → sampledCount o size ≤ 2400000000
+  drawn-few none = let d = drawable o size none in sampled-few o size doubles (d .outline) (sized size held (d .sized))
 
   -- ---- the code
 
   pub drawn-unrefused : {n : ℕ} → n ≡ refusalFor o size 0 mostFieldNodes → n ≡ 0 → drawnRefusal o size ≡ 0
   drawn-unrefused e passed = sym (drawn-is o size doubles held) ∙ sym e ∙ passed
 
-  pub counted : {b : Bounds} {g : Grid} {n : ℕ} → drawnRefusal o size ≡ 0 → b ≡ bounds o → g ≡ gridOf b size → n ≡ min (sampledCount o size) most
+  pub places-counted : {b : Bounds} {g : Grid} {n : ℕ} → drawnRefusal o size ≡ 0 → b ≡ bounds o → g ≡ gridOf b size → n ≡ min (sampledCount o size) most
       → placesAnswered 0 (gridNodes g) n ≡ placesAnswer o size
   unfolding placesAnswer
-  counted {n = n} none box grid count =
-      let exact : n ≡ sampledCount o size = omega (arith, front-few none) in
+  places-counted {n = n} none box grid count =
+      let exact : n ≡ sampledCount o size = omega (arith, drawn-few none) in
       rw none (ap₂ (λ (a b : ℕ). placesAnswered 0 a b) (ap gridNodes (grid ∙ ap (λ (b : Bounds). gridOf b size) box)) exact)
 
   -- ---- what a host gets
@@ -109,8 +109,8 @@ module _ (o : Outline) (size : Float) (doubles : OutlineFits o) (held : T (fits 
   unfolding placesAnswer
   refused-is h = sym (answer-refused (λ number. placesAnswered number 0 0) _ _ h)
 
-  pub given-refused : {n : ℕ} → n ≡ refusalFor o size 0 mostFieldNodes → (n ≡ 0 → ⊥) → PlacesGiven o size (placesAnswered n 0 0)
-  given-refused {n} e h =
+  pub places-given-refused : {n : ℕ} → n ≡ refusalFor o size 0 mostFieldNodes → (n ≡ 0 → ⊥) → PlacesGiven o size (placesAnswered n 0 0)
+  places-given-refused {n} e h =
       let same : n ≡ drawnRefusal o size = e ∙ drawn-is o size doubles held in
       let some : drawnRefusal o size ≡ 0 → ⊥ = λ z. h (same ∙ z) in
       record {
@@ -126,9 +126,9 @@ module _ (o : Outline) (size : Float) (doubles : OutlineFits o) (held : T (fits 
   unfolding placesAnswer
   answered-is none = rw none refl
 
-  pub given-counted : {n : ℕ} {r : PlacesAnswer} → n ≡ refusalFor o size 0 mostFieldNodes → n ≡ 0 → r ≡ placesAnswer o size → PlacesGiven o size r
+  pub places-given-counted : {n : ℕ} {r : PlacesAnswer} → n ≡ refusalFor o size 0 mostFieldNodes → n ≡ 0 → r ≡ placesAnswer o size → PlacesGiven o size r
   unfolding frontRefusal
-  given-counted asked passed e =
+  places-given-counted asked passed e =
       let none = drawn-unrefused asked passed in
       subst (PlacesGiven o size) (sym (e ∙ answered-is none))
       (record {
@@ -137,5 +137,5 @@ module _ (o : Outline) (size : Float) (doubles : OutlineFits o) (held : T (fits 
         field = λ zero n f sweeps. field-refused n f none sweeps;
         front = λ zero s. refl;
         enough = λ zero set f s size sweeps. enough-lent f s set none size sweeps;
-        few = (field-few none refl, omega (arith, front-few none));
+        few = (field-few none refl, omega (arith, drawn-few none));
       })

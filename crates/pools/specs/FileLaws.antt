@@ -16,7 +16,7 @@ use Rattle.laws.specs.Tests.{both, or-right}
 use Rattle.pools.specs.declared.Rect.{Rect}
 use Rattle.laws.specs.Sums.{sum-zero, sum-suc}
 use Rattle.pools.specs.Pool.{none, stride, cells, capacity, ownPlace, linkPlace, used, filed, headAt, ownAt, linkAt, falling, chain, anyOf, cellOf}
-use Rattle.pools.specs.Pool.{Within, span, clearCell, cleared, placed, push, fileColumn, fileRow, fileLine, keyCount, takes, file}
+use Rattle.pools.specs.Pool.{InRect, span, clearCell, clearedPool, itemPlaced, push, fileColumn, fileRow, fileLine, keyCount, takes, file}
 use Rattle.pools.specs.Pool.{Holds, Under, keySum, Filed, Indexed}
 use Rattle.pools.specs.ChainLaws.{falling-high, falling-step, falling-on, falling-keeps, falling-same, below-or-not, same-or-not, less-other}
 
@@ -109,7 +109,7 @@ module _ (pool : List ℕ) (c own count : ℕ) (inside : c < cells (length pool)
   u = used pool
 
   abbrev next : List ℕ
-  next = placed u c own pool
+  next = itemPlaced u c own pool
 
   fits-next : linkPlace n u < n
   fits-next = place-fits n u room
@@ -211,9 +211,9 @@ module _ (pool : List ℕ) (c own count : ℕ) (inside : c < cells (length pool)
 
 -- ---- one item under one cell
 
-pub push-length : (c own : ℕ) (pool : List ℕ) → length (push c own pool) ≡ length pool
+pub pool-push-length : (c own : ℕ) (pool : List ℕ) → length (push c own pool) ≡ length pool
 unfolding push
-push-length c own pool = four-length pool _ _ _ _ _ _ _
+pool-push-length c own pool = four-length pool _ _ _ _ _ _ _
 
 pub push-used : (c own : ℕ) (pool : List ℕ) → 0 < length pool → used (push c own pool) ≡ used pool + 1
 unfolding push
@@ -223,7 +223,7 @@ pub push-holds : {S : ℕ → ℕ → Type 0} (n c own count : ℕ) (pool : List
     → Holds n pool count S → Holds n (push c own pool) count (with S c own)
 unfolding push
 push-holds {S} n c own count pool e inside room small H =
-    subst (λ (k : ℕ). Holds k (placed (used pool) c own pool) count (with S c own)) e
+    subst (λ (k : ℕ). Holds k (itemPlaced (used pool) c own pool) count (with S c own)) e
     (placed-holds pool c own count (subst (λ (k : ℕ). c < cells k) (sym e) inside) (subst (λ (k : ℕ). used pool < capacity k) (sym e) room) small
     (subst (λ (k : ℕ). Holds k pool count S) (sym e) H))
 
@@ -234,7 +234,7 @@ abbrev pub withRow : (ℕ → ℕ → Type 0) → ℕ → ℕ → ℕ → ℕ �
 withRow S m left j own k d x = S d x ⊎ ((i : ℕ) × (i < k) × (d ≡ cellOf m (left + i) j) × (x ≡ own))
 
 -- a list of n numbers with u places in use, that holds S
-pub record Kept (n count u : ℕ) (S : ℕ → ℕ → Type 0) (pool : List ℕ) : Type 0 where
+pub record PoolKept (n count u : ℕ) (S : ℕ → ℕ → Type 0) (pool : List ℕ) : Type 0 where
   pub long : length pool ≡ n
   pub places : used pool ≡ u
   pub holds : Holds n pool count S
@@ -243,16 +243,16 @@ pub holds-less : {S R : ℕ → ℕ → Type 0} {n count : ℕ} {pool : List ℕ
 holds-less less H = record { fits = H .fits; heads = H .heads; owners = H .owners; has = λ c x h r. H .has c x h (less c x r) }
 
 pub row-kept : {S : ℕ → ℕ → Type 0} (n count u left right j own : ℕ) (pool : List ℕ) → 4 ≤ n → own < count → u + span left right ≤ capacity n
-    → Kept n count u S pool
-    → Kept n count (u + span left right) (withRow S (cells n) left j own (span left right)) (fileRow left right j own pool)
+    → PoolKept n count u S pool
+    → PoolKept n count (u + span left right) (withRow S (cells n) left j own (span left right)) (fileRow left right j own pool)
 unfolding fileRow
 row-kept {S} n count u left right j own pool some small room K =
-    subst (λ (m : ℕ). Kept n count (u + span left right) (withRow S (cells n) left j own (span left right))
+    subst (λ (m : ℕ). PoolKept n count (u + span left right) (withRow S (cells n) left j own (span left right))
     (forUp (span left right) (fileColumn (cells m) left j own) pool)) (sym (K .long))
-    (forUp-keeps (λ k p. Kept n count (u + k) (withRow S (cells n) left j own k) p) (span left right)
+    (forUp-keeps (λ k p. PoolKept n count (u + k) (withRow S (cells n) left j own k) p) (span left right)
     (fileColumn (cells n) left j own) pool start more)
   where
-    start : Kept n count (u + 0) (withRow S (cells n) left j own 0) pool
+    start : PoolKept n count (u + 0) (withRow S (cells n) left j own 0) pool
     start =
         record {
           long = K .long;
@@ -260,11 +260,11 @@ row-kept {S} n count u left right j own pool some small room K =
           holds = holds-less (λ c x. ⊎-elim (λ s. s) (λ r. absurd (omega (arith, r .1)))) (K .holds);
         }
 
-    more : (k : ℕ) (p : List ℕ) → k < span left right → Kept n count (u + k) (withRow S (cells n) left j own k) p
-        → Kept n count (u + suc k) (withRow S (cells n) left j own (suc k)) (push (cellOf (cells n) (left + k) j) own p)
+    more : (k : ℕ) (p : List ℕ) → k < span left right → PoolKept n count (u + k) (withRow S (cells n) left j own k) p
+        → PoolKept n count (u + suc k) (withRow S (cells n) left j own (suc k)) (push (cellOf (cells n) (left + k) j) own p)
     more k p h Kp =
         record {
-          long = push-length _ own p ∙ Kp .long;
+          long = pool-push-length _ own p ∙ Kp .long;
           places = omega (arith, push-used (cellOf (cells n) (left + k) j) own p (omega (arith, Kp .long)), Kp .places);
           holds =
               holds-less (λ c x. ⊎-elim (λ s. inl (inl s)) (λ r. last c x r (same-or-not (r .0) k)))
@@ -283,15 +283,15 @@ withRows S m r own h d x =
     S d x ⊎ ((k i : ℕ) × (k < h) × (i < span (r .left) (r .right)) × (d ≡ cellOf m (r .left + i) (r .low + k)) × (x ≡ own))
 
 pub rect-kept : {S : ℕ → ℕ → Type 0} (n count u : ℕ) (r : Rect) (own h : ℕ) (pool : List ℕ) → 4 ≤ n → own < count
-    → u + span (r .left) (r .right) * h ≤ capacity n → Kept n count u S pool
-    → Kept n count (u + span (r .left) (r .right) * h) (withRows S (cells n) r own h) (forUp h (fileLine r own) pool)
+    → u + span (r .left) (r .right) * h ≤ capacity n → PoolKept n count u S pool
+    → PoolKept n count (u + span (r .left) (r .right) * h) (withRows S (cells n) r own h) (forUp h (fileLine r own) pool)
 rect-kept {S} n count u r own h pool some small room K =
-    forUp-keeps (λ k p. Kept n count (u + w * k) (withRows S (cells n) r own k) p) h (fileLine r own) pool start more
+    forUp-keeps (λ k p. PoolKept n count (u + w * k) (withRows S (cells n) r own k) p) h (fileLine r own) pool start more
   where
     w : ℕ
     w = span (r .left) (r .right)
 
-    start : Kept n count (u + w * 0) (withRows S (cells n) r own 0) pool
+    start : PoolKept n count (u + w * 0) (withRows S (cells n) r own 0) pool
     start =
         record {
           long = K .long;
@@ -299,8 +299,8 @@ rect-kept {S} n count u r own h pool some small room K =
           holds = holds-less (λ c x. ⊎-elim (λ s. s) (λ q. absurd (omega (arith, q .2)))) (K .holds);
         }
 
-    more : (k : ℕ) (p : List ℕ) → k < h → Kept n count (u + w * k) (withRows S (cells n) r own k) p
-        → Kept n count (u + w * suc k) (withRows S (cells n) r own (suc k)) (fileRow (r .left) (r .right) (r .low + k) own p)
+    more : (k : ℕ) (p : List ℕ) → k < h → PoolKept n count (u + w * k) (withRows S (cells n) r own k) p
+        → PoolKept n count (u + w * suc k) (withRows S (cells n) r own (suc k)) (fileRow (r .left) (r .right) (r .low + k) own p)
     more k p less Kp =
         let next : u + w * suc k ≡ u + w * k + w = omega (arith, mul-suc w k) in
         let R = row-kept n count (u + w * k) (r .left) (r .right) (r .low + k) own p some small
@@ -325,7 +325,7 @@ pub row-length : (left right j own : ℕ) (pool : List ℕ) → length (fileRow 
 unfolding fileRow
 row-length left right j own pool =
     forUp-keeps (λ k q. length q ≡ length pool) (span left right) (fileColumn (cells (length pool)) left j own) pool refl
-    (λ k q h e. push-length (cellOf (cells (length pool)) (left + k) j) own q ∙ e)
+    (λ k q h e. pool-push-length (cellOf (cells (length pool)) (left + k) j) own q ∙ e)
 
 pub row-used : (left right j own : ℕ) (pool : List ℕ) → 0 < length pool → used (fileRow left right j own pool) ≡ used pool + span left right
 unfolding fileRow
@@ -334,16 +334,16 @@ row-used left right j own pool some =
     (refl, omega arith)
     (λ k q h e.
     let c = cellOf (cells (length pool)) (left + k) j in
-    (push-length c own q ∙ e .0, omega (arith, push-used c own q (omega (arith, e .0)), e .1))) .1
+    (pool-push-length c own q ∙ e .0, omega (arith, push-used c own q (omega (arith, e .0)), e .1))) .1
 
 lines-length : (r : Rect) (own h : ℕ) (pool : List ℕ) → length (forUp h (fileLine r own) pool) ≡ length pool
 lines-length r own h pool =
     forUp-keeps (λ k q. length q ≡ length pool) h (fileLine r own) pool refl
     (λ k q less e. row-length (r .left) (r .right) (r .low + k) own q ∙ e)
 
-pub file-length : (r : Rect) (own : ℕ) (pool : List ℕ) → length (file r own pool) ≡ length pool
+pub filed-length : (r : Rect) (own : ℕ) (pool : List ℕ) → length (file r own pool) ≡ length pool
 unfolding file
-file-length r own pool = by (takes r own pool)
+filed-length r own pool = by (takes r own pool)
   where
     by : (b : Bool) → length (cond b (set (forUp (span (r .low) (r .high)) (fileLine r own) pool) 1 (own + 1)) pool) ≡ length pool
     by true = length-set (forUp (span (r .low) (r .high)) (fileLine r own) pool) 1 (own + 1) ∙ lines-length r own (span (r .low) (r .high)) pool
@@ -430,7 +430,7 @@ module _ (pool : List ℕ) (rects : ℕ → Rect) (id : ℕ) (r : Rect) (e : rec
   part c x U =
       ⊎-elim
       (λ same.
-      let w : Within r (U .i) (U .j) = subst (λ (q : Rect). Within q (U .i) (U .j)) (ap rects same ∙ e) (U .within) in
+      let w : InRect r (U .i) (U .j) = subst (λ (q : Rect). InRect q (U .i) (U .j)) (ap rects same ∙ e) (U .within) in
       let first : U .i ≡ r .left + (U .i - r .left) = omega (arith, w .left) in
       let second : U .j ≡ r .low + (U .j - r .low) = omega (arith, w .low) in
       inr (
@@ -536,7 +536,7 @@ indexed-same pool rects rects' count same I =
                   i = U .i;
                   j = U .j;
                   counted = U .counted;
-                  within = subst (λ (q : Rect). Within q (U .i) (U .j)) (sym (same x (omega (arith, U .counted, I .within)))) (U .within);
+                  within = subst (λ (q : Rect). InRect q (U .i) (U .j)) (sym (same x (omega (arith, U .counted, I .within)))) (U .within);
                   cell = U .cell;
                 })
                 (F .holds);
@@ -560,8 +560,8 @@ empty-filed pool rects e heads =
     }
 
 -- a pool that has been emptied
-pub indexed-none : (pool : List ℕ) (rects : ℕ → Rect) → Indexed (cleared pool) rects 0
-unfolding cleared
+pub indexed-none : (pool : List ℕ) (rects : ℕ → Rect) → Indexed (clearedPool pool) rects 0
+unfolding clearedPool
 indexed-none pool rects = by (leb 4 (length pool)) refl
   where
     p : List ℕ
@@ -639,7 +639,7 @@ module _ {left j own : ℕ} {pool₀ : List ℕ} {w : ℕ} where
           loop =
               subst (λ (p : List ℕ). Loop (fileColumn m left j own) pool₀ w (k + 1) p) (sym (e ∙ ap (λ (c : ℕ). push c own pool) (f .here)))
               (loop-next (fileColumn m left j own) pool₀ (f .loop) less);
-          size = ap length e ∙ push-length cell own pool ∙ f .size;
+          size = ap length e ∙ pool-push-length cell own pool ∙ f .size;
           places = omega (arith, ap used e, push-used cell own pool (omega (arith, f .size)), f .places);
           here = step ∙ ap (λ (c : ℕ). (c + 1) % m) (f .here) ∙ sym (next-column m (left + k) j) ∙ ap (λ (i : ℕ). cellOf m i j) same;
         }

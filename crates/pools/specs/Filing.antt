@@ -7,8 +7,8 @@ use native.Mathlib.Omega.{arith}
 use lib.ListN.{length}
 use Rattle.laws.specs.Loop.{anyUp, Unfound}
 use Rattle.pools.specs.declared.Rect.{Rect}
-use Rattle.pools.specs.Pool.{filed, cleared, file, Indexed}
-use Rattle.pools.specs.FileLaws.{file-length, indexed-none, indexed-file, indexed-past}
+use Rattle.pools.specs.Pool.{filed, clearedPool, file, Indexed}
+use Rattle.pools.specs.FileLaws.{filed-length, indexed-none, indexed-file, indexed-past}
 
 -- those before id are filed, of the pool's own length
 pub record Filing (rects : ℕ → Rect) (to : ℕ) (pool₀ pool : List ℕ) (id : ℕ) : Type 0 where
@@ -16,7 +16,7 @@ pub record Filing (rects : ℕ → Rect) (to : ℕ) (pool₀ pool : List ℕ) (i
   pub within : id ≤ to
   pub filed : Indexed pool rects id
 
-pub filing-start : (rects : ℕ → Rect) (to : ℕ) (pool₀ : List ℕ) {pool : List ℕ} → pool ≡ cleared pool₀ → Filing rects to pool pool 0
+pub filing-start : (rects : ℕ → Rect) (to : ℕ) (pool₀ : List ℕ) {pool : List ℕ} → pool ≡ clearedPool pool₀ → Filing rects to pool pool 0
 filing-start rects to pool₀ e =
     record { size = refl; within = omega arith; filed = subst (λ (p : List ℕ). Indexed p rects 0) (sym e) (indexed-none pool₀ rects) }
 
@@ -25,7 +25,7 @@ module _ {rects : ℕ → Rect} {to : ℕ} {pool₀ pool : List ℕ} {id : ℕ} 
       → Filing rects to pool₀ next (id + 1)
   filing-next {r} less e n =
       record {
-        size = ap length n ∙ file-length r id pool ∙ f .size;
+        size = ap length n ∙ filed-length r id pool ∙ f .size;
         within = omega arith;
         filed = subst (λ (p : List ℕ). Indexed p rects (id + 1)) (sym n) (indexed-file pool rects id r (sym e) (omega arith) (f .filed));
       }

@@ -79,7 +79,7 @@ unfoldable pub chainAt : ℕ → List ℕ → ℕ → ℕ → List ℕ
 chainAt n pool i j = chain n pool (headAt pool (cellOf (cells n) i j))
 
 -- the shifted key (i, j) lies in the rectangle
-pub record Within (r : Rect) (i j : ℕ) : Type 0 where
+pub record InRect (r : Rect) (i j : ℕ) : Type 0 where
   pub left : r .left ≤ i
   pub right : i ≤ r .right
   pub low : r .low ≤ j
@@ -96,17 +96,17 @@ abbrev pub clearCell : ℕ → List ℕ → List ℕ
 clearCell c pool = set pool (2 + c) none
 
 -- a pool with no item
-unfoldable pub cleared : List ℕ → List ℕ
-cleared pool = cond (leb 4 (length pool)) (forUp (cells (length pool)) clearCell (set (set pool 0 0) 1 0)) pool
+unfoldable pub clearedPool : List ℕ → List ℕ
+clearedPool pool = cond (leb 4 (length pool)) (forUp (cells (length pool)) clearCell (set (set pool 0 0) 1 0)) pool
 
 -- the next place, u, has the owner, and is the head of cell c
-abbrev pub placed : ℕ → ℕ → ℕ → List ℕ → List ℕ
-placed u c own pool =
+abbrev pub itemPlaced : ℕ → ℕ → ℕ → List ℕ → List ℕ
+itemPlaced u c own pool =
     set (set (set (set pool (ownPlace (length pool) u) own) (linkPlace (length pool) u) (headAt pool c)) (2 + c) u) 0 (u + 1)
 
 -- `own` at the head of the chain of cell c
 unfoldable pub push : ℕ → ℕ → List ℕ → List ℕ
-push c own pool = placed (used pool) c own pool
+push c own pool = itemPlaced (used pool) c own pool
 
 -- `own` under the k-th column of row j, from `left` on, of m cells
 abbrev pub fileColumn : ℕ → ℕ → ℕ → ℕ → ℕ → List ℕ → List ℕ
@@ -146,7 +146,7 @@ pub record Under (m : ℕ) (rects : ℕ → Rect) (count c x : ℕ) : Type 0 whe
   pub i : ℕ
   pub j : ℕ
   pub counted : x < count
-  pub within : Within (rects x) i j
+  pub within : InRect (rects x) i j
   pub cell : c ≡ cellOf m i j
 
 -- how many keys the first `count` items have

@@ -5,7 +5,7 @@ ghost use mathlib.Core.Path.{_≡_};
 ghost use Prim.Native.Nat.{_+_, _*_, _%_, _≤_, _<_};
 ghost use lib.Dec.{leb};
 ghost use lib.ListN.{length};
-ghost use Rattle.pools.specs.Pool.{cells, capacity, used, filed, cellOf, span, cleared, push, fileRow, takes, file};
+ghost use Rattle.pools.specs.Pool.{cells, capacity, used, filed, cellOf, span, clearedPool, push, fileRow, takes, file};
 
 // A rectangle of shifted keys; with `right` below `left` or `high` below `low` it is empty.
 pub struct Rect {
@@ -78,7 +78,7 @@ fn span(a: u32, b: u32) -> usize
 
 // Empties the pool, where it has a cell.
 pub fn clear(pool: &mut [u32])
-    ensures { λ r. ⌜ now (pool .exit) ≡ cleared (now (pool .entry)) ⌝ }
+    ensures { λ r. ⌜ now (pool .exit) ≡ clearedPool (now (pool .entry)) ⌝ }
 {
     let n = pool.len();
     if n < 4 {

@@ -17,16 +17,16 @@ abbrev square : Outline
 square = outline (zeroF ∷ zeroF ∷ fourF ∷ zeroF ∷ fourF ∷ fourF ∷ zeroF ∷ fourF ∷ []) [] []
 
 -- refused with 3: both numbers of the name are 0, as the other values
-pub refused : nearestNumbers (nearestAnswer square (point nan oneF))
+pub nearest-refused : nearestNumbers (nearestAnswer square (point nan oneF))
     ≡ record { refusal = 3; ax = zeroF; ay = zeroF; bx = zeroF; by = zeroF; distance = zeroF; «loop_index» = 0; «segment_index» = 0 }
 unfolding nearestNumbers nearestAnswer queryRefusal pointRefusal outlineRefusal farRefusal loopsRefusal loopRefusal misshapen anyFloat loopAt holeAt holeStart forUp
     anyUp sumUp isFinite absF ofBits lt eq le size units span climb round odd trailingZeros
-refused = refl
+nearest-refused = refl
 
 -- (1, 4) lies on segment 2
-pub answered : nearestNumbers (nearestAnswer square (point oneF fourF))
+pub nearest-answered : nearestNumbers (nearestAnswer square (point oneF fourF))
     ≡ record { refusal = 0; ax = fourF; ay = fourF; bx = zeroF; by = fourF; distance = zeroF; «loop_index» = 0; «segment_index» = 2 }
 unfolding nearestNumbers nearestAnswer queryRefusal pointRefusal outlineRefusal farRefusal loopsRefusal loopRefusal misshapen anyFloat loopAt holeAt holeStart forUp
     anyUp sumUp isFinite absF ofBits lt eq le add sub mul div size units span climb round odd isNan trailingZeros nearestSegment nearestInLoop nearer
     pointSegmentDistance squaredDistance footOf pointAt pointAfter clampF isqrtIn rootUnits root
-answered = refl
+nearest-answered = refl

@@ -12,7 +12,8 @@ use borrow.Author.Tests.{eqb-false, not-true}
 use Rattle.numbers.specs.Float.{_⊖_, _⊗_, tolerance}
 use Rattle.domain.specs.declared.Point.{Point}
 use Rattle.domain.specs.Outline.{Outline}
-use Rattle.geometry.specs.Plane.{distance, norm}
+use Rattle.exact.specs.Corner.{norm}
+use Rattle.geometry.specs.Plane.{distance}
 use Rattle.direction.specs.Record.{FieldRecord}
 use Rattle.direction.specs.Direction.{nearestDirection}
 use Rattle.topology.specs.Links.{off, link-out}

@@ -39,19 +39,19 @@ known-snapshot : (s : State) → Known s → Known (withSnapshot s)
 unfolding withSnapshot hasEdge
 known-snapshot s K = record { fronts = K .fronts; joined = K .joined }
 
-pub stands : {n : ℕ} {o : Outline} {size : Float} {s : State} {ls : List (List ℕ)} {k : ℕ} {t : State} → Sound n s ls → Known s
+pub stands-after : {n : ℕ} {o : Outline} {size : Float} {s : State} {ls : List (List ℕ)} {k : ℕ} {t : State} → Sound n s ls → Known s
     → Reaches o size s k t → StandsAfter n s t
-stands {s = s} {ls = ls} S K begin = record { loops = ls; sound = S; known = K; frame = frame-same s }
-stands {n = n} {s = s} S K (snapshot {t = t} r) =
-    let Y = stands S K r in
+stands-after {s = s} {ls = ls} S K begin = record { loops = ls; sound = S; known = K; frame = frame-same s }
+stands-after {n = n} {s = s} S K (snapshot {t = t} r) =
+    let Y = stands-after S K r in
     record {
       loops = Y .loops;
       sound = snapshot-sound n t (Y .loops) (Y .sound);
       known = known-snapshot t (Y .known);
       frame = frame-trans s t (withSnapshot t) (Y .frame) (snapshot-frame t);
     }
-stands {n = n} {o = o} {size = size} {s = s} S K (placed {t = t} {a = a} {b = b} {c = c} {d = d} r P) =
-    let Y = stands S K r in
+stands-after {n = n} {o = o} {size = size} {s = s} S K (placed {t = t} {a = a} {b = b} {c = c} {d = d} r P) =
+    let Y = stands-after S K r in
     let H = answered o size t a b c d P .choice in
     let X = step n t (Y .loops) a b c d (Y .sound) H (P .fits) in
     record {
@@ -112,5 +112,5 @@ pub failing-lasts : (n : ℕ) (o : Outline) (size : Float) (field : FieldRecord)
     → Reached o size s t → (a b : ℕ) → b ≢ off → nextOf s a ≡ b → prevOf t a ≡ prevOf s a → nextOf t b ≡ nextOf s b
     → tryEdge o size field s a b ≡ Nothing → tryEdge o size field t a b ≡ Nothing
 failing-lasts n o size field s t ls S K r a b on edge prev next e =
-    let Y = stands S K (r .by) in
+    let Y = stands-after S K (r .by) in
     try-fails n s t ls S (grows s t K (Y .frame) (sound-few n t (Y .loops) (Y .sound))) o size a b on edge prev next field e

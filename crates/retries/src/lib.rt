@@ -8,7 +8,7 @@ ghost use Rattle.topology.specs.Links.{linkOf};
 ghost use Rattle.domain.specs.Outline.{outline};
 ghost use Rattle.direction.specs.Record.{fieldRecord};
 ghost use Rattle.paving.specs.Attempt.{tryEdge};
-ghost use Rattle.attempts.specs.Seen.{seen, seenEdges, TryLent};
+ghost use Rattle.attempts.specs.Seen.{seenState, seenEdges, TryLent};
 ghost use Rattle.retries.specs.Vain.{isVain, noted, triedAfter, forgotten, Remembers};
 ghost use Rattle.retries.specs.Untried.{Untried};
 use direction::Grid;
@@ -97,10 +97,10 @@ pub fn try_untried<'a>(
     requires { ⌜ TryLent (outline (now outer) (now holes) (now lens)) (now blocks) grid (now values) size (now xs) (now ys) (now next) (now prev)
         (now edges) (now «node_pool») (now «edge_pool») counts
         × Untried (outline (now outer) (now holes) (now lens)) size (fieldRecord grid (now values) [])
-        (seen (now xs) (now ys) (now next) (now prev) (now edges) counts) (now tried) a b ⌝ }
+        (seenState (now xs) (now ys) (now next) (now prev) (now edges) counts) (now tried) a b ⌝ }
     ensures { λ r. ⌜ (r ≡ tryEdge (outline (now (outer .entry)) (now (holes .entry)) (now (lens .entry))) size
         (fieldRecord grid (now (values .entry)) [])
-        (seen (now (xs .entry)) (now (ys .entry)) (now (next .entry)) (now (prev .entry)) (now (edges .entry)) counts) a b)
+        (seenState (now (xs .entry)) (now (ys .entry)) (now (next .entry)) (now (prev .entry)) (now (edges .entry)) counts) a b)
         × Remembers (outline (now (outer .entry)) (now (holes .entry)) (now (lens .entry))) size (fieldRecord grid (now (values .entry)) [])
         (now (tried .exit)) (seenEdges (now (xs .entry)) (now (ys .entry)) (now (edges .entry)) counts)
         × (now (tried .exit) ≡ triedAfter r (now (tried .entry)) a b (linkOf (counts .nodes) (now (prev .entry)) a)

@@ -22,7 +22,7 @@ use Rattle.direction.specs.Cells as field-places
 use Rattle.direction.specs.Direction.{nearestDirection}
 use Rattle.crossfield.specs.Grid.{bounds, gridOf}
 use Rattle.crossfield.specs.Field.{fieldPlaces, refusalFor, fieldRefusal, fieldOf}
-use Rattle.crossfield.specs.FieldLaws.{field-unrefused, few-made, sides}
+use Rattle.crossfield.specs.FieldLaws.{field-unrefused, few-made, grid-sides}
 use Rattle.topology.specs.LongLoops.{none-listed}
 use Rattle.sound_outlines.specs.Whole.{isWhole}
 use Rattle.soundness.specs.WalkLaws.{whole-means}
@@ -85,7 +85,7 @@ module _ (o : Outline) (set : Settings) (l : Lent) (C : CanRun o set l) where
   lent-made : OutlineFits o → T (fits binary64 (set .size)) → field-places.FieldLent (gridOf (bounds o) (set .size)) (l .values)
   lent-made doubles held =
       let u = field-unrefused o (set .size) (set .sweeps) (fieldPlaces (fieldPart l)) none-for in
-      let two = sides (bounds o) (set .size) in
+      let two = grid-sides (bounds o) (set .size) in
       record {
         columns = two .0;
         rows = two .1;
@@ -150,7 +150,7 @@ module _ (o : Outline) (s : State) (marks loops lengths : List ℕ) (p : Lists)
 
 pub run-whole : (o : Outline) (set : Settings) (l : Lent) (g : Grid) (values : List Float) (marks : List ℕ)
     → fieldRecord g values marks ≡ fieldOf o (set .size) (set .sweeps) (fieldPart l)
-    → (a : paving.Paved) → a ≡ advance o (set .size) (fieldRecord g values []) (set .passes) (fromBoundary o (set .size) (statePart l))
+    → (a : paving.EndedPaving) → a ≡ advance o (set .size) (fieldRecord g values []) (set .passes) (fromBoundary o (set .size) (statePart l))
     → (n : List ℕ) → n ≡ overlay (originsAfter o (set .size) (a .state .quads) (a .state .counts .quads)) (l .origins)
     → (p : Lists) → p ≡ listedIn (a .state .counts) (a .state .next) (a .state .snapshot) (l .loops) (l .lengths)
     → (w : Bool) → w ≡ isWhole o (p .listed .count) → (r : Paved) → r ≡ pavedAnswer g (a .end) (a .state .counts) (p .listed) w
@@ -166,14 +166,14 @@ module _ (o : Outline) (set : Settings) (l : Lent) (m : ℕ) (e : m ≡ snapshot
   part-long : length (take m (l .snapshot)) ≡ m
   part-long = length-take-le m (l .snapshot) (omega (arith, e))
 
-  pub number-is : (field nodes number : ℕ) → field ≡ min (length (l .values) / 2) (length (l .marks))
+  pub run-number-is : (field nodes number : ℕ) → field ≡ min (length (l .values) / 2) (length (l .marks))
       → nodes ≡ fewest (length (l .xs)) (length (l .ys)) (length (l .next)) (length (l .prev)) m
       → number ≡ firstOf
       (firstOf (refusalFor o (set .size) (set .sweeps) field) (sampledRefusal o (set .size) (min nodes mostNodes) (length (l .edges) / 2)))
       (lengthsRefusal o (length (l .lengths)))
       → number ≡ refusalOf o set l
   unfolding refusalOf runRefusal fieldRefusal frontRefusal nodePlaces edgePlaces
-  number-is field nodes number ef en h = h ∙ rw (ef, en, ← e, part-long) refl
+  run-number-is field nodes number ef en h = h ∙ rw (ef, en, ← e, part-long) refl
 
   -- neither the run nor the list of lengths is refused
   none-of : refusalOf o set l ≡ 0 → (runRefusal o set (fieldPart l) (statePart (narrowed l)) ≡ 0) × (lengthsRefusal o (length (l .lengths)) ≡ 0)

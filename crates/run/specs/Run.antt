@@ -114,7 +114,7 @@ refusedAnswer number =
       end = 0;
       grid = record { xmin = zeroF; ymin = zeroF; h = zeroF; nx = 0; ny = 0 };
       counts = unused;
-      listed = loops.counted 0 0;
+      listed = loops.listedOf 0 0;
       whole = false;
     }
 

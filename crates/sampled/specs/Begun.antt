@@ -57,7 +57,7 @@ abbrev pub loopsAt : Outline → Float → State → ℕ → List (List ℕ)
 loopsAt o size lent k = tabulate k (λ i. loopIds o size i (stateAt o size lent i))
 
 -- what turn k finds: the loops before it, laid, and room for its own
-pub record Ready (o : Outline) (size : Float) (lent : State) (k : ℕ) : Type 0 where
+pub record TurnReady (o : Outline) (size : Float) (lent : State) (k : ℕ) : Type 0 where
   pub laid : Laid (cleared lent) (stateAt o size lent k) (loopsAt o size lent k)
   pub room : Room (sampledCount o size) (stateAt o size lent k)
   pub count : stateAt o size lent k .counts .nodes ≡ sumUp k (loopNodes o size)
@@ -125,36 +125,36 @@ none-laid lent =
 -- ---- turn by turn
 
 module _ (o : Outline) (size : Float) (lent : State) (three : Threes o) (P : Places (sampledCount o size) lent) where
-  pub fits : (k : ℕ) → k < loopCount o → Ready o size lent k → stateAt o size lent k .counts .nodes + loopNodes o size k ≤ sampledCount o size
+  pub turn-fits : (k : ℕ) → k < loopCount o → TurnReady o size lent k → stateAt o size lent k .counts .nodes + loopNodes o size k ≤ sampledCount o size
   unfolding sampledCount
-  fits k h A = omega (arith, A .count, sum-term (loopNodes o size) k (loopCount o) h)
+  turn-fits k h A = omega (arith, A .count, sum-term (loopNodes o size) k (loopCount o) h)
 
   -- and what it leaves
-  pub turn-at : (k : ℕ) → k < loopCount o → Ready o size lent k
+  pub turn-at : (k : ℕ) → k < loopCount o → TurnReady o size lent k
       → Added (cleared lent) (stateAt o size lent k) (stateAt o size lent (suc k)) (loopsAt o size lent k)
       (loopIds o size k (stateAt o size lent k)) (turnPoints o size k (stateAt o size lent k))
   unfolding forUp
-  turn-at k h A = turn-added (cleared lent) o size k (stateAt o size lent k) (A .room) (fits k h A) (three k h) (loopsAt o size lent k) (A .laid)
+  turn-at k h A = turn-added (cleared lent) o size k (stateAt o size lent k) (A .room) (turn-fits k h A) (three k h) (loopsAt o size lent k) (A .laid)
 
   start-room : Room (sampledCount o size) (cleared lent)
   start-room = let Q = cleared-places (sampledCount o size) lent P in room-places (sampledCount o size) (cleared lent) (Q .nodes) (Q .edges)
 
-  pub ready : (k : ℕ) → k ≤ loopCount o → Ready o size lent k
+  pub turn-ready : (k : ℕ) → k ≤ loopCount o → TurnReady o size lent k
   unfolding forUp tabulate
-  ready zero h =
+  turn-ready zero h =
       record {
         laid = none-laid lent;
         room = start-room;
         count = none-count lent ∙ sym (sum-zero (loopNodes o size));
       }
-  ready (suc k) h =
+  turn-ready (suc k) h =
       let s = stateAt o size lent k in
-      let A = ready k (omega arith) in
+      let A = turn-ready k (omega arith) in
       let T = turn-at k h A in
       record {
         laid = T .laid;
         room = room-kept (sampledCount o size) (cleared lent) (stateAt o size lent (suc k)) (T .laid .frame) start-room;
-        count = T .count ∙ omega (arith, turn-length (cleared lent) o size k s (A .room) (fits k h A) (three k h), A .count, sum-suc (loopNodes o size) k);
+        count = T .count ∙ omega (arith, turn-length (cleared lent) o size k s (A .room) (turn-fits k h A) (three k h), A .count, sum-suc (loopNodes o size) k);
       }
 
 -- ---- the theorem
@@ -165,7 +165,7 @@ unfolding fromBoundary boundaryLoops sampledCount
 begun-in o size lent three P =
     let n = sampledCount o size in
     let s = fromBoundary o size lent in
-    let A = ready o size lent three P (loopCount o) (omega arith) in
+    let A = turn-ready o size lent three P (loopCount o) (omega arith) in
     let L = A .laid in
     let c : s .counts .nodes ≡ n = A .count in
     let Q = cleared-places n lent P in

@@ -10,7 +10,7 @@ use lib.ListN.{length, set}
 use borrow.Author.Tests.{eqb-true, eq-eqb}
 use Rattle.topology.specs.Sums.{All}
 use Rattle.topology.specs.Links.{off, update, link-set}
-use Rattle.topology.specs.Changes.{Change, add, stored, reversed, Valid, Within}
+use Rattle.topology.specs.Changes.{Change, add, stored, reversed, Valid, AmongNodes}
 use Rattle.topology.specs.Laying.{joins}
 use Rattle.front.specs.State.{State, nextOf, hasEdge, withFront, addFront, pushEdge, addEdge}
 use Rattle.front.specs.Sound.{Frame}
@@ -32,7 +32,7 @@ unfoldable pub OnlyLinked : State → Type 0
 OnlyLinked s = (a b : ℕ) → a < off → b < off → nextOf s a ≢ b → nextOf s b ≢ a → hasEdge s a b ≡ false
 
 -- t is s after the edges cs were added
-pub record Joined (s t : State) (cs : List Change) : Type 0 where
+pub record EdgesAdded (s t : State) (cs : List Change) : Type 0 where
   pub frame : Frame s t
   pub xs : t .xs ≡ s .xs
   pub ys : t .ys ≡ s .ys
@@ -52,7 +52,7 @@ pub record Joinable (n : ℕ) (s : State) (cs : List Change) : Type 0 where
   pub room : Room n s
   pub few : s .counts .nodes ≤ n
   pub edges : s .counts .edges + length cs ≤ n
-  pub within : All (Within (s .counts .nodes)) cs
+  pub within : All (AmongNodes (s .counts .nodes)) cs
   pub valid : Valid (nextOf s) cs
   pub one-way : OneWay (nextOf s) cs
   pub linked : OnlyLinked s
@@ -117,7 +117,7 @@ module _ {n : ℕ} (s : State) (u v : ℕ) (J : Joinable n s (add u v ∷ [])) w
       (known-joined u v s (w .0) (w .1) (λ e. J .one-way .0 .1 (sym e)) (omega (arith, R .next, J .few))
       (rw join-is (omega (arith, R .edges, J .edges))) (J .known))
 
-  pub join-one : Joined s (join s u v) (add u v ∷ [])
+  pub join-one : EdgesAdded s (join s u v) (add u v ∷ [])
   unfolding pushEdge
   join-one =
       rw join-is (record {
@@ -141,7 +141,7 @@ module _ {n : ℕ} (s : State) (u v : ℕ) (J : Joinable n s (add u v ∷ [])) w
 
 -- ---- a path
 
-join-more : {s t r : State} {u v : ℕ} {cs : List Change} → Joined s t (add u v ∷ []) → Joined t r cs → Joined s r (add u v ∷ cs)
+join-more : {s t r : State} {u v : ℕ} {cs : List Change} → EdgesAdded s t (add u v ∷ []) → EdgesAdded t r cs → EdgesAdded s r (add u v ∷ cs)
 join-more {s} {t} {r} {u} {v} {cs} A B =
     record {
       frame = frame-trans s t r (A .frame) (B .frame);
@@ -161,7 +161,7 @@ join-more {s} {t} {r} {u} {v} {cs} A B =
 
 -- the edges of a path are added one by one
 pub join-path : {n : ℕ} (u : ℕ) (vs : List ℕ) (z : ℕ) (s : State) → Joinable n s (joins u vs z)
-    → Joined s (stored join (joins u vs z) s) (joins u vs z)
+    → EdgesAdded s (stored join (joins u vs z) s) (joins u vs z)
 join-path u [] z s J = join-one s u z J
 join-path {n} u (v ∷ vs) z s J =
     let first : Joinable n s (add u v ∷ []) =

@@ -22,7 +22,7 @@ use Rattle.sampled.specs.Lists.{all-append}
 use Rattle.sampled.specs.Nodes.{nodesOf, Room, room-kept, Pushed}
 use Rattle.sampled.specs.OneWay.{one-way}
 use Rattle.sampled.specs.RingJoins.{loopJoins, loop-joins-length}
-use Rattle.sampled.specs.Joins.{join, OnlyLinked, Joined, join-path}
+use Rattle.sampled.specs.Joins.{join, OnlyLinked, EdgesAdded, join-path}
 
 -- ---- definitions
 
@@ -109,7 +109,7 @@ module _ {n : ℕ} (lent s t : State) (ls : List (List ℕ)) (ps : List Point) (
         (record { even = even; two = omega arith }) d
         (each (OffFront (t .counts .nodes) (nextOf t) (prevOf t)) off-pushed (x ∷ v ∷ w ∷ vs) new)
 
-    joins-on : Joined t (stored join (joins x (v ∷ w ∷ vs) x) t) (joins x (v ∷ w ∷ vs) x)
+    joins-on : EdgesAdded t (stored join (joins x (v ∷ w ∷ vs) x) t) (joins x (v ∷ w ∷ vs) x)
     joins-on =
         join-path x (v ∷ w ∷ vs) x t (record {
           room = room-kept n s t (P .frame) R;

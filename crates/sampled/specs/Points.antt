@@ -19,7 +19,7 @@ use Rattle.sampled.specs.Cuts.{loopCuts, cuts-length, cuts-least, cuts-a
 use Rattle.sampled.specs.Rings.{ring-longest, ordered-in, after-in}
 use Rattle.sampled.specs.Turn.{splitPoints, addedPoints, turnPoints, turn-sampled}
 use Rattle.sampled.specs.Outlines.{Threes}
-use Rattle.sampled.specs.Begun.{Places, refusal-places, no-nodes, stateAt, ready, fits, turn-at, begun-in}
+use Rattle.sampled.specs.Begun.{Places, refusal-places, no-nodes, stateAt, turn-ready, turn-fits, turn-at, begun-in}
 
 -- ---- definitions
 
@@ -58,8 +58,8 @@ module _ (P : Point → Type 0) (o : Outline) (size : Float) (H : OfSamples P o 
         let l = loopAt o k in
         let s = stateAt o size lent k in
         let t = sampleLoop size l s in
-        let S = ready o size lent three A k (omega arith) in
-        let Q = turn-sampled (cleared lent) o size k s (S .room) (fits o size lent three A k h S) in
+        let S = turn-ready o size lent three A k (omega arith) in
+        let Q = turn-sampled (cleared lent) o size k s (S .room) (turn-fits o size lent three A k h S) in
         let cuts = cuts-all size l P (λ i j p q. H .cuts k i j h p q) in
         let more : s .counts .nodes < t .counts .nodes = omega (arith, Q .count, cuts-length size l, cuts-least size l, three k h) in
         all-append P (loopCuts size l) (addedPoints k (s .counts .nodes) t) cuts
@@ -73,7 +73,7 @@ module _ (P : Point → Type 0) (o : Outline) (size : Float) (H : OfSamples P o 
     all-of (suc k) h =
         let s = stateAt o size lent k in
         let all = all-of k (omega arith) in
-        rw (turn-at o size lent three A k h (ready o size lent three A k (omega arith)) .nodes)
+        rw (turn-at o size lent three A k h (turn-ready o size lent three A k (omega arith)) .nodes)
         (all-append P (nodesOf s) (turnPoints o size k s) all (turn-of k h all))
 
 -- ---- the theorem

@@ -22,7 +22,7 @@ use Rattle.sampled.specs.Cuts.{loopCuts, cuts-length, cuts-least}
 use Rattle.sampled.specs.Rings.{ring-longest, ordered-in, after-in}
 use Rattle.sampled.specs.Turn.{splitPoints, addedPoints, turnPoints, turn-sampled}
 use Rattle.sampled.specs.Outlines.{Threes}
-use Rattle.sampled.specs.Begun.{Places, no-nodes, stateAt, loopsAt, ready, fits, turn-at}
+use Rattle.sampled.specs.Begun.{Places, no-nodes, stateAt, loopsAt, turn-ready, turn-fits, turn-at}
 
 -- ---- a ring is read off the nodes from its base on
 
@@ -114,10 +114,10 @@ module _ (o : Outline) (size : Float) (a b : State) (three : Threes o) (A : Plac
       let l = loopAt o k in
       let s = stateAt o size a k in
       let t = stateAt o size b k in
-      let S = ready o size a three A k (omega arith) in
-      let T = ready o size b three B k (omega arith) in
-      let P = turn-sampled (cleared a) o size k s (S .room) (fits o size a three A k h S) in
-      let Q = turn-sampled (cleared b) o size k t (T .room) (fits o size b three B k h T) in
+      let S = turn-ready o size a three A k (omega arith) in
+      let T = turn-ready o size b three B k (omega arith) in
+      let P = turn-sampled (cleared a) o size k s (S .room) (turn-fits o size a three A k h S) in
+      let Q = turn-sampled (cleared b) o size k t (T .room) (turn-fits o size b three B k h T) in
       let s′ = sampleLoop size l s in
       let t′ = sampleLoop size l t in
       let u = sampled-same P Q e in
@@ -135,8 +135,8 @@ module _ (o : Outline) (size : Float) (a b : State) (three : Threes o) (A : Plac
   same-at (suc k) h =
       let E = same-at k (omega arith) in
       let T = turn-same k h (E .0) in
-      let P = turn-at o size a three A k h (ready o size a three A k (omega arith)) in
-      let Q = turn-at o size b three B k h (ready o size b three B k (omega arith)) in (
+      let P = turn-at o size a three A k h (turn-ready o size a three A k (omega arith)) in
+      let Q = turn-at o size b three B k h (turn-ready o size b three B k (omega arith)) in (
         P .nodes ∙ ap₂ (λ (l ps : List Point). l ++ ps) (E .0) (T .1) ∙ sym (Q .nodes),
         ap₂ (λ (ls : List (List ℕ)) (l : List ℕ). ls ++ l ∷ []) (E .1) (T .0),
       )

@@ -53,13 +53,13 @@ module _ (o : Outline) (blocks : List ℕ) (size : Float) (g : Grid) (values : L
       let Y = stands field passes in
       omega (arith, Y .sound .nodes-fit, Y .frame .snapshot .long ∙ ap length (begins .snapshot))
 
-  pub can-number : (field : FieldRecord) (passes : ℕ) (end : paving.Paved) → end ≡ advance o size field passes (fromBoundary o size s)
+  pub can-number : (field : FieldRecord) (passes : ℕ) (end : paving.EndedPaving) → end ≡ advance o size field passes (fromBoundary o size s)
       → (places : ℕ) → length (s .snapshot) ≤ places → Numberable o size (end .state .quads) (end .state .counts .quads) places
   can-number field passes end e places a =
       advance-numberable o size s (record { doubles = C .drawn .fits; outline = C .drawn .taken; front = C .front }) field passes end e places
       (rw e (omega (arith, nodes-few field passes)))
 
-  pub can-list : (field : FieldRecord) (passes : ℕ) (end : paving.Paved) → end ≡ advance o size field passes (fromBoundary o size s)
+  pub can-list : (field : FieldRecord) (passes : ℕ) (end : paving.EndedPaving) → end ≡ advance o size field passes (fromBoundary o size s)
       → (loops lengths : List ℕ) → length (s .snapshot) ≤ length loops → loopCount o ≤ length lengths
       → Listable (end .state .counts) (end .state .next) (end .state .snapshot) loops lengths
   can-list field passes end e loops lengths a b = rw e (

@@ -21,7 +21,7 @@ use Rattle.front.specs.declared.Placed.{Placed}
 use Rattle.front.specs.declared.Placed.the-variants as placed-is
 use Rattle.front.specs.State.{State, stateOf, nextOf}
 use Rattle.front.specs.Place.{place}
-use Rattle.front.specs.Stores.{Places, countsAfter}
+use Rattle.front.specs.Stores.{PlacesQuad, countsAfter}
 use Rattle.front.specs.KnownLaws.{placed-full, placed-done}
 use Rattle.front.specs.Ready.{Ready}
 use Rattle.paving.specs.declared.Attempt.{Attempt}
@@ -49,17 +49,17 @@ module _ (next b : ℕ) where
   there = not (eqb b off) && eqb next b
 
   -- what the code's answer says
-  pub edge-gone : {e : Neighbour} → e ≡ snapshotEdge next b → e ≡ Off → there ≡ false
+  pub snapshot-edge-gone : {e : Neighbour} → e ≡ snapshotEdge next b → e ≡ Off → there ≡ false
   unfolding snapshotEdge
-  edge-gone {e} f g = by there (sym g ∙ f)
+  snapshot-edge-gone {e} f g = by there (sym g ∙ f)
     where
       by : (t : Bool) → Off ≡ cond t (At b) Off → t ≡ false
       by true q = absurd (let z : _≡_ {A = ℕ} 0 1 = cc in omega arith)
       by false q = refl
 
-  pub edge-there : {e : Neighbour} {v : ℕ} → e ≡ snapshotEdge next b → e ≡ At v → (there ≡ true) × (b ≡ v)
+  pub snapshot-edge-there : {e : Neighbour} {v : ℕ} → e ≡ snapshotEdge next b → e ≡ At v → (there ≡ true) × (b ≡ v)
   unfolding snapshotEdge
-  edge-there {e} {v} f g = by there (sym g ∙ f)
+  snapshot-edge-there {e} {v} f g = by there (sym g ∙ f)
     where
       by : (t : Bool) → At v ≡ cond t (At b) Off → (t ≡ true) × (b ≡ v)
       by true q = (refl, cc)
@@ -80,12 +80,12 @@ module _ (o : Outline) (size : Float) (g : Grid) (values : List Float) (s : Stat
 
   pub settle-gone : edge ≡ Off → (some : Bool) → go (passing s some) ≡ passTurn o size field a (passing s some)
   unfolding passTurn
-  settle-gone q some = rw (ap (λ (n : ℕ). there n b) (sym link-now) ∙ edge-gone (getD (s .next) a 0) b e q)
+  settle-gone q some = rw (ap (λ (n : ℕ). there n b) (sym link-now) ∙ snapshot-edge-gone (getD (s .next) a 0) b e q)
 
   module _ {to : ℕ} (f : edge ≡ At to) where
     on : isThere s a to ≡ true
     on =
-        let h = edge-there (getD (s .next) a 0) b e f in
+        let h = snapshot-edge-there (getD (s .next) a 0) b e f in
         ap₂ there (sym link-now) (sym (h .1)) ∙ h .0
 
     pub settle-node : to ≢ off
@@ -113,7 +113,7 @@ module _ (o : Outline) (size : Float) (g : Grid) (values : List Float) (s : Stat
       turned : (some : Bool) → settle a to t (passing s some) ≡ passTurn o size field a (passing s some)
       unfolding passTurn
       turned some =
-          rw (edge-there (getD (s .next) a 0) b e f .1, on) (ap (λ (x : Attempt). settle a to x (passing s some)) (sym is-try))
+          rw (snapshot-edge-there (getD (s .next) a 0) b e f .1, on) (ap (λ (x : Attempt). settle a to x (passing s some)) (sym is-try))
 
       pub settle-same : t ≡ Nothing → (some : Bool) → go (passing s some) ≡ passTurn o size field a (passing s some)
       settle-same q some = rw q at (turned some)
@@ -127,13 +127,13 @@ module _ (o : Outline) (size : Float) (g : Grid) (values : List Float) (s : Stat
         quad-turned : (some : Bool) → settle a to (Quad c d) (passing s some) ≡ passTurn o size field a (passing s some)
         quad-turned some = rw q at (turned some)
 
-        full-turned : (s′ : State) → Places a to c d s placed-is.Full s′ → (some : Bool)
+        full-turned : (s′ : State) → PlacesQuad a to c d s placed-is.Full s′ → (some : Bool)
             → out (out (paved s′ Full)) ≡ passTurn o size field a (passing s some)
         full-turned s′ P some =
             let f = placed-full a to c d s s′ P in
             rw (f .1) (rw (f .0) at (quad-turned some))
 
-        done-turned : (m : Counts) (s′ : Counts → State) → s′ m .counts ≡ m → Places a to c d s (placed-is.Done m) (s′ m)
+        done-turned : (m : Counts) (s′ : Counts → State) → s′ m .counts ≡ m → PlacesQuad a to c d s (placed-is.Done m) (s′ m)
             → (k : Counts) (w : Settled) → w ≡ quadSettled m
             → (some : Bool) → settled w some (s′ (settledCounts k w)) ≡ passTurn o size field a (passing s some)
         unfolding afterQuad quadSettled
@@ -148,7 +148,7 @@ module _ (o : Outline) (size : Float) (g : Grid) (values : List Float) (s : Stat
             by false e = rw (counts, e)
 
         module _ {xs ys : List Float} {next prev snapshot quads edges : List ℕ} {r : Placed} (k : Counts)
-            (P : Places a to c d s r (stateOf xs ys next prev snapshot quads edges (countsAfter k r))) where
+            (P : PlacesQuad a to c d s r (stateOf xs ys next prev snapshot quads edges (countsAfter k r))) where
           pub settle-full : r ≡ placed-is.Full → (some : Bool)
               → out (out (paved (stateOf xs ys next prev snapshot quads edges k) Full)) ≡ passTurn o size field a (passing s some)
           settle-full e some = full-turned _ (rw e at P) some

@@ -114,10 +114,10 @@ module _ (o : Outline) (blocks : List ℕ) (g : Grid) (values : List Float) (s :
         edges = omega (arith, S .edges-fit);
       }
 
-  pub try-lent : (size : Float) {node-pool edge-pool : List ℕ} → Indexed node-pool (nodeRects size (s .xs) (s .ys)) (s .counts .nodes)
+  pub state-try-lent : (size : Float) {node-pool edge-pool : List ℕ} → Indexed node-pool (nodeRects size (s .xs) (s .ys)) (s .counts .nodes)
       → Indexed edge-pool (edgeRects size (s .xs) (s .ys) (s .edges)) (s .counts .edges)
       → TryLent o blocks g values size (s .xs) (s .ys) (s .next) (s .prev) (s .edges) node-pool edge-pool (s .counts)
-  try-lent size nodes edges =
+  state-try-lent size nodes edges =
       let L = held in
       record {
         attempt = record {

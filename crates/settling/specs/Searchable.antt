@@ -8,7 +8,7 @@ use lib.Dec.{leb, ltb}
 use lib.ListN.{length, getD}
 use borrow.Author.Tests.{ltb-true, ltb-false}
 use lib.Ieee.{Float}
-use Rattle.pools.specs.Pool.{cleared, Indexed}
+use Rattle.pools.specs.Pool.{clearedPool, Indexed}
 use Rattle.key_rects.specs.Rects.{nodeRect}
 use Rattle.pools.specs.FileLaws.{indexed-same, indexed-none}
 use Rattle.domain.specs.declared.Point.{Point}
@@ -22,7 +22,7 @@ use Rattle.front.specs.declared.Placed.the-variants as placed-is
 use Rattle.topology.specs.Links.{off, link-read}
 use Rattle.front.specs.State.{State, stateOf, nextOf, edgeFrom, edgeTo}
 use Rattle.front.specs.Place.{place}
-use Rattle.front.specs.Stores.{Places, countsAfter}
+use Rattle.front.specs.Stores.{PlacesQuad, countsAfter}
 use Rattle.front.specs.Sound.{Frame}
 use Rattle.front.specs.FrameLaws.{extends-at, frame-node}
 use Rattle.front.specs.Ready.{Joined, Ready}
@@ -126,7 +126,7 @@ stretches-later l s t more fit-s fit-t stays S a room node none i low high = by 
 
 module _ (o : Outline) (blocks : List ℕ) (g : Grid) (values : List Float) (size : Float) (s : State) (P : Paveable o blocks g values s)
     (a b : ℕ) (c d : Corner) (R : Ready s a b c d) {node-pool edge-pool : List ℕ} (S : SearchableIn size s node-pool edge-pool) where
-  done-adds : (m : Counts) (t : State) → Places a b c d s (placed-is.Done m) t → Addable size s t node-pool edge-pool
+  done-adds : (m : Counts) (t : State) → PlacesQuad a b c d s (placed-is.Done m) t → Addable size s t node-pool edge-pool
   done-adds m t D =
       let f = placed-done a b c d s t m D in
       let L = later-placed o blocks g values s P a b c d (R .choice) (f .0) in
@@ -134,7 +134,7 @@ module _ (o : Outline) (blocks : List ℕ) (g : Grid) (values : List Float) (siz
       (addable size s (place a b c d s) (L .frame) (P .known .joined) (held o blocks g values (place a b c d s) (L .paveable) .edges) S)
 
   module _ {xs ys : List Float} {next prev snapshot quads edges : List ℕ} {r : Placed}
-      (Q : Places a b c d s r (stateOf xs ys next prev snapshot quads edges (countsAfter (s .counts) r))) where
+      (Q : PlacesQuad a b c d s r (stateOf xs ys next prev snapshot quads edges (countsAfter (s .counts) r))) where
     -- what it adds can be filed
     pub placed-adds : {m : Counts} → r ≡ placed-is.Done m → Addable size s (stateOf xs ys next prev snapshot quads edges m) node-pool edge-pool
     placed-adds {m} e = done-adds m _ (rw e at Q)
@@ -142,14 +142,14 @@ module _ (o : Outline) (blocks : List ℕ) (g : Grid) (values : List Float) (siz
   -- where it is full, nothing changes
   module _ (field : FieldRecord) (tried : List ℕ) (M : Remembers o size field tried (seenMesh s))
       (T : Stretches tried (s .counts .nodes) (s .next) (s .snapshot)) {xs ys : List Float} {next prev snapshot quads edges : List ℕ} {r : Placed}
-      (Q : Places a b c d s r (stateOf xs ys next prev snapshot quads edges (countsAfter (s .counts) r))) where
+      (Q : PlacesQuad a b c d s r (stateOf xs ys next prev snapshot quads edges (countsAfter (s .counts) r))) where
     pub full-helped : r ≡ placed-is.Full → Helped o size field xs ys next snapshot edges (s .counts) node-pool edge-pool tried
     full-helped e =
         let f = placed-full a b c d s (stateOf xs ys next prev snapshot quads edges (s .counts)) (rw e at Q) in
         subst (λ (t : State). Helped o size field (t .xs) (t .ys) (t .next) (t .snapshot) (t .edges) (t .counts) node-pool edge-pool tried) (sym (f .1))
         (record { search = S; remembers = M; stretches = T })
 
-    done-remembers : (m : Counts) (t : State) → Places a b c d s (placed-is.Done m) t
+    done-remembers : (m : Counts) (t : State) → PlacesQuad a b c d s (placed-is.Done m) t
         → Remembers o size field (forgotten (s .counts .nodes) (t .counts .nodes) tried) (seenMesh t)
     done-remembers m t D =
         let f = placed-done a b c d s t m D in
@@ -161,7 +161,7 @@ module _ (o : Outline) (blocks : List ℕ) (g : Grid) (values : List Float) (siz
         (remembers-same o size field l u (seenMesh u) refl refl refl refl
         (remembers-later o size field tried s u (L .frame) few (remembers-same o size field tried (seenMesh s) s refl refl refl refl M)))
 
-    done-stretches : (m : Counts) (t : State) → Places a b c d s (placed-is.Done m) t
+    done-stretches : (m : Counts) (t : State) → PlacesQuad a b c d s (placed-is.Done m) t
         → Stretches (forgotten (s .counts .nodes) (t .counts .nodes) tried) (t .counts .nodes) (t .next) (s .snapshot)
     done-stretches m t D =
         let f = placed-done a b c d s t m D in
@@ -187,7 +187,7 @@ module _ (o : Outline) (blocks : List ℕ) (g : Grid) (values : List Float) (siz
 
 -- of an emptied pool everything is still to be filed
 pub all-addable : (size : Float) (xs ys : List Float) (edges : List ℕ) (k : Counts) → 2 * k .edges ≤ length edges
-    → (node-pool₀ edge-pool₀ : List ℕ) {node-pool edge-pool : List ℕ} → node-pool ≡ cleared node-pool₀ → edge-pool ≡ cleared edge-pool₀
+    → (node-pool₀ edge-pool₀ : List ℕ) {node-pool edge-pool : List ℕ} → node-pool ≡ clearedPool node-pool₀ → edge-pool ≡ clearedPool edge-pool₀
     → NodesFiled node-pool size xs ys 0 (k .nodes) × EdgesFiled edge-pool size xs ys edges 0 (k .edges)
 all-addable size xs ys edges k fit node-pool₀ edge-pool₀ en ee = (
   record { more = omega arith; filed = rw en (indexed-none node-pool₀ (nodeRects size xs ys)) },

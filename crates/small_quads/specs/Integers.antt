@@ -11,7 +11,7 @@ use Rattle.laws.specs.Loop.{forUp, anyUp, any-none}
 use Rattle.exact.specs.Corner.{cross, squaredLength, sineAboveThird}
 use Rattle.lattice.specs.Fours.{latticeStep, cornerTurns}
 use Rattle.lattice.specs.Tables.{gridStep, same-bool}
-use Rattle.lattice.specs.Same.{shifted, vectorOf}
+use Rattle.lattice.specs.Same.{shifted-difference, vectorOf}
 
 -- ---- definitions
 
@@ -48,8 +48,8 @@ corner-law p q r P Q R =
     let j = q / 4 + 3 - p / 4 in
     let k = r % 4 + 3 - q % 4 in
     let l = r / 4 + 3 - q / 4 in
-    let u : latticeStep p q ≡ gridStep i j = ap₂ vectorOf (shifted 3 (p % 4) (q % 4) (omega arith)) (shifted 3 (p / 4) (q / 4) (omega arith)) in
-    let v : latticeStep q r ≡ gridStep k l = ap₂ vectorOf (shifted 3 (q % 4) (r % 4) (omega arith)) (shifted 3 (q / 4) (r / 4) (omega arith)) in
+    let u : latticeStep p q ≡ gridStep i j = ap₂ vectorOf (shifted-difference 3 (p % 4) (q % 4) (omega arith)) (shifted-difference 3 (p / 4) (q / 4) (omega arith)) in
+    let v : latticeStep q r ≡ gridStep k l = ap₂ vectorOf (shifted-difference 3 (q % 4) (r % 4) (omega arith)) (shifted-difference 3 (q / 4) (r / 4) (omega arith)) in
     same-bool _ _
     (any-none _ 7 (any-none _ 7 (any-none _ 7 (any-none _ 7 turns-table i (omega arith)) j (omega arith)) k (omega arith)) l (omega arith))
     ∙ ap₂ sineAboveThird (sym u) (sym v)

@@ -11,7 +11,7 @@ use borrow.Author.Tests.{lt-ltb, le-ltb}
 use Rattle.laws.specs.Loop.{forUp}
 use Rattle.laws.specs.Overlay.{overlay, overlay-length, overlay-more}
 use Rattle.lattice.specs.Fours.{firstPoint, secondPoint, thirdPoint, fourthPoint, acceptedFour, aboveThird, pointsOf, fourTurn, fours, foursAnswer, smallQuads}
-use Rattle.lattice.specs.Same.{same}
+use Rattle.lattice.specs.Same.{fours-same}
 
 -- the fours of the list below k
 unfoldable pub foursBelow : ℕ → List ℕ
@@ -167,15 +167,15 @@ pub refused-is : (s : List ℕ) (n : ℕ) → length (fours aboveThird) ≡ 4 * 
 unfolding smallQuads
 refused-is s n e h =
     sym (ap (λ (b : Bool). cond b (foursAnswer 26 0 s) (foursAnswer 0 (length (fours acceptedFour) / 4) (sets s 0 (fours acceptedFour))))
-    (lt-ltb (length s) (length (fours acceptedFour)) (omega (arith, ap length same))))
+    (lt-ltb (length s) (length (fours acceptedFour)) (omega (arith, ap length fours-same))))
 
 pub listed-is : (s t : List ℕ) (n : ℕ) → length (fours aboveThird) ≡ 4 * n → 4 * n ≤ length s → t ≡ sets s 0 (fours aboveThird)
     → foursAnswer 0 n t ≡ smallQuads s
 unfolding smallQuads
 listed-is s t n e h f =
-    let l : length (fours acceptedFour) ≡ 4 * n = ap length same ∙ e in
+    let l : length (fours acceptedFour) ≡ 4 * n = ap length fours-same ∙ e in
     let c : n ≡ length (fours acceptedFour) / 4 = omega arith in
-    let o : t ≡ sets s 0 (fours acceptedFour) = f ∙ ap (λ (l : List ℕ). sets s 0 l) (sym same) in
+    let o : t ≡ sets s 0 (fours acceptedFour) = f ∙ ap (λ (l : List ℕ). sets s 0 l) (sym fours-same) in
     ap₂ (λ (m : ℕ) (r : List ℕ). foursAnswer 0 m r) c o
     ∙ sym (ap (λ (b : Bool). cond b (foursAnswer 26 0 s) (foursAnswer 0 (length (fours acceptedFour) / 4) (sets s 0 (fours acceptedFour))))
     (le-ltb (length s) (length (fours acceptedFour)) (omega arith)))

@@ -10,7 +10,7 @@ use borrow.Author.Tests.{eqb-true, eqb-false}
 use Rattle.topology.specs.Sums.{frontSum}
 use Rattle.topology.specs.Links.{off, at, at-other}
 use Rattle.topology.specs.Front.{next-edge, edge-next, next-of-prev}
-use Rattle.topology.specs.Changes.{added}
+use Rattle.topology.specs.Changes.{addedSum}
 use Rattle.front.specs.declared.Corner.{Corner}
 use Rattle.front.specs.declared.Corner.the-variants.{Reused, Fresh}
 use Rattle.front.specs.State.{State, nextOf, prevOf}
@@ -36,7 +36,7 @@ module _ (n : ℕ) (s : State) (ls : List (List ℕ)) (a b : ℕ) (c d : Corner)
     not-c (Fresh y z) h e = omega arith
 
     -- what goes on leaves from a, from c or from a new d: from no node that was off the front
-    none-added : (v : ℕ) (c d : Corner) → idC s c ≢ x → added (at x v) (changesOf s a b c d) ≡ 0
+    none-added : (v : ℕ) (c d : Corner) → idC s c ≢ x → addedSum (at x v) (changesOf s a b c d) ≡ 0
     none-added v (Reused c) (Reused d) h = omega (arith, at-other x v c d h)
     none-added v (Reused c) (Fresh y z) h = omega (arith, at-other x v c (N + 0) h, at-other x v (N + 0) b (λ e. omega arith))
     none-added v (Fresh y z) (Reused d) h = omega (arith, at-other x v a N not-a, at-other x v N d h)

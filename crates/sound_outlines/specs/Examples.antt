@@ -11,13 +11,13 @@ use Rattle.exact.specs.Units.{W, sizeOf}
 use Rattle.exact.specs.Corner.{cross}
 use Rattle.domain.specs.Outline.{Outline, outline, holeStart, holeAt, loopAt, pointAt}
 use Rattle.orientation.specs.Orient.{orient}
-use Rattle.sound_outlines.specs.Sound.{dot, overlap, parted, meets, foldsBack, foldsAt, clash, crossesItself, touch, rayMeets, isInside}
+use Rattle.sound_outlines.specs.Sound.{scalarProduct, overlap, parted, meets, foldsBack, foldsAt, clash, crossesItself, touch, rayMeets, isInside}
 use Rattle.sound_outlines.specs.Sound.{straysOut, liesIn, outlineSound}
 use Rattle.sound_outlines.specs.Whole.{isWhole}
 
 -- all that computes
 unfoldable pub openedSound : Unit {0}
-unfolding ofBits ofInt round odd size climb trailingZeros forUp anyUp sumUp W sizeOf cross holeStart holeAt loopAt pointAt dot orient overlap parted meets
+unfolding ofBits ofInt round odd size climb trailingZeros forUp anyUp sumUp W sizeOf cross holeStart holeAt loopAt pointAt scalarProduct orient overlap parted meets
     foldsBack foldsAt clash crossesItself touch rayMeets isInside straysOut liesIn outlineSound isWhole
 openedSound = tt
 
@@ -36,7 +36,7 @@ board holes lens = outline (floats (0 ∷ 0 ∷ 8 ∷ 0 ∷ 8 ∷ 8 ∷ 0 ∷ 8 
 
 -- ---- one loop
 
-pub record Loops : Type 0 where
+pub record LoopExamples : Type 0 where
   pub triangle : outlineSound (drawn (0 ∷ 0 ∷ 4 ∷ 0 ∷ 0 ∷ 3 ∷ [])) ≡ true
   pub square : outlineSound (drawn (0 ∷ 0 ∷ 1 ∷ 0 ∷ 1 ∷ 1 ∷ 0 ∷ 1 ∷ [])) ≡ true
   -- the same square the other way round
@@ -58,7 +58,7 @@ pub record Loops : Type 0 where
   -- a corner drawn twice: the segments before and after the one of no length meet
   pub twice : outlineSound (drawn (0 ∷ 0 ∷ 1 ∷ 0 ∷ 1 ∷ 0 ∷ 1 ∷ 1 ∷ 0 ∷ 1 ∷ [])) ≡ false
 
-pub loops : Loops
+pub loops : LoopExamples
 unfolding openedSound
 loops =
     record {

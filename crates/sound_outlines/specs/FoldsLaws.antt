@@ -18,7 +18,7 @@ use Rattle.laws.specs.Certificate.{Nonneg, nonneg, nonneg-is, nonneg-+, nonneg-
 use Rattle.laws.specs.Certificate.{sq, eqn, prove, zero-of}
 use Rattle.exact.specs.Corner.{Vector, cross}
 use Rattle.orientation.specs.Orient.{way, orient}
-use Rattle.sound_outlines.specs.Sound.{dot, foldsBack}
+use Rattle.sound_outlines.specs.Sound.{scalarProduct, foldsBack}
 use Rattle.sound_outlines.specs.Zero.{vanishes, cancel}
 use Rattle.sound_outlines.specs.OverlapLaws.{Level, Weights}
 use Rattle.laws.specs.Tests.{T-ext}
@@ -35,7 +35,7 @@ pub record SharesMore (a b c : Vector) : Type 0 where
 -- the two parts of `foldsBack`
 pub record Folds (a b c : Vector) : Type 0 where
   pub level : orient a b c ≡ pos 0
-  pub back : dot (way a b) (way b c) <ℤ pos 0
+  pub back : scalarProduct (way a b) (way b c) <ℤ pos 0
 
 zero-abs : (z : ℤ) → T (eqb (natAbs z) 0) ↔ (z ≡ pos 0)
 zero-abs z = (λ t. there z (eqb→eq (natAbs z) 0 t), λ e. eq→eqb (ap natAbs e))
@@ -51,7 +51,7 @@ pub folds-parts : (a b c : Vector) → T (foldsBack a b c) ↔ Folds a b c
 unfolding foldsBack
 folds-parts a b c =
     let l = eqb (natAbs (orient a b c)) 0 in
-    let k = ltZ (dot (way a b) (way b c)) (pos 0) in (
+    let k = ltZ (scalarProduct (way a b) (way b c)) (pos 0) in (
       λ t. record { level = zero-abs (orient a b c) .0 (and-l l k t); back = ltZ-yes (and-r l k t) },
       λ h. and-i l k (zero-abs (orient a b c) .1 (h .level)) (h .back .lt),
     )
@@ -102,34 +102,34 @@ dotᵉ = (xᵉ 1 -ᵉ xᵉ 0) *ᵉ (xᵉ 2 -ᵉ xᵉ 1) +ᵉ (yᵉ 1 -ᵉ yᵉ 0
 -- ---- from folding back to the point: u and w being these ways, u·w weighs a and b, and u·u weighs b and c
 
 module _ (a b c : Vector) (h : Folds a b c) where
-  squared : Nonneg (dot (way b a) (way b a))
-  unfolding dot
+  squared : Nonneg (scalarProduct (way b a) (way b a))
+  unfolding scalarProduct
   squared = nonneg-+ (nonneg-sq (a .x -ℤ b .x)) (nonneg-sq (a .y -ℤ b .y))
 
-  product : Nonneg (negℤ (dot (way a b) (way b c)))
+  product : Nonneg (negℤ (scalarProduct (way a b) (way b c)))
   product =
-      let z = dot (way a b) (way b c) in
+      let z = scalarProduct (way a b) (way b c) in
       prove (z ∷ []) ((num 0 -ᵉ var 0 -ᵉ num 1) ∷ []) (of-<ℤ (h .back), tt) [] tt 0 (neg (var 0)) (hyp 0 ⊞ nat 1) tt
 
-  folds-level-x : negℤ (dot (way a b) (way b c)) *ℤ a .x +ℤ dot (way b a) (way b a) *ℤ b .x
-      ≡ negℤ (dot (way a b) (way b c)) *ℤ b .x +ℤ dot (way b a) (way b a) *ℤ c .x
-  unfolding dot orient cross
+  folds-level-x : negℤ (scalarProduct (way a b) (way b c)) *ℤ a .x +ℤ scalarProduct (way b a) (way b a) *ℤ b .x
+      ≡ negℤ (scalarProduct (way a b) (way b c)) *ℤ b .x +ℤ scalarProduct (way b a) (way b a) *ℤ c .x
+  unfolding scalarProduct orient cross
   folds-level-x =
       eq-of-sub _ _
       (vanishes (three a b c []) (orientᵉ 0 1 2 ∷ []) (h .level, tt)
       (neg dotᵉ *ᵉ xᵉ 0 +ᵉ (ux *ᵉ ux +ᵉ uy *ᵉ uy) *ᵉ xᵉ 1 -ᵉ (neg dotᵉ *ᵉ xᵉ 1 +ᵉ (ux *ᵉ ux +ᵉ uy *ᵉ uy) *ᵉ xᵉ 2)) (neg uy ∷ []) tt)
 
-  folds-level-y : negℤ (dot (way a b) (way b c)) *ℤ a .y +ℤ dot (way b a) (way b a) *ℤ b .y
-      ≡ negℤ (dot (way a b) (way b c)) *ℤ b .y +ℤ dot (way b a) (way b a) *ℤ c .y
-  unfolding dot orient cross
+  folds-level-y : negℤ (scalarProduct (way a b) (way b c)) *ℤ a .y +ℤ scalarProduct (way b a) (way b a) *ℤ b .y
+      ≡ negℤ (scalarProduct (way a b) (way b c)) *ℤ b .y +ℤ scalarProduct (way b a) (way b a) *ℤ c .y
+  unfolding scalarProduct orient cross
   folds-level-y =
       eq-of-sub _ _
       (vanishes (three a b c []) (orientᵉ 0 1 2 ∷ []) (h .level, tt)
       (neg dotᵉ *ᵉ yᵉ 0 +ᵉ (ux *ᵉ ux +ᵉ uy *ᵉ uy) *ᵉ yᵉ 1 -ᵉ (neg dotᵉ *ᵉ yᵉ 1 +ᵉ (ux *ᵉ ux +ᵉ uy *ᵉ uy) *ᵉ yᵉ 2)) (ux ∷ []) tt)
 
   -- it is not b: else u·u times w would be 0, and (u·w)² is at most (u·u)·(w·w)
-  folds-other : dot (way b a) (way b a) *ℤ (c .x -ℤ b .x) ≡ pos 0 → dot (way b a) (way b a) *ℤ (c .y -ℤ b .y) ≡ pos 0 → ⊥
-  unfolding dot
+  folds-other : scalarProduct (way b a) (way b a) *ℤ (c .x -ℤ b .x) ≡ pos 0 → scalarProduct (way b a) (way b a) *ℤ (c .y -ℤ b .y) ≡ pos 0 → ⊥
+  unfolding scalarProduct
   folds-other x y =
       not-nonneg {n = 0}
       (prove (three a b c []) ((num 0 -ᵉ dotᵉ -ᵉ num 1) ∷ []) (of-<ℤ (h .back), tt)
@@ -143,7 +143,7 @@ module _ (a b c : Vector) (h : Folds a b c) where
       let B = nonneg-is product in
       let some : 1 ≤ B .0 =
       to-le 1 (B .0)
-      (prove (dot (way a b) (way b c) ∷ pos (B .0) ∷ []) ((num 0 -ᵉ var 0 -ᵉ num 1) ∷ []) (of-<ℤ (h .back), tt) ((neg (var 0) -ᵉ var 1) ∷ [])
+      (prove (scalarProduct (way a b) (way b c) ∷ pos (B .0) ∷ []) ((num 0 -ᵉ var 0 -ᵉ num 1) ∷ []) (of-<ℤ (h .back), tt) ((neg (var 0) -ᵉ var 1) ∷ [])
       (zero-of (B .1), tt) 0 (var 1 -ᵉ num 1) (hyp 0 ⊞ eqn 0 (neg (num 1))) tt) in
       record {
         point = shares-of a b b c (weights (A .0) (B .0) some) (over (a .x) (b .x) (c .x) (A .1) (B .1) folds-level-x)
@@ -201,10 +201,10 @@ module _ (a b c : Vector) (i' i j' j : ℕ) (w : Weights i' i j' j) (x : Level i
       (vanishes ρ known (zero-of x, (zero-of y, (zero-of (ap pos (w .even)), tt))) (var 6 *ᵉ orientᵉ 0 1 2)
       (neg wy ∷ wx ∷ (xᵉ 1 *ᵉ wy -ᵉ yᵉ 1 *ᵉ wx) ∷ []) tt)
 
-  more-back : dot (way a b) (way b c) <ℤ pos 0
-  unfolding dot
+  more-back : scalarProduct (way a b) (way b c) <ℤ pos 0
+  unfolding scalarProduct
   more-back =
-      elim (<ℤ-or-≤ℤ (dot (way a b) (way b c)) (pos 0)) [
+      elim (<ℤ-or-≤ℤ (scalarProduct (way a b) (way b c)) (pos 0)) [
         | inl h ↦ h
         | inr h ↦ absurd
             (other (
@@ -355,7 +355,7 @@ orient-ways a b c e =
 -- THE TEST FOR CODE: once the orientation is 0, b is above or below both a and c in x or in y.
 pub folds-extreme : (a b c : Vector)
     → foldsBack a b c ≡ (eqb (natAbs (orient a b c)) 0 && (isExtreme (a .x) (b .x) (c .x) || isExtreme (a .y) (b .y) (c .y)))
-unfolding foldsBack dot
+unfolding foldsBack scalarProduct
 folds-extreme a b c = go (eqb (natAbs (orient a b c)) 0) refl
   where
     X : Bool
@@ -376,7 +376,7 @@ folds-extreme a b c = go (eqb (natAbs (orient a b c)) 0) refl
     or-right true q t = tt
     or-right false q t = t
 
-    go : (l : Bool) → eqb (natAbs (orient a b c)) 0 ≡ l → (l && ltZ (dot (way a b) (way b c)) (pos 0)) ≡ (l && (X || Y))
+    go : (l : Bool) → eqb (natAbs (orient a b c)) 0 ≡ l → (l && ltZ (scalarProduct (way a b) (way b c)) (pos 0)) ≡ (l && (X || Y))
     go false e = refl
     go true e =
         let level = orient-ways a b c (zero-abs (orient a b c) .0 (subst T (sym e) tt)) in
@@ -384,7 +384,7 @@ folds-extreme a b c = go (eqb (natAbs (orient a b c)) 0) refl
         let ey = b .y -ℤ a .y in
         let fx = c .x -ℤ b .x in
         let fy = c .y -ℤ b .y in
-        T-ext (ltZ (dot (way a b) (way b c)) (pos 0)) (X || Y)
+        T-ext (ltZ (scalarProduct (way a b) (way b c)) (pos 0)) (X || Y)
         (λ t. elim (one-opposite ex ey fx fy level (ltZ-yes t)) [
           | inl n ↦ or-left X Y (extreme-steps (a .x) (b .x) (c .x) .1 n)
           | inr n ↦ or-right X Y (extreme-steps (a .y) (b .y) (c .y) .1 n)

@@ -1,4 +1,4 @@
--- SOUND IN WORDS. `outlineSound` computes; `Sound` says the same as statements on points in common (`sound-means`, the last statement). Assumes nothing.
+-- SOUND IN WORDS. `outlineSound` computes; `SoundOutline` says the same as statements on points in common (`sound-means`, the last statement). Assumes nothing.
 use mathlib.Core.Path.{_≡_, refl, sym, subst}
 use mathlib.Core.Bool.{Bool, true, false, not, _&&_, _||_, true≢false}
 use mathlib.Core.Logic.{_↔_}
@@ -12,7 +12,7 @@ use lib.Ieee.Bits.{is-true, is-false}
 use lib.Ieee.Fits.{and-i, and-l, and-r, eq→eqb}
 use Rattle.laws.specs.Loop.{anyUp, any-found, any-none}
 use Rattle.domain.specs.Outline.{Outline, holeAt, loopAt, points, after}
-use Rattle.sound_outlines.specs.Sound.{start, end, meets, foldsBack, neighbours, foldsAt, clash, crossesItself, touch, isInside, straysOut, liesIn, outlineSound}
+use Rattle.sound_outlines.specs.Sound.{segmentStart, segmentEnd, meets, foldsBack, neighbours, foldsAt, clash, crossesItself, touch, isInside, straysOut, liesIn, outlineSound}
 use Rattle.sound_outlines.specs.MeetsLaws.{Shares, meets-shares, four}
 use Rattle.sound_outlines.specs.FoldsLaws.{SharesMore, folds-shares}
 
@@ -20,11 +20,11 @@ use Rattle.sound_outlines.specs.FoldsLaws.{SharesMore, folds-shares}
 
 -- segment i of the loop s and segment j of the loop t have a point in common
 abbrev pub Touching : List Float → ℕ → List Float → ℕ → Type 0
-Touching s i t j = Shares (start s i) (end s i) (start t j) (end t j)
+Touching s i t j = Shares (segmentStart s i) (segmentEnd s i) (segmentStart t j) (segmentEnd t j)
 
 -- segment i of a loop and segment j, which starts where i ends, have another point in common
 abbrev pub Folding : List Float → ℕ → ℕ → Type 0
-Folding s i j = SharesMore (start s i) (start s j) (end s j)
+Folding s i j = SharesMore (segmentStart s i) (segmentStart s j) (segmentEnd s j)
 
 -- Of any two segments, j before i: they have nothing in common but the common end of neighbours. The last segment's neighbour is the first.
 pub record Simple (s : List Float) : Type 0 where
@@ -32,17 +32,17 @@ pub record Simple (s : List Float) : Type 0 where
   pub next : (i j : ℕ) → i < points s → j < i → i ≡ after (points s) j → Folding s j i → ⊥
   pub last : (i j : ℕ) → i < points s → j < i → j ≡ after (points s) i → Folding s i j → ⊥
 
-pub record Sound (o : Outline) : Type 0 where
+pub record SoundOutline (o : Outline) : Type 0 where
   -- no loop crosses itself; loop 0 is the outer one
   pub simple : (k : ℕ) → k ≤ length (o .lens) → Simple (loopAt o k)
   -- no two loops touch
   pub clear : (k l : ℕ) → k ≤ length (o .lens) → l < k → (i j : ℕ) → i < points (loopAt o k) → j < points (loopAt o l)
       → Touching (loopAt o k) i (loopAt o l) j → ⊥
   -- every point of every hole is inside the outer loop
-  pub within : (k i : ℕ) → k < length (o .lens) → i < points (holeAt o k) → isInside (start (holeAt o k) i) (o .outer) ≡ true
+  pub within : (k i : ℕ) → k < length (o .lens) → i < points (holeAt o k) → isInside (segmentStart (holeAt o k) i) (o .outer) ≡ true
   -- no point of a hole is inside another hole
   pub outside : (k l : ℕ) → k < length (o .lens) → l < length (o .lens) → (k ≡ l → ⊥) → (i : ℕ) → i < points (holeAt o k)
-      → isInside (start (holeAt o k) i) (holeAt o l) ≡ false
+      → isInside (segmentStart (holeAt o k) i) (holeAt o l) ≡ false
 
 -- ---- searches that find nothing
 
@@ -80,8 +80,8 @@ module _ (s : List Float) where
   unfolding foldsAt
   folds-at i j =
       let n = eqb j (after (points s) i) in
-      let f = foldsBack (start s i) (start s j) (end s j) in
-      let m = folds-shares (start s i) (start s j) (end s j) in (
+      let f = foldsBack (segmentStart s i) (segmentStart s j) (segmentEnd s j) in
+      let m = folds-shares (segmentStart s i) (segmentStart s j) (segmentEnd s j) in (
         λ h e t. h (and-i n f (eq→eqb e) (m .1 t)),
         λ h t. h (eqb→eq j (after (points s) i) (and-l n f t)) (m .0 (and-r n f t)),
       )
@@ -91,8 +91,8 @@ module _ (s : List Float) where
       × (neighbours (points s) j i ≡ false → Touching s j s i → ⊥))
   unfolding clash
   clashes i j =
-      let c = clash-parts (foldsAt s j i) (foldsAt s i j) (neighbours (points s) j i) (meets (start s j) (end s j) (start s i) (end s i)) in
-      let m = meets-shares (start s j) (end s j) (start s i) (end s i) in (
+      let c = clash-parts (foldsAt s j i) (foldsAt s i j) (neighbours (points s) j i) (meets (segmentStart s j) (segmentEnd s j) (segmentStart s i) (segmentEnd s i)) in
+      let m = meets-shares (segmentStart s j) (segmentEnd s j) (segmentStart s i) (segmentEnd s i) in (
         λ h. let p = c .0 h in (folds-at j i .0 (p .0), folds-at i j .0 (p .1), λ e t. p .2 e (m .1 t)),
         λ h. c .1 (folds-at j i .1 (h .0), folds-at i j .1 (h .1), λ e t. h .2 e (m .0 t)),
       )
@@ -114,20 +114,20 @@ module _ (s : List Float) where
 touch-means : (s t : List Float) → (T (touch s t) → ⊥) ↔ ((i j : ℕ) → i < points s → j < points t → Touching s i t j → ⊥)
 unfolding touch
 touch-means s t =
-    let q = quiet₂ (points s) (λ i. points t) (λ i j. meets (start s i) (end s i) (start t j) (end t j)) in (
-      λ h i j l m e. q .0 h i j l m (meets-shares (start s i) (end s i) (start t j) (end t j) .1 e),
-      λ f. q .1 (λ i j l m e. f i j l m (meets-shares (start s i) (end s i) (start t j) (end t j) .0 e)),
+    let q = quiet₂ (points s) (λ i. points t) (λ i j. meets (segmentStart s i) (segmentEnd s i) (segmentStart t j) (segmentEnd t j)) in (
+      λ h i j l m e. q .0 h i j l m (meets-shares (segmentStart s i) (segmentEnd s i) (segmentStart t j) (segmentEnd t j) .1 e),
+      λ f. q .1 (λ i j l m e. f i j l m (meets-shares (segmentStart s i) (segmentEnd s i) (segmentStart t j) (segmentEnd t j) .0 e)),
     )
 
 -- ---- holes
 
 module _ (o : Outline) where
-  strays-means : (k : ℕ) → (T (straysOut o k) → ⊥) ↔ ((i : ℕ) → i < points (holeAt o k) → isInside (start (holeAt o k) i) (o .outer) ≡ true)
+  strays-means : (k : ℕ) → (T (straysOut o k) → ⊥) ↔ ((i : ℕ) → i < points (holeAt o k) → isInside (segmentStart (holeAt o k) i) (o .outer) ≡ true)
   unfolding straysOut
   strays-means k =
-      let q = quiet (points (holeAt o k)) (λ i. not (isInside (start (holeAt o k) i) (o .outer))) in (
-        λ h i l. yes-of (isInside (start (holeAt o k) i) (o .outer)) .0 (q .0 h i l),
-        λ f. q .1 (λ i l. yes-of (isInside (start (holeAt o k) i) (o .outer)) .1 (f i l)),
+      let q = quiet (points (holeAt o k)) (λ i. not (isInside (segmentStart (holeAt o k) i) (o .outer))) in (
+        λ h i l. yes-of (isInside (segmentStart (holeAt o k) i) (o .outer)) .0 (q .0 h i l),
+        λ f. q .1 (λ i l. yes-of (isInside (segmentStart (holeAt o k) i) (o .outer)) .1 (f i l)),
       )
     where
       yes-of : (b : Bool) → (T (not b) → ⊥) ↔ (b ≡ true)
@@ -135,10 +135,10 @@ module _ (o : Outline) where
       yes-of false = (λ h. absurd (h tt), λ e. absurd (true≢false (sym e)))
 
   lies-means : (k l : ℕ) → (T (liesIn o k l) → ⊥)
-      ↔ ((k ≡ l → ⊥) → (i : ℕ) → i < points (holeAt o k) → isInside (start (holeAt o k) i) (holeAt o l) ≡ false)
+      ↔ ((k ≡ l → ⊥) → (i : ℕ) → i < points (holeAt o k) → isInside (segmentStart (holeAt o k) i) (holeAt o l) ≡ false)
   unfolding liesIn
   lies-means k l =
-      let test : ℕ → Bool = λ i. isInside (start (holeAt o k) i) (holeAt o l) in
+      let test : ℕ → Bool = λ i. isInside (segmentStart (holeAt o k) i) (holeAt o l) in
       let found = anyUp (points (holeAt o k)) test in
       let q = quiet (points (holeAt o k)) test in (
         λ h f i m. no-of (test i) .0 (q .0 (λ t. h (and-i (not (eqb k l)) found (not-T (eqb k l) (λ e. f (eqb→eq k l e))) t)) i m),
@@ -170,7 +170,7 @@ module _ (o : Outline) where
   nests = anyUp holes (λ k. anyUp holes (λ l. liesIn o k l))
 
 -- AN OUTLINE IS JUDGED SOUND EXACTLY IF IT IS SOUND IN WORDS.
-pub sound-means : (o : Outline) → T (outlineSound o) ↔ Sound o
+pub sound-means : (o : Outline) → T (outlineSound o) ↔ SoundOutline o
 unfolding outlineSound
 sound-means o =
     let parts = four (not (crossings o)) (not (touches o)) (not (strays o)) (not (nests o)) in

@@ -18,7 +18,7 @@ use Rattle.exact.specs.Corner.{Vector, cross}
 use Rattle.orientation.specs.Orient.{orient}
 use Rattle.sound_outlines.specs.Sound.{overlap, parted, meets}
 use Rattle.sound_outlines.specs.Zero.{vanishes, cancel}
-use Rattle.sound_outlines.specs.OverlapLaws.{Level, Weights, Common, common, weights-flip, flip, some-ℤ, overlap-common}
+use Rattle.sound_outlines.specs.OverlapLaws.{Level, Weights, Common, common, weights-flip, common-flip, some-ℤ, overlap-common}
 
 -- ---- the statement
 
@@ -181,7 +181,7 @@ level-straddles a b c d i' i j' j w x y =
     record { notAbove = above j' j (orient a b c) (orient a b d) s e; notBelow = below j' j (orient a b c) (orient a b d) s e }
 
 -- the four parts of `meets`
-pub record Parts (a b c d : Vector) : Type 0 where
+pub record MeetsParts (a b c d : Vector) : Type 0 where
   pub x : T (overlap (a .x) (b .x) (c .x) (d .x))
   pub y : T (overlap (a .y) (b .y) (c .y) (d .y))
   pub first : Straddle (orient a b c) (orient a b d)
@@ -193,7 +193,7 @@ four true true false s = (λ h. absurd h, λ h. h .2)
 four true false r s = (λ h. absurd h, λ h. h .1)
 four false q r s = (λ h. absurd h, λ h. h .0)
 
-pub meets-parts : (a b c d : Vector) → T (meets a b c d) ↔ Parts a b c d
+pub meets-parts : (a b c d : Vector) → T (meets a b c d) ↔ MeetsParts a b c d
 unfolding meets
 meets-parts a b c d =
     let f = four (overlap (a .x) (b .x) (c .x) (d .x)) (overlap (a .y) (b .y) (c .y) (d .y)) (not (parted a b c d)) (not (parted c d a b)) in (
@@ -201,7 +201,7 @@ meets-parts a b c d =
       λ h. f .1 (h .x, h .y, not-parted a b c d .1 (h .first), not-parted c d a b .1 (h .second)),
     )
 
-pub shares-parts : (a b c d : Vector) → Shares a b c d → Parts a b c d
+pub shares-parts : (a b c d : Vector) → Shares a b c d → MeetsParts a b c d
 shares-parts a b c d h =
     let w = weights-of h in
     record {
@@ -339,7 +339,7 @@ common-same u v s t l p q =
     not-zero n h e = omega arith
 
 -- four places in one line, by overlapping boxes
-aligned : (a b c d : Vector) → Parts a b c d → orient a b c ≡ pos 0 → orient a b d ≡ pos 0 → orient c d a ≡ pos 0 → orient c d b ≡ pos 0 → Shares a b c d
+aligned : (a b c d : Vector) → MeetsParts a b c d → orient a b c ≡ pos 0 → orient a b d ≡ pos 0 → orient c d a ≡ pos 0 → orient c d b ≡ pos 0 → Shares a b c d
 aligned a b c d h p q r s = go (ℤ-discrete (a .x) (b .x)) (ℤ-discrete (c .x) (d .x))
   where
     x : Common (a .x) (b .x) (c .x) (d .x)
@@ -351,7 +351,7 @@ aligned a b c d h p q r s = go (ℤ-discrete (a .x) (b .x)) (ℤ-discrete (c .x)
     go : Dec (a .x ≡ b .x) → Dec (c .x ≡ d .x) → Shares a b c d
     go (no f) g = shares-of a b c d (x .weights) (x .level) (slanted a b c d f p q x)
     go (yes e) (no f) =
-        let m : Common (c .x) (d .x) (a .x) (b .x) = flip x in
+        let m : Common (c .x) (d .x) (a .x) (b .x) = common-flip x in
         shares-flip (shares-of c d a b (m .weights) (m .level) (slanted c d a b f r s m))
     go (yes e) (yes f) =
         shares-of a b c d (y .weights)
@@ -361,7 +361,7 @@ aligned a b c d h p q r s = go (ℤ-discrete (a .x) (b .x)) (ℤ-discrete (c .x)
 -- ---- the law
 
 -- p < q, or r < s and the segments change places, or all four turns are 0
-pub parts-share : (a b c d : Vector) → Parts a b c d → Shares a b c d
+pub parts-share : (a b c d : Vector) → MeetsParts a b c d → Shares a b c d
 parts-share a b c d h =
     elim (<ℤ-or-≤ℤ p q) [
       | inl l ↦ crossing a b c d (turns-balanced a b c d) (h .first) (h .second) (of-<ℤ l)

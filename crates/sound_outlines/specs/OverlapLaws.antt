@@ -13,7 +13,7 @@ use lib.Ieee.Fits.{and-i, and-l, and-r}
 use Rattle.laws.specs.Integer.{eq-of-sub}
 use Rattle.laws.specs.Ring.{var, num, _+ᵉ_, _*ᵉ_, _-ᵉ_, neg, ring}
 use Rattle.laws.specs.Certificate.{Nonneg, nonneg, nonneg-is, not-nonneg, of-le, of-≤ℤ, of-<ℤ, <ℤ-or-≤ℤ, <ℤ-weaken, hyp, _⊞_, _⊠_, eqn, prove, zero-of}
-use Rattle.sound_outlines.specs.Sound.{least, greatest, overlap}
+use Rattle.sound_outlines.specs.Sound.{minZ, maxZ, overlap}
 
 -- ---- weights
 
@@ -42,8 +42,8 @@ common i' i j' j w l = record { i' = i'; i = i; j' = j'; j = j; weights = w; lev
 pub weights-flip : {i' i j' j : ℕ} → Weights i' i j' j → Weights j' j i' i
 weights-flip w = record { some = omega (arith, w .some, w .even); even = sym (w .even) }
 
-pub flip : {u v s t : ℤ} → Common s t u v → Common u v s t
-flip l = common (l .j') (l .j) (l .i') (l .i) (weights-flip (l .weights)) (sym (l .level))
+pub common-flip : {u v s t : ℤ} → Common s t u v → Common u v s t
+common-flip l = common (l .j') (l .j) (l .i') (l .i) (weights-flip (l .weights)) (sym (l .level))
 
 -- the ends of one do
 back : {u v s t : ℤ} → Common v u s t → Common u v s t
@@ -57,8 +57,8 @@ some-ℤ i' i h = of-le {a = 1} {b = i' + i} h
 -- ---- u and v in order
 
 record Ordered (u v lo hi : ℤ) : Type 0 where
-  pub low : least u v ≡ lo
-  pub high : greatest u v ≡ hi
+  pub low : minZ u v ≡ lo
+  pub high : maxZ u v ≡ hi
   pub order : lo ≤ℤ hi
 
 ordered : (u v : ℤ) → Ordered u v u v ⊎ Ordered u v v u
@@ -80,13 +80,13 @@ ordered u v = go (ltZ u v) refl
           order = ltZ-no (subst (λ (c : Bool). T (not c)) (sym e) tt);
         })
 
-record Bounds (u v lo hi : ℤ) : Type 0 where
+record RangeBounds (u v lo hi : ℤ) : Type 0 where
   pub lowU : lo ≤ℤ u
   pub lowV : lo ≤ℤ v
   pub highU : u ≤ℤ hi
   pub highV : v ≤ℤ hi
 
-bounds : (u v : ℤ) → Bounds u v (least u v) (greatest u v)
+bounds : (u v : ℤ) → RangeBounds u v (minZ u v) (maxZ u v)
 bounds u v =
     elim (ordered u v) [
       | inl h ↦ rw (h .low, h .high) (record { lowU = ≤ℤ-refl u; lowV = h .order; highU = h .order; highV = ≤ℤ-refl v })
@@ -136,11 +136,11 @@ unfolding overlap
 common-overlap u v s t m =
     let p = bounds u v in
     let q = bounds s t in
-    and-i (not (ltZ (greatest u v) (least s t))) (not (ltZ (greatest s t) (least u v)))
-    (not-T (ltZ (greatest u v) (least s t))
-    (λ h. apart u v s t (greatest u v) (least s t) m (p .highU) (p .highV) (ltZ-yes h) (q .lowU) (q .lowV)))
-    (not-T (ltZ (greatest s t) (least u v))
-    (λ h. apart s t u v (greatest s t) (least u v) (flip m) (q .highU) (q .highV) (ltZ-yes h) (p .lowU) (p .lowV)))
+    and-i (not (ltZ (maxZ u v) (minZ s t))) (not (ltZ (maxZ s t) (minZ u v)))
+    (not-T (ltZ (maxZ u v) (minZ s t))
+    (λ h. apart u v s t (maxZ u v) (minZ s t) m (p .highU) (p .highV) (ltZ-yes h) (q .lowU) (q .lowV)))
+    (not-T (ltZ (maxZ s t) (minZ u v))
+    (λ h. apart s t u v (maxZ s t) (minZ u v) (common-flip m) (q .highU) (q .highV) (ltZ-yes h) (p .lowU) (p .lowV)))
 
 -- ---- and back
 
@@ -175,7 +175,7 @@ common-end u v s t h k =
 -- two stretches that go up, neither wholly below the other: the higher of the two starts is in common
 common-start : (u v s t : ℤ) → s ≤ℤ v → u ≤ℤ t → Common u v s t
 common-start u v s t sv ut =
-    elim (<ℤ-or-≤ℤ s u) [ inl h ↦ flip (common-end s t u v (<ℤ-weaken h) ut) | inr h ↦ common-end u v s t h sv ]
+    elim (<ℤ-or-≤ℤ s u) [ inl h ↦ common-flip (common-end s t u v (<ℤ-weaken h) ut) | inr h ↦ common-end u v s t h sv ]
 
 pub overlap-common : (u v s t : ℤ) → T (overlap u v s t) ↔ Common u v s t
 unfolding overlap
@@ -186,20 +186,20 @@ overlap-common u v s t = (there, common-overlap u v s t)
         elim (ordered u v) [
           | inl p ↦ elim (ordered s t) [
             | inl q ↦ common-start u v s t (low p q) (high p q)
-            | inr q ↦ flip (back (flip (common-start u v t s (low p q) (high p q))))
+            | inr q ↦ common-flip (back (common-flip (common-start u v t s (low p q) (high p q))))
           ]
           | inr p ↦ back (elim (ordered s t) [
             | inl q ↦ common-start v u s t (low p q) (high p q)
-            | inr q ↦ flip (back (flip (common-start v u t s (low p q) (high p q))))
+            | inr q ↦ common-flip (back (common-flip (common-start v u t s (low p q) (high p q))))
           ])
         ]
       where
         low : {lo hi lo' hi' : ℤ} → Ordered u v lo hi → Ordered s t lo' hi' → lo' ≤ℤ hi
         low p q =
             subst₂ (λ (y z : ℤ). y ≤ℤ z) (q .low) (p .high)
-            (ltZ-no (and-l (not (ltZ (greatest u v) (least s t))) (not (ltZ (greatest s t) (least u v))) h))
+            (ltZ-no (and-l (not (ltZ (maxZ u v) (minZ s t))) (not (ltZ (maxZ s t) (minZ u v))) h))
 
         high : {lo hi lo' hi' : ℤ} → Ordered u v lo hi → Ordered s t lo' hi' → lo ≤ℤ hi'
         high p q =
             subst₂ (λ (y z : ℤ). y ≤ℤ z) (p .low) (q .high)
-            (ltZ-no (and-r (not (ltZ (greatest u v) (least s t))) (not (ltZ (greatest s t) (least u v))) h))
+            (ltZ-no (and-r (not (ltZ (maxZ u v) (minZ s t))) (not (ltZ (maxZ s t) (minZ u v))) h))

@@ -13,23 +13,23 @@ use Rattle.laws.specs.Loop.{anyUp}
 use Rattle.exact.specs.Corner.{Vector}
 use Rattle.domain.specs.Outline.{Outline, holeAt, loopAt, points, pointAt, after}
 use Rattle.domain.specs.Parity.{oddUp}
-use Rattle.orientation.specs.Orient.{place, way, orient}
+use Rattle.orientation.specs.Orient.{inUnits, way, orient}
 
 -- ---- places
 
 -- where segment i of a loop starts
-abbrev pub start : List Float → ℕ → Vector
-start s i = place (pointAt s i)
+abbrev pub segmentStart : List Float → ℕ → Vector
+segmentStart s i = inUnits (pointAt s i)
 
 -- and where it ends
-abbrev pub end : List Float → ℕ → Vector
-end s i = start s (after (points s) i)
+abbrev pub segmentEnd : List Float → ℕ → Vector
+segmentEnd s i = segmentStart s (after (points s) i)
 
 -- ---- three places
 
 -- the scalar product
-unfoldable pub dot : Vector → Vector → ℤ
-dot u v = u .x *ℤ v .x +ℤ u .y *ℤ v .y
+unfoldable pub scalarProduct : Vector → Vector → ℤ
+scalarProduct u v = u .x *ℤ v .x +ℤ u .y *ℤ v .y
 
 -- c is left of the line from a to b
 abbrev pub isLeft : Vector → Vector → Vector → Bool
@@ -42,15 +42,15 @@ isRight a b c = ltZ (orient a b c) (pos 0)
 -- ---- two segments, a to b and c to d
 
 -- the smaller of two numbers, and the larger
-abbrev pub least : ℤ → ℤ → ℤ
-least u v = cond (ltZ u v) u v
+abbrev pub minZ : ℤ → ℤ → ℤ
+minZ u v = cond (ltZ u v) u v
 
-abbrev pub greatest : ℤ → ℤ → ℤ
-greatest u v = cond (ltZ u v) v u
+abbrev pub maxZ : ℤ → ℤ → ℤ
+maxZ u v = cond (ltZ u v) v u
 
 -- the numbers from u to v and those from s to t have one in common: neither lot lies wholly below the other
 unfoldable pub overlap : ℤ → ℤ → ℤ → ℤ → Bool
-overlap u v s t = not (ltZ (greatest u v) (least s t)) && not (ltZ (greatest s t) (least u v))
+overlap u v s t = not (ltZ (maxZ u v) (minZ s t)) && not (ltZ (maxZ s t) (minZ u v))
 
 -- c and d are on the same side of the line through a and b, neither of them on it
 unfoldable pub parted : Vector → Vector → Vector → Vector → Bool
@@ -63,7 +63,7 @@ meets a b c d =
 
 -- a to b and b to c have more in common than b (`folds-shares`): the way goes back on itself at b
 unfoldable pub foldsBack : Vector → Vector → Vector → Bool
-foldsBack a b c = eqb (natAbs (orient a b c)) 0 && ltZ (dot (way a b) (way b c)) (pos 0)
+foldsBack a b c = eqb (natAbs (orient a b c)) 0 && ltZ (scalarProduct (way a b) (way b c)) (pos 0)
 
 -- ---- one loop
 
@@ -73,12 +73,12 @@ neighbours n i j = eqb j (after n i) || eqb i (after n j)
 
 -- segment j comes after segment i and folds back on it
 unfoldable pub foldsAt : List Float → ℕ → ℕ → Bool
-foldsAt s i j = eqb j (after (points s) i) && foldsBack (start s i) (start s j) (end s j)
+foldsAt s i j = eqb j (after (points s) i) && foldsBack (segmentStart s i) (segmentStart s j) (segmentEnd s j)
 
 -- segments i and j have in common what they may not: neighbours more than their common end, others anything
 unfoldable pub clash : List Float → ℕ → ℕ → Bool
 clash s i j =
-    foldsAt s i j || (foldsAt s j i || (not (neighbours (points s) i j) && meets (start s i) (end s i) (start s j) (end s j)))
+    foldsAt s i j || (foldsAt s j i || (not (neighbours (points s) i j) && meets (segmentStart s i) (segmentEnd s i) (segmentStart s j) (segmentEnd s j)))
 
 -- some two segments of the loop clash
 unfoldable pub crossesItself : List Float → Bool
@@ -88,7 +88,7 @@ crossesItself s = anyUp (points s) (λ i. anyUp i (λ j. clash s j i))
 
 -- some segment of s meets some segment of t
 unfoldable pub touch : List Float → List Float → Bool
-touch s t = anyUp (points s) (λ i. anyUp (points t) (λ j. meets (start s i) (end s i) (start t j) (end t j)))
+touch s t = anyUp (points s) (λ i. anyUp (points t) (λ j. meets (segmentStart s i) (segmentEnd s i) (segmentStart t j) (segmentEnd t j)))
 
 -- q is higher than p
 abbrev pub isAbove : Vector → Vector → Bool
@@ -101,17 +101,17 @@ rayMeets p a b = (not (isAbove p a) && (isAbove p b && isLeft a b p)) || (isAbov
 
 -- p is inside the loop: the ray meets an odd number of its segments
 unfoldable pub isInside : Vector → List Float → Bool
-isInside p s = oddUp (points s) (λ i. rayMeets p (start s i) (end s i))
+isInside p s = oddUp (points s) (λ i. rayMeets p (segmentStart s i) (segmentEnd s i))
 
 -- ---- the outline
 
 -- some point of hole k is not inside the outer loop
 unfoldable pub straysOut : Outline → ℕ → Bool
-straysOut o k = anyUp (points (holeAt o k)) (λ i. not (isInside (start (holeAt o k) i) (o .outer)))
+straysOut o k = anyUp (points (holeAt o k)) (λ i. not (isInside (segmentStart (holeAt o k) i) (o .outer)))
 
 -- holes k and l are two, and some point of hole k is inside hole l
 unfoldable pub liesIn : Outline → ℕ → ℕ → Bool
-liesIn o k l = not (eqb k l) && anyUp (points (holeAt o k)) (λ i. isInside (start (holeAt o k) i) (holeAt o l))
+liesIn o k l = not (eqb k l) && anyUp (points (holeAt o k)) (λ i. isInside (segmentStart (holeAt o k) i) (holeAt o l))
 
 -- no loop crosses itself, no two loops touch, no hole strays out of the outer loop, and none lies in another
 unfoldable pub outlineSound : Outline → Bool

@@ -13,14 +13,14 @@ use Rattle.laws.specs.Tests.{both, neither, and-both}
 use Rattle.laws.specs.Loop.{anyUp, any-none, none-found}
 use Rattle.domain.specs.Outline.{Outline, misshapen, outlineRefusal, holeAt, loopAt, points}
 use Rattle.domain.specs.Accepted.{OutlineFits, LoopWithin, accepted, loop-within}
-use Rattle.sound_outlines.specs.Sound.{start, crossesItself, touch, isInside, straysOut, liesIn, outlineSound}
+use Rattle.sound_outlines.specs.Sound.{segmentStart, crossesItself, touch, isInside, straysOut, liesIn, outlineSound}
 use Rattle.sound_outlines.specs.Whole.{isWhole}
 
 -- ---- one walk over the holes
 
 -- some point of s is inside t; where `inside` is false, some point of s isn't
 unfoldable pub anyPoint : List Float → List Float → Bool → Bool
-anyPoint s t inside = anyUp (points s) (λ i. Bool·beq (isInside (start s i) t) inside)
+anyPoint s t inside = anyUp (points s) (λ i. Bool·beq (isInside (segmentStart s i) t) inside)
 
 -- two holes touch, or one has a point inside the other
 unfoldable pub holesClash : List Float → List Float → Bool
@@ -43,13 +43,13 @@ beq-false false = refl
 
 strays : (o : Outline) (k : ℕ) → straysOut o k ≡ anyPoint (holeAt o k) (o .outer) false
 unfolding straysOut anyPoint
-strays o k = ap (anyUp (points (holeAt o k))) (fun-ext (λ i. sym (beq-false (isInside (start (holeAt o k) i) (o .outer)))))
+strays o k = ap (anyUp (points (holeAt o k))) (fun-ext (λ i. sym (beq-false (isInside (segmentStart (holeAt o k) i) (o .outer)))))
 
 lies : (o : Outline) (k l : ℕ) → liesIn o k l ≡ (not (eqb k l) && anyPoint (holeAt o k) (holeAt o l) true)
 unfolding liesIn anyPoint
 lies o k l =
     ap (λ (b : Bool). not (eqb k l) && b)
-    (ap (anyUp (points (holeAt o k))) (fun-ext (λ i. sym (beq-true (isInside (start (holeAt o k) i) (holeAt o l))))))
+    (ap (anyUp (points (holeAt o k))) (fun-ext (λ i. sym (beq-true (isInside (segmentStart (holeAt o k) i) (holeAt o l))))))
 
 or-false : {a b : Bool} → a ≡ false → b ≡ false → (a || b) ≡ false
 or-false e f = ap₂ (λ (a b : Bool). a || b) e f

@@ -8,8 +8,8 @@ ghost use Rattle.laws.specs.Loop.{anyUp};
 ghost use Rattle.exact.specs.Units.{units, Within};
 ghost use Rattle.domain.specs.Outline.{outline, points, holeAt, outlineRefusal};
 ghost use Rattle.domain.specs.Accepted.{PointWithin, LoopWithin};
-ghost use Rattle.orientation.specs.Orient.{place};
-ghost use Rattle.sound_outlines.specs.Sound.{start, end, overlap, parted, meets, foldsBack, foldsAt, clash, crossesItself, touch};
+ghost use Rattle.orientation.specs.Orient.{inUnits};
+ghost use Rattle.sound_outlines.specs.Sound.{segmentStart, segmentEnd, overlap, parted, meets, foldsBack, foldsAt, clash, crossesItself, touch};
 ghost use Rattle.sound_outlines.specs.Sound.{rayMeets, isInside, outlineSound};
 ghost use Rattle.sound_outlines.specs.Whole.{isWhole};
 ghost use Rattle.sound_outlines.specs.FoldsLaws.{isExtreme};
@@ -45,7 +45,7 @@ fn overlaps(u: f64, v: f64, s: f64, t: f64) -> bool
 // Whether c and d are on the same side of the line through a and b, neither of them on it.
 fn is_parted(a: Point, b: Point, c: Point, d: Point) -> bool
     requires { ⌜ PointWithin 1000 1000 a × PointWithin 1000 1000 b × PointWithin 1000 1000 c × PointWithin 1000 1000 d ⌝ }
-    ensures { λ r. ⌜ r ≡ parted (place a) (place b) (place c) (place d) ⌝ }
+    ensures { λ r. ⌜ r ≡ parted (inUnits a) (inUnits b) (inUnits c) (inUnits d) ⌝ }
 {
     let first = orientation::side(a, b, c);
     if first == 0 {
@@ -57,7 +57,7 @@ fn is_parted(a: Point, b: Point, c: Point, d: Point) -> bool
 // Whether they have a point in common, ends included.
 fn meets(a: Point, b: Point, c: Point, d: Point) -> bool
     requires { ⌜ PointWithin 1000 1000 a × PointWithin 1000 1000 b × PointWithin 1000 1000 c × PointWithin 1000 1000 d ⌝ }
-    ensures { λ r. ⌜ r ≡ meets (place a) (place b) (place c) (place d) ⌝ }
+    ensures { λ r. ⌜ r ≡ meets (inUnits a) (inUnits b) (inUnits c) (inUnits d) ⌝ }
 {
     if !overlaps(a.x, b.x, c.x, d.x) {
         return false;
@@ -88,7 +88,7 @@ fn is_extreme(u: f64, v: f64, w: f64) -> bool
 // Whether the way from a to b and on to c goes back on itself at b.
 fn folds_back(a: Point, b: Point, c: Point) -> bool
     requires { ⌜ PointWithin 1000 1000 a × PointWithin 1000 1000 b × PointWithin 1000 1000 c ⌝ }
-    ensures { λ r. ⌜ r ≡ foldsBack (place a) (place b) (place c) ⌝ }
+    ensures { λ r. ⌜ r ≡ foldsBack (inUnits a) (inUnits b) (inUnits c) ⌝ }
 {
     if is_extreme(a.x, b.x, c.x) {
         return orientation::side(a, b, c) == 0;
@@ -164,7 +164,7 @@ fn crosses_itself(s: &[f64]) -> bool
 // Whether the segment a to b meets some segment of the loop.
 fn meets_loop(a: Point, b: Point, t: &[f64]) -> bool
     requires { ⌜ PointWithin 1000 1000 a × PointWithin 1000 1000 b × LoopWithin (now t) ⌝ }
-    ensures { λ r. ⌜ r ≡ anyUp (points (now (t .entry))) (λ j. meets (place a) (place b) (start (now (t .entry)) j) (end (now (t .entry)) j)) ⌝ }
+    ensures { λ r. ⌜ r ≡ anyUp (points (now (t .entry))) (λ j. meets (inUnits a) (inUnits b) (segmentStart (now (t .entry)) j) (segmentEnd (now (t .entry)) j)) ⌝ }
 {
     let n = t.len() / 2;
     let mut j = 0;
@@ -198,7 +198,7 @@ fn touches(s: &[f64], t: &[f64]) -> bool
 // Whether the ray from p to the right meets the segment a to b, the lower end counted.
 fn ray_meets(p: Point, a: Point, b: Point) -> bool
     requires { ⌜ PointWithin 1000 1000 p × PointWithin 1000 1000 a × PointWithin 1000 1000 b ⌝ }
-    ensures { λ r. ⌜ r ≡ rayMeets (place p) (place a) (place b) ⌝ }
+    ensures { λ r. ⌜ r ≡ rayMeets (inUnits p) (inUnits a) (inUnits b) ⌝ }
 {
     if p.y < a.y {
         if p.y < b.y {
@@ -215,7 +215,7 @@ fn ray_meets(p: Point, a: Point, b: Point) -> bool
 // Whether p is inside the loop: the ray meets an odd number of its segments.
 fn is_inside(p: Point, s: &[f64]) -> bool
     requires { ⌜ PointWithin 1000 1000 p × LoopWithin (now s) ⌝ }
-    ensures { λ r. ⌜ r ≡ isInside (place p) (now (s .entry)) ⌝ }
+    ensures { λ r. ⌜ r ≡ isInside (inUnits p) (now (s .entry)) ⌝ }
 {
     let n = s.len() / 2;
     let mut inside = false;

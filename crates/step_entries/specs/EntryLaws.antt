@@ -115,9 +115,9 @@ module _ (o : Outline) (size : Float) (field : FieldRecord) (a b : ℕ) (xs ys :
   abbrev lent : State
   lent = lentState xs ys next prev origins quads edges k
 
-  pub lists-refused : n ≢ 0 → r ≡ refusedStep n
+  pub step-lists-refused : n ≢ 0 → r ≡ refusedStep n
       → HostSteps o size field a b lent origins r (lentState xs ys next prev origins quads edges (countsGiven k r)) origins
-  lists-refused h q = rw (q, ne-eqb n 0 h) (host-refused o size field a b lent origins e h)
+  step-lists-refused h q = rw (q, ne-eqb n 0 h) (host-refused o size field a b lent origins e h)
 
   pub lists-stepped : n ≡ 0 → (w : HandStep) (xs' ys' : List Float) (next' prev' after quads' edges' : List ℕ)
       → StepTaken o size field a b lent origins w (lentState xs' ys' next' prev' after quads' edges' (countsLeft k w)) after → r ≡ stepNumbers w

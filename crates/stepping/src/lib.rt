@@ -7,7 +7,7 @@ ghost use Rattle.domain.specs.Outline.{outline};
 ghost use Rattle.direction.specs.Record.{fieldRecord};
 ghost use Rattle.front.specs.State.{stateOf};
 ghost use Rattle.paving.specs.Attempt.{tryEdge};
-ghost use Rattle.attempts.specs.Seen.{seen, TryLent};
+ghost use Rattle.attempts.specs.Seen.{seenState, TryLent};
 ghost use Rattle.mesh_check.specs.Check.{lentState, allOff};
 ghost use Rattle.hand_steps.specs.Hand.{handRefusal, handled, settledOn, placeOn, newOrigins, countsLeft, StepTaken};
 ghost use Rattle.hand_steps.specs.Lent.{Around, OnFront, Settleable};
@@ -67,7 +67,7 @@ pub fn attempt_on<'a>(
 ) -> Attempt
     requires { ⌜ TryLent (outline (now outer) (now holes) (now lens)) [] grid (now values) size (now xs) (now ys) (now next) (now prev) (now edges) [] [] k ⌝ }
     ensures { λ r. ⌜ r ≡ tryEdge (outline (now (outer .entry)) (now (holes .entry)) (now (lens .entry))) size (fieldRecord grid (now (values .entry)) [])
-        (seen (now (xs .entry)) (now (ys .entry)) (now (next .entry)) (now (prev .entry)) (now (edges .entry)) k) a b ⌝ }
+        (seenState (now (xs .entry)) (now (ys .entry)) (now (next .entry)) (now (prev .entry)) (now (edges .entry)) k) a b ⌝ }
 {
     let none = &next[0..0];
     attempts::try_edge(

@@ -77,13 +77,13 @@ plus-other true l p q v sum h = rw (other-point l p q v (h refl))
 plus-other false l p q v sum h = refl
 
 -- node p is no neighbour of node (i, j)
-record Apart (g : Grid) (j i p : ℕ) : Type 0 where
+record NoNeighbour (g : Grid) (j i p : ℕ) : Type 0 where
   left : 0 < i → nodeAt g i j - 1 ≢ p
   right : i + 1 < g .nx → nodeAt g i j + 1 ≢ p
   under : 0 < j → nodeAt g i j - g .nx ≢ p
   over : j + 1 < g .ny → nodeAt g i j + g .nx ≢ p
 
-average-unread : (g : Grid) (j i p : ℕ) → Apart g j i p → Unread p (λ l. average g l j i)
+average-unread : (g : Grid) (j i p : ℕ) → NoNeighbour g j i p → Unread p (λ l. average g l j i)
 unfolding average neighbourSum
 average-unread g j i p h l v =
     rw (
@@ -96,7 +96,7 @@ average-unread g j i p h l v =
 -- ---- node (b, j) and node (a, j + 1), which is more than a column behind
 
 module _ (g : Grid) (marks : List ℕ) (j a b : ℕ) (behind : a + 1 < b) (column : b < g .nx) where
-  lower-apart : Apart g j b (nodeAt g a (j + 1))
+  lower-apart : NoNeighbour g j b (nodeAt g a (j + 1))
   lower-apart = record {
     left = λ t e. omega arith;
     right = λ t e. omega arith;
@@ -104,7 +104,7 @@ module _ (g : Grid) (marks : List ℕ) (j a b : ℕ) (behind : a + 1 < b) (colum
     over = λ t e. omega arith;
   }
 
-  upper-apart : Apart g (j + 1) a (nodeAt g b j)
+  upper-apart : NoNeighbour g (j + 1) a (nodeAt g b j)
   upper-apart = record {
     left = λ t e. omega arith;
     right = λ t e. omega arith;

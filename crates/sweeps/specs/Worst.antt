@@ -18,7 +18,6 @@ use Rattle.exact.specs.Units.{W, Val, val-of, sizeOf}
 use Rattle.exact.specs.Order.{lt-val, le-val, not-le-val}
 use Rattle.domain.specs.declared.Point.{Point}
 use Rattle.domain.specs.Outline.{pointAt}
-use Rattle.blocks.specs.ReachLaws.{max-fits}
 use Rattle.direction.specs.declared.Grid.{Grid}
 use Rattle.direction.specs.RecordLaws.{true-of}
 use Rattle.direction.specs.Record.{nodeAt}
@@ -167,6 +166,16 @@ max-number (fin s k d) (fin t m e) n = pick (lt (fin s k d) (fin t m e))
 change-fits : (old new : Point) → T (fits binary64 (change old new))
 unfolding change
 change-fits old new = add-fits binary64 (absF (new .x ⊖ old .x)) (absF (new .y ⊖ old .y))
+
+-- the greater of two floats of 64 bits is one
+max-fits : (x y : Float) → T (fits binary64 x) → T (fits binary64 y) → T (fits binary64 (maxF x y))
+unfolding maxF
+max-fits x y f g = decide (isNan x) (lt x y)
+  where
+    decide : (a b : Bool) → T (fits binary64 (cond a y (cond b y x)))
+    decide true b = g
+    decide false true = g
+    decide false false = f
 
 -- ---- the sweeps
 

@@ -8,10 +8,10 @@ use Rattle.numbers.specs.Root.{isqrtIn, rootUnits, root}
 use Rattle.numbers.specs.Float.{isFinite, absF, minF, maxF, clampF}
 use Rattle.numbers.specs.Whole.{floorInt, floorQuotient, ceilCount}
 use Rattle.exact.specs.Units.{W, sizeOf}
-use Rattle.exact.specs.Corner.{norm, cornerOk, step, cross, squaredLength, sineAboveThird, isShort}
+use Rattle.exact.specs.Corner.{norm, cornerOk, stepUnits, cross, squaredLength, sineAboveThird, isShort}
 use Rattle.topology.specs.Links.{linkOf}
 use Rattle.topology.specs.Walk.{prepend, walkBy}
-use Rattle.topology.specs.Listing.{addLoop, listing}
+use Rattle.topology.specs.Listing.{addLoop, longLoops}
 use Rattle.domain.specs.Outline.{holeStart, holeAt, loopAt, pointAt, pointAfter, anyFloat, misshapen, loopRefusal, loopsRefusal, farRefusal}
 use Rattle.domain.specs.Outline.{outlineRefusal, pointRefusal, queryRefusal}
 use Rattle.domain.specs.Queries.{rayCrosses, pointInPolygon, contains, squaredDistance, footOf, pointSegmentDistance, nearer, nearestInLoop}
@@ -56,11 +56,11 @@ unfolding isqrtIn rootUnits root isFinite absF minF maxF clampF floorInt floorQu
 openedNumbers = tt
 
 unfoldable pub openedExact : Unit {0}
-unfolding W sizeOf norm cornerOk step cross squaredLength sineAboveThird isShort
+unfolding W sizeOf norm cornerOk stepUnits cross squaredLength sineAboveThird isShort
 openedExact = tt
 
 unfoldable pub openedTopology : Unit {0}
-unfolding linkOf prepend walkBy addLoop listing
+unfolding linkOf prepend walkBy addLoop longLoops
 openedTopology = tt
 
 unfoldable pub openedDomain : Unit {0}

@@ -45,9 +45,9 @@ abbrev corners : ℕ → State
 corners last =
     linked 4 (zeroF ∷ oneF ∷ oneF ∷ zeroF ∷ []) (zeroF ∷ zeroF ∷ oneF ∷ oneF ∷ []) (1 ∷ 2 ∷ 3 ∷ last ∷ []) (3 ∷ 0 ∷ 1 ∷ 2 ∷ [])
 
-pub quad-fits : attemptQuad unit oneF (corners 0) 0 1 up up ≡ Quad (Reused 3) (Reused 2)
+pub unit-quad : attemptQuad unit oneF (corners 0) 0 1 up up ≡ Quad (Reused 3) (Reused 2)
 unfolding opened
-quad-fits = refl
+unit-quad = refl
 
 pub next-of-c-is-d : attemptQuad unit oneF (corners 2) 0 1 up up ≡ Nothing
 unfolding opened
@@ -62,13 +62,13 @@ narrow = linked 3 (toFloat 0 ∷ toFloat 2 ∷ toFloat 1 ∷ []) (toFloat 0 ∷ 
 abbrev triangle : Outline
 triangle = outline (toFloat 0 ∷ toFloat 0 ∷ toFloat 2 ∷ toFloat 0 ∷ toFloat 1 ∷ toFloat 4 ∷ []) [] []
 
-pub same-c : cornerC (toFloat 4) narrow 0 1 up ≡ Reused 2
+pub same-node-c : cornerC (toFloat 4) narrow 0 1 up ≡ Reused 2
 unfolding opened
-same-c = refl
+same-node-c = refl
 
-pub same-d : cornerD (toFloat 4) narrow 0 1 up ≡ Reused 2
+pub same-node-d : cornerD (toFloat 4) narrow 0 1 up ≡ Reused 2
 unfolding opened
-same-d = refl
+same-node-d = refl
 
 pub same-corner : attemptQuad triangle (toFloat 4) narrow 0 1 up up ≡ Nothing
 unfolding opened

@@ -14,7 +14,7 @@ use Rattle.lent_mesh.specs.Mesh.{Mesh, meshOf, quadOf, quads-few}
 use Rattle.thresholds.specs.Figures.{noThreshold, thresholdAt, stands, isComplete, countAt, sumAt, countAfresh, sumAfresh, names, shareOf, moved}
 use Rattle.thresholds.specs.Figures.{Results, unlessRefused, refusalAt, withThreshold, beginAnswer, enterAnswer, withdrawAnswer}
 use Rattle.thresholds.specs.Figures.{Event, enter, withdraw, eventAnswer, afterEvents}
-use Rattle.thresholds.specs.Laws.{share-law, share-le, count-same, sum-same, count-small, sum-small, moved-is}
+use Rattle.thresholds.specs.Laws.{share-law, share-le, count-at-same, sum-at-same, count-small, sum-afresh-small, moved-is}
 
 -- the figures are those worked out afresh from the list
 pub record Afresh (m : Mesh) (x : Results) : Type 0 where
@@ -55,10 +55,10 @@ module _ (m : Mesh) (few : m .quads ≤ 250000) where
       let t = x .thresholds in
       let u = set t id v in
       record {
-        count = figure-kept (countAt m t) (countAt m u) id (x .count) (count-same t id v m) (omega (arith, count-small m t few))
+        count = figure-kept (countAt m t) (countAt m u) id (x .count) (count-at-same t id v m) (omega (arith, count-small m t few))
             (omega (arith, count-small m u few)) (a .count);
-        sum = figure-kept (sumAt m t) (sumAt m u) id (x .sum) (sum-same t id v m) (omega (arith, sum-small m t few))
-            (omega (arith, sum-small m u few)) (a .sum);
+        sum = figure-kept (sumAt m t) (sumAt m u) id (x .sum) (sum-at-same t id v m) (omega (arith, sum-afresh-small m t few))
+            (omega (arith, sum-afresh-small m u few)) (a .sum);
       }
 
   refused-kept : (refusal : ℕ) (x y : Results) → Afresh m x → Afresh m y → Afresh m (unlessRefused refusal x y .results)
@@ -133,4 +133,4 @@ module _ (nodes : ℕ) (xs ys : List Float) (count : ℕ) (quads : List ℕ) whe
   pub figures-small : (t : List ℕ)
       → (countAfresh (meshOf nodes xs ys count quads) t ≤ 250000) × (sumAfresh (meshOf nodes xs ys count quads) t ≤ 500000000)
   figures-small t =
-      let m = meshOf nodes xs ys count quads in (count-small m t (quads-few count quads), sum-small m t (quads-few count quads))
+      let m = meshOf nodes xs ys count quads in (count-small m t (quads-few count quads), sum-afresh-small m t (quads-few count quads))

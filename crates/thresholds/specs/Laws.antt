@@ -78,13 +78,13 @@ module _ (t : List ℕ) (id v : ℕ) where
   unfolding quadTotal
   quad-total-same q e = let p = four-same q e in rw (p .0, p .1, p .2, p .3)
 
-  pub count-same : (m : Mesh) (k : ℕ) → names (quadOf m k) id ≡ false → countAt m t k ≡ countAt m (set t id v) k
+  pub count-at-same : (m : Mesh) (k : ℕ) → names (quadOf m k) id ≡ false → countAt m t k ≡ countAt m (set t id v) k
   unfolding countAt
-  count-same m k e = rw (complete-same (m .nodes) (quadOf m k) e)
+  count-at-same m k e = rw (complete-same (m .nodes) (quadOf m k) e)
 
-  pub sum-same : (m : Mesh) (k : ℕ) → names (quadOf m k) id ≡ false → sumAt m t k ≡ sumAt m (set t id v) k
+  pub sum-at-same : (m : Mesh) (k : ℕ) → names (quadOf m k) id ≡ false → sumAt m t k ≡ sumAt m (set t id v) k
   unfolding sumAt
-  sum-same m k e = rw (complete-same (m .nodes) (quadOf m k) e, quad-total-same (quadOf m k) e)
+  sum-at-same m k e = rw (complete-same (m .nodes) (quadOf m k) e, quad-total-same (quadOf m k) e)
 
 -- ---- how large
 
@@ -154,9 +154,9 @@ pub count-small : (m : Mesh) (t : List ℕ) → m .quads ≤ 250000 → countAfr
 unfolding countAfresh
 count-small m t h = omega (arith, sum-most (m .quads) 1 (countAt m t) (count-at-most m t))
 
-pub sum-small : (m : Mesh) (t : List ℕ) → m .quads ≤ 250000 → sumAfresh m t ≤ 500000000
+pub sum-afresh-small : (m : Mesh) (t : List ℕ) → m .quads ≤ 250000 → sumAfresh m t ≤ 500000000
 unfolding sumAfresh
-sum-small m t h = omega (arith, sum-most (m .quads) 2000 (sumAt m t) (sum-at-most m t))
+sum-afresh-small m t h = omega (arith, sum-most (m .quads) 2000 (sumAt m t) (sum-at-most m t))
 
 -- what is lost and won moves a figure to the new one
 pub moved-is : (x y lost won : ℕ) → y + lost ≡ x + won → lost ≤ x → x < 4294967296 → y < 4294967296 → moved x lost won ≡ y

@@ -7,7 +7,7 @@ use native.Mathlib.Omega.{arith}
 use lib.IntN.{ℤ, pos, negsuc, negℤ, _+ℤ_, +ℤ-assoc, +ℤ-comm, +ℤ-idl, +ℤ-idr, +ℤ-invr, negℤ-+ℤ, pos-+ℤ-pos}
 use Rattle.laws.specs.Integer.{+ℤ-swap}
 use Rattle.topology.specs.Sums.{total, pathSum, loopSum, frontSum}
-use Rattle.topology.specs.Changes.{removed, added, Changed}
+use Rattle.topology.specs.Changes.{removedSum, addedSum, Changed}
 use Rattle.topology.specs.Placing.{Kind, reused, fresh, placing}
 
 -- ---- sums over ℤ
@@ -89,7 +89,7 @@ quadSum p a b d c = p a b + p b d + p d c + p c a
 
 -- each side of the quad comes off, or goes on reversed
 sides : (kc kd : Kind) (p : ℕ → ℕ → ℕ) (a b c d : ℕ)
-    → removed p (placing kc kd a b c d) + added (flip p) (placing kc kd a b c d) ≡ quadSum p a b d c
+    → removedSum p (placing kc kd a b c d) + addedSum (flip p) (placing kc kd a b c d) ≡ quadSum p a b d c
 sides reused reused p a b c d = omega arith
 sides reused fresh p a b c d = omega arith
 sides fresh reused p a b c d = omega arith

@@ -31,15 +31,15 @@ reversed (remove u v ∷ cs) = remove v u ∷ reversed cs
 reversed (add u v ∷ cs) = add v u ∷ reversed cs
 
 -- a weight over the edges removed, and over those added
-abbrev pub removed : (ℕ → ℕ → ℕ) → List Change → ℕ
-removed w [] = 0
-removed w (remove u v ∷ cs) = w u v + removed w cs
-removed w (add u v ∷ cs) = removed w cs
+abbrev pub removedSum : (ℕ → ℕ → ℕ) → List Change → ℕ
+removedSum w [] = 0
+removedSum w (remove u v ∷ cs) = w u v + removedSum w cs
+removedSum w (add u v ∷ cs) = removedSum w cs
 
-abbrev pub added : (ℕ → ℕ → ℕ) → List Change → ℕ
-added w [] = 0
-added w (remove u v ∷ cs) = added w cs
-added w (add u v ∷ cs) = w u v + added w cs
+abbrev pub addedSum : (ℕ → ℕ → ℕ) → List Change → ℕ
+addedSum w [] = 0
+addedSum w (remove u v ∷ cs) = addedSum w cs
+addedSum w (add u v ∷ cs) = w u v + addedSum w cs
 
 -- each edge removed is there at its turn, and each edge added goes out of a node that has no link then
 abbrev pub Valid : (ℕ → ℕ) → List Change → Type 0
@@ -48,44 +48,44 @@ Valid f (remove u v ∷ cs) = (f u ≡ v) × Valid (update f u off) cs
 Valid f (add u v ∷ cs) = (f u ≡ off) × Valid (update f u v) cs
 
 -- the nodes of an edge are among the first n
-abbrev pub Within : ℕ → Change → Type 0
-Within n (remove u v) = (u < n) × (v < n)
-Within n (add u v) = (u < n) × (v < n)
+abbrev pub AmongNodes : ℕ → Change → Type 0
+AmongNodes n (remove u v) = (u < n) × (v < n)
+AmongNodes n (add u v) = (u < n) × (v < n)
 
 -- ---- laws
 
 -- a link counts for the edges added, and no more for those removed
 stored-law : (f : ℕ → ℕ) (cs : List Change) → Valid f cs → (u v : ℕ) → v ≢ off
-    → delta (stored update cs f u) v + removed (at u v) cs ≡ delta (f u) v + added (at u v) cs
+    → delta (stored update cs f u) v + removedSum (at u v) cs ≡ delta (f u) v + addedSum (at u v) cs
 stored-law f [] ok u v h = refl
 stored-law f (remove x y ∷ cs) ok u v h =
     omega (arith, stored-law (update f x off) cs (ok .1) u v h, rw (ok .0) at (update-law f x off u v), at-off u v x h)
 stored-law f (add x y ∷ cs) ok u v h =
     omega (arith, stored-law (update f x y) cs (ok .1) u v h, rw (ok .0) at (update-law f x y u v), at-off u v x h)
 
-removed-reversed : (u v : ℕ) (cs : List Change) → removed (at u v) cs ≡ removed (at v u) (reversed cs)
+removed-reversed : (u v : ℕ) (cs : List Change) → removedSum (at u v) cs ≡ removedSum (at v u) (reversed cs)
 removed-reversed u v [] = refl
 removed-reversed u v (remove x y ∷ cs) = omega (arith, at-flip u v x y, removed-reversed u v cs)
 removed-reversed u v (add x y ∷ cs) = removed-reversed u v cs
 
-added-reversed : (u v : ℕ) (cs : List Change) → added (at u v) cs ≡ added (at v u) (reversed cs)
+added-reversed : (u v : ℕ) (cs : List Change) → addedSum (at u v) cs ≡ addedSum (at v u) (reversed cs)
 added-reversed u v [] = refl
 added-reversed u v (remove x y ∷ cs) = added-reversed u v cs
 added-reversed u v (add x y ∷ cs) = omega (arith, at-flip u v x y, added-reversed u v cs)
 
 -- an edge added goes out of one of the first n nodes
-added-within : (n : ℕ) (cs : List Change) → All (Within n) cs → (u v : ℕ) → n ≤ u → added (at u v) cs ≡ 0
+added-within : (n : ℕ) (cs : List Change) → All (AmongNodes n) cs → (u v : ℕ) → n ≤ u → addedSum (at u v) cs ≡ 0
 added-within n [] i u v h = refl
 added-within n (remove x y ∷ cs) i u v h = added-within n cs (i .1) u v h
 added-within n (add x y ∷ cs) i u v h = omega (arith, added-within n cs (i .1) u v h, at-other u v x y (omega (arith, i .0 .0)))
 
-pub within-reversed : (n : ℕ) (cs : List Change) → All (Within n) cs → All (Within n) (reversed cs)
+pub within-reversed : (n : ℕ) (cs : List Change) → All (AmongNodes n) cs → All (AmongNodes n) (reversed cs)
 within-reversed n [] i = tt
 within-reversed n (remove u v ∷ cs) i = ((i .0 .1, i .0 .0), within-reversed n cs (i .1))
 within-reversed n (add u v ∷ cs) i = ((i .0 .1, i .0 .0), within-reversed n cs (i .1))
 
 -- stores in a list of links set the links
-pub stored-links : (n : ℕ) (l : List ℕ) (cs : List Change) → All (Within n) cs → n ≤ length l
+pub stored-links : (n : ℕ) (l : List ℕ) (cs : List Change) → All (AmongNodes n) cs → n ≤ length l
     → linkOf n (stored set cs l) ≡ stored update cs (linkOf n l)
 stored-links n l [] i h = refl
 stored-links n l (remove u v ∷ cs) i h =
@@ -99,7 +99,7 @@ stored-length (remove u v ∷ cs) l = stored-length cs (set l u off) ∙ length-
 stored-length (add u v ∷ cs) l = stored-length cs (set l u v) ∙ length-set l u v
 
 -- places past the first n keep their contents
-pub stored-past : (n : ℕ) (cs : List Change) (l : List ℕ) → All (Within n) cs → drop n (stored set cs l) ≡ drop n l
+pub stored-past : (n : ℕ) (cs : List Change) (l : List ℕ) → All (AmongNodes n) cs → drop n (stored set cs l) ≡ drop n l
 stored-past n [] l i = refl
 stored-past n (remove u v ∷ cs) l i = stored-past n cs (set l u off) (i .1) ∙ drop-set-lt n l u off (i .0 .0)
 stored-past n (add u v ∷ cs) l i = stored-past n cs (set l u v) (i .1) ∙ drop-set-lt n l u v (i .0 .0)
@@ -142,16 +142,16 @@ off-kept n next prev u hn hp o =
 -- What changes leave: the loops ms where ls were.
 pub record Changed (n : ℕ) (next prev : List ℕ) (ls ms : List (List ℕ)) (cs : List Change) : Type 0 where
   -- each change is of nodes, and can be made at its turn
-  pub within : All (Within n) cs
+  pub within : All (AmongNodes n) cs
   pub steps : Valid (linkOf n next) cs
   -- whatever is summed over the edges: the loops after and what came off are the loops before and what went on
-  pub sums : (w : ℕ → ℕ → ℕ) → frontSum w ms + removed w cs ≡ frontSum w ls + added w cs
+  pub sums : (w : ℕ → ℕ → ℕ) → frontSum w ms + removedSum w cs ≡ frontSum w ls + addedSum w cs
   -- the links after are inverse to each other, and are those of the loops after, which are even
   pub front : FrontOf n (stored set cs next) (stored set (reversed cs) prev) ms
 
 links-changed : (n : ℕ) (f g : ℕ → ℕ) (ls ms : List (List ℕ)) (cs : List Change) → Front n f g ls
-    → All (Within n) cs → Valid f cs → Valid g (reversed cs) → All Even ms
-    → ((w : ℕ → ℕ → ℕ) → frontSum w ms + removed w cs ≡ frontSum w ls + added w cs)
+    → All (AmongNodes n) cs → Valid f cs → Valid g (reversed cs) → All Even ms
+    → ((w : ℕ → ℕ → ℕ) → frontSum w ms + removedSum w cs ≡ frontSum w ls + addedSum w cs)
     → Front n (stored update cs f) (stored update (reversed cs) g) ms
 links-changed n f g ls ms cs F i vf vg evens sums =
     let L = F .loops in
@@ -176,8 +176,8 @@ links-changed n f g ls ms cs F i vf vg evens sums =
 -- even loops whose edges are those of ls but for the changes are the loops of the changed links
 pub changed : (n : ℕ) (next prev : List ℕ) (ls ms : List (List ℕ)) (cs : List Change) → FrontOf n next prev ls
     → n ≤ length next → n ≤ length prev
-    → All (Within n) cs → Valid (linkOf n next) cs → Valid (linkOf n prev) (reversed cs) → All Even ms
-    → ((w : ℕ → ℕ → ℕ) → frontSum w ms + removed w cs ≡ frontSum w ls + added w cs)
+    → All (AmongNodes n) cs → Valid (linkOf n next) cs → Valid (linkOf n prev) (reversed cs) → All Even ms
+    → ((w : ℕ → ℕ → ℕ) → frontSum w ms + removedSum w cs ≡ frontSum w ls + addedSum w cs)
     → Changed n next prev ls ms cs
 changed n next prev ls ms cs F hn hp i vf vg evens sums =
     record {

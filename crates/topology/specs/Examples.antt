@@ -12,7 +12,7 @@ use Rattle.topology.specs.Changes.{stored, reversed}
 use Rattle.topology.specs.Laying.{joins}
 use Rattle.topology.specs.Placing.{reused, fresh, placing}
 use Rattle.topology.specs.Walk.{walkBy, prepend, FromSmallest}
-use Rattle.topology.specs.Listing.{addLoop, listing, walks}
+use Rattle.topology.specs.Listing.{addLoop, longLoops, walks}
 use Rattle.topology.specs.LongLoops.{LongLoops}
 
 -- the links of the loop 0 1 2 3, with two more nodes off the front
@@ -50,7 +50,7 @@ two-fresh : stored set (placing fresh fresh 0 1 4 5) next ≡ 4 ∷ 2 ∷ 3 ∷ 
 two-fresh = refl
 
 two-fresh-loops : walks 3 6 6 (linkOf 6 (stored set (placing fresh fresh 0 1 4 5) next)) ≡ (0 ∷ 4 ∷ 5 ∷ 1 ∷ 2 ∷ 3 ∷ []) ∷ []
-unfolding listing forUp addLoop walkBy linkOf prepend
+unfolding longLoops forUp addLoop walkBy linkOf prepend
 two-fresh-loops = refl
 
 -- one reused corner, c or d: the loop has as many nodes as before
@@ -68,11 +68,11 @@ two-reused-back : stored set (reversed (placing reused reused 0 1 3 2)) prev ≡
 two-reused-back = refl
 
 two-reused-loops : walks 1 6 6 (linkOf 6 (stored set (placing reused reused 0 1 3 2) next)) ≡ (2 ∷ 3 ∷ []) ∷ []
-unfolding listing forUp addLoop walkBy linkOf prepend
+unfolding longLoops forUp addLoop walkBy linkOf prepend
 two-reused-loops = refl
 
 two-reused-none : walks 3 6 6 (linkOf 6 (stored set (placing reused reused 0 1 3 2) next)) ≡ []
-unfolding listing forUp addLoop walkBy linkOf prepend
+unfolding longLoops forUp addLoop walkBy linkOf prepend
 two-reused-none = refl
 
 -- ---- what is listed

@@ -41,20 +41,20 @@ headOr z [] = z
 headOr z (x ∷ xs) = x
 
 -- the path from u along vs to z has the edge a to b: a stands in u ∷ vs, and b is what follows it
-record Split (a b u : ℕ) (vs : List ℕ) (z : ℕ) : Type 0 where
+record EdgeSplit (a b u : ℕ) (vs : List ℕ) (z : ℕ) : Type 0 where
   before : List ℕ
   after : List ℕ
   whole : u ∷ vs ≡ before ++ a ∷ after
   next : b ≡ headOr z after
 
-split : (a b u : ℕ) (vs : List ℕ) (z : ℕ) → 0 < pathSum (at a b) u vs z → Split a b u vs z
+split : (a b u : ℕ) (vs : List ℕ) (z : ℕ) → 0 < pathSum (at a b) u vs z → EdgeSplit a b u vs z
 unfolding pathSum
 split a b u [] z h =
     let e = at-is a b u z h in
     record { before = []; after = []; whole = ap (λ (x : ℕ). x ∷ []) (e .0); next = sym (e .1) }
 split a b u (v ∷ vs) z h = by (at a b u v) refl (split a b v vs z)
   where
-    by : (k : ℕ) → at a b u v ≡ k → (0 < pathSum (at a b) v vs z → Split a b v vs z) → Split a b u (v ∷ vs) z
+    by : (k : ℕ) → at a b u v ≡ k → (0 < pathSum (at a b) v vs z → EdgeSplit a b v vs z) → EdgeSplit a b u (v ∷ vs) z
     by zero e later =
         let s = later (omega (arith, e)) in
         record { before = u ∷ s .before; after = s .after; whole = ap (λ (l : List ℕ). u ∷ l) (s .whole); next = s .next }

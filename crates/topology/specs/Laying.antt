@@ -9,7 +9,7 @@ use lib.ListN.{length}
 use Rattle.topology.specs.Sums.{All, total, pathSum, loopSum, Even}
 use Rattle.topology.specs.Links.{off, linkOf, update, delta-other, update-other, link-out}
 use Rattle.topology.specs.Front.{FrontOf}
-use Rattle.topology.specs.Changes.{Change, add, reversed, removed, added, Valid, Within, OffFront, Changed, changed}
+use Rattle.topology.specs.Changes.{Change, add, reversed, removedSum, addedSum, Valid, AmongNodes, OffFront, Changed, changed}
 
 -- ---- definitions
 
@@ -25,16 +25,16 @@ Distinct (v ∷ vs) = All (λ u. u ≢ v) vs × Distinct vs
 
 -- ---- laws
 
-joins-removed : (w : ℕ → ℕ → ℕ) (u : ℕ) (vs : List ℕ) (z : ℕ) → removed w (joins u vs z) ≡ 0
+joins-removed : (w : ℕ → ℕ → ℕ) (u : ℕ) (vs : List ℕ) (z : ℕ) → removedSum w (joins u vs z) ≡ 0
 joins-removed w u [] z = refl
 joins-removed w u (v ∷ vs) z = joins-removed w v vs z
 
-joins-added : (w : ℕ → ℕ → ℕ) (u : ℕ) (vs : List ℕ) (z : ℕ) → added w (joins u vs z) ≡ pathSum w u vs z
+joins-added : (w : ℕ → ℕ → ℕ) (u : ℕ) (vs : List ℕ) (z : ℕ) → addedSum w (joins u vs z) ≡ pathSum w u vs z
 unfolding pathSum
 joins-added w u [] z = omega arith
 joins-added w u (v ∷ vs) z = omega (arith, joins-added w v vs z)
 
-joins-within : (n u : ℕ) (vs : List ℕ) (z : ℕ) → u < n → All (λ v. v < n) vs → z < n → All (Within n) (joins u vs z)
+joins-within : (n u : ℕ) (vs : List ℕ) (z : ℕ) → u < n → All (λ v. v < n) vs → z < n → All (AmongNodes n) (joins u vs z)
 joins-within n u [] z hu h hz = ((hu, hz), tt)
 joins-within n u (v ∷ vs) z hu h hz = ((hu, h .0), joins-within n v vs z (h .0) (h .1) hz)
 

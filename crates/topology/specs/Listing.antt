@@ -13,7 +13,7 @@ use Rattle.topology.specs.Sums.{All, total, loopSum, frontSum, Even, tot
 use Rattle.topology.specs.Links.{at}
 use Rattle.topology.specs.Front.{Loops, loops-same}
 use Rattle.topology.specs.Walk.{walkBy, count, least, turnTo, loopFrom, Cycle}
-use Rattle.topology.specs.Walk.{least-counts, turn-sum, turn-length, cycles, once, nodes, from-none, walk-loop}
+use Rattle.topology.specs.Walk.{least-counts, turn-sum, turn-to-length, cycles, once, nodes, from-none, walk-loop}
 
 -- ---- definitions
 
@@ -22,12 +22,12 @@ unfoldable pub addLoop : ℕ → List ℕ → List (List ℕ) → List (List ℕ
 addLoop k l ls = cond (leb k (length l)) (ls ++ l ∷ []) ls
 
 -- of the loops L 0, .., L (n - 1) those of k nodes or more, in order
-unfoldable pub listing : ℕ → ℕ → (ℕ → List ℕ) → List (List ℕ)
-listing k n L = forUp n (λ u ls. addLoop k (L u) ls) []
+unfoldable pub longLoops : ℕ → ℕ → (ℕ → List ℕ) → List (List ℕ)
+longLoops k n L = forUp n (λ u ls. addLoop k (L u) ls) []
 
 -- the loops of k nodes or more that the walks along f find from n nodes, each of m nodes at most
 abbrev pub walks : ℕ → ℕ → ℕ → (ℕ → ℕ) → List (List ℕ)
-walks k n m f = listing k n (λ u. walkBy f m u u)
+walks k n m f = longLoops k n (λ u. walkBy f m u u)
 
 -- r of a loop that is long enough to be listed, else 0
 unfoldable pub ifListed : ℕ → (List ℕ → ℕ) → List ℕ → ℕ
@@ -94,7 +94,7 @@ module _ (f : ℕ → ℕ) (k : ℕ) (r : List ℕ → ℕ) (turn : (u : ℕ) (l
     (ls : List (List ℕ)) (R : All (Cycle f) ls) where
   listed-turn : (u : ℕ) (l : List ℕ) → ifListed (suc k) r (turnTo u l) ≡ ifListed (suc k) r l
   unfolding ifListed
-  listed-turn u l = rw (turn-length u l, turn u l)
+  listed-turn u l = rw (turn-to-length u l, turn u l)
 
   listed-nil : ifListed (suc k) r [] ≡ 0
   unfolding ifListed
@@ -102,15 +102,15 @@ module _ (f : ℕ → ℕ) (k : ℕ) (r : List ℕ → ℕ) (turn : (u : ℕ) (l
 
   -- the loops whose smallest id is below n are listed from the first n nodes
   pub total-listing : ((u : ℕ) → total (count u) ls ≤ 1) → (n : ℕ)
-      → total r (listing (suc k) n (λ u. loopFrom u ls)) ≡ total (λ l. cond (ltb (least l) n) (ifListed (suc k) r l) 0) ls
-  unfolding listing forUp total
+      → total r (longLoops (suc k) n (λ u. loopFrom u ls)) ≡ total (λ l. cond (ltb (least l) n) (ifListed (suc k) r l) 0) ls
+  unfolding longLoops forUp total
   total-listing once zero =
       sym (total-zero (λ l. cond (ltb (least l) 0) (ifListed (suc k) r l) 0) (λ l. rw (le-ltb (least l) 0 (omega arith))) ls)
   total-listing once (suc n) =
       let p = ifListed (suc k) r in
       omega (
         arith,
-        total-add r (suc k) (loopFrom n ls) (listing (suc k) n (λ u. loopFrom u ls)),
+        total-add r (suc k) (loopFrom n ls) (longLoops (suc k) n (λ u. loopFrom u ls)),
         total-from f p listed-nil listed-turn n ls R (once n),
         total-ext _ _ (λ l. below-suc (least l) n (p l)) ls,
         total-sum (λ l. cond (ltb (least l) n) (p l) 0) (λ l. cond (eqb (least l) n) (p l) 0) ls,
@@ -135,9 +135,9 @@ listed-all f r [] R = refl
 listed-all f r ([] ∷ ls) R = absurd (R .0)
 listed-all f r ((x ∷ xs) ∷ ls) R = rw (le-leb 1 (suc (length xs)) (omega arith), listed-all f r ls (R .1))
 
-pub all-append : (P : List ℕ → Type 0) (ls : List (List ℕ)) (l : List ℕ) → All P ls → P l → All P (ls ++ l ∷ [])
-all-append P [] l a p = (p, tt)
-all-append P (x ∷ ls) l a p = (a .0, all-append P ls l (a .1) p)
+pub all-snoc : (P : List ℕ → Type 0) (ls : List (List ℕ)) (l : List ℕ) → All P ls → P l → All P (ls ++ l ∷ [])
+all-snoc P [] l a p = (p, tt)
+all-snoc P (x ∷ ls) l a p = (a .0, all-snoc P ls l (a .1) p)
 
 -- an even loop, turned or not there, has an even number of nodes
 even-from : (u : ℕ) (ls : List (List ℕ)) → All Even ls → length (loopFrom u ls) % 2 ≡ 0
@@ -146,25 +146,25 @@ even-from u [] e = refl
 even-from u (l ∷ ls) e = by (eqb (least l) u) (even-from u ls (e .1))
   where
     by : (b : Bool) → length (loopFrom u ls) % 2 ≡ 0 → length (cond b (turnTo u l) (loopFrom u ls)) % 2 ≡ 0
-    by true h = rw (turn-length u l) (e .0 .even)
+    by true h = rw (turn-to-length u l) (e .0 .even)
     by false h = h
 
-listing-even : (k n : ℕ) (L : ℕ → List ℕ) → ((u : ℕ) → length (L u) % 2 ≡ 0) → All Even (listing (suc k) n L)
-unfolding listing forUp addLoop
+listing-even : (k n : ℕ) (L : ℕ → List ℕ) → ((u : ℕ) → length (L u) % 2 ≡ 0) → All Even (longLoops (suc k) n L)
+unfolding longLoops forUp addLoop
 listing-even k zero L h = tt
 listing-even k (suc n) L h = by (leb (suc k) (length (L n))) refl (listing-even k n L h)
   where
-    by : (b : Bool) → leb (suc k) (length (L n)) ≡ b → All Even (listing (suc k) n L)
-        → All Even (cond b (listing (suc k) n L ++ L n ∷ []) (listing (suc k) n L))
+    by : (b : Bool) → leb (suc k) (length (L n)) ≡ b → All Even (longLoops (suc k) n L)
+        → All Even (cond b (longLoops (suc k) n L ++ L n ∷ []) (longLoops (suc k) n L))
     by true e a =
         let long = leb-true (suc k) (length (L n)) e in
-        all-append Even (listing (suc k) n L) (L n) a (record { even = h n; two = omega (arith, h n) })
+        all-snoc Even (longLoops (suc k) n L) (L n) a (record { even = h n; two = omega (arith, h n) })
     by false e a = a
 
 -- ---- the theorems
 
 -- ms lists the loops ls of the links f: as many, of the same edges, and loops of the links themselves
-pub record Listed (n : ℕ) (f : ℕ → ℕ) (ls ms : List (List ℕ)) : Type 0 where
+pub record ListsLoops (n : ℕ) (f : ℕ → ℕ) (ls ms : List (List ℕ)) : Type 0 where
   pub number : length ms ≡ length ls
   pub sums : (w : ℕ → ℕ → ℕ) → frontSum w ms ≡ frontSum w ls
   pub loops : Loops n f ms
@@ -172,8 +172,8 @@ pub record Listed (n : ℕ) (f : ℕ → ℕ) (ls ms : List (List ℕ)) : Type 0
 -- ls are the loops of the links f, and have m edges at most
 module _ (n : ℕ) (f : ℕ → ℕ) (ls : List (List ℕ)) (L : Loops n f ls) (m : ℕ) (few : total length ls ≤ m) where
   -- the walks list the loops, each from its smallest id, in the order of these ids
-  pub walks-list : (k : ℕ) → walks k n m f ≡ listing k n (λ u. loopFrom u ls)
-  walks-list k = ap (listing k n) (fun-ext (λ u. walk-loop n f ls L m u few))
+  pub walks-list : (k : ℕ) → walks k n m f ≡ longLoops k n (λ u. loopFrom u ls)
+  walks-list k = ap (longLoops k n) (fun-ext (λ u. walk-loop n f ls L m u few))
 
   -- what does not change when a loop is turned sums up over the list to the sum over the loops of k + 1 nodes or more
   pub walks-total : (k : ℕ) (r : List ℕ → ℕ) → ((u : ℕ) (l : List ℕ) → r (turnTo u l) ≡ r l)
@@ -191,7 +191,7 @@ module _ (n : ℕ) (f : ℕ → ℕ) (ls : List (List ℕ)) (L : Loops n f ls) (
   walks-sums w = walks-total 0 (loopSum w) (turn-sum w) ∙ listed-all f (loopSum w) ls (cycles n f ls L)
 
   -- those of one node or more are all loops
-  pub walks-all : Listed n f ls (walks 1 n m f)
+  pub walks-all : ListsLoops n f ls (walks 1 n m f)
   walks-all =
       record {
         number =

@@ -13,8 +13,8 @@ use Rattle.laws.specs.Loop.{forUp}
 use Rattle.topology.specs.Sums.{All, Some, total, Even}
 use Rattle.topology.specs.Front.{Loops, headOr}
 use Rattle.topology.specs.Walk.{walkBy, count, least, turnTo, loopFrom, Cycle}
-use Rattle.topology.specs.Walk.{FromSmallest, least-counts, turn-smallest, turn-head, turn-length, cycles, once, nodes}
-use Rattle.topology.specs.Listing.{addLoop, listing, walks, all-append, walks-list}
+use Rattle.topology.specs.Walk.{FromSmallest, least-counts, turn-smallest, turn-head, turn-to-length, cycles, once, nodes}
+use Rattle.topology.specs.Listing.{addLoop, longLoops, walks, all-snoc, walks-list}
 use Rattle.topology.specs.Pigeonhole.{ids-most}
 
 -- ---- the statement
@@ -77,59 +77,59 @@ some-last P (m ∷ ms) l p = inr (some-last P ms l p)
 
 rising-append : (ms : List (List ℕ)) (l : List ℕ) → Rising ms → All (λ m. headOr 0 m < headOr 0 l) ms → Rising (ms ++ l ∷ [])
 rising-append [] l r h = (tt, tt)
-rising-append (m ∷ ms) l r h = (all-append _ ms l (r .0) (h .0), rising-append ms l (r .1) (h .1))
+rising-append (m ∷ ms) l r h = (all-snoc _ ms l (r .0) (h .0), rising-append ms l (r .1) (h .1))
 
 -- ---- of the loops L 0, .., L (n - 1) those of three nodes or more
 
 module _ (L : ℕ → List ℕ) where
   -- what holds of each of them holds of what is listed
-  listing-each : (P : List ℕ → Type 0) → ((u : ℕ) → 3 ≤ length (L u) → P (L u)) → (n : ℕ) → All P (listing 3 n L)
-  unfolding listing forUp addLoop
+  listing-each : (P : List ℕ → Type 0) → ((u : ℕ) → 3 ≤ length (L u) → P (L u)) → (n : ℕ) → All P (longLoops 3 n L)
+  unfolding longLoops forUp addLoop
   listing-each P h zero = tt
   listing-each P h (suc n) = by (leb 3 (length (L n))) refl (listing-each P h n)
     where
-      by : (b : Bool) → leb 3 (length (L n)) ≡ b → All P (listing 3 n L) → All P (cond b (listing 3 n L ++ L n ∷ []) (listing 3 n L))
-      by true e a = all-append P (listing 3 n L) (L n) a (h n (leb-true 3 (length (L n)) e))
+      by : (b : Bool) → leb 3 (length (L n)) ≡ b → All P (longLoops 3 n L) → All P (cond b (longLoops 3 n L ++ L n ∷ []) (longLoops 3 n L))
+      by true e a = all-snoc P (longLoops 3 n L) (L n) a (h n (leb-true 3 (length (L n)) e))
       by false e a = a
 
   -- and each is listed
-  listing-some : (P : List ℕ → Type 0) (u n : ℕ) → u < n → 3 ≤ length (L u) → P (L u) → Some P (listing 3 n L)
-  unfolding listing forUp addLoop
+  listing-some : (P : List ℕ → Type 0) (u n : ℕ) → u < n → 3 ≤ length (L u) → P (L u) → Some P (longLoops 3 n L)
+  unfolding longLoops forUp addLoop
   listing-some P u zero h long p = absurd (omega arith)
   listing-some P u (suc n) h long p = by (eqb u n) refl (leb 3 (length (L n))) refl (listing-some P u n)
     where
       by : (s : Bool) → eqb u n ≡ s → (b : Bool) → leb 3 (length (L n)) ≡ b
-          → (u < n → 3 ≤ length (L u) → P (L u) → Some P (listing 3 n L))
-          → Some P (cond b (listing 3 n L ++ L n ∷ []) (listing 3 n L))
-      by true q true e later = some-last P (listing 3 n L) (L n) (subst (λ (v : ℕ). P (L v)) (eqb-true u n q) p)
+          → (u < n → 3 ≤ length (L u) → P (L u) → Some P (longLoops 3 n L))
+          → Some P (cond b (longLoops 3 n L ++ L n ∷ []) (longLoops 3 n L))
+      by true q true e later = some-last P (longLoops 3 n L) (L n) (subst (λ (v : ℕ). P (L v)) (eqb-true u n q) p)
       by true q false e later =
           absurd (omega (arith, leb-false 3 (length (L n)) e, ap (λ (v : ℕ). length (L v)) (eqb-true u n q)))
       by false q true e later =
           let other = eqb-false u n q in
-          some-first P (listing 3 n L) (L n) (later (omega arith) long p)
+          some-first P (longLoops 3 n L) (L n) (later (omega arith) long p)
       by false q false e later = let other = eqb-false u n q in later (omega arith) long p
 
   -- in rising order, where L u begins with u
   module _ (begins : (u : ℕ) → 3 ≤ length (L u) → headOr 0 (L u) ≡ u) where
-    listing-below : (n : ℕ) → All (λ m. headOr 0 m < n) (listing 3 n L)
-    unfolding listing forUp addLoop
+    listing-below : (n : ℕ) → All (λ m. headOr 0 m < n) (longLoops 3 n L)
+    unfolding longLoops forUp addLoop
     listing-below zero = tt
-    listing-below (suc n) = by (leb 3 (length (L n))) refl (all-both (λ l p q. omega arith) (listing 3 n L) (listing-below n) (listing-below n))
+    listing-below (suc n) = by (leb 3 (length (L n))) refl (all-both (λ l p q. omega arith) (longLoops 3 n L) (listing-below n) (listing-below n))
       where
-        by : (b : Bool) → leb 3 (length (L n)) ≡ b → All (λ m. headOr 0 m < suc n) (listing 3 n L)
-            → All (λ m. headOr 0 m < suc n) (cond b (listing 3 n L ++ L n ∷ []) (listing 3 n L))
-        by true e a = all-append _ (listing 3 n L) (L n) a (omega (arith, begins n (leb-true 3 (length (L n)) e)))
+        by : (b : Bool) → leb 3 (length (L n)) ≡ b → All (λ m. headOr 0 m < suc n) (longLoops 3 n L)
+            → All (λ m. headOr 0 m < suc n) (cond b (longLoops 3 n L ++ L n ∷ []) (longLoops 3 n L))
+        by true e a = all-snoc _ (longLoops 3 n L) (L n) a (omega (arith, begins n (leb-true 3 (length (L n)) e)))
         by false e a = a
 
-    listing-rising : (n : ℕ) → Rising (listing 3 n L)
-    unfolding listing forUp addLoop
+    listing-rising : (n : ℕ) → Rising (longLoops 3 n L)
+    unfolding longLoops forUp addLoop
     listing-rising zero = tt
     listing-rising (suc n) = by (leb 3 (length (L n))) refl (listing-rising n)
       where
-        by : (b : Bool) → leb 3 (length (L n)) ≡ b → Rising (listing 3 n L) → Rising (cond b (listing 3 n L ++ L n ∷ []) (listing 3 n L))
+        by : (b : Bool) → leb 3 (length (L n)) ≡ b → Rising (longLoops 3 n L) → Rising (cond b (longLoops 3 n L ++ L n ∷ []) (longLoops 3 n L))
         by true e a =
-            rising-append (listing 3 n L) (L n) a
-            (subst (λ (k : ℕ). All (λ m. headOr 0 m < k) (listing 3 n L)) (sym (begins n (leb-true 3 (length (L n)) e))) (listing-below n))
+            rising-append (longLoops 3 n L) (L n) a
+            (subst (λ (k : ℕ). All (λ m. headOr 0 m < k) (longLoops 3 n L)) (sym (begins n (leb-true 3 (length (L n)) e))) (listing-below n))
         by false e a = a
 
 -- ---- the loop whose smallest id is u
@@ -158,7 +158,7 @@ module _ (f : ℕ → ℕ) where
           → 3 ≤ length (cond b (turnTo u l) (loopFrom u ls))
           → Some (λ k. (3 ≤ length k) × FromSmallest k (cond b (turnTo u l) (loopFrom u ls))) (l ∷ ls)
       by true e later h =
-          inl ((omega (arith, turn-length u l)), turn-smallest f u l (R .0) (eqb-true (least l) u e))
+          inl ((omega (arith, turn-to-length u l)), turn-smallest f u l (R .0) (eqb-true (least l) u e))
       by false e later h = inr (later h)
 
   -- loops that share no node have different smallest ids
@@ -199,7 +199,7 @@ module _ (f : ℕ → ℕ) where
 
 -- ---- the theorem
 
-loops-listed : (n : ℕ) (f : ℕ → ℕ) (ls : List (List ℕ)) → Loops n f ls → LongLoops ls (listing 3 n (λ u. loopFrom u ls))
+loops-listed : (n : ℕ) (f : ℕ → ℕ) (ls : List (List ℕ)) → Loops n f ls → LongLoops ls (longLoops 3 n (λ u. loopFrom u ls))
 loops-listed n f ls L =
     let C = cycles n f ls L in
     let F : ℕ → List ℕ = λ u. loopFrom u ls in
@@ -208,7 +208,7 @@ loops-listed n f ls L =
     (least-nodes f n ls C (nodes n f ls L)) (from-least f ls C (once n f ls L)) in
     record {
       all = all-both (λ l p s long.
-          listing-some F (FromSmallest l) (least l) n (p .0) (omega (arith, ap length (p .1), turn-length (least l) l))
+          listing-some F (FromSmallest l) (least l) n (p .0) (omega (arith, ap length (p .1), turn-to-length (least l) l))
           (subst (FromSmallest l) (sym (p .1)) s)) ls found (each-smallest f ls C);
       only = listing-each F (λ m. Some (λ l. (3 ≤ length l) × FromSmallest l m) ls) (λ u h. from-some f u ls C h) n;
       rising = listing-rising F (λ u h. from-head f u ls C (omega arith)) n;
@@ -219,7 +219,7 @@ loops-listed n f ls L =
 pub walks-long : (n : ℕ) (f : ℕ → ℕ) (ls : List (List ℕ)) → Loops n f ls → (m : ℕ) → total length ls ≤ m
     → (ms : List (List ℕ)) → Loops n f ms → LongLoops ms (walks 3 n m f)
 walks-long n f ls L m few ms M =
-    let same : walks 3 n m f ≡ listing 3 n (λ u. loopFrom u ms) =
+    let same : walks 3 n m f ≡ longLoops 3 n (λ u. loopFrom u ms) =
     walks-list n f ls L m few 3
     ∙ (sym (walks-list n f ls L n (ids-most n f ls L) 3) ∙ walks-list n f ms M n (ids-most n f ms M) 3) in
     subst (LongLoops ms) (sym same) (loops-listed n f ms M)

@@ -13,7 +13,7 @@ use Rattle.topology.specs.Sums.{All, total, pathSum, loopSum, frontSum, 
 use Rattle.topology.specs.Links.{off, at, linkOf, at-self}
 use Rattle.topology.specs.Front.{Front, FrontOf, edge-first, front-same, source, target, edge-next, next-edge, no-self}
 use Rattle.topology.specs.Front.{edge-prev, prev-of-next, in-edge, Last, empty, last, lastOf}
-use Rattle.topology.specs.Changes.{Change, remove, add, reversed, removed, added, Valid, Within, OffFront, Changed, changed}
+use Rattle.topology.specs.Changes.{Change, remove, add, reversed, removedSum, addedSum, Valid, AmongNodes, OffFront, Changed, changed}
 
 -- ---- definitions
 
@@ -66,7 +66,7 @@ pub record After (n : ℕ) (next prev : List ℕ) (ls : List (List ℕ)) (cs : L
 record Reshaped (kc kd : Kind) (a b c d : ℕ) (l : List ℕ) : Type 0 where
   loop : List ℕ
   even : Even loop
-  sums : (w : ℕ → ℕ → ℕ) → loopSum w loop + removed w (placing kc kd a b c d) ≡ loopSum w l + added w (placing kc kd a b c d)
+  sums : (w : ℕ → ℕ → ℕ) → loopSum w loop + removedSum w (placing kc kd a b c d) ≡ loopSum w l + addedSum w (placing kc kd a b c d)
 
 -- the rest R of the loop a b R: a reused c is its last node, a reused d its first
 reshaped : (kc kd : Kind) (a b c d : ℕ) (R : List ℕ) → Even (a ∷ b ∷ R) → c ≢ d
@@ -121,7 +121,7 @@ reshaped reused reused a b c d R E cd hc hd = by (hc .0) (hd .0) (hc .1) (hd .1)
 
 -- ---- the changes can be made, one by one
 
-ids-within : (kc kd : Kind) (n a b c d : ℕ) → a < n → b < n → c < n → d < n → All (Within n) (placing kc kd a b c d)
+ids-within : (kc kd : Kind) (n a b c d : ℕ) → a < n → b < n → c < n → d < n → All (AmongNodes n) (placing kc kd a b c d)
 ids-within reused reused n a b c d ha hb hc hd = ((ha, hb), ((hc, ha), ((hb, hd), ((hc, hd), tt))))
 ids-within reused fresh n a b c d ha hb hc hd = ((ha, hb), ((hc, ha), ((hc, hd), ((hd, hb), tt))))
 ids-within fresh reused n a b c d ha hb hc hd = ((ha, hb), ((hb, hd), ((ha, hc), ((hc, hd), tt))))
@@ -152,7 +152,7 @@ module _ (a b c d : ℕ) (ab : a ≢ b) (ac : a ≢ c) (ad : a ≢ d) (bc : b �
 -- ---- the corners
 
 -- What is known of the far corner x on the loop a b R: N and P are its links where it is reused, and S its place in R.
-record Corner (k : Kind) (n : ℕ) (f g : ℕ → ℕ) (a b x : ℕ) (N P S : Type 0) : Type 0 where
+record FarCorner (k : Kind) (n : ℕ) (f g : ℕ → ℕ) (a b x : ℕ) (N P S : Type 0) : Type 0 where
   node : x < n
   other-a : a ≢ x
   other-b : b ≢ x
@@ -162,7 +162,7 @@ record Corner (k : Kind) (n : ℕ) (f g : ℕ → ℕ) (a b x : ℕ) (N P S : Ty
 
 module _ (n : ℕ) (f g : ℕ → ℕ) (a b : ℕ) (LS : List (List ℕ)) (fa : f a ≡ b) (node : b ≢ off) where
   fresh-corner : (x : ℕ) (R : List ℕ) (N P S : Type 0) → Front n f g ((a ∷ b ∷ R) ∷ LS) → OffFront n f g x
-      → Corner fresh n f g a b x N P S
+      → FarCorner fresh n f g a b x N P S
   unfolding total loopSum pathSum
   fresh-corner x R N P S F h =
       let gb = prev-of-next n f g _ F a b node fa in
@@ -177,13 +177,13 @@ module _ (n : ℕ) (f g : ℕ → ℕ) (a b : ℕ) (LS : List (List ℕ)) (fa : 
       }
 
   corner-c : (k : Kind) (c : ℕ) (R : List ℕ) → Front n f g ((a ∷ b ∷ R) ∷ LS) → ByKind k ((g a ≡ c) × (c ≢ b)) (OffFront n f g c)
-      → Corner k n f g a b c (f c ≡ a) (g a ≡ c) ((M : List ℕ) × (R ≡ M ++ c ∷ []))
+      → FarCorner k n f g a b c (f c ≡ a) (g a ≡ c) ((M : List ℕ) × (R ≡ M ++ c ∷ []))
   unfolding total loopSum pathSum
   corner-c fresh c R F h = fresh-corner c R _ _ _ F h
   corner-c reused c R F h = by (lastOf R) F
     where
       by : {R : List ℕ} → Last R → Front n f g ((a ∷ b ∷ R) ∷ LS)
-          → Corner reused n f g a b c (f c ≡ a) (g a ≡ c) ((M : List ℕ) × (R ≡ M ++ c ∷ []))
+          → FarCorner reused n f g a b c (f c ≡ a) (g a ≡ c) ((M : List ℕ) × (R ≡ M ++ c ∷ []))
       by empty F = absurd (h .1 (sym (h .0) ∙ edge-prev n f g _ F b a (omega (arith, at-self b a))))
       by (last M m) F =
           let there : 0 < frontSum (at m a) ((a ∷ b ∷ (M ++ m ∷ [])) ∷ LS) = omega (arith, in-edge b M m a) in
@@ -200,7 +200,7 @@ module _ (n : ℕ) (f g : ℕ → ℕ) (a b : ℕ) (LS : List (List ℕ)) (fa : 
           }
 
   corner-d : (k : Kind) (d : ℕ) (R : List ℕ) → Front n f g ((a ∷ b ∷ R) ∷ LS) → ByKind k ((f b ≡ d) × (d ≢ a)) (OffFront n f g d)
-      → Corner k n f g a b d (f b ≡ d) (g d ≡ b) ((Q : List ℕ) × (R ≡ d ∷ Q))
+      → FarCorner k n f g a b d (f b ≡ d) (g d ≡ b) ((Q : List ℕ) × (R ≡ d ∷ Q))
   unfolding total loopSum pathSum
   corner-d fresh d R F h = fresh-corner d R _ _ _ F h
   corner-d reused d [] F h = absurd (h .1 (sym (h .0) ∙ edge-next n f _ (F .loops) b a (omega (arith, at-self b a))))

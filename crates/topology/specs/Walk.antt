@@ -172,8 +172,8 @@ turn-sum w u l = by (count u l) refl
         let s = placeIn u l (omega (arith, e)) in
         rw (s .from, s .up) (sym (rotate w (s .P) u (s .Q)) ∙ ap (loopSum w) (sym (s .whole)))
 
-pub turn-length : (u : ℕ) (l : List ℕ) → length (turnTo u l) ≡ length l
-turn-length u l = sym (loop-one (turnTo u l)) ∙ (turn-sum one u l ∙ loop-one l)
+pub turn-to-length : (u : ℕ) (l : List ℕ) → length (turnTo u l) ≡ length l
+turn-to-length u l = sym (loop-one (turnTo u l)) ∙ (turn-sum one u l ∙ loop-one l)
 
 -- it begins with u, where u is there
 pub turn-head : (u : ℕ) (l : List ℕ) → 0 < count u l → headOr 0 (turnTo u l) ≡ u

@@ -6,7 +6,7 @@ use Rattle.direction.specs.Record.{FieldLists, FieldRecord}
 use Rattle.crossfield.specs.Field.{fieldRefusal, fieldOf}
 use Rattle.front.specs.State.{State}
 use Rattle.front.specs.Sampling.{frontRefusal, fromBoundary}
-use Rattle.paving.specs.Advance.{Paved, advance}
+use Rattle.paving.specs.Advance.{EndedPaving, advance}
 
 -- 1 to 10, in rising number
 unfoldable pub runRefusal : Outline → Settings → FieldLists → State → ℕ
@@ -15,7 +15,7 @@ runRefusal o set f lent = firstOf (fieldRefusal o (set .size) (set .sweeps) f) (
 -- the field, and the paving where it ended
 pub record WholeRun : Type 0 where
   pub field : FieldRecord
-  pub paving : Paved
+  pub paving : EndedPaving
 
 -- field, sampling and paving, in the lists lent
 unfoldable pub runOf : Outline → Settings → FieldLists → State → WholeRun

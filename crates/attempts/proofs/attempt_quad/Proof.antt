@@ -4,10 +4,10 @@ use mathlib.Core.Path.{_∙_, ap, sym, refl}
 use borrow.Author.Needs.{needs}
 use Rattle.laws.specs.Chain.{fails, passes}
 use Rattle.domain.specs.Outline.{Outline, outline}
-use Rattle.geometry.specs.TestLaws.{passed, refused}
+use Rattle.geometry.specs.TestLaws.{test-passed, test-refused}
 use Rattle.front.specs.State.{State}
 use Rattle.attempts.specs.AttemptLaws.{attempt-none, attempt-is}
-use Rattle.attempts.specs.Seen.{seen}
+use Rattle.attempts.specs.Seen.{seenState}
 use Rattle.attempts.proofs.attempt_quad.Statement.{statement}
 use Rattle.attempts.proofs.attempt_quad.Tie as tie
 
@@ -16,7 +16,7 @@ abbrev around : tie.Start → Outline
 around s = outline (s .args .outer .now) (s .args .holes .now) (s .args .lens .now)
 
 abbrev lent : tie.Start → State
-lent s = seen (s .args .xs .now) (s .args .ys .now) (s .args .next .now) (s .args .prev .now) (s .args .edges .now) (s .args .counts)
+lent s = seenState (s .args .xs .now) (s .args .ys .now) (s .args .next .now) (s .args .prev .now) (s .args .edges .now) (s .args .counts)
 
 far-corners-requires : tie.Need-far-corners-requires
 far-corners-requires c κs =
@@ -44,7 +44,7 @@ returns-2 c =
     let start = c .before .before .before .before .before .before .before .before .before .before .before .before .before .before .before .before .before in
     let args = start .args in
     attempt-is (lent start) (around start) (args .size) (args .a) (args .b) (args .da) (args .db) false (sym (c .before .before .before .chosen .given .1) ∙ c .before .before .before .before .before .far-corners .ensures) refl refl refl
-    (fails _ (refused (c .before .corner-free .ensures) (c .if1 .taken)))
+    (fails _ (test-refused (c .before .corner-free .ensures) (c .if1 .taken)))
 
 corner-free-requires-2 : tie.Need-corner-free-requires-2
 corner-free-requires-2 c κs = c .before .before .before .before .before .before .before .before .before .before .before .before .before .before .before .before .before .pre .quad .nodes
@@ -54,8 +54,8 @@ returns-3 c =
     let start = c .before .before .before .before .before .before .before .before .before .before .before .before .before .before .before .before .before .before .before in
     let args = start .args in
     attempt-is (lent start) (around start) (args .size) (args .a) (args .b) (args .da) (args .db) false (sym (c .before .before .before .before .before .chosen .given .1) ∙ c .before .before .before .before .before .before .before .far-corners .ensures) refl refl refl
-    (passes (passed (c .before .before .before .corner-free .ensures) (c .before .before .if1 .left))
-    (fails _ (refused (c .before .corner-free2 .ensures) (c .if2 .taken))))
+    (passes (test-passed (c .before .before .before .corner-free .ensures) (c .before .before .if1 .left))
+    (fails _ (test-refused (c .before .corner-free2 .ensures) (c .if2 .taken))))
 
 corners-of-requires : tie.Need-corners-of-requires
 corners-of-requires c κs = search needs
@@ -68,9 +68,9 @@ returns-4 c =
     let start = c .before .before .before .before .before .before .before .before .before .before .before .before .before .before .before .before .before .before .before .before .before .before in
     let args = start .args in
     attempt-is (lent start) (around start) (args .size) (args .a) (args .b) (args .da) (args .db) false (sym (c .before .before .before .before .before .before .before .before .chosen .given .1) ∙ c .before .before .before .before .before .before .before .before .before .before .far-corners .ensures) (c .before .before .corners-of .ensures) refl refl
-    (passes (passed (c .before .before .before .before .before .before .corner-free .ensures) (c .before .before .before .before .before .if1 .left))
-    (passes (passed (c .before .before .before .before .corner-free2 .ensures) (c .before .before .before .if2 .left))
-    (fails _ (refused (c .before .convex-ccw .ensures) (c .if3 .taken)))))
+    (passes (test-passed (c .before .before .before .before .before .before .corner-free .ensures) (c .before .before .before .before .before .if1 .left))
+    (passes (test-passed (c .before .before .before .before .corner-free2 .ensures) (c .before .before .before .if2 .left))
+    (fails _ (test-refused (c .before .convex-ccw .ensures) (c .if3 .taken)))))
 
 centroid-requires : tie.Need-centroid-requires
 centroid-requires c κs = search needs
@@ -83,10 +83,10 @@ returns-5 c =
     let start = c .before .before .before .before .before .before .before .before .before .before .before .before .before .before .before .before .before .before .before .before .before .before .before .before .before in
     let args = start .args in
     attempt-is (lent start) (around start) (args .size) (args .a) (args .b) (args .da) (args .db) false (sym (c .before .before .before .before .before .before .before .before .before .before .before .chosen .given .1) ∙ c .before .before .before .before .before .before .before .before .before .before .before .before .before .far-corners .ensures) (c .before .before .before .before .before .corners-of .ensures) refl refl
-    (passes (passed (c .before .before .before .before .before .before .before .before .before .corner-free .ensures) (c .before .before .before .before .before .before .before .before .if1 .left))
-    (passes (passed (c .before .before .before .before .before .before .before .corner-free2 .ensures) (c .before .before .before .before .before .before .if2 .left))
-    (passes (passed (c .before .before .before .before .convex-ccw .ensures) (c .before .before .before .if3 .left))
-    (rw (← c .before .before .centroid .ensures) (fails _ (refused (c .before .contains-point .ensures) (c .if4 .taken)))))))
+    (passes (test-passed (c .before .before .before .before .before .before .before .before .before .corner-free .ensures) (c .before .before .before .before .before .before .before .before .if1 .left))
+    (passes (test-passed (c .before .before .before .before .before .before .before .corner-free2 .ensures) (c .before .before .before .before .before .before .if2 .left))
+    (passes (test-passed (c .before .before .before .before .convex-ccw .ensures) (c .before .before .before .if3 .left))
+    (rw (← c .before .before .centroid .ensures) (fails _ (test-refused (c .before .contains-point .ensures) (c .if4 .taken)))))))
 
 id-requires : tie.Need-id-requires
 id-requires c κs = search needs
@@ -103,10 +103,10 @@ returns-6 c =
     let args = start .args in
     attempt-is (lent start) (around start) (args .size) (args .a) (args .b) (args .da) (args .db) false (sym (c .before .before .before .before .before .before .before .before .before .before .before .before .before .before .before .chosen .given .1) ∙ c .before .before .before .before .before .before .before .before .before .before .before .before .before .before .before .before .before .far-corners .ensures) (c .before .before .before .before .before .before .before .before .before .corners-of .ensures)
     (c .before .before .before .id .ensures) (c .before .before .second-id .ensures)
-    (passes (passed (c .before .before .before .before .before .before .before .before .before .before .before .before .before .corner-free .ensures) (c .before .before .before .before .before .before .before .before .before .before .before .before .if1 .left))
-    (passes (passed (c .before .before .before .before .before .before .before .before .before .before .before .corner-free2 .ensures) (c .before .before .before .before .before .before .before .before .before .before .if2 .left))
-    (passes (passed (c .before .before .before .before .before .before .before .before .convex-ccw .ensures) (c .before .before .before .before .before .before .before .if3 .left))
-    (rw (← c .before .before .before .before .before .before .centroid .ensures) (passes (passed (c .before .before .before .before .before .contains-point .ensures) (c .before .before .before .before .if4 .left))
+    (passes (test-passed (c .before .before .before .before .before .before .before .before .before .before .before .before .before .corner-free .ensures) (c .before .before .before .before .before .before .before .before .before .before .before .before .if1 .left))
+    (passes (test-passed (c .before .before .before .before .before .before .before .before .before .before .before .corner-free2 .ensures) (c .before .before .before .before .before .before .before .before .before .before .if2 .left))
+    (passes (test-passed (c .before .before .before .before .before .before .before .before .convex-ccw .ensures) (c .before .before .before .before .before .before .before .if3 .left))
+    (rw (← c .before .before .before .before .before .before .centroid .ensures) (passes (test-passed (c .before .before .before .before .before .contains-point .ensures) (c .before .before .before .before .if4 .left))
     (fails _ (ap not (sym (c .before .node-in-quad .ensures) ∙ c .if5 .taken))))))))
 
 edges-free-requires : tie.Need-edges-free-requires
@@ -118,10 +118,10 @@ returns-7 c =
     let args = start .args in
     attempt-is (lent start) (around start) (args .size) (args .a) (args .b) (args .da) (args .db) true (sym (c .before .before .before .before .before .before .before .before .before .before .before .before .before .before .before .before .before .chosen .given .1) ∙ c .before .before .before .before .before .before .before .before .before .before .before .before .before .before .before .before .before .before .before .far-corners .ensures) (c .before .before .before .before .before .before .before .before .before .before .before .corners-of .ensures)
     (c .before .before .before .before .before .id .ensures) (c .before .before .before .before .second-id .ensures)
-    (passes (passed (c .before .before .before .before .before .before .before .before .before .before .before .before .before .before .before .corner-free .ensures) (c .before .before .before .before .before .before .before .before .before .before .before .before .before .before .if1 .left))
-    (passes (passed (c .before .before .before .before .before .before .before .before .before .before .before .before .before .corner-free2 .ensures) (c .before .before .before .before .before .before .before .before .before .before .before .before .if2 .left))
-    (passes (passed (c .before .before .before .before .before .before .before .before .before .before .convex-ccw .ensures) (c .before .before .before .before .before .before .before .before .before .if3 .left))
-    (rw (← c .before .before .before .before .before .before .before .before .centroid .ensures) (passes (passed (c .before .before .before .before .before .before .before .contains-point .ensures) (c .before .before .before .before .before .before .if4 .left))
+    (passes (test-passed (c .before .before .before .before .before .before .before .before .before .before .before .before .before .before .before .corner-free .ensures) (c .before .before .before .before .before .before .before .before .before .before .before .before .before .before .if1 .left))
+    (passes (test-passed (c .before .before .before .before .before .before .before .before .before .before .before .before .before .corner-free2 .ensures) (c .before .before .before .before .before .before .before .before .before .before .before .before .if2 .left))
+    (passes (test-passed (c .before .before .before .before .before .before .before .before .before .before .convex-ccw .ensures) (c .before .before .before .before .before .before .before .before .before .if3 .left))
+    (rw (← c .before .before .before .before .before .before .before .before .centroid .ensures) (passes (test-passed (c .before .before .before .before .before .before .before .contains-point .ensures) (c .before .before .before .before .before .before .if4 .left))
     (passes (ap not (sym (c .before .before .before .node-in-quad .ensures) ∙ c .before .before .if5 .left))
     (sym (c .if6 .taken) ∙ c .before .edges-free .ensures)))))))
 
@@ -131,10 +131,10 @@ returns-8 c =
     let args = start .args in
     attempt-is (lent start) (around start) (args .size) (args .a) (args .b) (args .da) (args .db) false (sym (c .before .before .before .before .before .before .before .before .before .before .before .before .before .before .before .before .before .chosen .given .1) ∙ c .before .before .before .before .before .before .before .before .before .before .before .before .before .before .before .before .before .before .before .far-corners .ensures) (c .before .before .before .before .before .before .before .before .before .before .before .corners-of .ensures)
     (c .before .before .before .before .before .id .ensures) (c .before .before .before .before .second-id .ensures)
-    (passes (passed (c .before .before .before .before .before .before .before .before .before .before .before .before .before .before .before .corner-free .ensures) (c .before .before .before .before .before .before .before .before .before .before .before .before .before .before .if1 .left))
-    (passes (passed (c .before .before .before .before .before .before .before .before .before .before .before .before .before .corner-free2 .ensures) (c .before .before .before .before .before .before .before .before .before .before .before .before .if2 .left))
-    (passes (passed (c .before .before .before .before .before .before .before .before .before .before .convex-ccw .ensures) (c .before .before .before .before .before .before .before .before .before .if3 .left))
-    (rw (← c .before .before .before .before .before .before .before .before .centroid .ensures) (passes (passed (c .before .before .before .before .before .before .before .contains-point .ensures) (c .before .before .before .before .before .before .if4 .left))
+    (passes (test-passed (c .before .before .before .before .before .before .before .before .before .before .before .before .before .before .before .corner-free .ensures) (c .before .before .before .before .before .before .before .before .before .before .before .before .before .before .if1 .left))
+    (passes (test-passed (c .before .before .before .before .before .before .before .before .before .before .before .before .before .corner-free2 .ensures) (c .before .before .before .before .before .before .before .before .before .before .before .before .if2 .left))
+    (passes (test-passed (c .before .before .before .before .before .before .before .before .before .before .convex-ccw .ensures) (c .before .before .before .before .before .before .before .before .before .if3 .left))
+    (rw (← c .before .before .before .before .before .before .before .before .centroid .ensures) (passes (test-passed (c .before .before .before .before .before .before .before .contains-point .ensures) (c .before .before .before .before .before .before .if4 .left))
     (passes (ap not (sym (c .before .before .before .node-in-quad .ensures) ∙ c .before .before .if5 .left))
     (sym (c .if6 .left) ∙ c .before .edges-free .ensures)))))))
 

@@ -3,7 +3,7 @@ use mathlib.Core.Bool.{not}
 use mathlib.Core.Path.{_∙_, ap, sym, refl}
 use borrow.Author.Needs.{needs}
 use Rattle.laws.specs.Chain.{fails, passes, second-passes}
-use Rattle.geometry.specs.TestLaws.{passed, refused}
+use Rattle.geometry.specs.TestLaws.{test-passed, test-refused}
 use Rattle.paving.specs.Checks.{cornerFree, nodeOk}
 use Rattle.attempts.specs.AttemptLaws.{close-refused}
 use Rattle.attempts.proofs.corner_free.Statement.{statement}
@@ -24,7 +24,7 @@ is-finite-f64-requires c κs = search needs
 
 returns-2 : tie.Need-returns-2
 unfolding cornerFree nodeOk
-returns-2 c = rw (c .before .before .before .c .given .1) (fails _ (refused (c .before .is-finite-f64 .ensures) (c .if1 .taken)))
+returns-2 c = rw (c .before .before .before .c .given .1) (fails _ (test-refused (c .before .is-finite-f64 .ensures) (c .if1 .taken)))
 
 is-finite-f64-requires-2 : tie.Need-is-finite-f64-requires-2
 is-finite-f64-requires-2 c κs = search needs
@@ -32,8 +32,8 @@ is-finite-f64-requires-2 c κs = search needs
 returns-3 : tie.Need-returns-3
 unfolding cornerFree nodeOk
 returns-3 c = rw (c .before .before .before .before .before .c .given .1)
-    (passes (passed (c .before .before .before .is-finite-f64 .ensures) (c .before .before .if1 .left))
-    (fails _ (refused (c .before .is-finite-f642 .ensures) (c .if2 .taken))))
+    (passes (test-passed (c .before .before .before .is-finite-f64 .ensures) (c .before .before .if1 .left))
+    (fails _ (test-refused (c .before .is-finite-f642 .ensures) (c .if2 .taken))))
 
 too-close-requires : tie.Need-too-close-requires
 too-close-requires c κs = c .before .before .before .before .before .before .before .before .before .before .before .before .before .before .pre .filed
@@ -44,8 +44,8 @@ returns-4 c =
     let else2 = c .before .before in
     let else1 = else2 .before .before in
     rw (else1 .before .before .before .c .given .1)
-    (close-refused _ _ _ _ _ (passed (else1 .before .is-finite-f64 .ensures) (else1 .if1 .left))
-    (passed (else2 .before .is-finite-f642 .ensures) (else2 .if2 .left)) (sym (c .before .too-close .ensures) ∙ c .if3 .taken))
+    (close-refused _ _ _ _ _ (test-passed (else1 .before .is-finite-f64 .ensures) (else1 .if1 .left))
+    (test-passed (else2 .before .is-finite-f642 .ensures) (else2 .if2 .left)) (sym (c .before .too-close .ensures) ∙ c .if3 .taken))
 
 contains-point-requires : tie.Need-contains-point-requires
 contains-point-requires c κs = c .before .before .before .before .before .before .before .before .before .before .before .before .before .before .before .before .pre .drawn
@@ -53,8 +53,8 @@ contains-point-requires c κs = c .before .before .before .before .before .befor
 returns-5 : tie.Need-returns-5
 unfolding cornerFree nodeOk
 returns-5 c = rw (c .before .before .before .before .before .before .before .before .c .given .1)
-    (passes (passed (c .before .before .before .before .before .before .is-finite-f64 .ensures) (c .before .before .before .before .before .if1 .left))
-    (passes (passed (c .before .before .before .before .is-finite-f642 .ensures) (c .before .before .before .if2 .left))
+    (passes (test-passed (c .before .before .before .before .before .before .is-finite-f64 .ensures) (c .before .before .before .before .before .if1 .left))
+    (passes (test-passed (c .before .before .before .before .is-finite-f642 .ensures) (c .before .before .before .if2 .left))
     (second-passes (ap not (sym (c .before .before .too-close .ensures) ∙ c .before .if3 .left)) (c .contains-point .ensures))))
 
 pub corner-free-spec : {M : Type 1} → statement M

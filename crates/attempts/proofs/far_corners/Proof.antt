@@ -4,7 +4,7 @@ use mathlib.Core.Path.{_∙_, ap, sym}
 use borrow.Author.Tests.{eq-eqb, ne-eqb}
 use borrow.Author.Needs.{needs}
 use Rattle.laws.specs.Chain.{fails, passes}
-use Rattle.geometry.specs.TestLaws.{passed, refused}
+use Rattle.geometry.specs.TestLaws.{test-passed, test-refused}
 use Rattle.front.specs.State.{State}
 use Rattle.attempts.specs.AttemptLaws.{far-is, none-follows, that-follows, other-follows}
 use Rattle.attempts.specs.Seen.{seenLinks}
@@ -45,7 +45,7 @@ returns-2 c =
     far-is (lent start) (args .size) (args .a) (args .b) (args .da) (args .db) false (c .before .before .before .before .before .before .corner-at .ensures) (c .before .before .before .before .before .corner-at2 .ensures) (c .before .before .before .before .id .ensures)
     (c .before .before .before .second-id .ensures)
     (passes (ap not (ne-eqb _ _ (c .before .before .if1 .left)))
-    (fails _ (refused (c .before .corners-apart .ensures) (c .if2 .taken))))
+    (fails _ (test-refused (c .before .corners-apart .ensures) (c .if2 .taken))))
 
 link-at-requires : tie.Need-link-at-requires
 link-at-requires c κs = c .before .before .before .before .before .before .before .before .before .before .before .pre .next-fit
@@ -63,7 +63,7 @@ returns-3 c =
     far-is (lent start) (args .size) (args .a) (args .b) (args .da) (args .db) true (c .before .before .before .before .before .before .before .before .before .corner-at .ensures) (c .before .before .before .before .before .before .before .before .corner-at2 .ensures) (c .before .before .before .before .before .before .before .id .ensures)
     (c .before .before .before .before .before .before .second-id .ensures)
     (passes (ap not (ne-eqb _ _ (c .before .before .before .before .before .if1 .left)))
-    (passes (passed (c .before .before .before .before .corners-apart .ensures) (c .before .before .before .if2 .left))
+    (passes (test-passed (c .before .before .before .before .corners-apart .ensures) (c .before .before .before .if2 .left))
     (none-follows _ (sym (c .before .before .link-at .ensures) ∙ c .enum-told .given .1))))
 
 returns-4 : tie.Need-returns-4
@@ -73,7 +73,7 @@ returns-4 c =
     far-is (lent start) (args .size) (args .a) (args .b) (args .da) (args .db) false (c .before .before .before .before .before .before .before .before .before .before .before .corner-at .ensures) (c .before .before .before .before .before .before .before .before .before .before .corner-at2 .ensures) (c .before .before .before .before .before .before .before .before .before .id .ensures)
     (c .before .before .before .before .before .before .before .before .second-id .ensures)
     (passes (ap not (ne-eqb _ _ (c .before .before .before .before .before .before .before .if1 .left)))
-    (passes (passed (c .before .before .before .before .before .before .corners-apart .ensures) (c .before .before .before .before .before .if2 .left))
+    (passes (test-passed (c .before .before .before .before .before .before .corners-apart .ensures) (c .before .before .before .before .before .if2 .left))
     (that-follows _ (sym (c .before .before .before .before .link-at .ensures) ∙ c .before .before .neighbour .given .1) (c .if3 .taken))))
 
 returns-5 : tie.Need-returns-5
@@ -83,7 +83,7 @@ returns-5 c =
     far-is (lent start) (args .size) (args .a) (args .b) (args .da) (args .db) true (c .before .before .before .before .before .before .before .before .before .before .before .corner-at .ensures) (c .before .before .before .before .before .before .before .before .before .before .corner-at2 .ensures) (c .before .before .before .before .before .before .before .before .before .id .ensures)
     (c .before .before .before .before .before .before .before .before .second-id .ensures)
     (passes (ap not (ne-eqb _ _ (c .before .before .before .before .before .before .before .if1 .left)))
-    (passes (passed (c .before .before .before .before .before .before .corners-apart .ensures) (c .before .before .before .before .before .if2 .left))
+    (passes (test-passed (c .before .before .before .before .before .before .corners-apart .ensures) (c .before .before .before .before .before .if2 .left))
     (other-follows _ (sym (c .before .before .before .before .link-at .ensures) ∙ c .before .before .neighbour .given .1) (c .if3 .left))))
 
 pub far-corners-spec : {M : Type 1} → statement M

@@ -18,24 +18,24 @@ point-after-requires c κs = search needs
 coordinate-requires-2 : tie.Need-coordinate-requires-2
 coordinate-requires-2 c κs = search needs
 
-max-f64-requires : tie.Need-max-f64-requires
-max-f64-requires c κs = search needs
+higher-of-requires : tie.Need-higher-of-requires
+higher-of-requires c κs = search needs
 
-max-f64-requires-2 : tie.Need-max-f64-requires-2
-max-f64-requires-2 c κs = search needs
+higher-of-requires-2 : tie.Need-higher-of-requires-2
+higher-of-requires-2 c κs = search needs
 
-min-f64-requires : tie.Need-min-f64-requires
-min-f64-requires c κs = search needs
+lower-of-requires : tie.Need-lower-of-requires
+lower-of-requires c κs = search needs
 
-min-f64-requires-2 : tie.Need-min-f64-requires-2
-min-f64-requires-2 c κs = search needs
+lower-of-requires-2 : tie.Need-lower-of-requires-2
+lower-of-requires-2 c κs = search needs
 
 returns : tie.Need-returns
 unfolding reachOf
 returns c =
     rw (
-      c .max-f642 .ensures,
-      c .before .max-f64 .ensures,
+      c .higher-of2 .ensures,
+      c .before .higher-of .ensures,
       c .before .before .before .coordinate2 .ensures,
       c .before .before .before .before .before .coordinate .ensures,
       c .before .before .before .before .point-after .ensures,
@@ -47,8 +47,8 @@ returns-2 : tie.Need-returns-2
 unfolding reachOf
 returns-2 c =
     rw (
-      c .min-f642 .ensures,
-      c .before .min-f64 .ensures,
+      c .lower-of2 .ensures,
+      c .before .lower-of .ensures,
       c .before .before .before .coordinate2 .ensures,
       c .before .before .before .before .before .coordinate .ensures,
       c .before .before .before .before .point-after .ensures,
@@ -64,9 +64,9 @@ reach-spec =
     coordinate-requires
     point-after-requires
     coordinate-requires-2
-    max-f64-requires
-    max-f64-requires-2
-    min-f64-requires
-    min-f64-requires-2
+    higher-of-requires
+    higher-of-requires-2
+    lower-of-requires
+    lower-of-requires-2
     returns
     returns-2)

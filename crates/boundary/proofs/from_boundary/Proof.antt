@@ -10,7 +10,7 @@ use Rattle.front.specs.Sampling.{loopCount, frontRefusal, boundaryTurn, fromBou
 use Rattle.front.specs.State.{stateOf, cleared}
 use Rattle.front.specs.declared.Counts.{Counts}
 use Rattle.boundary.specs.Progress.{outline-shaped, Progress, progress-none, progress-few, progress-next, progress-room, turn-laid}
-use Rattle.boundary.specs.Laying.{between}
+use Rattle.boundary.specs.Laying.{betweenLoops}
 use Rattle.boundary.specs.Counting.{start-few}
 use Rattle.boundary.proofs.from_boundary.Statement.{statement}
 use Rattle.boundary.proofs.from_boundary.Tie as tie
@@ -22,7 +22,7 @@ Inv-loop outer holes lens size xs₀ ys₀ next₀ prev₀ edges₀ nodes₀ sta
     × ((snapshot quads : List ℕ) (counts : Counts) → frontRefusal (outline outer holes lens) size (stateOf xs₀ ys₀ next₀ prev₀ snapshot quads edges₀ counts) ≡ 0
     → Loop (boundaryTurn (outline outer holes lens) size) (cleared (stateOf xs₀ ys₀ next₀ prev₀ snapshot quads edges₀ counts))
     (loopCount (outline outer holes lens)) k
-    (between snapshot quads xs ys next prev edges nodes))
+    (betweenLoops snapshot quads xs ys next prev edges nodes))
 
 abbrev μ-loop : tie.MeasureT-loop
 μ-loop outer holes lens size xs₀ ys₀ next₀ prev₀ edges₀ nodes₀ start₀ k₀ xs ys next prev edges nodes start k = suc (length lens) - k

@@ -2,7 +2,7 @@
 use mathlib.Core.Path.{refl, _∙_}
 use native.Mathlib.Omega.{arith}
 use Rattle.boundary.specs.LayingLaws.{room-fewer, ring-of, nodes-some, nodes-from, ring-nodes, ring-end, ring-fits, laid, as-many}
-use Rattle.boundary.specs.Laying.{between, withNodes}
+use Rattle.boundary.specs.Laying.{betweenLoops, withNodes}
 use Rattle.boundary.proofs.lay_loop.Statement.{statement}
 use Rattle.boundary.proofs.lay_loop.Tie as tie
 
@@ -94,7 +94,7 @@ returns c =
     let O = ring-of _ _ _ _ _ (nodes-some (start .pre) (called .ensures .0)) (after-ring-of .ring-of .ensures) in (
       after-split-longest .split-longest .ensures .0 ∙ ring-end (start .pre) (called .ensures .0) O,
       λ snapshot quads.
-          let st = between snapshot quads (start .args .xs .now) (start .args .ys .now) (start .args .next .now) (start .args .prev .now)
+          let st = betweenLoops snapshot quads (start .args .xs .now) (start .args .ys .now) (start .args .next .now) (start .args .prev .now)
           (start .args .edges .now) (start .args .base) in
           let linked = after-link-ring .link-ring .ensures (withNodes st _ _ (start .args .next .now) (start .args .prev .now)
           (after-split-longest .split-longest .result)) in

@@ -8,14 +8,14 @@ use Rattle.laws.specs.Loop.{Loop, loop-start}
 use Rattle.front.specs.Sampling.{ringCount}
 use Rattle.front.specs.State.{State}
 use Rattle.boundary.specs.LayingLaws.{loop-as, loop-last, plus-none, plus-one}
-use Rattle.boundary.specs.Laying.{withEdges, linkTurn, linkRing}
+use Rattle.boundary.specs.Laying.{withFrontEdges, linkTurn, linkRing}
 use Rattle.boundary.proofs.link_ring.Statement.{statement}
 use Rattle.boundary.proofs.link_ring.Tie as tie
 
 abbrev Inv-loop : tie.InvT-loop
 Inv-loop r next₀ prev₀ edges₀ e n i₀ next prev edges i =
     (n ≡ ringCount r) × (length next ≡ length next₀) × (length prev ≡ length prev₀) × (length edges ≡ length edges₀)
-    × ((st : State) → Loop (linkTurn r) (withEdges st next₀ prev₀ edges₀ e) n i (withEdges st next prev edges (e + i)))
+    × ((st : State) → Loop (linkTurn r) (withFrontEdges st next₀ prev₀ edges₀ e) n i (withFrontEdges st next prev edges (e + i)))
 
 abbrev μ-loop : tie.MeasureT-loop
 μ-loop r next₀ prev₀ edges₀ e n i₀ next prev edges i = n - i
@@ -103,7 +103,7 @@ returns : tie.Need-returns Inv-loop μ-loop
 unfolding linkRing
 returns c =
     let start = c .before .before .before .before .before .before in
-    λ st. rw (← c .before .loop .inv .0) (loop-last _ _ (λ n. withEdges st (c .before .loop .next) (c .before .loop .prev) (c .before .loop .edges)
+    λ st. rw (← c .before .loop .inv .0) (loop-last _ _ (λ n. withFrontEdges st (c .before .loop .next) (c .before .loop .prev) (c .before .loop .edges)
     (start .args .e + n)) (c .before .loop .inv .4 st) (c .loop-test .left))
 
 pub link-ring-spec : {M : Type 1} → statement M

@@ -1,4 +1,4 @@
--- `boundary::loop_parts` meets its contract: the loop's invariant is `Added`: the sum so far, stopped.
+-- `boundary::loop_parts` meets its contract: the loop's invariant is `PartSum`: the sum so far, stopped.
 use mathlib.Core.Path.{_≡_, refl, _∙_, ap, ap₂}
 use Prim.Native.Nat.{_-_, _/_, min}
 use native.Mathlib.Omega.{arith}
@@ -6,12 +6,12 @@ use borrow.Author.Needs.{needs}
 use lib.ListN.{length}
 use Rattle.geometry.specs.Plane.{distance}
 use Rattle.front.specs.Sampling.{partsOf, parts, loopParts}
-use Rattle.boundary.specs.Counting.{most, Added, added-none, added-few, added-next, added-all}
+use Rattle.boundary.specs.Counting.{most, PartSum, added-none, added-few, added-next, added-all}
 use Rattle.boundary.proofs.loop_parts.Statement.{statement}
 use Rattle.boundary.proofs.loop_parts.Tie as tie
 
 abbrev Inv-loop : tie.InvT-loop
-Inv-loop s size n sum₀ i₀ sum i = (n ≡ length s / 2) × Added (parts size s) n i sum
+Inv-loop s size n sum₀ i₀ sum i = (n ≡ length s / 2) × PartSum (parts size s) n i sum
 
 abbrev μ-loop : tie.MeasureT-loop
 μ-loop s size n sum₀ i₀ sum i = n - i

@@ -1,4 +1,4 @@
--- `boundary::sampled_count` meets its contract: the loop's invariant is `Added`: the sum so far, stopped.
+-- `boundary::sampled_count` meets its contract: the loop's invariant is `PartSum`: the sum so far, stopped.
 use mathlib.Core.Path.{_≡_, refl}
 use Prim.Native.Nat.{suc, _-_}
 use native.Mathlib.Omega.{arith}
@@ -6,12 +6,12 @@ use borrow.Author.Needs.{needs}
 use lib.ListN.{length}
 use Rattle.domain.specs.Outline.{outline, loopStart}
 use Rattle.front.specs.Sampling.{loopNodes, sampledCount}
-use Rattle.boundary.specs.Counting.{Added, added-none, added-few, added-all, loop-added, start-few}
+use Rattle.boundary.specs.Counting.{PartSum, added-none, added-few, added-all, loop-added, start-few}
 use Rattle.boundary.proofs.sampled_count.Statement.{statement}
 use Rattle.boundary.proofs.sampled_count.Tie as tie
 
 abbrev Inv-loop : tie.InvT-loop
-Inv-loop outer holes lens size sum₀ start₀ k₀ sum start k = (start ≡ loopStart lens k) × Added (loopNodes (outline outer holes lens) size)
+Inv-loop outer holes lens size sum₀ start₀ k₀ sum start k = (start ≡ loopStart lens k) × PartSum (loopNodes (outline outer holes lens) size)
     (suc (length lens)) k sum
 
 abbrev μ-loop : tie.MeasureT-loop

@@ -11,12 +11,12 @@ use mir.Syntax.{w64}
 use lib.Signed.{ltZ, nonNeg}
 use lib.Dec.{T}
 use lib.IntN.{ℤ, pos, negsuc, natAbs}
-use Rattle.direction.specs.Direction.{cellOf}
+use Rattle.direction.specs.Direction.{gridCell}
 use Rattle.direction.proofs.cell_of.Statement.{statement}
 use Rattle.direction.proofs.cell_of.Tie as tie
 
 -- the cell by the sign of z
-low : (z : ℤ) (n : ℕ) → ltZ z (pos 0) ≡ true → 0 ≡ cellOf z n
+low : (z : ℤ) (n : ℕ) → ltZ z (pos 0) ≡ true → 0 ≡ gridCell z n
 low (pos k) n e = absurd (let h = ltb-true k 0 e in omega arith)
 low (negsuc k) n e = refl
 
@@ -28,7 +28,7 @@ size : (z : ℤ) → ltZ z (pos 0) ≡ false → SFits w64 z → Fits w64 (natAb
 size (pos k) e h = record { fits = let l = h .sfits in omega arith }
 size (negsuc k) e h = absurd (true≢false e)
 
-high : (z : ℤ) (n : ℕ) → ltZ z (pos 0) ≡ false → min (natAbs z) (n - 2) ≡ cellOf z n
+high : (z : ℤ) (n : ℕ) → ltZ z (pos 0) ≡ false → min (natAbs z) (n - 2) ≡ gridCell z n
 high (pos k) n e = refl
 high (negsuc k) n e = absurd (true≢false e)
 
@@ -45,7 +45,7 @@ floor-quotient-requires c κs = search needs
 returns : tie.Need-returns
 returns c = (
   low (read (c .before .floor-quotient .result)) (c .before .before .args .n) (c .if1 .taken) ∙ ap
-      (λ (z : ℤ). cellOf z (c .before .before .args .n))
+      (λ (z : ℤ). gridCell z (c .before .before .args .n))
       (same _ _ (record { sfits = c .before .floor-quotient .ok }) (c .before .floor-quotient .ensures)),
   omega arith,
 )
@@ -68,7 +68,7 @@ min-usize-requires c κs = search needs
 returns-2 : tie.Need-returns-2
 returns-2 c = (
   c .min-usize .ensures ∙ high (read (c .before .before .floor-quotient .result)) (c .before .before .before .args .n) (c .before .if1 .left)
-      ∙ ap (λ (z : ℤ). cellOf z (c .before .before .before .args .n))
+      ∙ ap (λ (z : ℤ). gridCell z (c .before .before .before .args .n))
       (same _ _ (record { sfits = c .before .before .floor-quotient .ok }) (c .before .before .floor-quotient .ensures)),
   omega (arith, c .min-usize .ensures),
 )

@@ -2,7 +2,7 @@
 use native.Mathlib.Omega.{arith}
 use borrow.Author.Tests.{lt-leb, le-leb, ne-eqb, eq-eqb}
 use borrow.Author.Needs.{needs}
-use Rattle.direction.specs.Cells.{more-columns, more-rows, product-small}
+use Rattle.direction.specs.Cells.{more-columns, more-rows, field-product-small}
 use Rattle.direction.specs.Direction.{countsSound}
 use Rattle.direction.proofs.counts_sound.Statement.{statement}
 use Rattle.direction.proofs.counts_sound.Tie as tie
@@ -32,7 +32,7 @@ returns-4 c = rw (
 )
 
 mul-nodes : tie.Need-mul-nodes
-mul-nodes c = omega (arith, product-small _ _ (c .before .if3 .left) (c .if4 .left))
+mul-nodes c = omega (arith, field-product-small _ _ (c .before .if3 .left) (c .if4 .left))
 
 returns-5 : tie.Need-returns-5
 unfolding countsSound

@@ -1,5 +1,5 @@
 -- `directions::sitjorbe_directions` meets its contract: `given-refused` and `given-answered`. Assumes nothing.
-use Rattle.directions.specs.Laws.{unrefused, given-refused, given-answered}
+use Rattle.directions.specs.Laws.{directions-unrefused, given-refused, given-answered}
 use Rattle.direction.specs.RecordLaws.{record-lent}
 use mathlib.Core.Path.{sym, _∙_}
 use borrow.Author.Needs.{needs}
@@ -16,7 +16,7 @@ returns : tie.Need-returns
 returns c = given-refused _ _ _ _ (c .before .directions-refusal .ensures) (c .if1 .taken)
 
 write-answers-requires : tie.Need-write-answers-requires
-write-answers-requires c κs = let parts = unrefused _ _ _ _ (sym (c .before .before .directions-refusal .ensures) ∙ c .before .if1 .left) in
+write-answers-requires c κs = let parts = directions-unrefused _ _ _ _ (sym (c .before .before .directions-refusal .ensures) ∙ c .before .if1 .left) in
     (record-lent _ (parts .1), parts .0)
 
 same-length-2 : tie.Need-same-length-2

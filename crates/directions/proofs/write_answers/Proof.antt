@@ -1,5 +1,5 @@
--- `directions::write_answers` meets its contract: the invariant is `Written`, i points answered. Assumes nothing.
-use Rattle.directions.specs.Laws.{Written, written-start, written-long, written-room, written-next, written-end}
+-- `directions::write_answers` meets its contract: the invariant is `PointsAnswered`, i points answered. Assumes nothing.
+use Rattle.directions.specs.Laws.{PointsAnswered, points-answered-start, points-answered-long, points-answered-room, points-answered-next, points-answered-end}
 use borrow.Author.Needs.{needs}
 use native.Mathlib.Omega.{arith}
 use Prim.Native.Nat.{_-_}
@@ -7,13 +7,13 @@ use Rattle.directions.proofs.write_answers.Statement.{statement}
 use Rattle.directions.proofs.write_answers.Tie as tie
 
 abbrev Inv-loop : tie.InvT-loop
-Inv-loop g values points targets answers₀ n i₀ answers i = Written g values points targets answers₀ i answers
+Inv-loop g values points targets answers₀ n i₀ answers i = PointsAnswered g values points targets answers₀ i answers
 
 abbrev μ-loop : tie.MeasureT-loop
 μ-loop g values points targets answers₀ n i₀ answers i = n - i
 
 loop-holds : tie.Need-loop-holds Inv-loop μ-loop
-loop-holds c = written-start _ _ _ _ _
+loop-holds c = points-answered-start _ _ _ _ _
 
 point-at-requires : tie.Need-point-at-requires Inv-loop μ-loop
 point-at-requires c κs = omega arith
@@ -27,12 +27,12 @@ point-answer-requires c κs = c .before .before .before .before .before .before 
 mul-write-answer : tie.Need-mul-write-answer Inv-loop μ-loop
 mul-write-answer c =
     let turn = c .before .before .before .before in
-    omega (arith, written-room _ _ _ _ _ (turn .before .loop .inv) (turn .before .before .before .before .before .before .pre .1) (turn .loop-test .taken))
+    omega (arith, points-answered-room _ _ _ _ _ (turn .before .loop .inv) (turn .before .before .before .before .before .before .pre .1) (turn .loop-test .taken))
 
 write-answer-requires : tie.Need-write-answer-requires Inv-loop μ-loop
 write-answer-requires c κs =
     let turn = c .before .before .before .before in
-    written-room _ _ _ _ _ (turn .before .loop .inv) (turn .before .before .before .before .before .before .pre .1) (turn .loop-test .taken)
+    points-answered-room _ _ _ _ _ (turn .before .loop .inv) (turn .before .before .before .before .before .before .pre .1) (turn .loop-test .taken)
 
 add-i : tie.Need-add-i Inv-loop μ-loop
 add-i c = omega (arith, c .before .before .before .before .before .before .before .loop-test .taken)
@@ -45,14 +45,14 @@ loop-again c =
     let wrote = c .before .before in
     let answered = wrote .before .before in
     let turn = answered .before .before .before in
-    written-next _ _ _ _ _ (turn .before .loop .inv) (turn .before .before .before .before .before .before .pre .1) (turn .loop-test .taken)
+    points-answered-next _ _ _ _ _ (turn .before .loop .inv) (turn .before .before .before .before .before .before .pre .1) (turn .loop-test .taken)
     (answered .before .before .point-at .ensures) (answered .before .point-at2 .ensures) (answered .point-answer .ensures) (wrote .write-answer .ensures)
 
 same-length : tie.Need-same-length Inv-loop μ-loop
-same-length c = written-long _ _ _ _ _ (c .before .loop .inv) (c .before .before .before .before .before .before .pre .1)
+same-length c = points-answered-long _ _ _ _ _ (c .before .loop .inv) (c .before .before .before .before .before .before .pre .1)
 
 returns : tie.Need-returns Inv-loop μ-loop
-returns c = written-end _ _ _ _ _ (c .before .loop .inv) (c .before .before .before .before .before .before .pre .1) (c .loop-test .left)
+returns c = points-answered-end _ _ _ _ _ (c .before .loop .inv) (c .before .before .before .before .before .before .pre .1) (c .loop-test .left)
 
 pub write-answers-spec : {M : Type 1} → statement M
 write-answers-spec =

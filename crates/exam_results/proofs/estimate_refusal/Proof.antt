@@ -2,7 +2,7 @@
 use borrow.Author.Tests.{not-true, not-false}
 use native.Mathlib.Omega.{arith}
 use Rattle.lent_mesh.specs.Mesh.{quads-few}
-use Rattle.exam_results.specs.EstimateLaws.{no-quad, lacks-one, first-weight, second-weight, none-refused}
+use Rattle.exam_results.specs.EstimateLaws.{estimate-no-quad, lacks-one, first-weight, second-weight, none-refused}
 use borrow.Author.Needs.{needs}
 use Rattle.exam_results.proofs.estimate_refusal.Statement.{statement}
 use Rattle.exam_results.proofs.estimate_refusal.Tie as tie
@@ -14,7 +14,7 @@ returns : tie.Need-returns
 returns c =
     let at-count = c .before in
     let args = at-count .before .before .before .args in
-    no-quad (args .nodes) (args .quad-count) (at-count .quad-count .result) (args .quad) (args .u) (args .v) (args .quads .now) (args .thresholds .now)
+    estimate-no-quad (args .nodes) (args .quad-count) (at-count .quad-count .result) (args .quad) (args .u) (args .v) (args .quads .now) (args .thresholds .now)
     (at-count .quad-count .ensures) (omega arith)
 
 quad-at-requires : tie.Need-quad-at-requires

@@ -1,22 +1,22 @@
 -- `file_writing::can_file` meets its contract: each way out is a case of `fileable`.
 use native.Mathlib.Omega.{arith}
 -- `file_writing::can_file` meets its contract: each way out is a case of `fileable`.
-use Rattle.file_writing.specs.WriteLaws.{no-loops, many-loops, many-points, not-adding, many-sweeps, by-passes}
+use Rattle.file_writing.specs.WriteLaws.{no-loops-written, many-loops-written, many-points-written, not-adding, many-sweeps-written, by-passes}
 use borrow.Author.Needs.{needs}
 use Rattle.file_writing.proofs.can_file.Statement.{statement}
 use Rattle.file_writing.proofs.can_file.Tie as tie
 
 returns : tie.Need-returns
-returns c = no-loops _ _ _ (c .if1 .taken)
+returns c = no-loops-written _ _ _ (c .if1 .taken)
 
 returns-2 : tie.Need-returns-2
-returns-2 c = many-loops _ _ _ (c .before .if1 .left) (c .if2 .taken)
+returns-2 c = many-loops-written _ _ _ (c .before .if1 .left) (c .if2 .taken)
 
 few-points-requires : tie.Need-few-points-requires
 few-points-requires c κs = search needs
 
 returns-3 : tie.Need-returns-3
-returns-3 c = many-points _ _ _ (c .before .before .before .if1 .left) (c .before .before .if2 .left) (c .before .few-points .ensures) (c .if3 .taken)
+returns-3 c = many-points-written _ _ _ (c .before .before .before .if1 .left) (c .before .before .if2 .left) (c .before .few-points .ensures) (c .if3 .taken)
 
 mul-if4 : tie.Need-mul-if4
 mul-if4 c = search needs
@@ -28,7 +28,7 @@ returns-4 c =
 
 returns-5 : tie.Need-returns-5
 returns-5 c =
-    many-sweeps _ _ _ (c .before .before .before .before .before .before .if1 .left) (c .before .before .before .before .before .if2 .left)
+    many-sweeps-written _ _ _ (c .before .before .before .before .before .before .if1 .left) (c .before .before .before .before .before .if2 .left)
     (c .before .before .before .before .few-points .ensures) (c .before .before .before .if3 .left) (c .before .before .if4 .left)
     (omega (arith, c .if5 .taken))
 

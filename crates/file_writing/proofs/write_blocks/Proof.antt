@@ -1,8 +1,8 @@
 -- `file_writing::write_blocks` meets its contract: the loop's invariant is `Blocks`, and each answer is a law of it.
-use Rattle.file_writing.specs.WriteLaws.{Blocks, blocks-start, blocks-long, part-requires, blocks-put, blocks-end}
+use Rattle.file_writing.specs.WriteLaws.{Blocks, file-blocks-start, blocks-long, part-requires, blocks-put, file-blocks-end}
 use mathlib.Core.Path.{refl}
 -- `file_writing::write_blocks` meets its contract: the loop's invariant is `Blocks`, and each answer is a law of it.
-use Rattle.file_writing.specs.WriteLaws.{Blocks, blocks-start, blocks-long}
+use Rattle.file_writing.specs.WriteLaws.{Blocks, file-blocks-start, blocks-long}
 use Rattle.outline_file.specs.File.{pointBlocks}
 use native.Mathlib.Omega.{arith}
 use Prim.Native.Nat.{_-_}
@@ -16,7 +16,7 @@ abbrev μ-loop : tie.MeasureT-loop
 μ-loop points file₀ all count k₀ file k = count - k
 
 loop-holds : tie.Need-loop-holds Inv-loop μ-loop
-loop-holds c = blocks-start _ _ _
+loop-holds c = file-blocks-start _ _ _
 
 mul-loop : tie.Need-mul-loop Inv-loop μ-loop
 mul-loop c = omega (arith, c .before .before .before .pre, c .loop .inv .within)
@@ -78,7 +78,7 @@ same-length : tie.Need-same-length Inv-loop μ-loop
 same-length c = blocks-long _ (c .before .loop .inv)
 
 returns : tie.Need-returns Inv-loop μ-loop
-returns c = blocks-end _ (c .before .loop .inv) refl (omega (arith, c .loop-test .left))
+returns c = file-blocks-end _ (c .before .loop .inv) refl (omega (arith, c .loop-test .left))
 
 pub write-blocks-spec : {M : Type 1} → statement M
 write-blocks-spec =

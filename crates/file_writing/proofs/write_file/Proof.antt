@@ -1,5 +1,5 @@
 -- `file_writing::write_file` meets its contract: refused, too short, or what the calls ensure makes it up.
-use Rattle.file_writing.specs.WriteLaws.{write-refused, within, few-coordinates, write-short, blocks-room, write-whole}
+use Rattle.file_writing.specs.WriteLaws.{write-refused, is-fileable, few-coordinates, write-short, blocks-room, write-whole}
 -- `file_writing::write_file` meets its contract: refused, too short, or what the calls ensure makes it up.
 use Rattle.outline_file.specs.File.{request}
 use native.Mathlib.Omega.{arith}
@@ -26,7 +26,7 @@ returns-2 c = let a = c .before .before .before .before .before .before .before 
 
 write-head-requires : tie.Need-write-head-requires
 write-head-requires c κs = let a = c .before .before .before .before .before .before .before .before in
-    let fit = within (request (a .args .settings) (a .args .points .now) (a .args .lens .now)) (a .args .file .now)
+    let fit = is-fileable (request (a .args .settings) (a .args .points .now) (a .args .lens .now)) (a .args .file .now)
     (c .before .before .before .before .can-file .ensures) (c .before .before .before .if1 .left) in
     (fit .few, omega (arith, c .before .before .file-length .ensures, c .before .if2 .left))
 

@@ -4,7 +4,7 @@ use mathlib.Core.Path.{_≡_, sym, _∙_}
 use mathlib.Core.Bool.{Bool, true, false}
 use Prim.Native.Nat.{_+_}
 use Rattle.front.specs.declared.Placed.the-variants.{Full}
-use Rattle.front.specs.Stores.{Places, isBeyond}
+use Rattle.front.specs.Stores.{PlacesQuad, isBeyond}
 use Rattle.front.specs.State.{State, stateOf, nodePlaces, quadPlaces, edgePlaces}
 use Rattle.front.specs.StoreLaws.{Fitting, when-full, when-fits, when-stored}
 use borrow.Author.Needs.{needs}
@@ -45,7 +45,7 @@ beyond c =
     (c .new-edges .result)
 
 full : (c : tie.After-new-edges) → beyond c ≡ true
-    → Places (start c .args .a) (start c .args .b) (start c .args .c) (start c .args .d) (lent c) Full (lent c)
+    → PlacesQuad (start c .args .a) (start c .args .b) (start c .args .c) (start c .args .d) (lent c) Full (lent c)
 full c =
     when-full _ _ _ _ _ (start c .pre .0) _ _ _ _ _ _ (c .before .before .before .before .added .ensures .0)
     (c .before .before .before .added2 .ensures .0) (c .before .before .id .ensures) (c .before .id2 .ensures)

@@ -2,7 +2,7 @@
 use borrow.Author.Needs.{needs}
 use Rattle.geometry.specs.Keys.{rectanglesMeet, candidateAt}
 use Rattle.laws.specs.Tests.{and-false, and-true}
-use Rattle.geometry.specs.TestLaws.{refused, passed}
+use Rattle.geometry.specs.TestLaws.{test-refused, test-passed}
 use Rattle.geometry.proofs.candidate_at.Statement.{statement}
 use Rattle.geometry.proofs.candidate_at.Tie as tie
 
@@ -11,7 +11,7 @@ columns-meet-requires c κs = search needs
 
 returns : tie.Need-returns
 unfolding candidateAt rectanglesMeet
-returns c = rw (refused (c .before .columns-meet .ensures) (c .if1 .taken), and-false, and-false)
+returns c = rw (test-refused (c .before .columns-meet .ensures) (c .if1 .taken), and-false, and-false)
 
 key-of-requires : tie.Need-key-of-requires
 key-of-requires c κs = search needs
@@ -29,7 +29,7 @@ returns-2 c =
     rw (
       ← keys .before .key-of .ensures,
       ← keys .key-of2 .ensures,
-      refused (c .before .rectangles-meet .ensures) (c .if2 .taken),
+      test-refused (c .before .rectangles-meet .ensures) (c .if2 .taken),
       and-false,
       and-false,
     )
@@ -44,7 +44,7 @@ returns-3 c =
     rw (
       ← keys .before .key-of .ensures,
       ← keys .key-of2 .ensures,
-      refused (c .before .spans-kept .ensures) (c .if3 .taken),
+      test-refused (c .before .spans-kept .ensures) (c .if3 .taken),
     )
 
 spans-kept-requires-2 : tie.Need-spans-kept-requires-2
@@ -59,8 +59,8 @@ returns-4 c =
     rw (
       ← keys .before .key-of .ensures,
       ← keys .key-of2 .ensures,
-      passed (meet .before .rectangles-meet .ensures) (meet .if2 .left),
-      passed (query .before .spans-kept .ensures) (query .if3 .left),
+      test-passed (meet .before .rectangles-meet .ensures) (meet .if2 .left),
+      test-passed (query .before .spans-kept .ensures) (query .if3 .left),
       and-true,
     )
     (c .spans-kept2 .ensures)

@@ -2,7 +2,7 @@
 use borrow.Author.Needs.{needs}
 use Rattle.geometry.specs.Sides.{turn-is}
 use Rattle.geometry.specs.LeftTurns.{cornersTurn}
-use Rattle.geometry.specs.TestLaws.{refused, passed}
+use Rattle.geometry.specs.TestLaws.{test-refused, test-passed}
 use Rattle.geometry.proofs.corners_turn.Statement.{statement}
 use Rattle.geometry.proofs.corners_turn.Tie as tie
 
@@ -20,7 +20,7 @@ unfolding cornersTurn
 returns c =
     let ab = c .before .before in
     let ca = ab .before in
-    rw (refused (turn-is _ _ _ (ca .side-of .ensures) (ab .side-of2 .ensures) (c .before .turns .ensures)) (c .if1 .taken))
+    rw (test-refused (turn-is _ _ _ (ca .side-of .ensures) (ab .side-of2 .ensures) (c .before .turns .ensures)) (c .if1 .taken))
 
 side-of-requires-3 : tie.Need-side-of-requires-3
 side-of-requires-3 c κs = search needs
@@ -36,8 +36,8 @@ returns-2 c =
     let ab = first .before .before in
     let ca = ab .before in
     rw (
-      passed (turn-is _ _ _ (ca .side-of .ensures) (ab .side-of2 .ensures) (first .before .turns .ensures)) (first .if1 .left),
-      refused (turn-is _ _ _ (ab .side-of2 .ensures) (bd .side-of3 .ensures) (c .before .turns2 .ensures)) (c .if2 .taken),
+      test-passed (turn-is _ _ _ (ca .side-of .ensures) (ab .side-of2 .ensures) (first .before .turns .ensures)) (first .if1 .left),
+      test-refused (turn-is _ _ _ (ab .side-of2 .ensures) (bd .side-of3 .ensures) (c .before .turns2 .ensures)) (c .if2 .taken),
     )
 
 side-of-requires-4 : tie.Need-side-of-requires-4
@@ -56,9 +56,9 @@ returns-3 c =
     let ab = first .before .before in
     let ca = ab .before in
     rw (
-      passed (turn-is _ _ _ (ca .side-of .ensures) (ab .side-of2 .ensures) (first .before .turns .ensures)) (first .if1 .left),
-      passed (turn-is _ _ _ (ab .side-of2 .ensures) (bd .side-of3 .ensures) (second .before .turns2 .ensures)) (second .if2 .left),
-      refused (turn-is _ _ _ (bd .side-of3 .ensures) (dc .side-of4 .ensures) (c .before .turns3 .ensures)) (c .if3 .taken),
+      test-passed (turn-is _ _ _ (ca .side-of .ensures) (ab .side-of2 .ensures) (first .before .turns .ensures)) (first .if1 .left),
+      test-passed (turn-is _ _ _ (ab .side-of2 .ensures) (bd .side-of3 .ensures) (second .before .turns2 .ensures)) (second .if2 .left),
+      test-refused (turn-is _ _ _ (bd .side-of3 .ensures) (dc .side-of4 .ensures) (c .before .turns3 .ensures)) (c .if3 .taken),
     )
 
 turns-requires-4 : tie.Need-turns-requires-4
@@ -75,9 +75,9 @@ returns-4 c =
     let ab = first .before .before in
     let ca = ab .before in
     rw (
-      passed (turn-is _ _ _ (ca .side-of .ensures) (ab .side-of2 .ensures) (first .before .turns .ensures)) (first .if1 .left),
-      passed (turn-is _ _ _ (ab .side-of2 .ensures) (bd .side-of3 .ensures) (second .before .turns2 .ensures)) (second .if2 .left),
-      passed (turn-is _ _ _ (bd .side-of3 .ensures) (dc .side-of4 .ensures) (third .before .turns3 .ensures)) (third .if3 .left),
+      test-passed (turn-is _ _ _ (ca .side-of .ensures) (ab .side-of2 .ensures) (first .before .turns .ensures)) (first .if1 .left),
+      test-passed (turn-is _ _ _ (ab .side-of2 .ensures) (bd .side-of3 .ensures) (second .before .turns2 .ensures)) (second .if2 .left),
+      test-passed (turn-is _ _ _ (bd .side-of3 .ensures) (dc .side-of4 .ensures) (third .before .turns3 .ensures)) (third .if3 .left),
     )
     (turn-is _ _ _ (dc .side-of4 .ensures) (ca .side-of .ensures) (c .turns4 .ensures))
 

@@ -1,7 +1,7 @@
 -- `geometry::point_in_convex` meets its contract: the four sides in the definition's order.
 use borrow.Author.Needs.{needs}
 use Rattle.geometry.specs.Plane.{pointInConvex}
-use Rattle.geometry.specs.TestLaws.{refused, passed}
+use Rattle.geometry.specs.TestLaws.{test-refused, test-passed}
 use Rattle.geometry.proofs.point_in_convex.Statement.{statement}
 use Rattle.geometry.proofs.point_in_convex.Tie as tie
 
@@ -10,7 +10,7 @@ left-of-requires c κs = search needs
 
 returns : tie.Need-returns
 unfolding pointInConvex
-returns c = rw (refused (c .before .left-of .ensures) (c .if1 .taken))
+returns c = rw (test-refused (c .before .left-of .ensures) (c .if1 .taken))
 
 left-of-requires-2 : tie.Need-left-of-requires-2
 left-of-requires-2 c κs = search needs
@@ -19,7 +19,7 @@ returns-2 : tie.Need-returns-2
 unfolding pointInConvex
 returns-2 c =
     let first = c .before .before in
-    rw (passed (first .before .left-of .ensures) (first .if1 .left), refused (c .before .left-of2 .ensures) (c .if2 .taken))
+    rw (test-passed (first .before .left-of .ensures) (first .if1 .left), test-refused (c .before .left-of2 .ensures) (c .if2 .taken))
 
 left-of-requires-3 : tie.Need-left-of-requires-3
 left-of-requires-3 c κs = search needs
@@ -30,9 +30,9 @@ returns-3 c =
     let second = c .before .before in
     let first = second .before .before in
     rw (
-      passed (first .before .left-of .ensures) (first .if1 .left),
-      passed (second .before .left-of2 .ensures) (second .if2 .left),
-      refused (c .before .left-of3 .ensures) (c .if3 .taken),
+      test-passed (first .before .left-of .ensures) (first .if1 .left),
+      test-passed (second .before .left-of2 .ensures) (second .if2 .left),
+      test-refused (c .before .left-of3 .ensures) (c .if3 .taken),
     )
 
 left-of-requires-4 : tie.Need-left-of-requires-4
@@ -45,9 +45,9 @@ returns-4 c =
     let second = third .before .before in
     let first = second .before .before in
     rw (
-      passed (first .before .left-of .ensures) (first .if1 .left),
-      passed (second .before .left-of2 .ensures) (second .if2 .left),
-      passed (third .before .left-of3 .ensures) (third .if3 .left),
+      test-passed (first .before .left-of .ensures) (first .if1 .left),
+      test-passed (second .before .left-of2 .ensures) (second .if2 .left),
+      test-passed (third .before .left-of3 .ensures) (third .if3 .left),
     )
     (c .left-of4 .ensures)
 

@@ -1,5 +1,5 @@
 -- `hand_placing::add_two` meets its contract.
-use Rattle.hand_placing.specs.PlaceLaws.{first-fits, second-fits}
+use Rattle.hand_placing.specs.PlaceLaws.{first-edge-fits, second-edge-fits}
 use Rattle.front.specs.State.{addEdge}
 use mathlib.Core.Path.{ap, _∙_}
 use borrow.Author.Needs.{needs}
@@ -7,10 +7,10 @@ use Rattle.hand_placing.proofs.add_two.Statement.{statement}
 use Rattle.hand_placing.proofs.add_two.Tie as tie
 
 add-edge-requires : tie.Need-add-edge-requires
-add-edge-requires c κs = first-fits _ _ _ _ _ (c .before .before .pre)
+add-edge-requires c κs = first-edge-fits _ _ _ _ _ (c .before .before .pre)
 
 add-edge-requires-2 : tie.Need-add-edge-requires-2
-add-edge-requires-2 c κs = second-fits _ _ _ _ _ _ _ (c .before .before .before .add-edge .ensures) (search needs)
+add-edge-requires-2 c κs = second-edge-fits _ _ _ _ _ _ _ (c .before .before .before .add-edge .ensures) (search needs)
     (c .before .before .before .before .before .before .pre)
 
 same-length : tie.Need-same-length

@@ -8,7 +8,7 @@ use lib.ListN.{length}
 use Rattle.pools.specs.Pool.{linkPlace}
 use Rattle.index.specs.Walk.{rows}
 use Rattle.pools.specs.FileLaws.{place-fits}
-use Rattle.index.specs.WalkLaws.{row-stands, row-over, stands-same, after-link, after-chain}
+use Rattle.index.specs.WalkLaws.{row-stands, row-walked, stands-same, after-link, after-chain}
 use borrow.Author.Needs.{needs}
 use Rattle.index.proofs.after.Statement.{statement}
 use Rattle.index.proofs.after.Tie as tie
@@ -72,7 +72,7 @@ returns-3 c =
     after-chain (args .r) (start .pre) (rw (cells .cells-of .ensures) at (row .before .if1 .left))
     (stands-same
     (sym (ap (λ (l : List ℕ). l ++ rows (args .pool .now) (args .r) (args .r .high - args .c .j) (args .c .j + 1))
-    (row-over (row .later-columns .ensures) (sym (c .before .before .is-over .ensures) ∙ not-false _ (c .before .if2 .left)))))
+    (row-walked (row .later-columns .ensures) (sym (c .before .before .is-over .ensures) ∙ not-false _ (c .before .if2 .left)))))
     (c .later-rows .ensures))
 
 pub after-spec : {M : Type 1} → statement M

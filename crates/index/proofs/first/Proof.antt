@@ -7,7 +7,7 @@ use borrow.Author.Tests.{not-true, not-false}
 use Rattle.pools.specs.Pool.{span}
 use Rattle.index.specs.Walk.{columns, rows, visited}
 use Rattle.index.specs.AcrossLaws.{across-from, across-end}
-use Rattle.index.specs.WalkLaws.{visited-short, row-stands, row-over, stands-none, stands-same}
+use Rattle.index.specs.WalkLaws.{visited-short, row-stands, row-walked, stands-none, stands-same}
 use borrow.Author.Needs.{needs}
 use Rattle.index.proofs.first.Statement.{statement}
 use Rattle.index.proofs.first.Tie as tie
@@ -60,7 +60,7 @@ returns-4 c =
     stands-same
     (sym (from row
     ∙ ap (λ (l : List ℕ). l ++ rows (args .pool .now) (args .r) (args .r .high - args .r .low) (args .r .low + 1))
-    (row-over (row .in-row .ensures) (sym (c .before .before .is-over .ensures) ∙ not-false _ (c .before .if3 .left)))))
+    (row-walked (row .in-row .ensures) (sym (c .before .before .is-over .ensures) ∙ not-false _ (c .before .if3 .left)))))
     (c .later-rows .ensures)
 
 pub first-spec : {M : Type 1} → statement M

@@ -8,7 +8,7 @@ use borrow.Author.Tests.{not-true, not-false}
 use Rattle.pools.specs.Pool.{span}
 use Rattle.index.specs.Walk.{columns, rows}
 use Rattle.index.specs.AcrossLaws.{across-more, across-end}
-use Rattle.index.specs.WalkLaws.{row-stands, row-over, stands-none, stands-same}
+use Rattle.index.specs.WalkLaws.{row-stands, row-walked, stands-none, stands-same}
 use Rattle.index.proofs.later_rows.Statement.{statement}
 use Rattle.index.proofs.later_rows.Tie as tie
 
@@ -60,7 +60,7 @@ loop-again c =
     let j = row .before .before .loop .j in
     more (row .before)
     ∙ ap (λ (l : List ℕ). l ++ rows (args .pool .now) (args .r) (args .r .high - (j + 1)) (j + 1 + 1))
-    (row-over (row .in-row .ensures) (sym (c .before .is-over .ensures) ∙ not-false _ (c .if1 .left)))
+    (row-walked (row .in-row .ensures) (sym (c .before .is-over .ensures) ∙ not-false _ (c .if1 .left)))
 
 nowhere-requires : tie.Need-nowhere-requires Inv-loop μ-loop
 nowhere-requires c κs = search needs

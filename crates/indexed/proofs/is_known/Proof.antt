@@ -5,7 +5,7 @@ use borrow.Author.Needs.{needs}
 use borrow.Author.Tests.{not-true, not-false}
 use lib.ListN.{length}
 use Rattle.laws.specs.Loop.{anyUp, found-before, unfound-none}
-use Rattle.geometry.specs.TestLaws.{passed}
+use Rattle.geometry.specs.TestLaws.{test-passed}
 use Rattle.geometry.specs.Keys.{keyOf, edgeBucket, spansKept}
 use Rattle.pools.specs.Pool.{filed, ownAt}
 use Rattle.index.specs.Walk.{over, ahead}
@@ -68,7 +68,7 @@ loop-holds c =
     let from = to .before .before in
     let start = from .before .before .before .before .before .before in
     let args = start .args in
-    let spans = passed (else1 .before .spans-kept .ensures) (else1 .if1 .left) in
+    let spans = test-passed (else1 .before .spans-kept .ensures) (else1 .if1 .left) in
     let kept : spansKept (keyOf (edgeBucket (args .size)) (nodeIn (args .xs .now) (args .ys .now) (args .u)))
     (keyOf (edgeBucket (args .size)) (nodeIn (args .xs .now) (args .ys .now) (args .v))) ≡ true =
     rw (← from .before .node-at .ensures, ← to .before .node-at2 .ensures, ← from .key-of .ensures, ← to .key-of2 .ensures) spans in

@@ -5,7 +5,7 @@ use native.Mathlib.Omega.{arith}
 use lib.ListN.{length, take}
 use Rattle.listing.specs.Buffer.{buffer}
 use Rattle.listing.specs.Listing.{loopLines}
-use Rattle.listing.specs.Left.{Left, left-next, left-end, left-length, loopsFrom, loops-start, loops-next, loops-end}
+use Rattle.listing.specs.Left.{Left, left-next, left-end, left-length, loopsFrom, loops-start, rows-next, loops-end}
 use Rattle.listing.proofs.put_loops.Statement.{statement}
 use Rattle.listing.proofs.put_loops.Tie as tie
 
@@ -73,7 +73,7 @@ loop-again c =
     let l = turn .before .before .loop in
     let a = turn .before .before .before .before .before .before .args in
     let end = ap (λ (m : ℕ). l .a + m) (c .before .before .before .before .before .min-usize .ensures) in
-    let next = loops-next (a .lengths .now) (a .loops .now) (a .n) (l .k) (l .a) _ (turn .before .loop-test .taken) (turn .if1 .left) end in
+    let next = rows-next (a .lengths .now) (a .loops .now) (a .n) (l .k) (l .a) _ (turn .before .loop-test .taken) (turn .if1 .left) end in
     (omega arith, left-next _ _ (l .inv .1) next (c .before .before .put-row .ensures))
 
 same-length-2 : tie.Need-same-length-2 Inv-loop μ-loop

@@ -3,13 +3,13 @@ use Prim.Native.Nat.{_-_}
 use native.Mathlib.Omega.{arith}
 use lib.ListN.{length}
 use Rattle.loops.specs.Visits.{Visiting, visiting-start, visiting-visitable, visiting-next, visiting-lengths, visiting-end}
-use Rattle.loops.specs.Listed.{lists, counted}
+use Rattle.loops.specs.Listed.{lists, listedOf}
 use Rattle.loops.proofs.list_all.Statement.{statement}
 use Rattle.loops.proofs.list_all.Tie as tie
 
 abbrev Inv-loop : tie.InvT-loop
 Inv-loop next marks₀ loops₀ lengths₀ listed₀ i₀ marks loops lengths listed i =
-    Visiting next (lists marks₀ loops₀ lengths₀ (counted 0 0)) i (lists marks loops lengths listed)
+    Visiting next (lists marks₀ loops₀ lengths₀ (listedOf 0 0)) i (lists marks loops lengths listed)
 
 abbrev μ-loop : tie.MeasureT-loop
 μ-loop next marks₀ loops₀ lengths₀ listed₀ i₀ marks loops lengths listed i = length next - i

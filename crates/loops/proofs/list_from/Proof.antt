@@ -1,4 +1,4 @@
--- `loops::list_from` meets its contract: each way out is a law of `visited`.
+-- `loops::list_from` meets its contract: each way out is a law of `loopVisited`.
 use native.Mathlib.Omega.{arith}
 use lib.ListN.{length-set}
 use borrow.Author.Needs.{needs}

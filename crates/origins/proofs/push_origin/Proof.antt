@@ -1,13 +1,13 @@
 -- `origins::push_origin` meets its contract: by the test.
 use mathlib.Core.Path.{sym}
 use native.Mathlib.Omega.{arith}
-use Rattle.origins.specs.Writing.{push-same, push-other, at-same, at-other}
+use Rattle.origins.specs.Writing.{push-same, push-other, push-at-same, push-at-other}
 use borrow.Author.Needs.{needs}
 use Rattle.origins.proofs.push_origin.Statement.{statement}
 use Rattle.origins.proofs.push_origin.Tie as tie
 
 returns : tie.Need-returns
-returns c = (sym (push-other _ _ (c .if1 .taken)), at-other _ _ _ _ (c .if1 .taken))
+returns c = (sym (push-other _ _ (c .if1 .taken)), push-at-other _ _ _ _ (c .if1 .taken))
 
 mul-origins : tie.Need-mul-origins
 mul-origins c = search needs
@@ -30,7 +30,7 @@ same-length c = search needs
 returns-2 : tie.Need-returns-2
 returns-2 c =
     let start = c .before .before in
-    (sym (push-same _ _ (c .before .if1 .left)), at-same (start .args .a) _ _ (start .args .origins .now) (c .before .if1 .left))
+    (sym (push-same _ _ (c .before .if1 .left)), push-at-same (start .args .a) _ _ (start .args .origins .now) (c .before .if1 .left))
 
 pub push-origin-spec : {M : Type 1} → statement M
 push-origin-spec =

@@ -1,5 +1,5 @@
--- `places::sitjorbe_places` meets its contract: `given-refused` and `given-counted`. Assumes nothing.
-use Rattle.places.specs.Laws.{drawn-unrefused, given-refused, given-counted}
+-- `places::sitjorbe_places` meets its contract: `places-given-refused` and `places-given-counted`. Assumes nothing.
+use Rattle.places.specs.Laws.{drawn-unrefused, places-given-refused, places-given-counted}
 use lib.Dec.{T}
 use mathlib.Core.Path.{sym, subst}
 use borrow.Author.Needs.{needs}
@@ -11,7 +11,7 @@ field-refusal-requires c κs = search needs
 
 returns : tie.Need-returns
 returns c = let known = c .before .before .before in
-    given-refused _ _ (record { outer = λ i h. known .before .shared-slice-known .given i; holes = λ i h. known .shared-slice-known2 .given i })
+    places-given-refused _ _ (record { outer = λ i h. known .before .shared-slice-known .given i; holes = λ i h. known .shared-slice-known2 .given i })
     (subst T (sym (known .before .before .good .1 .1 .1 .0 .1)) tt) (c .before .field-refusal .ensures) (c .if1 .taken)
 
 count-places-requires : tie.Need-count-places-requires
@@ -22,7 +22,7 @@ count-places-requires c κs =
 
 returns-2 : tie.Need-returns-2
 returns-2 c = let known = c .before .before .before .before in
-    given-counted _ _ (record { outer = λ i h. known .before .shared-slice-known .given i; holes = λ i h. known .shared-slice-known2 .given i })
+    places-given-counted _ _ (record { outer = λ i h. known .before .shared-slice-known .given i; holes = λ i h. known .shared-slice-known2 .given i })
     (subst T (sym (known .before .before .good .1 .1 .1 .0 .1)) tt) (c .before .before .field-refusal .ensures)
     (c .before .if1 .left) (c .count-places .ensures)
 

@@ -6,7 +6,7 @@ use borrow.Author.Needs.{needs}
 use borrow.Author.Tests.{le-leb, lt-leb}
 use lib.ListN.{length, length-set}
 use Rattle.laws.specs.Loop.{Loop, loop-start, loop-next, loop-end}
-use Rattle.pools.specs.Pool.{cells, clearCell, cleared}
+use Rattle.pools.specs.Pool.{cells, clearCell, clearedPool}
 use Rattle.pools.proofs.clear.Statement.{statement}
 use Rattle.pools.proofs.clear.Tie as tie
 
@@ -17,7 +17,7 @@ abbrev μ-loop : tie.MeasureT-loop
 μ-loop pool₀ n m c₀ pool c = m - c
 
 returns : tie.Need-returns Inv-loop μ-loop
-unfolding cleared cells
+unfolding clearedPool cells
 returns c = rw (lt-leb 4 _ (c .if1 .taken))
 
 slice-write-pool : tie.Need-slice-write-pool Inv-loop μ-loop
@@ -51,7 +51,7 @@ same-length : tie.Need-same-length Inv-loop μ-loop
 same-length c = simp length-set at (c .before .loop .inv .1)
 
 returns-2 : tie.Need-returns-2 Inv-loop μ-loop
-unfolding cleared cells
+unfolding clearedPool cells
 returns-2 c = rw (le-leb 4 _ (c .before .before .if1 .left)) (loop-end _ _ (c .before .loop .inv .0) (c .loop-test .left))
 
 pub clear-spec : {M : Type 1} → statement M

@@ -3,7 +3,7 @@ use mathlib.Core.Path.{sym, _∙_, refl}
 use Rattle.retries.specs.Untried.{untried-vain, untried-kept, untried-left, untried-noted}
 use Rattle.front.specs.State.{State}
 use Rattle.domain.specs.Outline.{Outline, outline}
-use Rattle.attempts.specs.Seen.{seen}
+use Rattle.attempts.specs.Seen.{seenState}
 use borrow.Author.Needs.{needs}
 use Rattle.retries.proofs.try_untried.Statement.{statement}
 use Rattle.retries.proofs.try_untried.Tie as tie
@@ -13,7 +13,7 @@ abbrev around : tie.Start → Outline
 around s = outline (s .args .outer .now) (s .args .holes .now) (s .args .lens .now)
 
 abbrev lent : tie.Start → State
-lent s = seen (s .args .xs .now) (s .args .ys .now) (s .args .next .now) (s .args .prev .now) (s .args .edges .now) (s .args .counts)
+lent s = seenState (s .args .xs .now) (s .args .ys .now) (s .args .next .now) (s .args .prev .now) (s .args .edges .now) (s .args .counts)
 
 link-id-requires : tie.Need-link-id-requires
 link-id-requires c κs = c .before .before .before .before .before .before .before .before .before .before .before .before .before .pre .0 .attempt .prev-fit

@@ -6,7 +6,7 @@ use Rattle.domain.specs.Outline.{Outline, outline}
 use Rattle.domain.specs.Accepted.{OutlineFits}
 use Rattle.domain.specs.declared.Settings.{Settings}
 use Rattle.run.specs.Run.{settings, Lent, lent, snapshotPlaces, refusalOf}
-use Rattle.run.specs.Laws.{number-is, can-run, accepted-number, paves-accepted, paves-refused}
+use Rattle.run.specs.Laws.{run-number-is, can-run, accepted-number, paves-accepted, paves-refused}
 use borrow.Author.Needs.{needs}
 use Rattle.run.proofs.pave.Statement.{statement}
 use Rattle.run.proofs.pave.Tie as tie
@@ -48,7 +48,7 @@ number-at : (c : tie.After-refusal)
 number-at c =
     let at-snapshot-places = c .before .before .before in
     let start = start-of at-snapshot-places in
-    number-is (around start) (set start) (given start) _ (places-are at-snapshot-places) _ _ _ (c .before .before .min-usize .ensures)
+    run-number-is (around start) (set start) (given start) _ (places-are at-snapshot-places) _ _ _ (c .before .before .min-usize .ensures)
     (c .before .node-places .ensures) (c .refusal .ensures)
 
 snapshot-places-requires : tie.Need-snapshot-places-requires

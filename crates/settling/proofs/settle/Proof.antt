@@ -1,7 +1,7 @@
 -- `settling::settle` meets its contract: the edge is gone, the attempt answers nothing, a quad that is full, or a quad that is placed.
 use Rattle.retries.specs.VainLaws.{stretches-tried}
 use Rattle.settling.specs.Searchable.{placed-adds, full-helped, done-helped, helped-at, counts-settled}
-use Rattle.settling.specs.Paveable.{held, try-lent}
+use Rattle.settling.specs.Paveable.{held, state-try-lent}
 use Rattle.settling.specs.Laws.{settle-gone, settle-untried, settle-same, settle-node, settle-ready, settle-full, settle-done}
 use Rattle.front.specs.State.{State, stateOf}
 use Rattle.direction.specs.Record.{FieldRecord, fieldRecord}
@@ -48,7 +48,7 @@ returns c = let start = c .before .before .before .before .before .before .befor
 
 try-untried-requires : tie.Need-try-untried-requires
 try-untried-requires c κs = let start = c .before .before .before .before .before .before .before .before .before .before .before .before .before .before .before .before .before .before .before .before .before .before .before .before .before .before .before .before in (
-  try-lent _ _ _ _ _ (start .pre .0) _ (start .pre .2 .search .nodes-filed) (start .pre .2 .search .edges-filed),
+  state-try-lent _ _ _ _ _ (start .pre .0) _ (start .pre .2 .search .nodes-filed) (start .pre .2 .search .edges-filed),
   settle-untried (around start) (start .args .size) (start .args .grid) (start .args .values .now) (lent start) (start .args .a) (start .pre .1)
       (held _ _ _ _ _ (start .pre .0)) (c .before .before .before .before .before .before .before .before .before .before .before .snapshot-edge .ensures) (c .before .before .before .before .before .before .before .before .before .edge .given .1) _ (start .pre .0) (start .pre .2 .remembers),
 )

@@ -1,4 +1,4 @@
--- `small_quads::sitjorbe_small_quads` meets its contract: `refused-is` and `listed-is` of ListLaws.antt, which rest on `same`. Assumes nothing.
+-- `small_quads::sitjorbe_small_quads` meets its contract: `refused-is` and `listed-is` of ListLaws.antt, which rest on `fours-same`. Assumes nothing.
 use Rattle.small_quads.specs.ListLaws.{refused-is, listed-is}
 use borrow.Author.Needs.{needs}
 use Rattle.small_quads.proofs.sitjorbe_small_quads.Statement.{statement}

@@ -6,13 +6,13 @@ use native.Mathlib.Omega.{arith}
 use lib.ListN.{length}
 use Rattle.soundness.specs.SegmentLaws.{point-in}
 use Rattle.soundness.specs.WalkLaws.{anyPoint}
-use Rattle.sound_outlines.specs.Sound.{start, isInside}
+use Rattle.sound_outlines.specs.Sound.{segmentStart, isInside}
 use Rattle.laws.specs.Loop.{Scan, scan-start, scan-next, scan-hit, scan-none}
 use Rattle.soundness.proofs.any_point.Statement.{statement}
 use Rattle.soundness.proofs.any_point.Tie as tie
 
 abbrev Inv-loop : tie.InvT-loop
-Inv-loop s t inside n i₀ i = (n ≡ length s / 2) × Scan (λ i. Bool·beq (isInside (start s i) t) inside) n i
+Inv-loop s t inside n i₀ i = (n ≡ length s / 2) × Scan (λ i. Bool·beq (isInside (segmentStart s i) t) inside) n i
 
 abbrev μ-loop : tie.MeasureT-loop
 μ-loop s t inside n i₀ i = n - i

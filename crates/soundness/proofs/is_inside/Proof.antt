@@ -5,8 +5,8 @@ use Prim.Native.Nat.{_-_, _/_}
 use native.Mathlib.Omega.{arith}
 use lib.ListN.{length}
 use Rattle.soundness.specs.SegmentLaws.{ray-at}
-use Rattle.sound_outlines.specs.Sound.{start, end, rayMeets, isInside}
-use Rattle.orientation.specs.Orient.{place}
+use Rattle.sound_outlines.specs.Sound.{segmentStart, segmentEnd, rayMeets, isInside}
+use Rattle.orientation.specs.Orient.{inUnits}
 use Rattle.domain.specs.Parity.{oddTurn}
 use Rattle.domain.specs.Accepted.{after-within}
 use Rattle.laws.specs.Loop.{Loop, loop-start, loop-next, loop-end}
@@ -14,7 +14,7 @@ use Rattle.soundness.proofs.is_inside.Statement.{statement}
 use Rattle.soundness.proofs.is_inside.Tie as tie
 
 abbrev Inv-loop : tie.InvT-loop
-Inv-loop p s n inside₀ i₀ inside i = (n ≡ length s / 2) × Loop (oddTurn (λ i. rayMeets (place p) (start s i) (end s i))) false n i inside
+Inv-loop p s n inside₀ i₀ inside i = (n ≡ length s / 2) × Loop (oddTurn (λ i. rayMeets (inUnits p) (segmentStart s i) (segmentEnd s i))) false n i inside
 
 abbrev μ-loop : tie.MeasureT-loop
 μ-loop p s n inside₀ i₀ inside i = n - i

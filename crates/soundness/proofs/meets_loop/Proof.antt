@@ -4,15 +4,15 @@ use Prim.Native.Nat.{_-_, _/_}
 use native.Mathlib.Omega.{arith}
 use lib.ListN.{length}
 use Rattle.soundness.specs.SegmentLaws.{meets-at}
-use Rattle.sound_outlines.specs.Sound.{start, end, meets}
-use Rattle.orientation.specs.Orient.{place}
+use Rattle.sound_outlines.specs.Sound.{segmentStart, segmentEnd, meets}
+use Rattle.orientation.specs.Orient.{inUnits}
 use Rattle.domain.specs.Accepted.{after-within}
 use Rattle.laws.specs.Loop.{Scan, scan-start, scan-next, scan-hit, scan-none}
 use Rattle.soundness.proofs.meets_loop.Statement.{statement}
 use Rattle.soundness.proofs.meets_loop.Tie as tie
 
 abbrev Inv-loop : tie.InvT-loop
-Inv-loop a b t n j₀ j = (n ≡ length t / 2) × Scan (λ j. meets (place a) (place b) (start t j) (end t j)) n j
+Inv-loop a b t n j₀ j = (n ≡ length t / 2) × Scan (λ j. meets (inUnits a) (inUnits b) (segmentStart t j) (segmentEnd t j)) n j
 
 abbrev μ-loop : tie.MeasureT-loop
 μ-loop a b t n j₀ j = n - j

@@ -5,7 +5,7 @@ use native.Mathlib.Omega.{arith}
 use denote.Ref.{now}
 use lib.ListN.{length}
 use Rattle.soundness.specs.SegmentLaws.{segment-at}
-use Rattle.sound_outlines.specs.Sound.{start, end, meets, touch}
+use Rattle.sound_outlines.specs.Sound.{segmentStart, segmentEnd, meets, touch}
 use Rattle.domain.specs.Accepted.{after-within}
 use Rattle.domain.specs.Outline.{points}
 use Rattle.laws.specs.Loop.{anyUp, Scan, scan-start, scan-next, scan-hit, scan-none}
@@ -13,7 +13,7 @@ use Rattle.soundness.proofs.touches.Statement.{statement}
 use Rattle.soundness.proofs.touches.Tie as tie
 
 abbrev Inv-loop : tie.InvT-loop
-Inv-loop s t n i₀ i = (n ≡ length s / 2) × Scan (λ i. anyUp (points t) (λ j. meets (start s i) (end s i) (start t j) (end t j))) n i
+Inv-loop s t n i₀ i = (n ≡ length s / 2) × Scan (λ i. anyUp (points t) (λ j. meets (segmentStart s i) (segmentEnd s i) (segmentStart t j) (segmentEnd t j))) n i
 
 abbrev μ-loop : tie.MeasureT-loop
 μ-loop s t n i₀ i = n - i

@@ -6,7 +6,7 @@ use Rattle.direction.specs.Record.{FieldRecord, fieldRecord}
 use Rattle.front.specs.declared.Counts.{Counts}
 use Rattle.front.specs.State.{counted}
 use Rattle.step_entries.specs.Entries.{gridGiven}
-use Rattle.step_entries.specs.EntryLaws.{given-around, lists-refused, lists-stepped}
+use Rattle.step_entries.specs.EntryLaws.{given-around, step-lists-refused, lists-stepped}
 use borrow.Author.Needs.{needs}
 use Rattle.step_entries.proofs.sitjorbe_step.Statement.{statement}
 use Rattle.step_entries.proofs.sitjorbe_step.Tie as tie
@@ -33,7 +33,7 @@ returns c =
     let at-given-refusal = c .before .before in
     let at-args = at-given-refusal .before .before .before .before .before .before .before .before .before .before .before .before .before in
     let s = at-args in
-    lists-refused (around s) (s .args .size) (field s) (s .args .a) (s .args .b) _ _ _ _ _ _ _ (counts s) (at-given-refusal .given-refusal .ensures) _
+    step-lists-refused (around s) (s .args .size) (field s) (s .args .a) (s .args .b) _ _ _ _ _ _ _ (counts s) (at-given-refusal .given-refusal .ensures) _
     (c .before .if1 .taken)
     (c .refused-step .ensures)
 

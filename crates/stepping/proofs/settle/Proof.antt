@@ -1,6 +1,6 @@
 -- `stepping::settle` meets its contract.
 use mathlib.Core.Path.{refl, sym, _∙_}
-use Rattle.hand_steps.specs.StepLaws.{settle-full, settle-placed}
+use Rattle.hand_steps.specs.StepLaws.{handled-full, settle-placed}
 use borrow.Author.Needs.{needs}
 use Rattle.stepping.proofs.settle.Statement.{statement}
 use Rattle.stepping.proofs.settle.Tie as tie
@@ -38,7 +38,7 @@ same-length-6 c = search needs
 returns-2 : tie.Need-returns-2
 returns-2 c =
     let at-attempt = c .before .before .before .before .before .before .before .before .before in
-    settle-full _ _ _ _ _ (at-attempt .attempt .given .1) (c .before .is-full .ensures) (c .if1 .taken)
+    handled-full _ _ _ _ _ (at-attempt .attempt .given .1) (c .before .is-full .ensures) (c .if1 .taken)
 
 place-quad-requires : tie.Need-place-quad-requires
 place-quad-requires c κs =

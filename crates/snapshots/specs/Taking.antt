@@ -8,11 +8,11 @@ use native.Mathlib.Omega.{arith}
 use lib.Dec.{ltb, eqb}
 use lib.ListN.{length, getD, set, length-set}
 use lib.Seq.{getD-set-same, getD-set-other, set-getD}
-use borrow.Author.Tests.{ltb-true, ltb-false, eqb-true, eqb-false}
-use Rattle.laws.specs.Loop.{Loop, loop-start, loop-next, loop-end}
+use borrow.Author.Tests.{ltb-true, ltb-false, lt-ltb, le-ltb, eqb-true, eqb-false, eq-eqb, ne-eqb}
+use Rattle.laws.specs.Loop.{Loop, loop-start, loop-next, loop-end, forUp, forUp-stays}
 use Rattle.topology.specs.Links.{off, link-in, link-read}
 use Rattle.paving.specs.Advance.{copyTurn, copied}
-use Rattle.snapshots.specs.Stretches.{stretched, nodeAfter, OffBoth, Stretches, FewerTries}
+use Rattle.snapshots.specs.Stretches.{stretched, nodeAfter, Joining, joining, joinNode, joiningTurn, stretchesJoined, OffBoth, Stretches, FewerTries}
 use Rattle.snapshots.specs.StretchLaws.{fewer-same, fewer-stretched, stretches-stretched, stretches-copied, after-more, after-few, after-off}
 
 -- turns that change nothing are taken without doing them
@@ -34,9 +34,14 @@ pub record Taking (next snapshot₀ tried₀ : List ℕ) (n from i : ℕ) (snaps
   pub gone : (j : ℕ) → from ≤ j → j < i → OffBoth n next snapshot j
   pub stretches : Stretches tried n next snapshot
   pub fewer : FewerTries tried₀ tried
+  -- how many turns that took, no more than nodes
+  pub turns : ℕ
+  pub few : turns ≤ i
+  pub joined : joining from i tried ≡ forUp turns (joiningTurn next n) (joining 0 0 tried₀)
 
 module _ (next snapshot₀ tried₀ : List ℕ) (n : ℕ) (few : n ≤ length next) where
   pub taking-starts : Stretches tried₀ n next snapshot₀ → Taking next snapshot₀ tried₀ n 0 0 snapshot₀ tried₀
+  unfolding forUp
   taking-starts S =
       record {
         loop = loop-start (copyTurn next) snapshot₀ n;
@@ -44,12 +49,30 @@ module _ (next snapshot₀ tried₀ : List ℕ) (n : ℕ) (few : n ≤ length ne
         gone = λ j low high. absurd (omega arith);
         stretches = S;
         fewer = fewer-same tried₀;
+        turns = 0;
+        few = omega arith;
+        joined = refl;
       }
 
   module _ {from i : ℕ} {snapshot tried : List ℕ} (T : Taking next snapshot₀ tried₀ n from i snapshot tried) where
     pub taking-ends : n ≤ i → snapshot ≡ copied n next snapshot₀
     unfolding copied
     taking-ends h = loop-end (copyTurn next) snapshot₀ (T .loop) h
+
+    pub taking-joined : n ≤ i → tried ≡ stretchesJoined next n tried₀
+    unfolding stretchesJoined
+    taking-joined h =
+        let within = T .loop .within in
+        sym
+        (ap (λ (s : Joining). s .tried)
+        (forUp-stays n (T .turns) (joiningTurn next n) (joining 0 0 tried₀) (joining from i tried) (omega (arith, T .few)) (sym (T .joined))
+        (λ k. rw (le-ltb i n h))))
+
+    -- a turn of the definition
+    joined-next : i < n → {s : Joining} → joinNode next n (joining from i tried) ≡ s → s ≡ forUp (suc (T .turns)) (joiningTurn next n) (joining 0 0 tried₀)
+    unfolding forUp
+    joined-next less e =
+        sym e ∙ (rw (lt-ltb i n less) at (ap (joiningTurn next n (T .turns)) (T .joined)))
 
     module _ (less : i < n) (fits : n ≤ length snapshot₀) where
       abbrev after : List ℕ
@@ -70,14 +93,17 @@ module _ (next snapshot₀ tried₀ : List ℕ) (n : ℕ) (few : n ≤ length ne
       copies = stretches-copied tried n next snapshot i room (T .stretches)
 
       -- a node on the front
-      pub taking-on : Taking next snapshot₀ tried₀ n (i + 1) (i + 1) after tried
-      taking-on =
+      pub taking-on : getD next i 0 ≢ off → Taking next snapshot₀ tried₀ n (i + 1) (i + 1) after tried
+      taking-on on =
           record {
             loop = turned;
             long = long-after;
             gone = λ j low high. absurd (omega arith);
             stretches = copies;
             fewer = T .fewer;
+            turns = suc (T .turns);
+            few = omega (arith, T .few);
+            joined = joined-next less (rw (ne-eqb (getD next i 0) off on));
           }
 
       -- a node off it: on to the end of the stretch
@@ -118,6 +144,9 @@ module _ (next snapshot₀ tried₀ : List ℕ) (n : ℕ) (few : n ≤ length ne
               gone = all-gone;
               stretches = stretches-stretched tried n next after from last all-gone copies;
               fewer = fewer-stretched tried₀ tried from last (T .fewer);
+              turns = suc (T .turns);
+              few = omega (arith, T .few, after-more tried i n);
+              joined = joined-next less (rw (eq-eqb (getD next i 0) off none));
             }
 
         pub taking-over : {end : ℕ} {left : List ℕ} → end ≡ last → left ≡ stretched tried from end → Taking next snapshot₀ tried₀ n from end after left

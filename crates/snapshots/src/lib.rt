@@ -4,7 +4,7 @@ ghost use mathlib.Core.Path.{_≡_};
 ghost use Prim.Native.Nat.{_≤_, _<_};
 ghost use lib.ListN.{length};
 ghost use Rattle.paving.specs.Advance.{copied};
-ghost use Rattle.snapshots.specs.Stretches.{stretched, nodeAfter, Stretches, FewerTries};
+ghost use Rattle.snapshots.specs.Stretches.{stretched, nodeAfter, stretchesJoined, Stretches, FewerTries};
 use front::OFF;
 
 // Node a has no try, and a stretch goes from it up to `end`, where the node has its places.
@@ -39,7 +39,8 @@ pub fn node_after(tried: &[u32], a: u32, n: u32) -> u32
 pub fn copy_links(next: &[u32], snapshot: &mut [u32], tried: &mut [u32], n: u32)
     requires { ⌜ (n ≤ length (now next)) × (n ≤ length (now snapshot)) × Stretches (now tried) n (now next) (now snapshot) ⌝ }
     ensures { λ r. ⌜ (now (snapshot .exit) ≡ copied n (now (next .entry)) (now (snapshot .entry)))
-        × Stretches (now (tried .exit)) n (now (next .entry)) (now (snapshot .exit)) × FewerTries (now (tried .entry)) (now (tried .exit)) ⌝ }
+        × Stretches (now (tried .exit)) n (now (next .entry)) (now (snapshot .exit)) × FewerTries (now (tried .entry)) (now (tried .exit))
+        × (now (tried .exit) ≡ stretchesJoined (now (next .entry)) n (now (tried .entry))) ⌝ }
 {
     let mut from: u32 = 0;
     let mut i: u32 = 0;

@@ -3,7 +3,7 @@ use borrow.Author.Needs.{needs}
 use native.Mathlib.Omega.{arith}
 use Prim.Native.Nat.{_-_}
 use Rattle.snapshots.specs.StretchLaws.{after-more}
-use Rattle.snapshots.specs.Taking.{Taking, taking-starts, taking-on, taking-over, taking-ends}
+use Rattle.snapshots.specs.Taking.{Taking, taking-starts, taking-on, taking-over, taking-ends, taking-joined}
 use Rattle.snapshots.proofs.copy_links.Statement.{statement}
 use Rattle.snapshots.proofs.copy_links.Tie as tie
 
@@ -53,7 +53,7 @@ loop-less-2 : tie.Need-loop-less-2 Inv-loop μ-loop
 loop-less-2 c = omega (arith, c .before .before .loop-test .taken)
 
 loop-again-2 : tie.Need-loop-again-2 Inv-loop μ-loop
-loop-again-2 c = taking-on _ _ _ _ (c .before .before .before .before .before .before .before .pre .0) (c .before .before .before .loop .inv) (c .before .before .loop-test .taken) (c .before .before .before .before .before .before .before .pre .1)
+loop-again-2 c = taking-on _ _ _ _ (c .before .before .before .before .before .before .before .pre .0) (c .before .before .before .loop .inv) (c .before .before .loop-test .taken) (c .before .before .before .before .before .before .before .pre .1) (c .if1 .left)
 
 same-length : tie.Need-same-length Inv-loop μ-loop
 same-length c = c .before .loop .inv .long
@@ -62,7 +62,7 @@ same-length-2 : tie.Need-same-length-2 Inv-loop μ-loop
 same-length-2 c = c .before .loop .inv .fewer .long
 
 returns : tie.Need-returns Inv-loop μ-loop
-returns c = (taking-ends _ _ _ _ (c .before .before .before .before .before .pre .0) (c .before .loop .inv) (c .loop-test .left), c .before .loop .inv .stretches, c .before .loop .inv .fewer)
+returns c = (taking-ends _ _ _ _ (c .before .before .before .before .before .pre .0) (c .before .loop .inv) (c .loop-test .left), c .before .loop .inv .stretches, c .before .loop .inv .fewer, taking-joined _ _ _ _ (c .before .before .before .before .before .pre .0) (c .before .loop .inv) (c .loop-test .left))
 
 pub copy-links-spec : {M : Type 1} → statement M
 copy-links-spec =

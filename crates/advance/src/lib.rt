@@ -1,4 +1,6 @@
 // `advance` of the paving (src/alt_crossfield.rs): pass after pass, with its four ends. The lists lent are those of `passes`.
+#![tactic(auto)]
+
 ghost use Rattle.std.specs.Prelude.{◌≡◌, []};
 ghost use Rattle.domain.specs.Outline.{outline};
 ghost use Rattle.direction.specs.Record.{field_record};
@@ -12,7 +14,7 @@ use front::Counts;
 use paving::End;
 
 // How `advance` ended, and the counts then.
-#[derive(Drop)]
+#[derive(Clone, Copy)]
 pub struct Advanced {
     pub end: End,
     pub counts: Counts,

@@ -1,6 +1,8 @@
 // The read-only part of the paving (src/alt_crossfield.rs): the choice of corners, the checks of `attempt_quad`, and `try_edge`.
 // Lists are lent as a `Paving` holds them. A contract speaks of the state that has just the lists its function is lent (specs/Seen.antt);
 // the laws in specs/SeenLaws.antt carry it to a state with all of them.
+#![tactic(auto)]
+
 ghost use Rattle.std.specs.Prelude.{◌≡◌, [], ◌+◌, ◌≤◌, length};
 ghost use Rattle.topology.specs.Links.{link_of};
 ghost use Rattle.domain.specs.Outline.{outline};

@@ -1,4 +1,6 @@
 // The average of a node's neighbours in the grid of a cross field (src/alt_crossfield.rs), normalised.
+#![tactic(auto)]
+
 ghost use Rattle.std.specs.Prelude.{◌≡◌, true, ◌+◌, ◌-◌, ◌*◌, ◌≤◌, ◌<◌, length};
 ghost use Rattle.domain.specs.Outline.{point_at};
 ghost use Rattle.averages.specs.Places.{Node};

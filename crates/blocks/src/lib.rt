@@ -1,5 +1,7 @@
 // Blocks of the outline's segments, so that a search passes over those that can't matter; and `contains` by blocks, whose answer is proved to be that of the
 // definition in crate domain, which asks every segment. The lent list may have any length: a block that it doesn't have is looked through.
+#![tactic(auto)]
+
 ghost use Rattle.std.specs.Prelude.{◌≡◌, ◌+◌, ◌*◌, ◌≤◌, ◌<◌, length};
 ghost use Rattle.laws.specs.Loop.{any_up};
 ghost use Rattle.domain.specs.Outline.{outline, points, most_points, outline_refusal};
@@ -10,7 +12,7 @@ ghost use Rattle.blocks.specs.Blocks.{LoopDrawn, first_block_at, Drawn, block_ex
 use domain::Point;
 
 // A box round segments.
-#[derive(Drop)]
+#[derive(Clone, Copy)]
 pub struct Extent {
     pub xmin: f64,
     pub xmax: f64,

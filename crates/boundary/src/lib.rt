@@ -1,4 +1,6 @@
 // Sampling: `Paving::from_boundary` of src/alt_crossfield.rs, with refusal 10.
+#![tactic(auto)]
+
 ghost use Rattle.std.specs.Prelude.{◌≡◌, false, List, ℕ, ◌+◌, ◌*◌, ◌<◌, ◌≤◌, min, Float, length};
 ghost use Rattle.domain.specs.Outline.{outline, misshapen, loop_start};
 ghost use Rattle.front.specs.declared.Counts.{Counts};

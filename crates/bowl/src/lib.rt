@@ -1,4 +1,6 @@
 // The motor bowl: the nodes of a lent mesh in whole steps of 1/64 degree, refused where a quad doesn't turn left in steps at all four corners.
+#![tactic(auto)]
+
 ghost use Rattle.std.specs.Prelude.{◌≡◌, ◌+◌, ◌*◌, ◌≤◌, ◌<◌, length};
 ghost use Rattle.orientation.specs.Orient.{way};
 ghost use Rattle.front.specs.State.{counted};
@@ -10,7 +12,7 @@ use front::Counts;
 
 // `refusal` is 23 or 25, 0 where nothing is refused; `quad` is the lowest quad that the bowl can't show, where 25 says so.
 #[repr(C)]
-#[derive(Drop)]
+#[derive(Clone, Copy)]
 pub struct StepsAnswer {
     pub refusal: u32,
     pub quad: usize,
@@ -19,7 +21,7 @@ pub struct StepsAnswer {
 // ---- a quad
 
 // A node's place in steps, or the way from one to another.
-#[derive(Drop)]
+#[derive(Clone, Copy)]
 pub struct Steps {
     pub x: i64,
     pub y: i64,

@@ -1,1 +1,2 @@
 // Specifications only: the stepped mesh of a run balances. No function.
+#![tactic(auto)]

@@ -1,1 +1,2 @@
 // Specifications only: runs in lists of different lengths. No function.
+#![tactic(auto)]

@@ -1,4 +1,6 @@
 // The cross field of src/alt_crossfield.rs: grid, seeds, marks, and the field whole.
+#![tactic(auto)]
+
 ghost use Rattle.std.specs.Prelude.{◌≡◌, false, ◌+◌, ◌≤◌, ◌<◌, length};
 ghost use Rattle.numbers.specs.Float.{◌⊘◌};
 ghost use Rattle.numbers.specs.Whole.{ceil_count};
@@ -16,7 +18,7 @@ use direction::Grid;
 use domain::{Near, Point, Settings};
 
 // `(xmin, xmax, ymin, ymax)`
-#[derive(Drop)]
+#[derive(Clone, Copy)]
 pub struct Bounds {
     pub xmin: f64,
     pub xmax: f64,
@@ -24,7 +26,7 @@ pub struct Bounds {
     pub ymax: f64,
 }
 
-#[derive(Drop)]
+#[derive(Clone, Copy)]
 pub enum FieldAnswer {
     Refused(u32),
     Made(Grid),

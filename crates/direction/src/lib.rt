@@ -1,4 +1,6 @@
 // A field record, refusal 11, and the direction query of src/alt_crossfield.rs.
+#![tactic(auto)]
+
 ghost use Rattle.std.specs.Prelude.{◌≡◌, ◌+◌, ◌≤◌};
 ghost use Rattle.numbers.specs.Whole.{floor_quotient};
 ghost use Rattle.domain.specs.Outline.{any_float};
@@ -11,7 +13,7 @@ ghost use Rattle.direction.specs.Cells.{FieldLent};
 use domain::{Point, Settings};
 
 // A field record's three floats and two counts; its values and marks are lent beside it.
-#[derive(Drop)]
+#[derive(Clone, Copy)]
 pub struct Grid {
     pub xmin: f64,
     pub ymin: f64,
@@ -20,7 +22,7 @@ pub struct Grid {
     pub ny: usize,
 }
 
-#[derive(Drop)]
+#[derive(Clone, Copy)]
 pub enum Direction {
     Refused(u32),
     Toward(Point),

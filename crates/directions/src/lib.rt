@@ -1,4 +1,6 @@
 // Paper 1: directions for a whole list of points and targets. The field record is checked once for the list.
+#![tactic(auto)]
+
 ghost use Rattle.std.specs.Prelude.{◌≡◌, ◌+◌, ◌≤◌, length};
 ghost use Rattle.std.proofs.lemmas.List.Edits.{sets};
 ghost use Rattle.direction.specs.Record.{field_record};

@@ -1,15 +1,16 @@
 // The outline as lent, its refusals 1 to 4, and `contains` and `nearest_segment` of src/two_d.rs's `Domain`, in `specs/`. No function: `outlines`, `blocks` and
 // `nearest` have the code.
+#![tactic(auto)]
 
 // `[f64; 2]`
-#[derive(Drop)]
+#[derive(Clone, Copy)]
 pub struct Point {
     pub x: f64,
     pub y: f64,
 }
 
 // A segment's ends and its distance; its loop, 0 for the outer one and k + 1 for hole k; and its place there, 0 for the segment from the loop's first point.
-#[derive(Drop)]
+#[derive(Clone, Copy)]
 pub struct Near {
     pub a: Point,
     pub b: Point,
@@ -19,14 +20,14 @@ pub struct Near {
 }
 
 // The nearest segment so far, and the square of its distance.
-#[derive(Drop)]
+#[derive(Clone, Copy)]
 pub struct Search {
     pub near: Near,
     pub squared: f64,
 }
 
 // What an exam is set to. Its constants are document 01's limits and factors.
-#[derive(Drop)]
+#[derive(Clone, Copy)]
 pub struct Settings {
     pub size: f64,
     pub sweeps: usize,

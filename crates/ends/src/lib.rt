@@ -1,4 +1,6 @@
 // What is decided in a pass of the paving (src/alt_crossfield.rs) without trying an edge: which edges its snapshot has, and where the paving ends.
+#![tactic(auto)]
+
 ghost use Rattle.std.specs.Prelude.{◌≡◌, ◌<◌, min, length, get_or};
 ghost use Rattle.ends.specs.Answers.{snapshot_edge, quad_settled, pass_answer};
 
@@ -7,7 +9,7 @@ use front::{Counts, Neighbour, OFF};
 use paving::End;
 
 // What became of one edge of a pass: nothing; a quad, with the counts after it; or the end of the paving, with the counts there.
-#[derive(Drop)]
+#[derive(Clone, Copy)]
 pub enum Settled {
     Same,
     Put(Counts),
@@ -15,7 +17,7 @@ pub enum Settled {
 }
 
 // What a pass answers: the counts with which the next one begins, or the end of the paving, with the counts there.
-#[derive(Drop)]
+#[derive(Clone, Copy)]
 pub enum Swept {
     On(Counts),
     Over(End, Counts),

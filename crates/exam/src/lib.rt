@@ -1,10 +1,12 @@
 // One exam for three roles: the desk begins it, enters, withdraws and reads; a reader reads everything; a masked reader reads nodes, quads and loops only. Here is
 // what is asked and answered, and in `specs/` what the answer is. No function: `exam_requests` has what each request does, `exam_entry` the entry.
+#![tactic(auto)]
+
 use domain::Point;
 use lent_mesh::QuadIds;
 
 // What changes the results.
-#[derive(Drop)]
+#[derive(Clone, Copy)]
 pub enum ResultChange {
     Begin,
     Enter(u32, u32),
@@ -12,7 +14,7 @@ pub enum ResultChange {
 }
 
 // What reads the mesh alone.
-#[derive(Drop)]
+#[derive(Clone, Copy)]
 pub enum MeshRead {
     ReadNode(u32),
     ReadQuad(u32),
@@ -20,14 +22,14 @@ pub enum MeshRead {
 }
 
 // What reads the results.
-#[derive(Drop)]
+#[derive(Clone, Copy)]
 pub enum ResultRead {
     ReadThreshold(u32),
     ReadFigures,
     ReadEstimate(u32, u32, u32),
 }
 
-#[derive(Drop)]
+#[derive(Clone, Copy)]
 pub enum ExamRequest {
     Changes(ResultChange),
     ReadsMesh(MeshRead),
@@ -35,7 +37,7 @@ pub enum ExamRequest {
     Unknown,
 }
 
-#[derive(Drop)]
+#[derive(Clone, Copy)]
 pub enum ExamReply {
     Refused(u32),
     Done,
@@ -49,7 +51,7 @@ pub enum ExamReply {
 
 // The reply as it crosses: `refusal` is 0 where nothing is refused; what isn't asked for is 0.
 #[repr(C)]
-#[derive(Drop)]
+#[derive(Clone, Copy)]
 pub struct ExamAnswer {
     pub refusal: u32,
     pub x: f64,

@@ -1,5 +1,7 @@
 // The public entry of an exam: what a host calls, on numbers and slices. It has no `requires`. The mesh is only read; of the results and the reply list, lent as
 // `&mut`, nothing is written where the call is refused.
+#![tactic(auto)]
+
 ghost use Rattle.thresholds.specs.Figures.{results};
 ghost use Rattle.exam.specs.Exam.{request_numbered, exam_mesh};
 ghost use Rattle.exam.specs.Statement.{ExamGiven};

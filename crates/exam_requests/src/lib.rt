@@ -1,4 +1,6 @@
 // Who may ask what of an exam, and what each request does. The mesh is only read, and what reads it is handed no results.
+#![tactic(auto)]
+
 ghost use Rattle.std.specs.Prelude.{◌≡◌, get_or};
 ghost use Rattle.lent_mesh.specs.Mesh.{mesh, quad_count_of};
 ghost use Rattle.thresholds.specs.Figures.{results, outcome};

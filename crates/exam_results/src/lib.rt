@@ -1,5 +1,7 @@
 // The results of an exam: thresholds that come and go at the nodes of a mesh, the two figures kept of them, how many quads have all four and the sum of the
 // thresholds of those quads, and the estimate between the nodes of a quad. A call that changes them looks only at the quads that name its node.
+#![tactic(auto)]
+
 ghost use Rattle.std.specs.Prelude.{◌≡◌, ◌<◌, ◌≤◌, ◌||◌, length, replicate, ◌==◌};
 ghost use Rattle.lent_mesh.specs.Mesh.{mesh, quad_count_of};
 ghost use Rattle.thresholds.specs.Figures.{no_threshold, threshold_at, stands, is_complete, once_only, quad_total, names, count_at, sum_at, share_of};
@@ -21,7 +23,7 @@ pub const NO_THRESHOLD: u16 = 65535;
 pub const MOST_WEIGHT: u32 = 256;
 
 // What the quads that name a node have: how many are complete, and the sum of their thresholds.
-#[derive(Drop)]
+#[derive(Clone, Copy)]
 struct Share {
     count: u32,
     sum: u32,

@@ -1,5 +1,7 @@
 // The public entries of the field and the direction query: what a host calls, on numbers and slices. None has a `requires`, and of what is lent
 // only the lists lent as `&mut` are written.
+#![tactic(auto)]
+
 ghost use Rattle.std.specs.Prelude.{◌≡◌};
 ghost use Rattle.domain.specs.Outline.{outline, point};
 ghost use Rattle.direction.specs.Record.{field_lists, field_record};
@@ -14,7 +16,7 @@ use domain::Point;
 // A field record's floats and counts; its values and marks are in the lists lent. `refusal` is document 01's number, 0 where nothing is refused; on a
 // refusal all else is 0.
 #[repr(C)]
-#[derive(Drop)]
+#[derive(Clone, Copy)]
 pub struct FieldRecordAnswer {
     pub refusal: u32,
     pub xmin: f64,
@@ -25,7 +27,7 @@ pub struct FieldRecordAnswer {
 }
 
 #[repr(C)]
-#[derive(Drop)]
+#[derive(Clone, Copy)]
 pub struct DirectionAnswer {
     pub refusal: u32,
     pub x: f64,

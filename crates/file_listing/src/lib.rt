@@ -1,4 +1,6 @@
 // The program on slices: from the bytes of an outline's file to the bytes of its listing.
+#![tactic(auto)]
+
 ghost use Rattle.std.specs.Prelude.{◌≡◌};
 ghost use Rattle.domain.specs.Outline.{outline};
 ghost use Rattle.file_listing.specs.Program.{heading_of, outline_listing, program_listing, ListingGiven};

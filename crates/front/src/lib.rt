@@ -1,4 +1,6 @@
 // The state of a paving (src/alt_crossfield.rs: `Paving`), lists lent and counts by value, and the placing of a quad.
+#![tactic(auto)]
+
 ghost use Rattle.std.specs.Prelude.{◌≡◌, ◌+◌, ◌*◌, ◌^◌, ◌≤◌, ◌<◌, min, max, length, get_or, set};
 ghost use Rattle.std.specs.Float.{nan};
 ghost use Rattle.topology.specs.Links.{off};
@@ -11,7 +13,7 @@ ghost use Rattle.front.specs.Stores.{store_edge, store_edges, store_quad, store_
 use domain::Point;
 
 // How much of the lent lists is in use. `front` counts the front's edges.
-#[derive(Drop)]
+#[derive(Clone, Copy)]
 pub struct Counts {
     pub nodes: u32,
     pub quads: usize,
@@ -20,14 +22,14 @@ pub struct Counts {
 }
 
 // A far corner of a quad: a front node that is reused, or a new point with its two coordinates.
-#[derive(Drop)]
+#[derive(Clone, Copy)]
 pub enum Corner {
     Reused(u32),
     Fresh(f64, f64),
 }
 
 // A node's neighbour along the front; none for a node off the front.
-#[derive(Drop)]
+#[derive(Clone, Copy)]
 pub enum Neighbour {
     At(u32),
     Off,
@@ -35,7 +37,7 @@ pub enum Neighbour {
 
 // The nodes of a sampled loop in the order of the front. `count` nodes were sampled from `base` on; they run backwards where `turned`;
 // and where `split`, one node more stands after place `longest`.
-#[derive(Drop)]
+#[derive(Clone, Copy)]
 pub struct Ring {
     pub base: u32,
     pub count: u32,
@@ -45,7 +47,7 @@ pub struct Ring {
 }
 
 // What placing a quad answers: that the places lent are full, or the counts after it.
-#[derive(Drop)]
+#[derive(Clone, Copy)]
 pub enum Placed {
     Full,
     Done(Counts),

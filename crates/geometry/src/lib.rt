@@ -1,4 +1,6 @@
 // The geometry tests of src/alt_crossfield.rs, and the keys that replace its two indexes. Each function equals its definition on every input.
+#![tactic(auto)]
+
 ghost use Rattle.std.specs.Prelude.{◌≡◌, ◌&&◌};
 ghost use Rattle.exact.specs.Corner.{norm};
 ghost use Rattle.geometry.specs.Plane.{distance, tangent, area_term, cross2, doubled_area, left_of, point_in_convex, on_segment, opposite};
@@ -13,7 +15,7 @@ ghost use Rattle.geometry.specs.KeyLaws.{offset};
 use domain::{Point, Settings};
 
 // The corners of a quad, in the order in which it runs.
-#[derive(Drop)]
+#[derive(Clone, Copy)]
 pub struct Corners {
     pub a: Point,
     pub b: Point,
@@ -22,21 +24,21 @@ pub struct Corners {
 }
 
 // `(i64, i64)`
-#[derive(Drop)]
+#[derive(Clone, Copy)]
 pub struct Key {
     pub i: i64,
     pub j: i64,
 }
 
 // How far a key rectangle reaches, each way.
-#[derive(Drop)]
+#[derive(Clone, Copy)]
 struct Spans {
     i: u64,
     j: u64,
 }
 
 // A side of a quad: the step along it, and its length.
-#[derive(Drop)]
+#[derive(Clone, Copy)]
 struct Side {
     x: f64,
     y: f64,

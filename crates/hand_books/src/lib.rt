@@ -1,1 +1,2 @@
 // Hand-stepped sequences keep the exact books: theorems only (specs/Sequences.antt).
+#![tactic(auto)]

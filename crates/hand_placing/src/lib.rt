@@ -1,5 +1,7 @@
 // The placing of a quad on any mesh that 23 lets pass, change by change as the definition has it: nothing is asked of the front's loops, nor of
 // which edges are known.
+#![tactic(auto)]
+
 ghost use Rattle.std.specs.Prelude.{◌≡◌, List, ℕ, ◌+◌, ◌*◌, ◌^◌, ◌≤◌, ◌<◌, length};
 ghost use Rattle.front.specs.State.{state_of, add_edge, remove_front, add_front};
 ghost use Rattle.front.specs.Place.{added, push_corner, add_edges, take_off, put_on, move_front, place, is_full};

@@ -1,8 +1,10 @@
 // What a front stepped by hand answers. The code is in `stepping`.
+#![tactic(auto)]
+
 use front::Counts;
 
 // What a single placing answers.
-#[derive(Drop)]
+#[derive(Clone, Copy)]
 pub enum StepOutcome {
     Placed,
     None,
@@ -11,7 +13,7 @@ pub enum StepOutcome {
 }
 
 // What a step answers: the refusal, or what became of the edge, with the counts after it.
-#[derive(Drop)]
+#[derive(Clone, Copy)]
 pub enum HandStep {
     Refused(u32),
     Done(StepOutcome, Counts),

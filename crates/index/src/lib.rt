@@ -1,5 +1,7 @@
 // Walks along a pool, so that the items whose key rectangle meets a query's are found without a scan. A search by a walk is proved to give the scan's
 // answer: `visited_answers` and the laws of `Walk` in specs/WalkLaws.antt.
+#![tactic(auto)]
+
 ghost use Rattle.std.specs.Prelude.{◌≡◌, true, ◌+◌, ◌-◌, ◌≤◌, ◌<◌, length};
 ghost use Rattle.pools.specs.Pool.{cells, own_at, cell_of, span};
 ghost use Rattle.index.specs.Walk.{columns, rows, visited, over, At, InRow, Stands, NextCursor};
@@ -7,7 +9,7 @@ ghost use Rattle.index.specs.Walk.{columns, rows, visited, over, At, InRow, Stan
 use pools::{NONE, Rect};
 
 // A place `t` in the chain of the cell of the key (i, j).
-#[derive(Drop)]
+#[derive(Clone, Copy)]
 pub struct Cursor {
     i: usize,
     j: usize,

@@ -1,5 +1,7 @@
 // The nodes and edges of a paving's state (src/alt_crossfield.rs: `NodeIndex` and `EdgeIndex`), filed in pools of `index`, and the searches that go by them:
 // a walk for those that are filed, and a scan of those that came after the pool was full.
+#![tactic(auto)]
+
 ghost use Rattle.std.specs.Prelude.{◌≡◌, [], ◌*◌, ◌≤◌, min, length, get_or};
 ghost use Rattle.laws.specs.Loop.{any_up, Unfound};
 ghost use Rattle.pools.specs.Pool.{Indexed};

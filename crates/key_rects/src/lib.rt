@@ -1,4 +1,6 @@
 // Keys as numbers, and their rectangles: under which keys nodes and edges are filed, and those that a query goes through.
+#![tactic(auto)]
+
 ghost use Rattle.std.specs.Prelude.{◌≡◌};
 ghost use Rattle.key_rects.specs.Rects.{shifted, rect_of, rect_at, rect_around, rect_empty, node_rect, edge_rect};
 

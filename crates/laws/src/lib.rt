@@ -1,1 +1,2 @@
 // Specifications only: general laws that every crate above cites. No function.
+#![tactic(auto)]

@@ -1,11 +1,13 @@
 // A mesh as it is lent: its counts, which stop at the last whole node and quad, and its quads by their four ids.
+#![tactic(auto)]
+
 ghost use Rattle.std.specs.Prelude.{◌≡◌, ◌<◌, get_or};
 ghost use Rattle.lent_mesh.specs.Mesh.{node_count_of, quad_count_of, quad_in};
 
 use domain::Settings;
 
 // The ids of a quad's nodes, in the order in which they are lent.
-#[derive(Drop)]
+#[derive(Clone, Copy)]
 pub struct QuadIds {
     pub a: u32,
     pub b: u32,

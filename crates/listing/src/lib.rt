@@ -1,5 +1,7 @@
 // What the program prints, written into a lent buffer: document 01's listing. Each function writes from place `at` on, as far as the buffer
 // goes, and answers the place after.
+#![tactic(auto)]
+
 ghost use Rattle.std.specs.Prelude.{◌≡◌, [], ◌∷◌, ◌++◌, ◌<◌, take};
 ghost use Rattle.std.specs.Float.{binary64};
 ghost use Rattle.std.specs.Float.Ieee.{to_bits};
@@ -9,7 +11,7 @@ ghost use Rattle.listing.specs.Listing.{decimal, hex_digit, hex_of, spaced, row,
 ghost use Rattle.listing.specs.Listing.{end_word, whole_word, head_line, refused_listing, mesh_listing, listing};
 
 // What the first line says of a mesh, `end` by the run's number; and `loops`, how many loops are listed.
-#[derive(Drop)]
+#[derive(Clone, Copy)]
 pub struct Heading {
     pub nodes: u32,
     pub quads: usize,

@@ -1,5 +1,7 @@
 // The loops of a mesh as it is lent, read from links that may be any numbers. Nothing is lent for scratch: a loop is walked once to find how
 // long it is, and once to write it.
+#![tactic(auto)]
+
 ghost use Rattle.std.specs.Prelude.{◌≡◌, true, cond, ◌++◌, ltb, length, take, drop};
 ghost use Rattle.topology.specs.Links.{link_of};
 ghost use Rattle.topology.specs.Walk.{walk_by};
@@ -10,7 +12,7 @@ use exam_loops::LoopRead;
 use front::OFF;
 
 // Where a loop starts and how many ids it has: none where there is no such loop.
-#[derive(Drop)]
+#[derive(Clone, Copy)]
 struct FoundLoop {
     start: u32,
     length: u32,

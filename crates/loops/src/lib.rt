@@ -1,4 +1,6 @@
 // The loops of the front, listed: `front_loops` of src/alt_crossfield.rs. It takes time linear in the nodes.
+#![tactic(auto)]
+
 ghost use Rattle.std.specs.Prelude.{◌≡◌, ◌≤◌, length};
 ghost use Rattle.loops.specs.Listed.{lists, listed_in, Listable};
 ghost use Rattle.loops.specs.Walked.{walk_in, Walkable, Walked};
@@ -8,7 +10,7 @@ ghost use Rattle.loops.specs.ListedLaws.{cleared_marks};
 use front::{Counts, OFF};
 
 // How many loops are listed, and how many ids in all of them. A paving is whole where `count` is 0.
-#[derive(Drop)]
+#[derive(Clone, Copy)]
 pub struct Listed {
     pub count: usize,
     pub ids: usize,

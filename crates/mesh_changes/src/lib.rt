@@ -1,5 +1,7 @@
 // The changes that a placing makes of a lent mesh, each on the lists that it needs: an edge, a front edge, a node, a quad. Nothing is asked of the
 // front's loops, nor of which edges are known.
+#![tactic(auto)]
+
 ghost use Rattle.std.specs.Prelude.{◌≡◌, ℕ, ◌+◌, ◌-◌, ◌*◌, ◌^◌, ◌≤◌, ◌<◌, length};
 ghost use Rattle.domain.specs.Outline.{point};
 ghost use Rattle.front.specs.State.{edge_in, push_node, add_edge, remove_front, add_front};

@@ -1,4 +1,6 @@
 // Whether a lent mesh is sound, and whether an edge is on its front: refusals 23 and 24. The lists are only read.
+#![tactic(auto)]
+
 ghost use Rattle.std.specs.Prelude.{◌≡◌, ◌*◌, ◌≤◌, ◌<◌, length};
 ghost use Rattle.laws.specs.Loop.{any_up};
 ghost use Rattle.front.specs.declared.Counts.{Counts};

@@ -1,5 +1,7 @@
 // The public entry of the run: what a host calls, on numbers and slices. It has no `requires`, and of what is lent only the lists lent as `&mut` are
 // written.
+#![tactic(auto)]
+
 ghost use Rattle.std.specs.Prelude.{◌≡◌};
 ghost use Rattle.domain.specs.Outline.{outline};
 ghost use Rattle.run.specs.Run.{settings, lent, scratch, Spares};

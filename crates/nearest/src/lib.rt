@@ -1,5 +1,7 @@
 // `nearest_segment` of the outline by blocks (crate blocks): those no nearer to the point than the best so far are passed over. The answer is proved to be
 // that of the definition in crate domain, which asks every segment.
+#![tactic(auto)]
+
 ghost use Rattle.std.specs.Prelude.{◌≡◌, true, ◌+◌, ◌*◌, ◌≤◌, ◌<◌, length};
 ghost use Rattle.exact.specs.Units.{Within};
 ghost use Rattle.domain.specs.Outline.{outline, points, most_points};

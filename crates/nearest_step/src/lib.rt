@@ -1,4 +1,6 @@
 // A coordinate to the nearest step of 1/64 degree, halves to the even one: from its bits, in whole numbers alone.
+#![tactic(auto)]
+
 ghost use Rattle.std.specs.Prelude.{◌≡◌, ◌*◌, ◌^◌, ◌≤◌, ◌<◌};
 ghost use Rattle.exact.specs.Units.{W, Within};
 ghost use Rattle.nearest_step.specs.Step.{nearest_whole, nearest_step};

@@ -1,4 +1,6 @@
 // Number routines that Rattle lacks, each equal to a definition of specs/ on every input (`to_f64`: on every count below 2^32).
+#![tactic(auto)]
+
 ghost use Rattle.std.specs.Prelude.{◌≡◌, ◌+◌, ◌*◌, ◌/◌, ◌%◌, ◌^◌, ◌<◌, ◌≤◌, min, max, T};
 ghost use Rattle.numbers.specs.Root.{NearRoot, RootBits, root_units, root};
 ghost use Rattle.numbers.specs.Float.{to_float, is_finite, abs_f, min_f, max_f, clamp_f};
@@ -234,7 +236,7 @@ pub extern "C" fn ceil_count(x: f64) -> u64
 }
 
 // A finite f64: its sign, and its size as significand * 2^exponent times the smallest f64 above 0.
-#[derive(Drop)]
+#[derive(Clone, Copy)]
 pub struct Parts {
     pub negative: bool,
     pub significand: u64,

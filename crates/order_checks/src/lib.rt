@@ -1,5 +1,7 @@
 // Paper 10: who comes after whom, and whether a list names every quad of a lent mesh once. The places of a list's entries are kept in lent scratch.
 // `order_walks` has the entry: it finds by walks who stands too early, and by `early_from` where steps aren't filed.
+#![tactic(auto)]
+
 ghost use Rattle.std.specs.Prelude.{◌≡◌, true, ◌<◌, length, get_or, set};
 ghost use Rattle.laws.specs.Loop.{any_up, Unfound};
 ghost use Rattle.order.specs.Order.{is_step, lays, lays_for, needs, first_place, is_wrong, is_absent, names_each_once, waits_for, too_early};

@@ -1,5 +1,7 @@
 // Paper 10's entry. Who stands too early is found by walks over the steps that quads lay, each filed under its own key in a pool of `index`, and by a scan
 // of the quads that came after the pool was full.
+#![tactic(auto)]
+
 ghost use Rattle.std.specs.Prelude.{◌≡◌, ◌*◌, ◌<◌, ◌≤◌};
 ghost use Rattle.laws.specs.Loop.{any_up};
 ghost use Rattle.pools.specs.Pool.{filed, Indexed};

@@ -2,6 +2,8 @@
 // The cross product of b - a and c - a is ax·by − ay·bx + bx·cy − by·cx + cx·ay − cy·ax: six products of two significands, each added at its
 // place to one of two long sums, that of what is added and that of what is taken off. Then the sums are compared.
 // A sum is a list of limbs of weight 2^28 each, which hold up to 62 bits, so that nothing is carried before the end.
+#![tactic(auto)]
+
 ghost use Rattle.std.specs.Prelude.{◌≡◌, ◌+◌, ◌*◌, ◌^◌, ◌≤◌, ◌<◌, length, get_or};
 ghost use Rattle.exact.specs.Units.{Within, signed};
 ghost use Rattle.domain.specs.Accepted.{PointWithin};
@@ -12,7 +14,7 @@ ghost use Rattle.orientation.specs.Orient.{in_units, orient, side_number};
 use domain::Point;
 
 // A coordinate: its sign, and its size as d0 + d1·2^28 + d2·2^56, moved up by `place` limbs, of the smallest f64 above 0.
-#[derive(Drop)]
+#[derive(Clone, Copy)]
 pub struct Digits {
     pub d0: u64,
     pub d1: u64,
@@ -22,7 +24,7 @@ pub struct Digits {
 }
 
 // A point by its coordinates' digits.
-#[derive(Drop)]
+#[derive(Clone, Copy)]
 pub struct Coordinates {
     pub x: Digits,
     pub y: Digits,

@@ -1,4 +1,6 @@
 // Which loop of the outline each node of a run came from (paper 9), written after the paving.
+#![tactic(auto)]
+
 ghost use Rattle.std.specs.Prelude.{◌≡◌, ◌+◌, ◌<◌, ◌≤◌, length, replicate};
 ghost use Rattle.std.proofs.lemmas.List.Edits.{sets};
 ghost use Rattle.domain.specs.Outline.{outline};

@@ -1,4 +1,6 @@
 // The outline file: 512-byte blocks with a check, read from a slice. Refusals 12 and 13.
+#![tactic(auto)]
+
 ghost use Rattle.std.specs.Prelude.{◌≡◌, ◌+◌, ◌*◌, ◌/◌, ◌≤◌, ◌<◌, length};
 ghost use Rattle.laws.specs.Overlay.{overlay};
 ghost use Rattle.laws.specs.Tabulate.{tabulate};
@@ -12,7 +14,7 @@ ghost use Rattle.outline_file.specs.ReadLaws.{block_head};
 use domain::Settings;
 
 // What a file's head says: the settings, how many loops, and how many points the outer loop and all loops have.
-#[derive(Drop)]
+#[derive(Clone, Copy)]
 pub struct Head {
     pub settings: Settings,
     pub loops: usize,
@@ -20,7 +22,7 @@ pub struct Head {
     pub points: usize,
 }
 
-#[derive(Drop)]
+#[derive(Clone, Copy)]
 pub enum FileAnswer {
     Refused(u32),
     Read(Head),

@@ -1,4 +1,6 @@
 // An outline's loops and points, its refusals 1 to 4, and what `contains` and `nearest_segment` of src/two_d.rs's `Domain` do at one segment.
+#![tactic(auto)]
+
 ghost use Rattle.std.specs.Prelude.{◌≡◌, false, ◌+◌, ◌*◌, ◌<◌, eqb, length};
 ghost use Rattle.domain.specs.Outline.{outline, hole_start, loop_at, point_at, after, point_after, any_float, not_finite, beyond, misshapen, LoopPlace};
 ghost use Rattle.domain.specs.Outline.{loop_refusal, loops_refusal, outline_refusal, point_refusal};

@@ -1,5 +1,7 @@
 // A pass of the paving (src/alt_crossfield.rs) over the front edges present at its start. The lists lent are those of `settling`; the counts go in and come
 // back by value.
+#![tactic(auto)]
+
 ghost use Rattle.std.specs.Prelude.{◌≡◌, []};
 ghost use Rattle.domain.specs.Outline.{outline};
 ghost use Rattle.direction.specs.Record.{field_record};

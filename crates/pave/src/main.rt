@@ -1,5 +1,7 @@
 // Reads an outline's file from standard input and prints its listing. The longest file has 4,608 bytes, and one more decides that there is
 // too much: so endless input ends too.
+#![tactic(auto)]
+
 use libc::{STDIN_FILENO, STDOUT_FILENO};
 
 fn main() {

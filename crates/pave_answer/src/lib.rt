@@ -1,4 +1,6 @@
 // The run's answer as it crosses to the host.
+#![tactic(auto)]
+
 ghost use Rattle.std.specs.Prelude.{◌≡◌};
 ghost use Rattle.pave_answer.specs.Numbers.{pave_numbers};
 
@@ -8,7 +10,7 @@ use run::Paved;
 // edges and front edges it has, how many loops of the front are listed, and the ids in all of them. All else is in the lists lent. All is 0 on
 // a refusal.
 #[repr(C)]
-#[derive(Drop)]
+#[derive(Clone, Copy)]
 pub struct PaveAnswer {
     pub refusal: u32,
     pub end: u32,

@@ -1,4 +1,6 @@
 // How much to lend: the nodes of the field and of the sampled outline, as refusals 9 and 10 count them.
+#![tactic(auto)]
+
 ghost use Rattle.std.specs.Prelude.{◌≡◌};
 ghost use Rattle.domain.specs.Outline.{outline};
 ghost use Rattle.crossfield.specs.Field.{drawn_refusal};
@@ -8,7 +10,7 @@ use domain::Settings;
 
 // `refusal` is document 01's number, 0 where nothing is refused; on a refusal both counts are 0.
 #[repr(C)]
-#[derive(Drop)]
+#[derive(Clone, Copy)]
 pub struct PlacesAnswer {
     pub refusal: u32,
     pub field_nodes: usize,

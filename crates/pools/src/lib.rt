@@ -1,11 +1,13 @@
 // Items (nodes, edges) filed under cells of keys in one lent list, the pool. The list is scratch: all that a caller needs of its contents is that each of
 // the first items is in the chain of every cell of its rectangle, and that these are all items, unless the places have run out (`Indexed`); those that came
 // after that are left to a scan.
+#![tactic(auto)]
+
 ghost use Rattle.std.specs.Prelude.{◌≡◌, ◌+◌, ◌*◌, ◌%◌, ◌≤◌, ◌<◌, leb, length};
 ghost use Rattle.pools.specs.Pool.{cells, capacity, used, filed, cell_of, span, cleared_pool, push, file_row, takes, file};
 
 // A rectangle of shifted keys; with `right` below `left` or `high` below `low` it is empty.
-#[derive(Drop)]
+#[derive(Clone, Copy)]
 pub struct Rect {
     pub left: u32,
     pub right: u32,

@@ -1,4 +1,6 @@
 // What a step would do, shown before it is taken: the quad that would come and the front after it. The mesh is only read.
+#![tactic(auto)]
+
 ghost use Rattle.std.specs.Prelude.{◌≡◌, List, cond, ℕ, ◌*◌, ◌/◌, ◌≤◌, eqb, length};
 ghost use Rattle.laws.specs.Loop.{sum_up};
 ghost use Rattle.topology.specs.Links.{off, link_of};
@@ -17,14 +19,14 @@ use hand_steps::StepOutcome;
 use paving::Attempt;
 
 // What a placing would do, with the quad that it would place.
-#[derive(Drop)]
+#[derive(Clone, Copy)]
 pub struct Foreseen {
     pub outcome: StepOutcome,
     pub quad: Attempt,
 }
 
 // A preview: what a placing would do, its quad, and how many front edges it would leave.
-#[derive(Drop)]
+#[derive(Clone, Copy)]
 pub struct View {
     pub outcome: StepOutcome,
     pub quad: Attempt,
@@ -32,7 +34,7 @@ pub struct View {
 }
 
 // What a preview answers: the refusal, or the preview.
-#[derive(Drop)]
+#[derive(Clone, Copy)]
 pub enum Sight {
     Refused(u32),
     Shown(View),

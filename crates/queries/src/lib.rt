@@ -1,24 +1,26 @@
 // The queries `contains`, `nearest_segment` and `distance_to_boundary`, refusals first, and their entries: what a host calls, on numbers and slices. None has
 // a `requires`, and none writes what is lent. A query files no blocks: it asks every segment once.
+#![tactic(auto)]
+
 ghost use Rattle.std.specs.Prelude.{◌≡◌};
 ghost use Rattle.domain.specs.Outline.{outline, point, query_refusal};
 ghost use Rattle.queries.specs.Answers.{contains_answer, nearest_answer, distance_answer, contains_numbers, NearestGiven, distance_numbers};
 
 use domain::{Near, Point};
 
-#[derive(Drop)]
+#[derive(Clone, Copy)]
 pub enum Contains {
     Refused(u32),
     Inside(bool),
 }
 
-#[derive(Drop)]
+#[derive(Clone, Copy)]
 pub enum Nearest {
     Refused(u32),
     Segment(Near),
 }
 
-#[derive(Drop)]
+#[derive(Clone, Copy)]
 pub enum Distance {
     Refused(u32),
     Of(f64),
@@ -26,14 +28,14 @@ pub enum Distance {
 
 // `refusal` is document 01's number, 0 where nothing is refused. The values of a refused query are false, 0.0 or 0.
 #[repr(C)]
-#[derive(Drop)]
+#[derive(Clone, Copy)]
 pub struct ContainsAnswer {
     pub refusal: u32,
     pub inside: bool,
 }
 
 #[repr(C)]
-#[derive(Drop)]
+#[derive(Clone, Copy)]
 pub struct NearestAnswer {
     pub refusal: u32,
     pub ax: f64,
@@ -46,7 +48,7 @@ pub struct NearestAnswer {
 }
 
 #[repr(C)]
-#[derive(Drop)]
+#[derive(Clone, Copy)]
 pub struct DistanceAnswer {
     pub refusal: u32,
     pub distance: f64,

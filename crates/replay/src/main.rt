@@ -1,5 +1,7 @@
 // Runs the oracle's fixed list: for each outline's file the listing, compared byte for byte with the stored one. Prints a line for each that
 // differs, and last how many there are.
+#![tactic(auto)]
+
 ghost use Rattle.std.specs.Prelude.{◌≡◌, ◌+◌, ◌≤◌, min, length};
 ghost use Rattle.io.specs.Counts.{IsPrefixLen};
 ghost use Rattle.file_listing.specs.Program.{program_listing};
@@ -11,7 +13,7 @@ use libc::STDOUT_FILENO;
 // ---- on slices
 
 // Whether two texts are the same, or the first place at which they differ; one may end there.
-#[derive(Drop)]
+#[derive(Clone, Copy)]
 enum Compared {
     Same,
     DiffersAt(usize),
@@ -62,7 +64,7 @@ fn check(file: &[u8], stored: &[u8]) -> Compared
 
 // ---- files
 
-#[derive(Drop)]
+#[derive(Clone, Copy)]
 struct Input {
     found: bool,
     length: usize,

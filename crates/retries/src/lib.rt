@@ -1,5 +1,7 @@
 // A lent list in which a run notes the edges that it tried in vain, so that none is tried twice: three numbers a node, for as many nodes as it has
 // places. That what it has of an edge spares the try is the law `vain_fails` in specs/VainLaws.antt.
+#![tactic(auto)]
+
 ghost use Rattle.std.specs.Prelude.{◌≡◌, [], ◌≤◌, length};
 ghost use Rattle.topology.specs.Links.{link_of};
 ghost use Rattle.domain.specs.Outline.{outline};

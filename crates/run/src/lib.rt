@@ -1,4 +1,6 @@
 // The run whole in one call: field, sampling, paving, the loops that nodes came from and the loops of the front, in the lists lent.
+#![tactic(auto)]
+
 ghost use Rattle.std.specs.Prelude.{◌≡◌};
 ghost use Rattle.domain.specs.Outline.{outline};
 ghost use Rattle.run.specs.Run.{settings, lent, scratch, ran, end_number, refused_answer, paved_answer, accepted_in, Paves, Spares};
@@ -12,7 +14,7 @@ use paving::End;
 
 // `refusal` is document 01's number, 0 where nothing is refused; `end` is 0 for still, 1 for passes, 2 for cap and 3 for full. All is 0 or false on a
 // refusal.
-#[derive(Drop)]
+#[derive(Clone, Copy)]
 pub struct Paved {
     pub refusal: u32,
     pub end: u32,

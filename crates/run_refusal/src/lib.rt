@@ -1,4 +1,6 @@
 // The refusals 1 to 10 of a run, by the places that are lent.
+#![tactic(auto)]
+
 ghost use Rattle.std.specs.Prelude.{◌≡◌, min};
 ghost use Rattle.domain.specs.Outline.{outline, first_of};
 ghost use Rattle.crossfield.specs.Field.{refusal_for};

@@ -1,1 +1,2 @@
 // Specifications only: what the start of a run leaves, `from_boundary`. No function.
+#![tactic(auto)]

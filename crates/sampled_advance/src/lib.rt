@@ -1,4 +1,6 @@
 // The paving of a sampled outline: its loops are sampled, and the front is advanced from there.
+#![tactic(auto)]
+
 ghost use Rattle.std.specs.Prelude.{◌≡◌, []};
 ghost use Rattle.domain.specs.Outline.{outline};
 ghost use Rattle.direction.specs.Record.{field_record};

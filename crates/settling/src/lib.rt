@@ -1,6 +1,8 @@
 // One edge of a pass of the paving (src/alt_crossfield.rs): it is tried, and the quad that is answered is placed and filed.
 // All seven lists of a `Paving` are lent, two pools in which its nodes and edges are filed, so that searches go by them, and a list of the edges that
 // were tried in vain, so that none is tried again; the counts go in and come back by value.
+#![tactic(auto)]
+
 ghost use Rattle.std.specs.Prelude.{◌≡◌, [], ◌*◌, ◌≤◌, ◌<◌, length};
 ghost use Rattle.domain.specs.Outline.{outline};
 ghost use Rattle.direction.specs.Record.{field_record};

@@ -1,4 +1,6 @@
 // Every small quad: the fours of points of a 4 by 4 lattice that `convex_ccw` accepts at 20 degrees, worked out in integers.
+#![tactic(auto)]
+
 ghost use Rattle.std.specs.Prelude.{◌≡◌, cond, ◌+◌, ◌*◌, ◌<◌, ◌≤◌, length};
 ghost use Rattle.std.proofs.lemmas.List.Edits.{sets};
 ghost use Rattle.lattice.specs.Fours.{corner_turns, above_third, points_of, fours, fours_answer, small_quads};
@@ -7,7 +9,7 @@ ghost use Rattle.small_quads.specs.ListLaws.{FourFits};
 
 // `refusal` is 26 where the lent list is too short, 0 otherwise; `count` is how many fours are listed.
 #[repr(C)]
-#[derive(Drop)]
+#[derive(Clone, Copy)]
 pub struct SmallQuadsAnswer {
     pub refusal: u32,
     pub count: usize,

@@ -1,5 +1,7 @@
 // The snapshot of a pass (src/alt_crossfield.rs): the links as they are when the pass begins. A node that is off the front stays off it, so a pass goes over
 // such nodes in stretches; where one ends stands in the list of tries, in the places of the node at which it begins, which has no try.
+#![tactic(auto)]
+
 ghost use Rattle.std.specs.Prelude.{◌≡◌, ◌≤◌, ◌<◌, length};
 ghost use Rattle.paving.specs.Advance.{copied};
 ghost use Rattle.snapshots.specs.Stretches.{stretched, node_after, stretches_joined, Stretches, FewerTries};

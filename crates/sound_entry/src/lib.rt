@@ -1,10 +1,12 @@
 // The public entry that judges an outline. It has no `requires`.
+#![tactic(auto)]
+
 ghost use Rattle.std.specs.Prelude.{◌≡◌};
 ghost use Rattle.domain.specs.Outline.{outline};
 ghost use Rattle.sound_entry.specs.Answer.{sound_answer};
 
 #[repr(C)]
-#[derive(Drop)]
+#[derive(Clone, Copy)]
 pub struct SoundAnswer {
     pub refusal: u32,
     pub sound: bool,

@@ -1,4 +1,6 @@
 // The answers of hand stepping as they cross to the host.
+#![tactic(auto)]
+
 ghost use Rattle.std.specs.Prelude.{◌≡◌, ◌≤◌};
 ghost use Rattle.step_answers.specs.Answers.{outcome_number, refused_step, step_numbers, refused_preview, fresh_x, fresh_y, view_numbers};
 
@@ -10,7 +12,7 @@ use previews::View;
 // What became of the edge (0 placed, 1 none, 2 full, 3 cap), and how many nodes, quads, distinct edges and front edges there are after it. All is 0 on a
 // refusal.
 #[repr(C)]
-#[derive(Drop)]
+#[derive(Clone, Copy)]
 pub struct StepAnswer {
     pub refusal: u32,
     pub outcome: u32,
@@ -23,7 +25,7 @@ pub struct StepAnswer {
 // What would become of the edge; the quad that would be placed, how many of its nodes would be new, and where: corners c and d have 0 for coordinates
 // where they aren't new, and all of the quad is 0 where none would be placed; and how many front edges there would be. All is 0 on a refusal.
 #[repr(C)]
-#[derive(Drop)]
+#[derive(Clone, Copy)]
 pub struct PreviewAnswer {
     pub refusal: u32,
     pub outcome: u32,

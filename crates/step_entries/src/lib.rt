@@ -1,5 +1,7 @@
 // The public entries of hand stepping: what a host calls, on numbers and slices. None has a `requires`. A step writes nothing where it is refused, and a
 // preview writes its list alone.
+#![tactic(auto)]
+
 ghost use Rattle.std.specs.Prelude.{◌≡◌};
 ghost use Rattle.domain.specs.Outline.{outline};
 ghost use Rattle.direction.specs.Record.{field_record};

@@ -1,4 +1,6 @@
 // A front stepped by hand: one named edge, one quad placed or none. Any mesh may be lent.
+#![tactic(auto)]
+
 ghost use Rattle.std.specs.Prelude.{◌≡◌, List, [], ℕ, ◌<◌, ◌≤◌, length};
 ghost use Rattle.domain.specs.Outline.{outline};
 ghost use Rattle.direction.specs.Record.{field_record};
@@ -16,7 +18,7 @@ use hand_steps::{HandStep, StepOutcome};
 use paving::Attempt;
 
 // A single placing: what it answers, and the counts after it.
-#[derive(Drop)]
+#[derive(Clone, Copy)]
 pub struct HandPlacing {
     pub outcome: StepOutcome,
     pub counts: Counts,

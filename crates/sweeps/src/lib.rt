@@ -1,4 +1,6 @@
 // The sweeps of a cross field (src/alt_crossfield.rs): the nodes that are not fixed take their neighbours' average.
+#![tactic(auto)]
+
 ghost use Rattle.std.specs.Prelude.{◌≡◌, ◌+◌, ◌≤◌, ◌<◌, length};
 ghost use Rattle.averages.specs.Places.{Node, Row, FieldRoom};
 ghost use Rattle.sweeps.specs.Sweeps.{swept, change, relaxed, sweep_node, sweep_row, sweep, sweeps};

@@ -1,0 +1,15 @@
+-- `boundary::sampled_count` meets its contract: the loop's invariant is `PartSum`: the sum so far, stopped.
+use mathlib.Core.Path.{◌≡◌}
+use Prim.Native.Nat.{suc, ◌-◌}
+use lib.ListN.{length}
+use Rattle.domain.specs.Outline.{outline, loop_start}
+use Rattle.front.specs.Sampling.{loop_nodes}
+use Rattle.boundary.specs.Counting.{PartSum}
+use Rattle.boundary.proofs.sampled_count.Given as goal
+
+abbrev pub invariant-loop-k : goal.invariant-loop-k
+invariant-loop-k l = (l.start ≡ loop_start l.lens l.k) × PartSum (loop_nodes (outline l.outer l.holes l.lens) l.size)
+    (suc (length l.lens)) l.k l.sum
+
+abbrev pub decreases-loop-k : goal.decreases-loop-k
+decreases-loop-k l = suc (length l.lens) - l.k

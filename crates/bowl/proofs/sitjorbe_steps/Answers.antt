@@ -1,0 +1,35 @@
+-- `bowl::sitjorbe_steps` meets its contract: `mesh_stored` and `mesh_refused`.
+use mathlib.Core.Path.{sym, ◌∙◌, ap}
+use Rattle.front.specs.declared.Counts.{Counts}
+use Rattle.front.specs.State.{State, counted}
+use Rattle.mesh_check.specs.Check.{lent_state}
+use Rattle.bowl.specs.declared.StepsAnswer.{StepsAnswer}
+use Rattle.bowl.specs.GivenLaws.{nodes_within, given_passes, mesh_stored, mesh_refused}
+use Rattle.bowl.proofs.sitjorbe_steps.Goals as goal
+use Rattle.bowl.proofs.sitjorbe_steps.Goals.{Start}
+
+abbrev countsOf : Start → Counts
+countsOf c = counted c.args.node-count c.args.quad-count c.args.edge_count c.args.front_count_lem
+
+-- the mesh as lent
+abbrev lent : Start → State
+lent c =
+    lent_state c.args.xs.now c.args.ys.now c.args.next.now c.args.prev.now c.args.origins.now c.args.quads.now
+    c.args.edges.now (countsOf c)
+
+pub store_steps-requires : goal.store_steps-requires
+store_steps-requires c =
+    let given = given_passes (lent (goal.at.store_steps-requires c).Start) _ (ap (λ (r : StepsAnswer). r.refusal) (sym c.steps_answer-r.ensures) ∙ c.if-r-eq0.true) in (
+      nodes_within c.args.xs.now c.args.ys.now c.args.next.now c.args.prev.now c.args.origins.now
+          c.args.quads.now c.args.edges.now (countsOf (goal.at.store_steps-requires c).Start) (λ i h. c.shared_slice_known-1.given i)
+          (λ i h. c.shared_slice_known-2-1.given i) given.0,
+      given.1,
+    )
+
+pub returns-then-r-eq0 : goal.returns-then-r-eq0
+returns-then-r-eq0 c =
+    mesh_stored (lent (goal.at.returns-then-r-eq0 c).Start) _ _ c.steps_answer-r.ensures c.if-r-eq0.true _ c.store_steps.ensures
+
+pub returns-else-r-eq0 : goal.returns-else-r-eq0
+returns-else-r-eq0 c =
+    mesh_refused (lent (goal.at.returns-else-r-eq0 c).Start) _ _ c.steps_answer-r.ensures c.if-r-eq0.false

@@ -1,0 +1,68 @@
+-- `bowl::store_steps` meets its contract: `store_next_lem`.
+use borrow.Author.Rules.{rules}
+use Prim.Native.Nat.{◌*◌}
+use lib.ListN.{length-set}
+use native.Mathlib.Omega.{arith}
+use Rattle.laws.specs.Loop.{loop_start_lem, loop_end}
+use Rattle.bowl.specs.Steps.{stored_steps}
+use Rattle.bowl.specs.StepsLaws.{store_length, store_next_lem}
+use Rattle.bowl.proofs.store_steps.Goals as goal
+
+pub loop-i-init : goal.loop-i-init
+loop-i-init c = loop_start_lem _ _ _
+
+pub offset_bounds-xs-i : goal.offset_bounds-xs-i
+offset_bounds-xs-i c =
+    let node = c.requires.0 c.loop-i.i c.loop-i-test.true in
+    search (rules, node.x_lent)
+
+pub bounds-xs-i : goal.bounds-xs-i
+bounds-xs-i c =
+    let node = c.requires.0 c.loop-i.i c.loop-i-test.true in
+    node.x_lent
+
+pub nearest_step-x-requires : goal.nearest_step-x-requires
+nearest_step-x-requires c =
+    let node = c.requires.0 c.loop-i.i c.loop-i-test.true in
+    node.x
+
+pub offset_bounds-ys-i : goal.offset_bounds-ys-i
+offset_bounds-ys-i c =
+    let node = c.requires.0 c.loop-i.i c.loop-i-test.true in
+    search (rules, node.y_lent)
+
+pub bounds-ys-i : goal.bounds-ys-i
+bounds-ys-i c =
+    let node = c.requires.0 c.loop-i.i c.loop-i-test.true in
+    node.y_lent
+
+pub nearest_step-y-requires : goal.nearest_step-y-requires
+nearest_step-y-requires c =
+    let node = c.requires.0 c.loop-i.i c.loop-i-test.true in
+    node.y
+
+pub bounds-steps-i : goal.bounds-steps-i
+bounds-steps-i c =
+    let long = store_length _ _ _ _ _ _ c.loop-i.invariant in
+    let room = c.requires.1 in
+    let less = c.loop-i-test.true in
+    omega arith
+
+pub bounds-steps-i-in-loop-i : goal.bounds-steps-i-in-loop-i
+bounds-steps-i-in-loop-i c =
+    let long = store_length _ _ _ _ _ _ c.loop-i.invariant in
+    let room = c.requires.1 in
+    let less = c.loop-i-test.true in
+    rw (length-set c.loop-i.steps (2 * c.loop-i.i) _) (omega arith)
+
+pub loop-i-preserved : goal.loop-i-preserved
+loop-i-preserved c =
+    let less = c.loop-i-test.true in
+    store_next_lem _ _ _ _ _ _ c.loop-i.invariant less (c.requires.0 c.loop-i.i less) _ _ c.nearest_step-x.ensures c.nearest_step-y.ensures
+
+pub shape_of-steps : goal.shape_of-steps
+shape_of-steps c = store_length _ _ _ _ _ _ c.loop-i.invariant
+
+pub returns : goal.returns
+unfolding stored_steps
+returns c = loop_end _ _ c.loop-i.invariant c.loop-i-test.false

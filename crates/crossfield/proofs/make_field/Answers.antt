@@ -1,0 +1,45 @@
+-- `crossfield::make_field` meets its contract. Assumes nothing.
+use mathlib.Core.Path.{sym, subst}
+use lib.Dec.{T}
+use Rattle.domain.specs.Accepted.{accepted}
+use Rattle.averages.specs.Places.{room_of}
+use Rattle.crossfield.specs.FieldLaws.{field_unrefused, few_made, room_made, seeds_ask}
+use Rattle.crossfield.specs.Field.{field_refusal, field_of}
+use Rattle.crossfield.proofs.make_field.Goals as goal
+
+pub bounds_of-requires : goal.bounds_of-requires
+unfolding field_refusal
+bounds_of-requires c = (accepted _ (field_unrefused _ _ _ _ c.requires).outline).shape
+
+pub grid_of-g-requires : goal.grid_of-g-requires
+unfolding field_refusal
+grid_of-g-requires c =
+    few_made _ _ _ _ (record { outer = λ i h. c.shared_slice_known-1.given i; holes = λ i h. c.shared_slice_known-2-1.given i })
+    (subst T (sym c.well_formed.1.1.1.0.1) tt) c.requires c.bounds_of.ensures
+
+pub file-requires : goal.file-requires
+unfolding field_refusal
+file-requires c = (field_unrefused _ _ _ _ c.requires).outline
+
+pub seed_all-requires : goal.seed_all-requires
+unfolding field_refusal
+seed_all-requires c = (
+  c.file.ensures,
+  seeds_ask _ _ _ _ _ (record { outer = λ i h. c.shared_slice_known-1.given i; holes = λ i h. c.shared_slice_known-2-1.given i })
+      (subst T (sym c.well_formed.1.1.1.0.1) tt) c.requires
+      c.bounds_of.ensures c.grid_of-g.ensures,
+)
+
+pub sweeps-requires : goal.sweeps-requires
+unfolding field_refusal
+sweeps-requires c =
+    let seeds = c.seed_all in
+    room_of (room_made _ _ _ _ _ c.requires c.bounds_of.ensures c.grid_of-g.ensures)
+    seeds.auto.1.1.1.1.1.0 seeds.auto.1.1.1.1.1.1.0
+
+pub returns : goal.returns
+unfolding field_of
+returns c = (
+  rw (← c.bounds_of.ensures, ← c.grid_of-g.ensures, ← c.seed_all.ensures, ← c.sweeps.ensures),
+  c.file.ensures,
+)

@@ -1,0 +1,49 @@
+-- `crossfield::seed_all` meets its contract. Assumes nothing.
+use mathlib.Core.Path.{refl, ◌∙◌}
+use native.Mathlib.Omega.{arith}
+use Rattle.laws.specs.Loop.{loop_start_lem, loop_next, loop_end}
+use Rattle.direction.specs.Cells.{row_in}
+use Rattle.averages.specs.Places.{row_of, row_marks}
+use Rattle.crossfield.specs.Seeds.{seed_row, seeded}
+use Rattle.crossfield.proofs.seed_all.Goals as goal
+
+pub loop-j-init : goal.loop-j-init
+loop-j-init c = (refl, refl, omega arith, loop_start_lem _ _ _)
+
+pub seed_row-requires : goal.seed_row-requires
+seed_row-requires c =
+    let asked = c.requires in
+    let turn = c.loop-j in
+    let less = c.loop-j-test.true in (
+      asked.0,
+      (
+        row_of turn.j turn.invariant.2 less asked.1.0.values turn.invariant.0,
+        row_marks turn.j asked.1.0 asked.1.1.0 asked.1.1.1 turn.invariant.2 less turn.invariant.1,
+      ),
+    )
+
+pub overflow_add-base : goal.overflow_add-base
+overflow_add-base c =
+    let turn = c.loop-j in
+    let less = c.loop-j-test.true in
+    omega (arith, turn.invariant.2, c.requires.field_room.0.marks, row_in turn.j c.args.g.ny c.args.g.nx less)
+
+pub loop-j-preserved : goal.loop-j-preserved
+loop-j-preserved c =
+    let call = c.seed_row in
+    let turn = c.loop-j in (
+      call.auto.1.1.1.1.1.0 ∙ turn.invariant.0,
+      call.auto.1.1.1.1.1.1.0 ∙ turn.invariant.1,
+      omega (arith, turn.invariant.2),
+      rw call.ensures (loop_next _ _ turn.invariant.3 c.loop-j-test.true),
+    )
+
+pub shape_of-values : goal.shape_of-values
+shape_of-values c = c.loop-j.invariant.0
+
+pub shape_of-marks : goal.shape_of-marks
+shape_of-marks c = c.loop-j.invariant.1
+
+pub returns : goal.returns
+unfolding seeded
+returns c = loop_end _ _ c.loop-j.invariant.3 c.loop-j-test.false

@@ -1,0 +1,39 @@
+-- `enter` meets its contract: a law of specs/FigureLaws.antt for each return. Assumes nothing.
+use Rattle.std.proofs.Common.{arith, lit≤}
+use Rattle.lent_mesh.specs.Mesh.{quads_few}
+use Rattle.thresholds.specs.Figures.{results}
+use Rattle.thresholds.specs.Laws.{taken}
+use Rattle.exam_results.specs.FigureLaws.{enter_refused, enter_done}
+use Rattle.exam_results.proofs.enter.Goals as goal
+
+pub returns-then-refusal-ne0 : goal.returns-then-refusal-ne0
+returns-then-refusal-ne0 c =
+    let args = c.args in
+    let x = results args.thresholds.now args.count.now args.sum.now in
+    enter_refused args.nodes args.quad-count args.quads.now x args.node args.threshold c.refusal_at-refusal.result
+    c.refusal_at-refusal.ensures c.if-refusal-ne0.true
+
+pub overflow_cast-v : goal.overflow_cast-v
+overflow_cast-v c =
+    let args = c.args in
+    let ok =
+    taken args.nodes args.thresholds.now args.node args.threshold 16 c.refusal_at-refusal.result (lit≤ tt)
+    c.refusal_at-refusal.ensures c.if-refusal-ne0.false in
+    omega (arith, ok.low)
+
+pub set_threshold-requires : goal.set_threshold-requires
+set_threshold-requires c =
+    let args = c.args in
+    let ok =
+    taken args.nodes args.thresholds.now args.node args.threshold 16 c.refusal_at-refusal.result (lit≤ tt)
+    c.refusal_at-refusal.ensures c.if-refusal-ne0.false in
+    (omega (arith, c.quad_count-m.ensures, quads_few args.quad-count args.quads.now), ok.place)
+
+pub returns : goal.returns
+returns c =
+    let args = c.args in
+    let x = results args.thresholds.now args.count.now args.sum.now in
+    let left = c.set_threshold.new.thresholds in
+    enter_done args.nodes args.quad-count args.quads.now x args.node args.threshold c.refusal_at-refusal.result
+    c.quad_count-m.result (results left.0 left.1.0 left.1.1.0) c.refusal_at-refusal.ensures
+    c.if-refusal-ne0.false c.quad_count-m.ensures c.set_threshold.ensures

@@ -1,0 +1,21 @@
+-- `file_writing::clear` meets its contract: the loop's invariant is `Putting`, and each answer is a law of it.
+use Rattle.file_writing.specs.WriteLaws.{put_start, put_length, put_next, put_end_lem, next_zero}
+use lib.ListN.{length-replicate}
+use native.Mathlib.Omega.{arith}
+use Prim.Native.Nat.{ℕ, ◌-◌}
+use Rattle.file_writing.proofs.clear.Goals as goal
+
+pub loop-i-init : goal.loop-i-init
+loop-i-init c = put_start _ _ _ 510 (omega (arith, c.requires, length-replicate {A = ℕ} (510 - c.args.from) 0))
+
+pub bounds-b-i : goal.bounds-b-i
+bounds-b-i c = omega (arith, c.requires, put_length c.loop-i.invariant)
+
+pub loop-i-preserved : goal.loop-i-preserved
+loop-i-preserved c = put_next c.loop-i.invariant 0 _ c.loop-i-test.true (next_zero _ c.loop-i-test.true)
+
+pub shape_of-b : goal.shape_of-b
+shape_of-b c = put_length c.loop-i.invariant
+
+pub returns : goal.returns
+returns c = put_end_lem c.loop-i.invariant c.loop-i-test.false

@@ -1,0 +1,65 @@
+-- `index::in_row` meets its contract: the first column, and then the later ones.
+use mathlib.Core.Path.{◌≡◌, refl, sym, ap, ◌∙◌}
+use Prim.Native.Nat.{ℕ, ◌+◌, ◌-◌, ◌<◌}
+use native.Mathlib.Omega.{arith}
+use lib.ListN.{length}
+use Rattle.pools.specs.Pool.{cells, cell_of, chain_at}
+use Rattle.index.specs.Walk.{columns}
+use Rattle.index.specs.AcrossLaws.{across_from, across_end}
+use Rattle.pools.specs.FileLaws.{some_cell, cell_in, cells_fit}
+use Rattle.index.specs.WalkLaws.{row_hit, row_miss, row_none, row_same}
+use Rattle.index.proofs.in_row.Goals as goal
+use Rattle.index.proofs.in_row.Goals.{After-cell_of-cell}
+
+-- the cell of the first column, and its head in the list
+here : (c : After-cell_of-cell)
+    → let args = c.args in c.cell_of-cell.result ≡ cell_of (cells (length args.pool.now)) args.left args.j
+here c =
+    let args = c.args in
+    c.cell_of-cell.ensures ∙ ap (λ (m : ℕ). cell_of m args.left args.j) c.cells_of.ensures
+
+inside : (c : After-cell_of-cell) → 2 + c.cell_of-cell.result < length c.args.pool.now
+inside c =
+    let n = length c.args.pool.now in
+    omega (arith, here c, cell_in n c.args.left c.args.j c.requires.0, cells_fit n c.requires.0)
+
+pub returns-then-right-left : goal.returns-then-right-left
+returns-then-right-left c = row_none c.nowhere.ensures (across_end _ _ _ (omega (arith, c.if-right-left.true)))
+
+pub cell_of-cell-requires : goal.cell_of-cell-requires
+cell_of-cell-requires c =
+    (rw c.cells_of.ensures (some_cell _ c.requires.0), omega arith, c.requires.1)
+
+pub overflow_add-t : goal.overflow_add-t
+overflow_add-t c = omega (arith, inside (goal.at.overflow_add-t c).After-cell_of-cell)
+
+pub offset_bounds-pool-cell : goal.offset_bounds-pool-cell
+offset_bounds-pool-cell c = omega (arith, inside (goal.at.offset_bounds-pool-cell c).After-cell_of-cell)
+
+pub bounds-pool-cell : goal.bounds-pool-cell
+bounds-pool-cell c = omega (arith, inside (goal.at.bounds-pool-cell c).After-cell_of-cell)
+
+pub overflow_cast-t : goal.overflow_cast-t
+overflow_cast-t c = omega (arith, c.shared_slice_known-2-1.given (2 + c.cell_of-cell.result))
+
+pub returns-then-t-capacity_of : goal.returns-then-t-capacity_of
+returns-then-t-capacity_of c =
+    let n = length c.args.pool.now in
+    row_hit c.args.pool.now c.args.right c.args.left c.args.j c.cell_of-cell.result c.requires.0 (here (goal.at.returns-then-t-capacity_of c).After-cell_of-cell)
+    _ _ refl (rw c.capacity_of.ensures at c.if-t-capacity_of.true)
+    (across_from (λ i. chain_at n c.args.pool.now i c.args.j) c.args.left c.args.right c.if-right-left.false)
+
+pub later_columns-requires : goal.later_columns-requires
+later_columns-requires c =
+    (c.requires.0, here (goal.at.later_columns-requires c).After-cell_of-cell)
+
+pub returns : goal.returns
+returns c =
+    let args = c.args in
+    let pool = args.pool.now in
+    let n = length pool in
+    row_same
+    (sym (across_from (λ i. chain_at n pool i args.j) args.left args.right c.if-right-left.false
+    ∙ row_miss pool args.right args.left args.j c.cell_of-cell.result c.requires.0 (here (goal.at.returns c).After-cell_of-cell)
+    (columns pool args.j (args.right - args.left) (args.left + 1)) (rw c.capacity_of.ensures at c.if-t-capacity_of.false)))
+    c.later_columns.ensures

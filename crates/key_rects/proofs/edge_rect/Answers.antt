@@ -1,0 +1,16 @@
+-- `key_rects::edge_rect` meets its contract.
+use mathlib.Core.Path.{sym, ◌∙◌}
+use Rattle.key_rects.specs.Rects.{edge_rect}
+use Rattle.key_rects.proofs.edge_rect.Goals as goal
+
+pub returns-then-spans_kept : goal.returns-then-spans_kept
+unfolding edge_rect
+returns-then-spans_kept c =
+    let test = rw (c.key_of-m.ensures, c.key_of-n.ensures) at (sym c.spans_kept.ensures ∙ c.if-spans_kept.true) in
+    rw (c.rect_of.ensures, c.key_of-m.ensures, c.key_of-n.ensures, test)
+
+pub returns-else-spans_kept : goal.returns-else-spans_kept
+unfolding edge_rect
+returns-else-spans_kept c =
+    let test = rw (c.key_of-m.ensures, c.key_of-n.ensures) at (sym c.spans_kept.ensures ∙ c.if-spans_kept.false) in
+    rw (c.rect_empty.ensures, test)

@@ -1,0 +1,22 @@
+-- `mesh_changes::has_edge` meets its contract: the loop is a scan.
+use mathlib.Core.Logic.{⊎_elim}
+use borrow.Author.Tests.{eq-eqb, ne_eqb}
+use Rattle.laws.specs.Loop.{scan_start, scan_hit, scan_next, scan_none}
+use Rattle.mesh_changes.proofs.has_edge.Goals as goal
+
+pub loop-k-init : goal.loop-k-init
+loop-k-init c = scan_start _ _
+
+pub returns-then-edges-k-2 : goal.returns-then-edges-k-2
+returns-then-edges-k-2 c =
+    rw (← c.min_u32-lo.ensures, ← c.max_u32-hi.ensures)
+    (scan_hit _ c.loop-k.invariant c.loop-k-test.true (simp (eq-eqb _ _ c.if-edges-k.true, eq-eqb _ _ c.if-edges-k-2.true)))
+
+pub loop-k-preserved : goal.loop-k-preserved
+loop-k-preserved c =
+    scan_next _ c.loop-k.invariant c.loop-k-test.true
+    (⊎_elim (λ w. simp (eq-eqb _ _ w.0.taken, ne_eqb _ _ w.2.left)) (λ w. simp (ne_eqb _ _ w.left)) c.if-edges-k.branch-raw)
+
+pub returns : goal.returns
+returns c =
+    rw (← c.min_u32-lo.ensures, ← c.max_u32-hi.ensures) (scan_none _ c.loop-k.invariant c.loop-k-test.false)

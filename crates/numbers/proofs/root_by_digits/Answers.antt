@@ -1,0 +1,63 @@
+-- `numbers::root_by_digits` meets its contract: each turn is one of `Digits`, and after 53 turns the remainder says whether the
+-- root is nearer to `root` or to the next number. Assumes nothing.
+use Rattle.std.proofs.Common.{◌≡◌, ◌*◌, ◌^◌, ◌<◌, ⊎_elim, arith}
+use Rattle.numbers.proofs.Digits.{Turn, turn_zero, turn_one, short_lt, all, near_this, near_next}
+use Rattle.numbers.proofs.root_by_digits.Goals as goal
+use Rattle.numbers.proofs.root_by_digits.Goals.{After-loop-i, In-loop-i}
+
+-- within the loop's body the root is below 2 ^ 53
+room : (c : In-loop-i) → c.loop-i.root < 2 ^ 53
+room c = short_lt c.loop-i.i c.loop-i.root (omega arith) c.loop-i.invariant.0.short
+
+-- after it all of s has come down
+done : (c : After-loop-i) → Turn c.args.s 53 c.loop-i.root c.loop-i.rem c.loop-i.rest
+done c = let e : c.loop-i.i ≡ 53 = omega arith in rw e at c.loop-i.invariant.0
+
+pub loop-i-init : goal.loop-i-init
+loop-i-init c = (record { whole = omega arith; small = omega arith; short = omega arith; left = omega arith }, omega arith)
+
+pub overflow_mul-rem : goal.overflow_mul-rem
+overflow_mul-rem c = omega (arith, room (goal.at.overflow_mul-rem c).In-loop-i)
+
+pub overflow_add-rem : goal.overflow_add-rem
+overflow_add-rem c = omega (arith, room (goal.at.overflow_add-rem c).In-loop-i)
+
+pub overflow_mul-t : goal.overflow_mul-t
+overflow_mul-t c = omega (arith, room (goal.at.overflow_mul-t c).In-loop-i)
+
+pub overflow_add-t : goal.overflow_add-t
+overflow_add-t c = omega (arith, room (goal.at.overflow_add-t c).In-loop-i)
+
+pub overflow_mul-root : goal.overflow_mul-root
+overflow_mul-root c = omega (arith, room (goal.at.overflow_mul-root c).In-loop-i)
+
+pub overflow_add-root : goal.overflow_add-root
+overflow_add-root c = omega (arith, room (goal.at.overflow_add-root c).In-loop-i)
+
+pub overflow_mul-root-else-t-rem : goal.overflow_mul-root-else-t-rem
+overflow_mul-root-else-t-rem c = omega (arith, room (goal.at.overflow_mul-root-else-t-rem c).In-loop-i)
+
+pub loop-i-preserved : goal.loop-i-preserved
+loop-i-preserved c =
+    let s = c.args.s in (
+      ⊎_elim
+          (λ w. rw (w.1, w.2) (turn_one s c.loop-i.i c.loop-i.root c.loop-i.rem c.loop-i.rest c.loop-i.invariant.0 w.0.taken))
+          (λ w. rw (w.1, w.2) (turn_zero s c.loop-i.i c.loop-i.root c.loop-i.rem c.loop-i.rest c.loop-i.invariant.0 w.0.left))
+          c.if-t-rem.branch-raw,
+      omega arith,
+    )
+
+pub overflow_add-result : goal.overflow_add-result
+overflow_add-result c = omega (arith, (done (goal.at.overflow_add-result c).After-loop-i).short)
+
+pub returns-then-root-rem : goal.returns-then-root-rem
+returns-then-root-rem c =
+    near_next (c.args.s * 2 ^ 52) c.loop-i.root c.loop-i.rem
+    (all c.args.s c.loop-i.root c.loop-i.rem c.loop-i.rest (done (goal.at.returns-then-root-rem c).After-loop-i))
+    c.loop-i.invariant.0.small c.if-root-rem.true
+
+pub returns-else-root-rem : goal.returns-else-root-rem
+returns-else-root-rem c =
+    near_this (c.args.s * 2 ^ 52) c.loop-i.root c.loop-i.rem
+    (all c.args.s c.loop-i.root c.loop-i.rem c.loop-i.rest (done (goal.at.returns-else-root-rem c).After-loop-i))
+    (omega arith) c.loop-i.invariant.0.small c.if-root-rem.false

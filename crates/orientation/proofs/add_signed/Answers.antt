@@ -1,0 +1,10 @@
+-- `orientation::add_signed` meets its contract. Assumes nothing.
+use Rattle.orientation.specs.Sums.{added_plus, added_minus}
+use Rattle.orientation.proofs.add_product.Reads as add-product-reads
+use Rattle.orientation.proofs.add_signed.Goals as goal
+
+pub returns-then-negative : goal.returns-then-negative
+returns-then-negative c = rw c.if-negative.true (added_minus c.add_product.ensures)
+
+pub returns-else-negative : goal.returns-else-negative
+returns-else-negative c = rw c.if-negative.false (added_plus c.add_product-else-negative.ensures)

@@ -1,0 +1,13 @@
+-- `domain::any_not_finite` meets its contract: the loop's invariant is a search that has found nothing.
+use Prim.Native.Nat.{◌-◌}
+use lib.ListN.{length, get_or}
+use lib.Ieee.{nan}
+use Rattle.laws.specs.Loop.{Scan}
+use Rattle.domain.specs.Outline.{not_finite}
+use Rattle.outlines.proofs.any_not_finite.Given as goal
+
+abbrev pub invariant-loop-i : goal.invariant-loop-i
+invariant-loop-i l = Scan (λ k. not_finite (get_or l.s k nan)) (length l.s) l.i
+
+abbrev pub decreases-loop-i : goal.decreases-loop-i
+decreases-loop-i l = length l.s - l.i

@@ -1,0 +1,36 @@
+-- `previews::foresee_on` meets its contract.
+use mathlib.Core.Path.{refl}
+use Rattle.domain.specs.Outline.{Outline, outline}
+use Rattle.front.specs.State.{State}
+use Rattle.mesh_check.specs.Check.{lent_state}
+use Rattle.hand_steps.specs.UseLaws.{front_room, try_lent}
+use Rattle.previews.specs.PreviewSteps.{foreseen_cap, foreseen_tried}
+use Rattle.previews.proofs.foresee_on.Goals as goal
+use Rattle.previews.proofs.foresee_on.Goals.{Start}
+
+-- the outline and the state as they are lent
+abbrev around : Start → Outline
+around s = outline s.args.outer.now s.args.holes.now s.args.lens.now
+
+abbrev lent : Start → State
+lent s =
+    lent_state s.args.xs.now s.args.ys.now s.args.next.now s.args.prev.now s.args.origins.now s.args.quads.now
+    s.args.edges.now s.args.k
+
+pub returns-then-k-ge-MOST_QUADS : goal.returns-then-k-ge-MOST_QUADS
+returns-then-k-ge-MOST_QUADS c =
+    λ marks. foreseen_cap (around (goal.at.returns-then-k-ge-MOST_QUADS c).Start) c.args.size c.args.grid c.args.values.now marks c.args.a c.args.b (lent (goal.at.returns-then-k-ge-MOST_QUADS c).Start) c.if-k-ge-MOST_QUADS.true
+
+pub attempt_on-attempt-requires : goal.attempt_on-attempt-requires
+attempt_on-attempt-requires c =
+    try_lent _ _ _ _ _ c.args.quads.now _ c.args.k c.args.a c.args.b c.requires.1 (around (goal.at.attempt_on-attempt-requires c).Start) _ _ _ [] [] [] c.requires.0 refl refl refl
+
+pub foresee-requires : goal.foresee-requires
+foresee-requires c =
+    front_room _ _ _ _ _ _ _ c.args.k c.args.a c.args.b c.requires.1
+
+pub returns : goal.returns
+returns c =
+    λ marks.
+    foreseen_tried (around (goal.at.returns c).Start) c.args.size c.args.grid c.args.values.now marks c.args.a c.args.b (lent (goal.at.returns c).Start) c.if-k-ge-MOST_QUADS.false
+    c.attempt_on-attempt.ensures c.foresee.ensures

@@ -1,0 +1,21 @@
+-- `queries::query_nearest` meets its contract: refused with its number, or answered by `search_outline`, with no blocks.
+use mathlib.Core.Path.{refl, sym, ap, ◌∙◌}
+use native.Mathlib.Omega.{arith}
+use Rattle.domain.specs.RefusalLaws.{answer_refused}
+use Rattle.queries.specs.declared.Nearest.TheVariants.{Segment}
+use Rattle.queries.specs.Answers.{nearest_answer}
+use Rattle.queries.specs.Laws.{query_drawn}
+use Rattle.queries.proofs.query_nearest.Goals as goal
+
+pub returns-then-refusal-ne0 : goal.returns-then-refusal-ne0
+unfolding nearest_answer
+returns-then-refusal-ne0 c = rw (← c.query_refusal-refusal.ensures) (sym (answer_refused _ _ _ c.if-refusal-ne0.true))
+
+pub search_outline-requires : goal.search_outline-requires
+search_outline-requires c =
+    let none = sym c.query_refusal-refusal.ensures ∙ c.if-refusal-ne0.false in
+    (query_drawn _ _ none (record { outer = λ i h. c.shared_slice_known-1.given i; (goal.at.search_outline-requires c).After-shared_slice_known-2-1 = λ i h. c.shared_slice_known-2-1.given i }) refl, λ some. absurd (omega arith))
+
+pub returns : goal.returns
+unfolding nearest_answer
+returns c = rw (sym c.query_refusal-refusal.ensures ∙ c.if-refusal-ne0.false) (ap Segment c.search_outline.ensures)

@@ -1,0 +1,31 @@
+-- `small_quads::count_quads` meets its contract: the invariant is `FoursCounted`: as many as the fours below k. The measure is what is left of 65,536. Assumes nothing.
+use mathlib.Core.Path.{sym, ◌∙◌}
+use native.Mathlib.Omega.{arith}
+use mathlib.Core.Logic.{⊎_elim}
+use Rattle.small_quads.specs.ListLaws.{counted_start, counted_yes, counted_no, counted_end}
+use Rattle.small_quads.proofs.count_quads.Goals as goal
+
+pub loop-k-init : goal.loop-k-init
+loop-k-init c = counted_start
+
+pub is_small_quad-requires : goal.is_small_quad-requires
+is_small_quad-requires c = c.loop-k-test.true
+
+pub overflow_add-n : goal.overflow_add-n
+overflow_add-n c = omega (arith, c.loop-k.invariant.most, c.loop-k.invariant.within)
+
+pub overflow_add-k : goal.overflow_add-k
+overflow_add-k c = omega (arith, c.loop-k-test.true)
+
+pub loop-k-smaller : goal.loop-k-smaller
+loop-k-smaller c = omega (arith, c.loop-k-test.true)
+
+pub loop-k-preserved : goal.loop-k-preserved
+loop-k-preserved c =
+    let inv = c.loop-k.invariant in
+    let test = c.loop-k-test.true in
+    let is = c.is_small_quad.ensures in
+    ⊎_elim (λ w. rw w.1 (counted_yes inv test (sym is ∙ w.0.taken))) (λ w. rw w.1 (counted_no inv test (sym is ∙ w.0.left))) c.if-is_small_quad.branch-raw
+
+pub returns : goal.returns
+returns c = counted_end c.loop-k.invariant c.loop-k-test.false

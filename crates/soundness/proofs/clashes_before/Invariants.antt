@@ -1,0 +1,14 @@
+-- `soundness::clashes_before` meets its contract: the loop is a search that has found nothing yet, and where the next hole's points begin.
+use Prim.Native.Nat.{◌-◌}
+use Rattle.soundness.specs.WalkLaws.{holes_clash}
+use Rattle.domain.specs.OutlineLaws.{HolesPassed}
+use Rattle.domain.specs.Outline.{outline, hole_at}
+use Rattle.laws.specs.Loop.{Scan}
+use Rattle.soundness.proofs.clashes_before.Given as goal
+
+abbrev pub invariant-loop-l : goal.invariant-loop-l
+invariant-loop-l l =
+    HolesPassed (outline l.outer l.holes l.lens) l.l l.start × Scan (λ l.l. holes_clash l.s (hole_at (outline l.outer l.holes l.lens) l.l)) l.k l.l
+
+abbrev pub decreases-loop-l : goal.decreases-loop-l
+decreases-loop-l l = l.k - l.l

@@ -1,0 +1,53 @@
+-- `stepping::step` meets its contract.
+use mathlib.Core.Path.{sym, ◌∙◌, ap}
+use mathlib.Core.List.{List}
+use Prim.Native.Nat.{ℕ}
+use native.Mathlib.Omega.{arith}
+use Rattle.domain.specs.Outline.{Outline, outline}
+use Rattle.direction.specs.Record.{FieldRecord, field_record}
+use Rattle.front.specs.State.{State, node_places}
+use Rattle.mesh_check.specs.Check.{lent_state}
+use Rattle.mesh_check.specs.CheckLaws.{length_off}
+use Rattle.hand_steps.specs.Hand.{Handled}
+use Rattle.hand_steps.specs.UseLaws.{on_front_lem, front_room, place_grown}
+use Rattle.hand_steps.specs.StepLaws.{step_refused, step_done}
+use Rattle.stepping.proofs.step.Goals as goal
+use Rattle.stepping.proofs.step.Goals.{Start}
+
+-- the outline, the field and the state as they are lent
+abbrev around : Start → Outline
+around s = outline s.args.outer.now s.args.holes.now s.args.lens.now
+
+abbrev field : Start → List ℕ → FieldRecord
+field s marks = field_record s.args.grid s.args.values.now marks
+
+abbrev lent : Start → State
+lent s =
+    lent_state s.args.xs.now s.args.ys.now s.args.next.now s.args.prev.now s.args.origins.now s.args.quads.now
+    s.args.edges.now s.args.k
+
+pub returns-then-r-ne0 : goal.returns-then-r-ne0
+returns-then-r-ne0 c =
+    λ marks.
+    step_refused (around (goal.at.returns-then-r-ne0 c).Start) c.args.size (field (goal.at.returns-then-r-ne0 c).Start marks) c.args.a c.args.b _ _ _ _ _ _ _ c.args.k c.hand_refusal-r.ensures
+    c.if-r-ne0.true
+
+pub place_on-h-requires : goal.place_on-h-requires
+place_on-h-requires c =
+    (c.requires, on_front_lem (lent (goal.at.place_on-h-requires c).Start) c.args.a c.args.b (sym c.hand_refusal-r.ensures ∙ c.if-r-ne0.false))
+
+pub number_new-requires : goal.number_new-requires
+unfolding node_places
+number_new-requires c =
+    let S = on_front_lem (lent (goal.at.number_new-requires c).Start) c.args.a c.args.b (sym c.hand_refusal-r.ensures ∙ c.if-r-ne0.false) in
+    let R = front_room _ _ _ _ _ _ _ c.args.k c.args.a c.args.b S in
+    let G = place_grown (around (goal.at.number_new-requires c).Start) c.args.size (field (goal.at.number_new-requires c).Start []) (lent (goal.at.number_new-requires c).Start) c.args.a c.args.b S in
+    let m = ap (λ (h : Handled). h.state.counts.nodes) (c.place_on-h.ensures []) in
+    (omega (arith, S.id_a, R.nodes.origins_fit), omega (arith, m, G.0), omega (arith, m, G.1, length_off c.args.origins.now))
+
+pub returns : goal.returns
+returns c =
+    λ marks.
+    step_done (around (goal.at.returns c).Start) c.args.size (field (goal.at.returns c).Start marks) c.args.a c.args.b _ _ _ _ _ _ _ c.args.k c.hand_refusal-r.ensures
+    c.if-r-ne0.false
+    _ _ _ _ _ _ _ _ (c.place_on-h.ensures marks) _ c.number_new.ensures

@@ -96,11 +96,11 @@ least_in x (y ∷ ys) = by (ltb (least_from y ys) x) refl (least_in y ys)
     by true e h =
         let lt = ltb-true (least_from y ys) x e in
         let q : min x (least_from y ys) ≡ least_from y ys = omega arith in
-        rw q (omega arith)
+        subst (λ (m : ℕ). 0 < delta x m + count m (y ∷ ys)) (sym q) (omega arith)
     by false e h =
         let le = ltb-false (least_from y ys) x e in
         let q : min x (least_from y ys) ≡ x = omega arith in
-        rw q (omega (arith, delta_same x x refl))
+        subst (λ (m : ℕ). 0 < delta x m + count m (y ∷ ys)) (sym q) (omega (arith, delta_same x x refl))
 
 pub least_le : (v x : ℕ) (xs : List ℕ) → 0 < count v (x ∷ xs) → least_from x xs ≤ v
 unfolding count least_from

@@ -1,12 +1,13 @@
 -- `numbers::clamp_f64` meets its contract. Assumes nothing.
-use Rattle.std.proofs.Common.{◌≡◌, cond, ⊎_elim}
+use Rattle.std.proofs.Common.{◌≡◌, cond}
 use lib.Ieee.{lt}
 use Rattle.numbers.specs.Float.{clamp_f}
 use Rattle.numbers.proofs.clamp_f64.Goals as goal
-use Rattle.numbers.proofs.clamp_f64.Goals.{Joined-v-lo}
+use Rattle.numbers.proofs.clamp_f64.Goals.{Joined-v-lo, then-v-lo, else-v-lo}
 
 raised : (c : Joined-v-lo) → cond (lt c.args.x c.args.lo) c.args.lo c.args.x ≡ c.if-v-lo.v
-raised c = ⊎_elim (λ w. rw (w.0.taken, w.1)) (λ w. rw (w.0.left, w.1)) c.if-v-lo.branch-raw
+raised c =
+    elim c.if-v-lo.branch [ then-v-lo w ↦ rw (w.if-v-lo.true, w.v-is) | else-v-lo w ↦ rw (w.if-v-lo.false, w.v-is) ]
 
 pub returns-then-hi-v : goal.returns-then-hi-v
 unfolding clamp_f

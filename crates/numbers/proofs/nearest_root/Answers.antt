@@ -1,10 +1,10 @@
 -- `numbers::nearest_root` meets its contract: where q's square is near enough it shows which of q - 1, q and q + 1 is nearest
 -- (`Square`), and otherwise `root_by_digits` answers. Assumes nothing.
-use Rattle.std.proofs.Common.{◌*◌, ◌^◌, inl, inr, ⊎_elim, arith}
+use Rattle.std.proofs.Common.{◌*◌, ◌^◌, inl, inr, arith}
 use Rattle.numbers.proofs.Square.{high_square, cross_product, low_square, lo_lt, moved, moved_is, Chosen, choose}
 use Rattle.numbers.proofs.root_by_digits.Reads as root-by-digits-reads
 use Rattle.numbers.proofs.nearest_root.Goals as goal
-use Rattle.numbers.proofs.nearest_root.Goals.{Joined-e-q-le216172782113783808}
+use Rattle.numbers.proofs.nearest_root.Goals.{Joined-e-q-le216172782113783808, then-q-e, else-q-e, then-e-q-le216172782113783808, else-e-q-le216172782113783808}
 
 chosen : (c : Joined-e-q-le216172782113783808)
     → Chosen (c.args.s * 2 ^ 52) c.args.q
@@ -14,8 +14,11 @@ chosen c =
     let q = c.args.q in
     choose (s * 2 ^ 52) q (moved s q) (moved_is s q c.if-h-s.true) c.if-e-q.true c.if-e-q-gt216172782113783810.true
     c.if-q-e.up c.if-e-q-le216172782113783808.down
-    (⊎_elim (λ w. inl (w.0.taken, w.1)) (λ w. inr (w.0.left, w.1)) c.if-q-e.branch-raw)
-    (⊎_elim (λ w. inl (w.0.taken, w.1)) (λ w. inr (w.0.left, w.1)) c.if-e-q-le216172782113783808.branch-raw)
+    (elim c.if-q-e.branch [ then-q-e w ↦ inl (w.if-q-e.true, w.up-is) | else-q-e w ↦ inr (w.if-q-e.false, w.up-is) ])
+    (elim c.if-e-q-le216172782113783808.branch [
+      | then-e-q-le216172782113783808 w ↦ inl (w.if-e-q-le216172782113783808.true, w.down-is)
+      | else-e-q-le216172782113783808 w ↦ inr (w.if-e-q-le216172782113783808.false, w.down-is)
+    ])
 
 pub overflow_mul-m : goal.overflow_mul-m
 overflow_mul-m c = omega (arith, cross_product c.args.q c.requires.2)

@@ -1,9 +1,9 @@
 -- `numbers::root_by_digits` meets its contract: each turn is one of `Digits`, and after 53 turns the remainder says whether the
 -- root is nearer to `root` or to the next number. Assumes nothing.
-use Rattle.std.proofs.Common.{◌≡◌, ◌*◌, ◌^◌, ◌<◌, ⊎_elim, arith}
+use Rattle.std.proofs.Common.{◌≡◌, ◌*◌, ◌^◌, ◌<◌, arith}
 use Rattle.numbers.proofs.Digits.{Turn, turn_zero, turn_one, short_lt, all, near_this, near_next}
 use Rattle.numbers.proofs.root_by_digits.Goals as goal
-use Rattle.numbers.proofs.root_by_digits.Goals.{After-loop-i, In-loop-i}
+use Rattle.numbers.proofs.root_by_digits.Goals.{After-loop-i, In-loop-i, then-t-rem, else-t-rem}
 
 -- within the loop's body the root is below 2 ^ 53
 room : (c : In-loop-i) → c.loop-i.root < 2 ^ 53
@@ -40,10 +40,10 @@ overflow_mul-root-else-t-rem c = omega (arith, room (goal.at.overflow_mul-root-e
 pub loop-i-preserved : goal.loop-i-preserved
 loop-i-preserved c =
     let s = c.args.s in (
-      ⊎_elim
-          (λ w. rw (w.1, w.2) (turn_one s c.loop-i.i c.loop-i.root c.loop-i.rem c.loop-i.rest c.loop-i.invariant.0 w.0.taken))
-          (λ w. rw (w.1, w.2) (turn_zero s c.loop-i.i c.loop-i.root c.loop-i.rem c.loop-i.rest c.loop-i.invariant.0 w.0.left))
-          c.if-t-rem.branch-raw,
+      elim c.if-t-rem.branch [
+        | then-t-rem w ↦ rw (w.root-is, w.rem-is) (turn_one s c.loop-i.i c.loop-i.root c.loop-i.rem c.loop-i.rest c.loop-i.invariant.0 w.if-t-rem.true)
+        | else-t-rem w ↦ rw (w.root-is, w.rem-is) (turn_zero s c.loop-i.i c.loop-i.root c.loop-i.rem c.loop-i.rest c.loop-i.invariant.0 w.if-t-rem.false)
+      ],
       omega arith,
     )
 

@@ -36,8 +36,8 @@ filed pool = cond (leb 4 (length pool)) (get_or pool 1 0) 0
 abbrev pub head_at : List ℕ → ℕ → ℕ
 head_at pool c = get_or pool (2 + c) 0
 
-abbrev pub field_own : ℕ → List ℕ → ℕ → ℕ
-field_own n pool t = get_or pool (own_place n t) 0
+abbrev pub own_at : ℕ → List ℕ → ℕ → ℕ
+own_at n pool t = get_or pool (own_place n t) 0
 
 abbrev pub link_at : ℕ → List ℕ → ℕ → ℕ
 link_at n pool t = get_or pool (link_place n t) 0
@@ -51,7 +51,7 @@ falling own link (suc k) t = cond (eqb t k) (own k ∷ falling own link k (link 
 
 -- the chain from place t on; none where t is no place
 unfoldable pub chain : ℕ → List ℕ → ℕ → List ℕ
-chain n pool t = falling (field_own n pool) (link_at n pool) (capacity n) t
+chain n pool t = falling (own_at n pool) (link_at n pool) (capacity n) t
 
 -- the test holds for an entry of the list
 unfoldable pub any_of : (ℕ → Bool) → List ℕ → Bool
@@ -132,7 +132,7 @@ file r own pool = cond (takes r own pool) (set (for_up (span r.low r.high) (file
 pub record Holds (n : ℕ) (pool : List ℕ) (count : ℕ) (S : ℕ → ℕ → Type 0) : Type 0 where
   pub fits : used pool ≤ capacity n
   pub heads : (c : ℕ) → c < cells n → (head_at pool c < used pool) ⊎ (capacity n ≤ head_at pool c)
-  pub owners : (t : ℕ) → t < used pool → field_own n pool t < count
+  pub owners : (t : ℕ) → t < used pool → own_at n pool t < count
   pub has : (c x : ℕ) → c < cells n → S c x → any_of (eqb x) (chain n pool (head_at pool c)) ≡ true
 
 -- one of the first `count` items, x, has a key in cell c, of m

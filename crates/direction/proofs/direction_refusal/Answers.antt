@@ -1,12 +1,8 @@
 -- `direction::direction_refusal` meets its contract. Assumes nothing.
-use borrow.Author.Rules.{rules}
 use mathlib.Core.Path.{sym, ◌∙◌}
 use Rattle.domain.specs.RefusalLaws.{first_stays}
 use Rattle.direction.specs.Direction.{direction_refusal}
 use Rattle.direction.proofs.direction_refusal.Goals as goal
-
-record-refusal-requires : tie.Need-record-refusal-requires
-record-refusal-requires c κs = search rules
 
 pub returns-then-refusal-ne0 : goal.returns-then-refusal-ne0
 unfolding direction_refusal

@@ -34,15 +34,3 @@ returns-else-any_unsound c = rw (
       c.if-not-grid_sound.false-raw,
   sym c.any_unsound.ensures ∙ c.if-any_unsound.false,
 )
-
-pub record-refusal-spec : {M : Type 1} → statement M
-record-refusal-spec =
-    tie.close
-    (tie.spec
-    counts-sound-requires
-    returns
-    grid-sound-requires
-    returns-2
-    any-unsound-requires
-    returns-3
-    returns-4)

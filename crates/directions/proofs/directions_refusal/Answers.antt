@@ -1,14 +1,10 @@
 -- `directions::directions_refusal` meets its contract. Assumes nothing.
-use borrow.Author.Rules.{rules}
 use Rattle.directions.specs.Laws.{lists_refused, lists_pass}
 use mathlib.Core.Path.{sym, ◌∙◌}
 use Rattle.directions.proofs.directions_refusal.Goals as goal
 
 pub returns-then-lists_unfit : goal.returns-then-lists_unfit
 returns-then-lists_unfit c = lists_refused _ _ _ _ (sym c.lists_unfit.ensures ∙ c.if-lists_unfit.true)
-
-record-refusal-requires : tie.Need-record-refusal-requires
-record-refusal-requires c κs = search rules
 
 pub returns : goal.returns
 returns c = c.record_refusal.ensures ∙ lists_pass _ _ _ _ (sym c.lists_unfit.ensures ∙ c.if-lists_unfit.false)

@@ -40,11 +40,11 @@ loop-k-preserved c =
     let kept = c.lay_loop-nodes.auto in (
       progress_next _ _ inv.0 c.loop-k-test.true c.loop_points-s.ensures c.next_start-start.ensures
           c.lay_loop-nodes.ensures.0,
-      kept.1.1.1.0 ∙ inv.1,
-      kept.1.1.1.1.0 ∙ inv.2,
-      kept.1.1.1.1.1.0 ∙ inv.3,
-      kept.1.1.1.1.1.1.0 ∙ inv.4,
-      kept.1.1.1.1.1.1.1.0 ∙ inv.5,
+      kept.xs ∙ inv.1,
+      kept.ys ∙ inv.2,
+      kept.next ∙ inv.3,
+      kept.prev ∙ inv.4,
+      kept.edges ∙ inv.5,
       λ snapshot quads counts none.
           turn_laid _ _ _ c.requires.unrefused none (inv.6 snapshot quads counts none) c.loop-k-test.true
           c.loop_points-s.ensures

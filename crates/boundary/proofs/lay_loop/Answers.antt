@@ -19,11 +19,13 @@ ring_of-r-requires c =
 pub split_longest-end-requires : goal.split_longest-end-requires
 split_longest-end-requires c =
     let called = c.sample_loop-nodes in
-    let O = ring_of_lem _ _ _ _ _ (nodes_some c.requires called.ensures.0) c.ring_of-r.ensures in (
-      ring_nodes c.requires called.ensures.0 O,
-      room_fewer _ _ _ _ _ c.requires.nodes (omega (arith, ring_end c.requires called.ensures.0 O))
-          called.auto.1.1.0 called.auto.1.1.1.0 called.auto.1.1.1.1.0 called.auto.1.1.1.1.1.0,
-    )
+    let O = ring_of_lem _ _ _ _ _ (nodes_some c.requires called.ensures.0) c.ring_of-r.ensures in
+    record {
+      nodes_from = ring_nodes c.requires called.ensures.0 O;
+      node_room =
+          room_fewer _ _ _ _ _ c.requires.nodes (omega (arith, ring_end c.requires called.ensures.0 O))
+          called.auto.xs called.auto.ys called.auto.next called.auto.prev;
+    }
 
 pub link_ring-requires : goal.link_ring-requires
 link_ring-requires c =
@@ -32,8 +34,8 @@ link_ring-requires c =
     let O = ring_of_lem _ _ _ _ _ (nodes_some c.requires called.ensures.0) c.ring_of-r.ensures in
     let end = ring_end c.requires called.ensures.0 O in (
       ring_fits c.requires called.ensures.0 O,
-      omega (arith, end, c.requires.nodes.in_next, called.auto.1.1.1.1.0, split.auto.1.1.1.0),
-      omega (arith, end, c.requires.nodes.in_prev, called.auto.1.1.1.1.1.0, split.auto.1.1.1.1.0),
+      omega (arith, end, c.requires.nodes.in_next, called.auto.next, split.auto.next),
+      omega (arith, end, c.requires.nodes.in_prev, called.auto.prev, split.auto.prev),
       omega (arith, end, O.base_is, c.requires.in_edges),
     )
 

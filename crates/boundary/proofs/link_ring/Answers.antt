@@ -43,9 +43,9 @@ loop-i-preserved c =
     let inv = c.loop-i.invariant in
     let kept = c.link.auto in (
       inv.0,
-      kept.0 ∙ inv.1,
-      kept.1.0 ∙ inv.2,
-      kept.1.1.0 ∙ inv.3,
+      kept.next ∙ inv.1,
+      kept.prev ∙ inv.2,
+      kept.edges ∙ inv.3,
       λ st. loop_as _ _ _ (inv.4 st) c.loop-i-test.true
           (rw (
             plus_one,

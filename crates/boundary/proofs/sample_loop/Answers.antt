@@ -45,10 +45,10 @@ loop-i-preserved c =
     c.point_after-b.ensures in (
       inv.0,
       sampling_next _ _ inv.1 (rw (← inv.0) c.loop-i-test.true) are,
-      kept.1.1.1.0 ∙ inv.2,
-      kept.1.1.1.1.0 ∙ inv.3,
-      kept.1.1.1.1.1.0 ∙ inv.4,
-      kept.1.1.1.1.1.1.0 ∙ inv.5,
+      kept.xs ∙ inv.2,
+      kept.ys ∙ inv.3,
+      kept.next ∙ inv.4,
+      kept.prev ∙ inv.5,
       λ st. loop_as _ _ _ (inv.6 st) c.loop-i-test.true
           (rw (c.sample_segment.ensures st, c.point_at-a.ensures, c.point_after-b.ensures, ← are)),
     )

@@ -36,10 +36,10 @@ pub loop-k-preserved : goal.loop-k-preserved
 loop-k-preserved c =
     let inv = c.loop-k.invariant in
     let kept = c.push_node.auto in (
-      kept.0 ∙ inv.0,
-      kept.1.0 ∙ inv.1,
-      kept.1.1.0 ∙ inv.2,
-      kept.1.1.1.0 ∙ inv.3,
+      kept.xs ∙ inv.0,
+      kept.ys ∙ inv.1,
+      kept.next ∙ inv.2,
+      kept.prev ∙ inv.3,
       λ st. loop_as _ _ _ (inv.4 st) c.loop-k-test.true (rw (plus_one, c.push_node.ensures st, c.cut.ensures)),
     )
 

@@ -13,7 +13,7 @@ returns c =
     (rw (
       back_of s.k.i c.struct_told-1.given.0.1,
       back_of s.l.i c.struct_told-2-1.given.0.1,
-      back_of m.result m.type-inv,
-      back_of n.result n.type-inv,
+      back_of m.result m.type_inv,
+      back_of n.result n.type_inv,
     )
     at c.ranges_meet.ensures)

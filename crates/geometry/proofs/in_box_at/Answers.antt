@@ -14,7 +14,7 @@ between-i c =
     let x = c.floor_quotient in
     let s = c.args in
     rw (
-      back_of x.result x.type-inv,
+      back_of x.result x.type_inv,
       back_of s.l.i c.struct_told-1.given.0.1,
       back_of s.m.i c.struct_told-2-1.given.0.1,
       x.ensures,
@@ -28,7 +28,7 @@ between-j c =
     let y = c.floor_quotient-then-between in
     let s = c.args in
     rw (
-      back_of y.result y.type-inv,
+      back_of y.result y.type_inv,
       back_of s.l.j c.struct_told-then-between-1.given.1.0.1,
       back_of s.m.j c.struct_told-then-between-2-1.given.1.0.1,
       y.ensures,

@@ -8,4 +8,4 @@ unfolding key_of
 returns c =
     let x = c.floor_quotient in
     let y = c.floor_quotient-2 in
-    rw (back_of x.result x.type-inv, back_of y.result y.type-inv, x.ensures, y.ensures)
+    rw (back_of x.result x.type_inv, back_of y.result y.type_inv, x.ensures, y.ensures)

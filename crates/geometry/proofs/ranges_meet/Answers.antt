@@ -14,7 +14,7 @@ meets c =
     let high = c.greater in
     let low-is = rw (back c.ranges.k, back c.ranges.l) at low.ensures in
     let high_is = rw (back c.ranges.m, back c.ranges.n) at high.ensures in
-    rw (back_of low.result low.type-inv, back_of high.result high.type-inv, low-is, high_is) at c.at_most.ensures
+    rw (back_of low.result low.type_inv, back_of high.result high.type_inv, low-is, high_is) at c.at_most.ensures
 
 meets-back : (c : After-at_most-then-at_most)
     → let s = c.args in
@@ -24,7 +24,7 @@ meets-back c =
     let high = c.greater-then-at_most in
     let low-is = rw (back c.ranges.m, back c.ranges.n) at low.ensures in
     let high_is = rw (back c.ranges.k, back c.ranges.l) at high.ensures in
-    rw (back_of low.result low.type-inv, back_of high.result high.type-inv, low-is, high_is) at c.at_most-then-at_most.ensures
+    rw (back_of low.result low.type_inv, back_of high.result high.type_inv, low-is, high_is) at c.at_most-then-at_most.ensures
 
 pub returns-then-at_most : goal.returns-then-at_most
 unfolding ranges_meet

@@ -56,5 +56,5 @@ shape_of-blocks c = c.loop-k.invariant.2 ∙ c.file_loop.ensures.long
 pub returns : goal.returns
 returns c =
     drawn c.requires
-    (record { outer = λ i h. c.shared_slice_known-1.given i; (goal.at.returns c).After-shared_slice_known-2-1 = λ i h. c.shared_slice_known-2-1.given i })
+    (record { outer = λ i h. c.type_inv.outer i; holes = λ i h. c.type_inv.holes i })
     c.loop-k.invariant.1 c.loop-k-test.false

@@ -1,11 +1,11 @@
 -- `blocks::file_loop` meets its contract: the loop's invariant is that the blocks before b are filed, and where block b begins.
-use mathlib.Core.Logic.{⊎_elim}
 use mathlib.Core.Path.{refl, sym, ◌∙◌}
 use native.Mathlib.Omega.{arith}
 use borrow.Author.Tests.{ltb-true, ltb-false}
 use Rattle.blocks.specs.BetweenLaws.{place_start, place_next}
 use Rattle.blocks.specs.FilingLaws.{filed_none, filed_next, filed_over, filed_end}
 use Rattle.blocks.proofs.file_loop.Goals as goal
+use Rattle.blocks.proofs.file_loop.Goals.{then-is_listed, else-is_listed}
 
 pub loop-from-init : goal.loop-from-init
 loop-from-init c = (refl, place_start _ _, filed_none _ _ _)
@@ -19,8 +19,10 @@ loop-from-preserved c =
     let listed = c.is_listed.ensures in (
       inv.0,
       place_next inv.1 c.loop-from-test.true,
-      ⊎_elim (λ w. rw w.5 (filed_next inv.2 inv.1 w.2.ensures))
-          (λ w. rw w.1 (filed_over inv.2 inv.1 (ltb-false _ _ (sym listed ∙ w.0.left)))) c.if-is_listed.branch-raw,
+      elim c.if-is_listed.branch [
+          then-is_listed w ↦ rw w.blocks-is (filed_next inv.2 inv.1 w.file_block.ensures)
+        | else-is_listed w ↦ rw w.blocks-is (filed_over inv.2 inv.1 (ltb-false _ _ (sym listed ∙ w.if-is_listed.false)))
+      ],
     )
 
 pub shape_of-blocks : goal.shape_of-blocks

@@ -21,5 +21,8 @@ overflow_add-to c = let part = hole_part _ c.requires c.if-k-eq0.false in omega 
 pub offset_bounds-holes-from : goal.offset_bounds-holes-from
 offset_bounds-holes-from c = let part = hole_part _ c.requires c.if-k-eq0.false in omega arith
 
+pub slice_bounds-result-end : goal.slice_bounds-result-end
+slice_bounds-result-end c = let part = hole_part _ c.requires c.if-k-eq0.false in omega arith
+
 pub returns : goal.returns
 returns c = (hole_part _ c.requires c.if-k-eq0.false).same

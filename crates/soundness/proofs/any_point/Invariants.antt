@@ -8,7 +8,7 @@ use Rattle.laws.specs.Loop.{Scan}
 use Rattle.soundness.proofs.any_point.Given as goal
 
 abbrev pub invariant-loop-i : goal.invariant-loop-i
-invariant-loop-i l = (l.n ≡ length l.s / 2) × Scan (λ l.i. beq (is_inside (segment_start l.s l.i) l.t) l.inside) l.n l.i
+invariant-loop-i l = (l.n ≡ length l.s / 2) × Scan (λ i. beq (is_inside (segment_start l.s i) l.t) l.inside) l.n l.i
 
 abbrev pub decreases-loop-i : goal.decreases-loop-i
 decreases-loop-i l = l.n - l.i

@@ -8,7 +8,7 @@ use Rattle.soundness.proofs.clashes_before.Given as goal
 
 abbrev pub invariant-loop-l : goal.invariant-loop-l
 invariant-loop-l l =
-    HolesPassed (outline l.outer l.holes l.lens) l.l l.start × Scan (λ l.l. holes_clash l.s (hole_at (outline l.outer l.holes l.lens) l.l)) l.k l.l
+    HolesPassed (outline l.outer l.holes l.lens) l.l l.start × Scan (λ k. holes_clash l.s (hole_at (outline l.outer l.holes l.lens) k)) l.k l.l
 
 abbrev pub decreases-loop-l : goal.decreases-loop-l
 decreases-loop-l l = l.k - l.l

@@ -10,7 +10,7 @@ use Rattle.laws.specs.Loop.{Loop}
 use Rattle.soundness.proofs.is_inside.Given as goal
 
 abbrev pub invariant-loop-i : goal.invariant-loop-i
-invariant-loop-i l = (l.n ≡ length l.s / 2) × Loop (odd_turn (λ l.i. ray_meets (in_units l.p) (segment_start l.s l.i) (segment_end l.s l.i))) false l.n l.i l.inside
+invariant-loop-i l = (l.n ≡ length l.s / 2) × Loop (odd_turn (λ i. ray_meets (in_units l.p) (segment_start l.s i) (segment_end l.s i))) false l.n l.i l.inside
 
 abbrev pub decreases-loop-i : goal.decreases-loop-i
 decreases-loop-i l = l.n - l.i

@@ -8,7 +8,7 @@ use Rattle.laws.specs.Loop.{Scan}
 use Rattle.soundness.proofs.meets_loop.Given as goal
 
 abbrev pub invariant-loop-j : goal.invariant-loop-j
-invariant-loop-j l = (l.n ≡ length l.t / 2) × Scan (λ l.j. meets (in_units l.a) (in_units l.b) (segment_start l.t l.j) (segment_end l.t l.j)) l.n l.j
+invariant-loop-j l = (l.n ≡ length l.t / 2) × Scan (λ j. meets (in_units l.a) (in_units l.b) (segment_start l.t j) (segment_end l.t j)) l.n l.j
 
 abbrev pub decreases-loop-j : goal.decreases-loop-j
 decreases-loop-j l = l.n - l.j

@@ -8,7 +8,7 @@ use Rattle.laws.specs.Loop.{any_up, Scan}
 use Rattle.soundness.proofs.touches.Given as goal
 
 abbrev pub invariant-loop-i : goal.invariant-loop-i
-invariant-loop-i l = (l.n ≡ length l.s / 2) × Scan (λ l.i. any_up (points l.t) (λ j. meets (segment_start l.s l.i) (segment_end l.s l.i) (segment_start l.t j) (segment_end l.t j))) l.n l.i
+invariant-loop-i l = (l.n ≡ length l.s / 2) × Scan (λ i. any_up (points l.t) (λ j. meets (segment_start l.s i) (segment_end l.s i) (segment_start l.t j) (segment_end l.t j))) l.n l.i
 
 abbrev pub decreases-loop-i : goal.decreases-loop-i
 decreases-loop-i l = l.n - l.i

@@ -1,0 +1,38 @@
+ghost use Rattle.thresholds.specs.Figures.{results};
+ghost use Rattle.exam.specs.Exam.{request_numbered, exam_mesh};
+ghost use Rattle.exam.specs.Statement.{ExamGiven};
+
+use exam::ExamAnswer;
+
+// One request of one role to an exam. 20 comes before all else; where anything is refused, nothing lent is written.
+#[unsafe(no_mangle)]
+pub extern "C" fn sitjorbe_exam(
+    role: u32,
+    operation: u32,
+    item: u32,
+    value: u32,
+    u: u32,
+    v: u32,
+    nodes: u32,
+    xs: &[f64],
+    ys: &[f64],
+    quad_count: usize,
+    quads: &[u32],
+    next: &[u32],
+    prev: &[u32],
+    origins: &[u16],
+    thresholds: &mut [u16],
+    count: &mut u32,
+    sum: &mut u32,
+    reply: &mut [u32],
+) -> ExamAnswer
+    ensures { ExamGiven
+        (exam_mesh nodes xs.now ys.now quad_count quads.now next.now prev.now origins.now)
+        (results thresholds.old count.old sum.old) role (request_numbered operation item value u v) reply.old
+        result reply.new (results thresholds.new count.new sum.new) }
+{
+    exam_entry::sitjorbe_exam(
+        role, operation, item, value, u, v, nodes, xs, ys, quad_count, quads, next, prev, origins,
+        thresholds, count, sum, reply,
+    )
+}

@@ -1,0 +1,17 @@
+ghost use Rattle.domain.specs.Outline.{outline};
+ghost use Rattle.places.specs.Needed.{PlacesGiven};
+
+use places::PlacesAnswer;
+
+// The places that a run of this outline and size can't do without. Quads, and the nodes and edges that they add, need more.
+#[unsafe(no_mangle)]
+pub extern "C" fn sitjorbe_places<'a>(
+    outer: &'a [f64],
+    holes: &'a [f64],
+    lens: &[usize],
+    size: f64,
+) -> PlacesAnswer
+    ensures { PlacesGiven (outline outer.now holes.now lens.now) size result }
+{
+    places::sitjorbe_places(outer, holes, lens, size)
+}

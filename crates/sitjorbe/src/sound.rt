@@ -1,0 +1,17 @@
+ghost use Rattle.std.specs.Prelude.{◌≡◌};
+ghost use Rattle.domain.specs.Outline.{outline};
+ghost use Rattle.sound_entry.specs.Answer.{sound_answer};
+
+use sound_entry::SoundAnswer;
+
+// Whether the outline is sound; refusals 1 to 4 come first, with false.
+#[unsafe(no_mangle)]
+pub extern "C" fn sitjorbe_sound<'a>(
+    outer: &'a [f64],
+    holes: &'a [f64],
+    lens: &[usize],
+) -> SoundAnswer
+    ensures { result ≡ sound_answer (outline outer.now holes.now lens.now) }
+{
+    sound_entry::sitjorbe_sound(outer, holes, lens)
+}

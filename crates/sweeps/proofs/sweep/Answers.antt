@@ -21,7 +21,10 @@ sweep_two_rows-quiet-requires c =
     let g = c.args.g in
     let l = c.loop-j in
     let over = row_over l.j g.ny g.nx (omega arith) in
-    (row_of l.j l.invariant.1 (omega arith) p.values l.invariant.0, (omega arith, omega arith))
+    record {
+      row = row_of l.j l.invariant.1 (omega arith) p.values l.invariant.0;
+      j_bound = (omega arith, omega arith);
+    }
 
 pub overflow_add-base : goal.overflow_add-base
 overflow_add-base c =
@@ -52,7 +55,10 @@ sweep_row-requires c =
     let g = c.args.g in
     let l = c.loop-j in
     let t = c.if-j-ny.true in
-    (row_of l.j l.invariant.1 t p.values l.invariant.0, omega (arith, row_in l.j g.ny g.nx t))
+    record {
+      row = row_of l.j l.invariant.1 t p.values l.invariant.0;
+      nx_in_bounds = omega (arith, row_in l.j g.ny g.nx t);
+    }
 
 pub shape_of-values-then-j-ny : goal.shape_of-values-then-j-ny
 shape_of-values-then-j-ny c = c.sweep_row.auto.values ∙ c.loop-j.invariant.0

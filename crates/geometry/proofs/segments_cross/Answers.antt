@@ -1,5 +1,5 @@
 -- `geometry::segments_cross` meets its contract: the proper test, then the four that touch.
-use mathlib.Core.Path.{◌≡◌, sym, ◌∙◌}
+use Rattle.std.proofs.Common.{◌≡◌, sym, ◌∙◌, ◌||◌}
 use Rattle.geometry.specs.Plane.{touches, segments_cross}
 use Rattle.geometry.proofs.segments_cross.Goals as goal
 use Rattle.geometry.proofs.segments_cross.Goals.{After-cross_properly}

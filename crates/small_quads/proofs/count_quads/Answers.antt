@@ -1,9 +1,9 @@
 -- `small_quads::count_quads` meets its contract: the invariant is `FoursCounted`: as many as the fours below k. The measure is what is left of 65,536. Assumes nothing.
 use mathlib.Core.Path.{sym, ◌∙◌}
 use native.Mathlib.Omega.{arith}
-use mathlib.Core.Logic.{⊎_elim}
 use Rattle.small_quads.specs.ListLaws.{counted_start, counted_yes, counted_no, counted_end}
 use Rattle.small_quads.proofs.count_quads.Goals as goal
+use Rattle.small_quads.proofs.count_quads.Goals.{then-is_small_quad, else-is_small_quad}
 
 pub loop-k-init : goal.loop-k-init
 loop-k-init c = counted_start
@@ -25,7 +25,10 @@ loop-k-preserved c =
     let inv = c.loop-k.invariant in
     let test = c.loop-k-test.true in
     let is = c.is_small_quad.ensures in
-    ⊎_elim (λ w. rw w.1 (counted_yes inv test (sym is ∙ w.0.taken))) (λ w. rw w.1 (counted_no inv test (sym is ∙ w.0.left))) c.if-is_small_quad.branch-raw
+    elim c.if-is_small_quad.branch [
+      | then-is_small_quad w ↦ rw w.n-is (counted_yes inv test (sym is ∙ w.if-is_small_quad.true))
+      | else-is_small_quad w ↦ rw w.n-is (counted_no inv test (sym is ∙ w.if-is_small_quad.false))
+    ]
 
 pub returns : goal.returns
 returns c = counted_end c.loop-k.invariant c.loop-k-test.false

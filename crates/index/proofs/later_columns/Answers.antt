@@ -53,12 +53,12 @@ overflow_cast-t c = omega (arith, c.shared_slice_known-in-loop-i-1.given (2 + c.
 pub returns-then-t-limit : goal.returns-then-t-limit
 returns-then-t-limit c =
     seeking_hit c.requires.0 c.loop-i.invariant c.loop-i-test.true (step (goal.at.returns-then-t-limit c).After-next_cell-cell) _ refl
-    (rw c.capacity_of-limit.ensures (goal.at.returns-then-t-limit c).At-loop-i c.if-t-limit.true)
+    (rw c.capacity_of-limit.ensures at c.if-t-limit.true)
 
 pub loop-i-preserved : goal.loop-i-preserved
 loop-i-preserved c =
     seeking_next c.requires.0 c.loop-i.invariant c.loop-i-test.true (step (goal.at.loop-i-preserved c).After-next_cell-cell)
-    (rw c.capacity_of-limit.ensures (goal.at.loop-i-preserved c).At-loop-i c.if-t-limit.false)
+    (rw c.capacity_of-limit.ensures at c.if-t-limit.false)
 
 pub returns : goal.returns
 returns c =

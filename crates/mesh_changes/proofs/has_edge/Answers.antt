@@ -1,8 +1,8 @@
 -- `mesh_changes::has_edge` meets its contract: the loop is a scan.
-use mathlib.Core.Logic.{⊎_elim}
 use borrow.Author.Tests.{eq-eqb, ne_eqb}
 use Rattle.laws.specs.Loop.{scan_start, scan_hit, scan_next, scan_none}
 use Rattle.mesh_changes.proofs.has_edge.Goals as goal
+use Rattle.mesh_changes.proofs.has_edge.Goals.{then-edges-k+else-edges-k-2, else-edges-k}
 
 pub loop-k-init : goal.loop-k-init
 loop-k-init c = scan_start _ _
@@ -15,7 +15,10 @@ returns-then-edges-k-2 c =
 pub loop-k-preserved : goal.loop-k-preserved
 loop-k-preserved c =
     scan_next _ c.loop-k.invariant c.loop-k-test.true
-    (⊎_elim (λ w. simp (eq-eqb _ _ w.0.taken, ne_eqb _ _ w.2.left)) (λ w. simp (ne_eqb _ _ w.left)) c.if-edges-k.branch-raw)
+    (elim c.if-edges-k.branch [
+      then-edges-k+else-edges-k-2 w ↦ simp (eq-eqb _ _ w.if-edges-k.true, ne_eqb _ _ w.if-edges-k-2.false)
+    | else-edges-k w ↦ simp (ne_eqb _ _ w.if-edges-k.false)
+    ])
 
 pub returns : goal.returns
 returns c =

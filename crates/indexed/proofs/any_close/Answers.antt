@@ -5,7 +5,7 @@ use borrow.Author.Tests.{not-true, not-false}
 use lib.ListN.{length}
 use Rattle.laws.specs.Loop.{found_before}
 use Rattle.front.specs.State.{node_in}
-use Rattle.pools.specs.Pool.{filed, ownAt}
+use Rattle.pools.specs.Pool.{filed, own_at}
 use Rattle.index.specs.Walk.{over}
 use Rattle.pools.specs.Filing.{unfound}
 use Rattle.index.specs.WalkLaws.{walk_start, walk_next, walk_hit, walk_none, walk_less}
@@ -22,7 +22,7 @@ going c = sym c.is_over.ensures ∙ not-true _ c.loop-key-test.true-raw
 -- the test of the cursor's node
 tested : (c : After-too_close_at)
     → let args = c.args in
-    close_at args.size args.xs.now args.ys.now args.p (ownAt (length args.pool.now) args.pool.now c.loop-key.c.t)
+    close_at args.size args.xs.now args.ys.now args.p (own_at (length args.pool.now) args.pool.now c.loop-key.c.t)
     ≡ c.too_close_at.result
 tested c =
     let args = c.args in

@@ -4,7 +4,7 @@ use mathlib.Core.Bool.{false}
 use borrow.Author.Tests.{not-true, not-false}
 use lib.ListN.{length}
 use Rattle.laws.specs.Loop.{found_before}
-use Rattle.pools.specs.Pool.{filed, ownAt}
+use Rattle.pools.specs.Pool.{filed, own_at}
 use Rattle.index.specs.Walk.{over}
 use Rattle.pools.specs.Filing.{unfound}
 use Rattle.index.specs.WalkLaws.{walk_start, walk_next, walk_hit, walk_none, walk_less}
@@ -22,7 +22,7 @@ tested : (c : After-blocks_at)
     →
     let args = c.args in
     inside_at args.size args.xs.now args.ys.now args.p args.a args.b args.d args.c
-    (ownAt (length args.pool.now) args.pool.now c.loop-r.t.t) ≡ c.blocks_at.result
+    (own_at (length args.pool.now) args.pool.now c.loop-r.t.t) ≡ c.blocks_at.result
 tested c =
     let args = c.args in
     inside_is args.size args.xs.now args.ys.now args.p args.a args.b args.d args.c c.own_at-id.ensures

@@ -6,7 +6,7 @@ use lib.ListN.{length}
 use Rattle.laws.specs.Loop.{found_before}
 use Rattle.geometry.specs.TestLaws.{test_passed}
 use Rattle.geometry.specs.Keys.{key_of, edge_bucket, spans_kept}
-use Rattle.pools.specs.Pool.{ownAt}
+use Rattle.pools.specs.Pool.{own_at}
 use Rattle.index.specs.Walk.{over}
 use Rattle.index.specs.WalkLaws.{walk_start, walk_next, walk_hit, walk_less}
 use Rattle.front.specs.State.{node_in, edge_is}
@@ -22,7 +22,7 @@ going c = sym c.is_over.ensures ∙ not-true _ c.loop-r-test.true-raw
 tested : (c : After-is_edge)
     →
     let args = c.args in
-    edge_is args.edges.now args.u args.v (ownAt (length args.pool.now) args.pool.now c.loop-r.t.t) ≡ c.is_edge.result
+    edge_is args.edges.now args.u args.v (own_at (length args.pool.now) args.pool.now c.loop-r.t.t) ≡ c.is_edge.result
 tested c = rw (← c.own_at.ensures) (sym c.is_edge.ensures)
 
 pub returns-then-not-spans_kept : goal.returns-then-not-spans_kept

@@ -1,6 +1,7 @@
 -- `advance::advance` meets its contract: the loop is the run over the passes. Assumes nothing.
+use mathlib.Core.List.{[]}
 use mathlib.Core.Path.{◌∙◌, ap, refl}
-use Prim.Native.Nat.{◌-◌}
+use Prim.Native.Nat.{ℕ}
 use Rattle.laws.specs.Loop.{Run, run_start, run_go, run_out, run_end}
 use Rattle.domain.specs.Outline.{Outline, outline}
 use Rattle.direction.specs.Record.{FieldRecord, field_record}
@@ -10,22 +11,9 @@ use Rattle.advance.specs.Laws.{in_advance, pass_on, pass_over, advance_whole}
 use Rattle.ends.specs.declared.Swept.{Swept}
 use Rattle.ends.specs.Answers.{passed_counts}
 use Rattle.settling.specs.Paveable.{Later, held}
-use Rattle.settling.specs.Searchable.{Pools, all_forgotten, helped_at}
+use Rattle.settling.specs.Searchable.{all_forgotten, helped_at}
 use Rattle.advance.proofs.advance.Goals as goal
-use Rattle.advance.proofs.advance.Goals.{At-loop-i, Start}
-
-abbrev invariant-loop : tie.invariant-loop
-invariant-loop outer holes lens blocks size grid values xs₀ ys₀ next₀ prev₀ snapshot₀ quads₀ edges₀ nodePool₀ edgePool₀ tried₀ passes most counts₀ i₀ xs ys next prev
-    snapshot quads edges nodePool edgePool tried counts i =
-    Run (passes_turn (outline outer holes lens) size (field_record grid values [])) all_used
-    (state_of xs₀ ys₀ next₀ prev₀ snapshot₀ quads₀ edges₀ counts₀) most i (state_of xs ys next prev snapshot quads edges counts)
-    × Pools (outline outer holes lens) size (field_record grid values []) xs ys next snapshot edges counts nodePool₀ edgePool₀ tried₀ nodePool edgePool
-    tried
-
-abbrev decreases-loop : tie.decreases-loop
-decreases-loop outer holes lens blocks size grid values xs₀ ys₀ next₀ prev₀ snapshot₀ quads₀ edges₀ nodePool₀ edgePool₀ tried₀ passes most counts₀ i₀ xs ys next prev
-    snapshot quads edges nodePool edgePool tried counts i =
-    most - i
+use Rattle.advance.proofs.advance.Goals.{Start}
 
 -- the outline, the field and the state as they are lent
 abbrev around : Start → Outline
@@ -40,14 +28,9 @@ lent s =
     s.args.edges.now s.args.k
 
 -- the state in the loop comes after the one that is lent
-abbrev start : At-loop-i → Start
-start c =
-    c.before.before.before.before.before.before.before.before.before.before.before.before.before.before.before.before.before.before.before.before.before.before.before.before.before.before.before
-
-later : (c : At-loop-i) → Later (around (start c)) (start c).args.blocks.now (start c).args.grid (start c).args.values.now
-    (lent (start c))
-    (state_of c.loop-i.xs c.loop-i.ys c.loop-i.next c.loop-i.prev c.loop-i.snapshot c.loop-i.quads c.loop-i.edges c.loop-i.counts)
-later c = in_advance (around (start c)) _ (start c).args.size _ _ (field (start c)) (lent (start c)) (start c).requires c.loop-i.invariant.0
+later : (s : Start) {t : State} {n i : ℕ} → Run (passes_turn (around s) s.args.size (field s)) all_used (lent s) n i t
+    → Later (around s) s.args.blocks.now s.args.grid s.args.values.now (lent s) t
+later s L = in_advance (around s) _ s.args.size _ _ (field s) (lent s) s.requires L
 
 pub file_all-requires : goal.file_all-requires
 file_all-requires c = (held _ _ _ _ _ c.requires).edges
@@ -64,7 +47,7 @@ loop-i-init c = (
 )
 
 pub pass-p-requires : goal.pass-p-requires
-pass-p-requires c = ((later (goal.at.pass-p-requires c).At-loop-i).paveable, c.loop-i.invariant.1.help)
+pass-p-requires c = ((later (goal.at.pass-p-requires c).Start c.loop-i.invariant.0).paveable, c.loop-i.invariant.1.help)
 
 pub loop-i-preserved : goal.loop-i-preserved
 loop-i-preserved c = (
@@ -78,25 +61,25 @@ loop-i-preserved c = (
 )
 
 pub shape_of-xs-in-Over : goal.shape_of-xs-in-Over
-shape_of-xs-in-Over c = c.pass-p.auto.xs ∙ (later (goal.at.shape_of-xs-in-Over c).At-loop-i).frame.xs.long
+shape_of-xs-in-Over c = c.pass-p.auto.xs ∙ (later (goal.at.shape_of-xs-in-Over c).Start c.loop-i.invariant.0).frame.xs.long
 
 pub shape_of-ys-in-Over : goal.shape_of-ys-in-Over
-shape_of-ys-in-Over c = c.pass-p.auto.ys ∙ (later (goal.at.shape_of-ys-in-Over c).At-loop-i).frame.ys.long
+shape_of-ys-in-Over c = c.pass-p.auto.ys ∙ (later (goal.at.shape_of-ys-in-Over c).Start c.loop-i.invariant.0).frame.ys.long
 
 pub shape_of-next-in-Over : goal.shape_of-next-in-Over
-shape_of-next-in-Over c = c.pass-p.auto.next ∙ (later (goal.at.shape_of-next-in-Over c).At-loop-i).frame.next.long
+shape_of-next-in-Over c = c.pass-p.auto.next ∙ (later (goal.at.shape_of-next-in-Over c).Start c.loop-i.invariant.0).frame.next.long
 
 pub shape_of-prev-in-Over : goal.shape_of-prev-in-Over
-shape_of-prev-in-Over c = c.pass-p.auto.prev ∙ (later (goal.at.shape_of-prev-in-Over c).At-loop-i).frame.prev.long
+shape_of-prev-in-Over c = c.pass-p.auto.prev ∙ (later (goal.at.shape_of-prev-in-Over c).Start c.loop-i.invariant.0).frame.prev.long
 
 pub shape_of-snapshot-in-Over : goal.shape_of-snapshot-in-Over
-shape_of-snapshot-in-Over c = c.pass-p.auto.snapshot ∙ (later (goal.at.shape_of-snapshot-in-Over c).At-loop-i).frame.snapshot.long
+shape_of-snapshot-in-Over c = c.pass-p.auto.snapshot ∙ (later (goal.at.shape_of-snapshot-in-Over c).Start c.loop-i.invariant.0).frame.snapshot.long
 
 pub shape_of-quads-in-Over : goal.shape_of-quads-in-Over
-shape_of-quads-in-Over c = c.pass-p.auto.quads ∙ (later (goal.at.shape_of-quads-in-Over c).At-loop-i).frame.quad_list.long
+shape_of-quads-in-Over c = c.pass-p.auto.quads ∙ (later (goal.at.shape_of-quads-in-Over c).Start c.loop-i.invariant.0).frame.quad_list.long
 
 pub shape_of-edges-in-Over : goal.shape_of-edges-in-Over
-shape_of-edges-in-Over c = c.pass-p.auto.edges ∙ (later (goal.at.shape_of-edges-in-Over c).At-loop-i).frame.edge_list.long
+shape_of-edges-in-Over c = c.pass-p.auto.edges ∙ (later (goal.at.shape_of-edges-in-Over c).Start c.loop-i.invariant.0).frame.edge_list.long
 
 pub shape_of-node_pool-in-Over : goal.shape_of-node_pool-in-Over
 shape_of-node_pool-in-Over c = c.pass-p.auto.node_pool ∙ c.loop-i.invariant.1.node_long ∙ c.file_all.auto.node_pool
@@ -113,25 +96,25 @@ returns-in-Over c =
     (run_out _ all_used _ _ c.loop-i.invariant.0 c.loop-i-test.true (pass_over c.pass-p.result c.pass-p.ensures.0 c.in-Over.is))
 
 pub shape_of-xs : goal.shape_of-xs
-shape_of-xs c = (later (goal.at.shape_of-xs c).At-loop-i).frame.xs.long
+shape_of-xs c = (later (goal.at.shape_of-xs c).Start c.loop-i.invariant.0).frame.xs.long
 
 pub shape_of-ys : goal.shape_of-ys
-shape_of-ys c = (later (goal.at.shape_of-ys c).At-loop-i).frame.ys.long
+shape_of-ys c = (later (goal.at.shape_of-ys c).Start c.loop-i.invariant.0).frame.ys.long
 
 pub shape_of-next : goal.shape_of-next
-shape_of-next c = (later (goal.at.shape_of-next c).At-loop-i).frame.next.long
+shape_of-next c = (later (goal.at.shape_of-next c).Start c.loop-i.invariant.0).frame.next.long
 
 pub shape_of-prev : goal.shape_of-prev
-shape_of-prev c = (later (goal.at.shape_of-prev c).At-loop-i).frame.prev.long
+shape_of-prev c = (later (goal.at.shape_of-prev c).Start c.loop-i.invariant.0).frame.prev.long
 
 pub shape_of-snapshot : goal.shape_of-snapshot
-shape_of-snapshot c = (later (goal.at.shape_of-snapshot c).At-loop-i).frame.snapshot.long
+shape_of-snapshot c = (later (goal.at.shape_of-snapshot c).Start c.loop-i.invariant.0).frame.snapshot.long
 
 pub shape_of-quads : goal.shape_of-quads
-shape_of-quads c = (later (goal.at.shape_of-quads c).At-loop-i).frame.quad_list.long
+shape_of-quads c = (later (goal.at.shape_of-quads c).Start c.loop-i.invariant.0).frame.quad_list.long
 
 pub shape_of-edges : goal.shape_of-edges
-shape_of-edges c = (later (goal.at.shape_of-edges c).At-loop-i).frame.edge_list.long
+shape_of-edges c = (later (goal.at.shape_of-edges c).Start c.loop-i.invariant.0).frame.edge_list.long
 
 pub shape_of-node_pool : goal.shape_of-node_pool
 shape_of-node_pool c = c.loop-i.invariant.1.node_long ∙ c.file_all.auto.node_pool

@@ -1,34 +1,20 @@
 -- `passes::pass` meets its contract: the snapshot is taken, and the loop is the run over the turns of a pass.
-use Rattle.settling.specs.Searchable.{Pools, helped_at, helped_taken, counts_passed}
+use mathlib.Core.List.{[]}
+use Rattle.settling.specs.Searchable.{helped_at, helped_taken, counts_passed}
 use Rattle.settling.specs.Paveable.{held}
 use Rattle.passes.specs.Laws.{in_begun, went_same, went_put, went_over, gone_over, pass_goes, pass_ends, pass_whole}
 use Rattle.snapshots.specs.StretchLaws.{after_more}
 use Rattle.ends.specs.Answers.{settled_counts}
 use Rattle.ends.specs.declared.Settled.{Settled}
-use Rattle.paving.specs.Advance.{passing, pass_turn, after_pass}
+use Rattle.paving.specs.Advance.{after_pass}
 use Rattle.front.specs.State.{State, state_of}
 use Rattle.direction.specs.Record.{FieldRecord, field_record}
 use Rattle.domain.specs.Outline.{Outline, outline}
-use Rattle.laws.specs.Loop.{Run, run_start, run_out}
+use Rattle.laws.specs.Loop.{run_start, run_out}
 use native.Mathlib.Omega.{arith}
-use Prim.Native.Nat.{◌-◌}
 use mathlib.Core.Path.{◌∙◌, ap, refl, sym}
-use mathlib.Core.Bool.{false}
 use Rattle.passes.proofs.pass.Goals as goal
 use Rattle.passes.proofs.pass.Goals.{Start}
-
-abbrev invariant-loop : tie.invariant-loop
-invariant-loop outer holes lens blocks size grid values xs₀ ys₀ next₀ prev₀ snapshot quads₀ edges₀ nodePool₀ edgePool₀ tried₀ n j₀ some₀ a₀ xs ys next prev quads
-    edges nodePool edgePool tried j some a =
-    Run (pass_turn (outline outer holes lens) size (field_record grid values [])) after_pass
-    (passing (state_of xs₀ ys₀ next₀ prev₀ snapshot quads₀ edges₀ j₀) false) n a (passing (state_of xs ys next prev snapshot quads edges j) some)
-    × Pools (outline outer holes lens) size (field_record grid values []) xs ys next snapshot edges j nodePool₀ edgePool₀ tried₀ nodePool edgePool
-    tried
-
-abbrev decreases-loop : tie.decreases-loop
-decreases-loop outer holes lens blocks size grid values xs₀ ys₀ next₀ prev₀ snapshot quads₀ edges₀ nodePool₀ edgePool₀ tried₀ n j₀ some₀ a₀ xs ys next prev quads
-    edges nodePool edgePool tried j some a =
-    n - a
 
 -- the outline, the field and the state as they are lent
 abbrev around : Start → Outline

@@ -1,6 +1,6 @@
 -- `previews::preview` meets its contract.
 use mathlib.Core.Path.{sym, ◌∙◌}
-use mathlib.Core.List.{List}
+use mathlib.Core.List.{List, []}
 use Prim.Native.Nat.{ℕ}
 use native.Mathlib.Omega.{arith}
 use Rattle.domain.specs.Outline.{Outline, outline}

@@ -1,4 +1,5 @@
 -- `settling::settle` meets its contract: the edge is gone, the attempt answers nothing, a quad that is full, or a quad that is placed.
+use mathlib.Core.List.{[]}
 use Rattle.retries.specs.VainLaws.{stretches_tried}
 use Rattle.settling.specs.Searchable.{placed_adds, full_helped, done_helped, helped_at, counts_settled}
 use Rattle.settling.specs.Paveable.{held, state_try_lent}

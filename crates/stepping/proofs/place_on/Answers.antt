@@ -1,4 +1,5 @@
 -- `stepping::place_on` meets its contract.
+use mathlib.Core.List.{[]}
 use mathlib.Core.Path.{refl}
 use Rattle.domain.specs.Outline.{Outline, outline}
 use Rattle.front.specs.State.{State}

@@ -1,6 +1,6 @@
 -- `stepping::step` meets its contract.
 use mathlib.Core.Path.{sym, ◌∙◌, ap}
-use mathlib.Core.List.{List}
+use mathlib.Core.List.{List, []}
 use Prim.Native.Nat.{ℕ}
 use native.Mathlib.Omega.{arith}
 use Rattle.domain.specs.Outline.{Outline, outline}

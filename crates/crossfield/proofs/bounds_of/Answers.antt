@@ -17,20 +17,9 @@ loop-k-init c = let points = outer_points _ c.loop_points.ensures in (
 pub loop_points-requires-in-loop-k : goal.loop_points-requires-in-loop-k
 loop_points-requires-in-loop-k c = passed_place c.loop-k.invariant.0 c.loop-k-test.true
 
-pub offset_bounds-lens-k : goal.offset_bounds-lens-k
-offset_bounds-lens-k c = omega (
-  arith,
-  c.loop-k-test.true,
-  c.well_formed.1.1.0,
-)
-
 pub overflow_add-start : goal.overflow_add-start
 overflow_add-start c = let few = passed_few c.loop-k.invariant.0 c.loop-k-test.true in
     omega arith
-
-pub overflow_add-k-in-loop-k : goal.overflow_add-k-in-loop-k
-overflow_add-k-in-loop-k c = let in_loop = c.loop-k-test.true in
-    omega (arith, c.well_formed.1.1.0)
 
 pub loop-k-preserved : goal.loop-k-preserved
 loop-k-preserved c = let inv = c.loop-k.invariant in

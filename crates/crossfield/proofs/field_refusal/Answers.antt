@@ -40,8 +40,8 @@ returns-then-swept-ne0 c = rw (
 
 pub grid_of-requires : goal.grid_of-requires
 grid_of-requires c = few _ _ _ (record {
-  outer = λ i h. c.shared_slice_known-1.given i;
-  holes = λ i h. c.shared_slice_known-2-1.given i;
+  outer = λ i h. c.type_inv.outer i;
+  holes = λ i h. c.type_inv.holes i;
 })
     (subst T (sym c.well_formed.1.1.1.0.1)
     tt) (sym c.outline_refusal-outline.ensures
@@ -53,8 +53,8 @@ grid_of-requires c = few _ _ _ (record {
 pub places_refusal-requires : goal.places_refusal-requires
 places_refusal-requires c = rw c.grid_of.ensures
     (few _ _ _ (record {
-      outer = λ i h. c.shared_slice_known-1.given i;
-      holes = λ i h. c.shared_slice_known-2-1.given i;
+      outer = λ i h. c.type_inv.outer i;
+      holes = λ i h. c.type_inv.holes i;
     })
     (subst T (sym c.well_formed.1.1.1.0.1) tt)
     (sym c.outline_refusal-outline.ensures

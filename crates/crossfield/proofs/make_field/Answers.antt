@@ -14,7 +14,7 @@ bounds_of-requires c = (accepted _ (field_unrefused _ _ _ _ c.requires).outline)
 pub grid_of-g-requires : goal.grid_of-g-requires
 unfolding field_refusal
 grid_of-g-requires c =
-    few_made _ _ _ _ (record { outer = λ i h. c.shared_slice_known-1.given i; holes = λ i h. c.shared_slice_known-2-1.given i })
+    few_made _ _ _ _ (record { outer = λ i h. c.type_inv.outer i; holes = λ i h. c.type_inv.holes i })
     (subst T (sym c.well_formed.1.1.1.0.1) tt) c.requires c.bounds_of.ensures
 
 pub file-requires : goal.file-requires
@@ -23,19 +23,22 @@ file-requires c = (field_unrefused _ _ _ _ c.requires).outline
 
 pub seed_all-requires : goal.seed_all-requires
 unfolding field_refusal
-seed_all-requires c = (
-  c.file.ensures,
-  seeds_ask _ _ _ _ _ (record { outer = λ i h. c.shared_slice_known-1.given i; holes = λ i h. c.shared_slice_known-2-1.given i })
+seed_all-requires c =
+    let asked = seeds_ask _ _ _ _ _ (record { outer = λ i h. c.type_inv.outer i; holes = λ i h. c.type_inv.holes i })
       (subst T (sym c.well_formed.1.1.1.0.1) tt) c.requires
-      c.bounds_of.ensures c.grid_of-g.ensures,
-)
+      c.bounds_of.ensures c.grid_of-g.ensures in
+    record {
+      drawn = c.file.ensures;
+      field_room = asked.0;
+      nx_le_most_field_nodes = asked.1;
+    }
 
 pub sweeps-requires : goal.sweeps-requires
 unfolding field_refusal
 sweeps-requires c =
     let seeds = c.seed_all in
     room_of (room_made _ _ _ _ _ c.requires c.bounds_of.ensures c.grid_of-g.ensures)
-    seeds.auto.1.1.1.1.1.0 seeds.auto.1.1.1.1.1.1.0
+    seeds.auto.values seeds.auto.marks
 
 pub returns : goal.returns
 unfolding field_of

@@ -14,26 +14,24 @@ pub seed_row-requires : goal.seed_row-requires
 seed_row-requires c =
     let asked = c.requires in
     let turn = c.loop-j in
-    let less = c.loop-j-test.true in (
-      asked.0,
-      (
-        row_of turn.j turn.invariant.2 less asked.1.0.values turn.invariant.0,
-        row_marks turn.j asked.1.0 asked.1.1.0 asked.1.1.1 turn.invariant.2 less turn.invariant.1,
-      ),
-    )
+    let less = c.loop-j-test.true in record {
+      drawn = asked.drawn;
+      row = row_of turn.j turn.invariant.2 less asked.field_room.values turn.invariant.0;
+      row_marks = row_marks turn.j asked.field_room asked.nx_le_most_field_nodes.0 asked.nx_le_most_field_nodes.1 turn.invariant.2 less turn.invariant.1;
+    }
 
 pub overflow_add-base : goal.overflow_add-base
 overflow_add-base c =
     let turn = c.loop-j in
     let less = c.loop-j-test.true in
-    omega (arith, turn.invariant.2, c.requires.field_room.0.marks, row_in turn.j c.args.g.ny c.args.g.nx less)
+    omega (arith, turn.invariant.2, c.requires.field_room.marks, row_in turn.j c.args.g.ny c.args.g.nx less)
 
 pub loop-j-preserved : goal.loop-j-preserved
 loop-j-preserved c =
     let call = c.seed_row in
     let turn = c.loop-j in (
-      call.auto.1.1.1.1.1.0 ∙ turn.invariant.0,
-      call.auto.1.1.1.1.1.1.0 ∙ turn.invariant.1,
+      call.auto.values ∙ turn.invariant.0,
+      call.auto.marks ∙ turn.invariant.1,
       omega (arith, turn.invariant.2),
       rw call.ensures (loop_next _ _ turn.invariant.3 c.loop-j-test.true),
     )

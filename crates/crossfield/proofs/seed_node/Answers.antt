@@ -10,44 +10,46 @@ use Rattle.crossfield.proofs.seed_node.Goals as goal
 
 pub overflow_mul-k : goal.overflow_mul-k
 overflow_mul-k c =
-    omega (arith, c.well_formed.1.1.1.1.1.0, here_in c.requires.node.0)
+    omega (arith, here_in c.requires.node)
 
 pub offset_bounds-values-k : goal.offset_bounds-values-k
 offset_bounds-values-k c =
-    omega (arith, c.well_formed.1.1.1.1.1.0, here_in c.requires.node.0)
+    omega (arith, here_in c.requires.node)
 
 pub bounds-values-k : goal.bounds-values-k
 bounds-values-k c =
-    omega (arith, c.well_formed.1.1.1.1.1.0, here_in c.requires.node.0)
+    omega (arith, here_in c.requires.node)
 
 pub overflow_add-values : goal.overflow_add-values
 overflow_add-values c =
-    omega (arith, c.well_formed.1.1.1.1.1.0, here_in c.requires.node.0)
+    omega (arith, here_in c.requires.node)
 
 pub offset_bounds-values-k-2 : goal.offset_bounds-values-k-2
 offset_bounds-values-k-2 c =
-    omega (arith, c.well_formed.1.1.1.1.1.0, here_in c.requires.node.0)
+    omega (arith, here_in c.requires.node)
 
 pub bounds-values-k-2 : goal.bounds-values-k-2
 bounds-values-k-2 c =
     omega (
       arith,
-      c.well_formed.1.1.1.1.1.0,
-      here_in c.requires.node.0,
+      here_in c.requires.node,
       length-set c.args.values.now (2 * c.args.id) c.seed-v.result.x,
     )
 
 pub bounds-marks-id : goal.bounds-marks-id
-bounds-marks-id c = omega (arith, c.requires.node.1.mark)
+bounds-marks-id c = omega (arith, c.requires.node_mark.mark)
 
 pub returns : goal.returns
 unfolding seed_node set_value
-returns c = rw (
-  ← c.requires.node.0.at,
+returns c = record {
+  marks_after = rw (
+  ← c.requires.node.at,
   ← c.grid_point-p.ensures,
   ← c.nearest_segment-found.ensures,
   ← c.tangent.ensures,
   ← c.seed-v.ensures,
   ← c.is_fixed.ensures,
   ← c.mark_of-mark.ensures,
-) (refl, refl)
+) refl;
+  value = rw (← c.grid_point-p.ensures) c.nearest_segment-found.ensures;
+}

@@ -19,29 +19,30 @@ loop-i-init c = (refl, refl, loop_start_lem _ _ _)
 pub overflow_add-base : goal.overflow_add-base
 overflow_add-base c = omega (
   arith,
-  c.requires.row.1.marks,
+  c.requires.row_marks.marks,
   c.loop-i.invariant.1,
 )
 
 pub seed_node-near-requires : goal.seed_node-near-requires
 seed_node-near-requires c =
     let turn = c.loop-i in
-    let less = c.loop-i-test.true in (
-      c.requires.drawn,
-      (node_of turn.i c.requires.row.0 less turn.invariant.0, mark_of turn.i c.requires.row.1 less turn.invariant.1),
-    )
+    let less = c.loop-i-test.true in record {
+      drawn = c.requires.drawn;
+      node = node_of turn.i c.requires.row less turn.invariant.0;
+      node_mark = mark_of turn.i c.requires.row_marks less turn.invariant.1;
+    }
 
 pub overflow_add-i : goal.overflow_add-i
 overflow_add-i c =
-    omega (arith, c.loop-i-test.true, c.requires.row.1.columns)
+    omega (arith, c.loop-i-test.true, c.requires.row_marks.columns)
 
 pub loop-i-preserved : goal.loop-i-preserved
 loop-i-preserved c =
     let call = c.seed_node-near in
     let turn = c.loop-i in (
-      call.auto.1.1.1.1.1.0 ∙ turn.invariant.0,
-      call.auto.1.1.1.1.1.1.0 ∙ turn.invariant.1,
-      rw call.ensures.0 (loop_next _ _ turn.invariant.2 c.loop-i-test.true),
+      call.auto.values ∙ turn.invariant.0,
+      call.auto.marks ∙ turn.invariant.1,
+      rw call.ensures.marks_after (loop_next _ _ turn.invariant.2 c.loop-i-test.true),
     )
 
 pub shape_of-values : goal.shape_of-values

@@ -10,7 +10,7 @@ bounds_of-requires c = drawn_size_shape _ _ c.requires
 
 pub grid_of-grid-requires : goal.grid_of-grid-requires
 grid_of-grid-requires c =
-    field_few _ _ (record { outer = λ i h. c.shared_slice_known-1.given i; holes = λ i h. c.shared_slice_known-2-1.given i })
+    field_few _ _ (record { outer = λ i h. c.type_inv.outer i; holes = λ i h. c.type_inv.holes i })
     (subst T (sym c.well_formed.1.1.1.0.1) tt) c.requires c.bounds_of.ensures
 
 pub sampled_count-sampled-requires : goal.sampled_count-sampled-requires
@@ -18,13 +18,13 @@ sampled_count-sampled-requires c = drawn_size_shape _ _ c.requires
 
 pub overflow_mul-result : goal.overflow_mul-result
 overflow_mul-result c =
-    let few = made_few _ _ (record { outer = λ i h. c.shared_slice_known-1.given i; holes = λ i h. c.shared_slice_known-2-1.given i })
+    let few = made_few _ _ (record { outer = λ i h. c.type_inv.outer i; holes = λ i h. c.type_inv.holes i })
     (subst T (sym c.well_formed.1.1.1.0.1) tt) c.requires c.bounds_of.ensures
     c.grid_of-grid.ensures in
     omega (arith, few)
 
 pub returns : goal.returns
 returns c =
-    places_counted _ _ (record { outer = λ i h. c.shared_slice_known-1.given i; holes = λ i h. c.shared_slice_known-2-1.given i })
+    places_counted _ _ (record { outer = λ i h. c.type_inv.outer i; holes = λ i h. c.type_inv.holes i })
     (subst T (sym c.well_formed.1.1.1.0.1) tt) c.requires c.bounds_of.ensures
     c.grid_of-grid.ensures c.sampled_count-sampled.ensures

@@ -6,16 +6,16 @@ use Rattle.places.proofs.sitjorbe_places.Goals as goal
 
 pub returns-then-refusal-ne0 : goal.returns-then-refusal-ne0
 returns-then-refusal-ne0 c =
-    places_given_refused _ _ (record { outer = λ i h. c.shared_slice_known-1.given i; holes = λ i h. c.shared_slice_known-2-1.given i })
+    places_given_refused _ _ (record { outer = λ i h. c.type_inv.outer i; holes = λ i h. c.type_inv.holes i })
     (subst T (sym c.well_formed.1.1.1.0.1) tt) c.field_refusal-refusal.ensures c.if-refusal-ne0.true
 
 pub count_places-requires : goal.count_places-requires
 count_places-requires c =
-    drawn_unrefused _ _ (record { outer = λ i h. c.shared_slice_known-1.given i; holes = λ i h. c.shared_slice_known-2-1.given i })
+    drawn_unrefused _ _ (record { outer = λ i h. c.type_inv.outer i; holes = λ i h. c.type_inv.holes i })
     (subst T (sym c.well_formed.1.1.1.0.1) tt) c.field_refusal-refusal.ensures c.if-refusal-ne0.false
 
 pub returns : goal.returns
 returns c =
-    places_given_counted _ _ (record { outer = λ i h. c.shared_slice_known-1.given i; holes = λ i h. c.shared_slice_known-2-1.given i })
+    places_given_counted _ _ (record { outer = λ i h. c.type_inv.outer i; holes = λ i h. c.type_inv.holes i })
     (subst T (sym c.well_formed.1.1.1.0.1) tt) c.field_refusal-refusal.ensures
     c.if-refusal-ne0.false c.count_places.ensures

@@ -10,5 +10,5 @@ pub returns : goal.returns
 unfolding moved_links
 returns c =
     c.link_put.ensures _ (c.link_stored-across.ensures ∙ ap
-    (λ (x : ℕ). cond (eqb c.args.id_c_lem c.args.u) c.args.id_d_lem x)
+    (λ (x : ℕ). cond (eqb c.args.id_c c.args.u) c.args.id_d x)
     (c.link_put-at_c.ensures _ c.link_bare-bare.ensures))

@@ -1,9 +1,9 @@
 -- `previews::list_front` meets its contract.
 use Rattle.previews.specs.ListLaws.{written_start, written_off, written_on, written_room, written_end}
-use mathlib.Core.Logic.{⊎_elim}
 use lib.ListN.{length-set}
 use native.Mathlib.Omega.{arith}
 use Rattle.previews.proofs.list_front.Goals as goal
+use Rattle.previews.proofs.list_front.Goals.{then-v, else-v}
 
 pub loop-u-init : goal.loop-u-init
 loop-u-init c = written_start _ _ _
@@ -74,10 +74,10 @@ overflow_add-j c =
 
 pub loop-u-preserved : goal.loop-u-preserved
 loop-u-preserved c =
-    ⊎_elim (λ w. rw (w.1, w.2) (written_on _ _ _ c.loop-u.invariant c.loop-u-test.true c.link_shown-v.ensures
-    w.0.taken))
-    (λ w. rw (w.1, w.2) (written_off _ _ _ c.loop-u.invariant c.loop-u-test.true c.link_shown-v.ensures w.0.left))
-    c.if-v.branch-raw
+    elim c.if-v.branch [
+      then-v w ↦ rw (w.list-is, w.j-is) (written_on _ _ _ c.loop-u.invariant c.loop-u-test.true c.link_shown-v.ensures w.if-v.true)
+    | else-v w ↦ rw (w.list-is, w.j-is) (written_off _ _ _ c.loop-u.invariant c.loop-u-test.true c.link_shown-v.ensures w.if-v.false)
+    ]
 
 pub returns : goal.returns
 returns c = written_end _ _ _ c.loop-u.invariant c.loop-u-test.false

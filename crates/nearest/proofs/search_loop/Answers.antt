@@ -1,5 +1,4 @@
 -- `nearest::search_loop` meets its contract: the loop's invariant is `ByBlocks` of the search's turn, and a block that is passed over changes nothing.
-use mathlib.Core.Logic.{⊎_elim}
 use mathlib.Core.Path.{sym, ◌∙◌}
 use native.Mathlib.Omega.{arith}
 use borrow.Author.Tests.{not-false}
@@ -7,6 +6,7 @@ use Rattle.domain.specs.Search.{search_loop}
 use Rattle.blocks.specs.BetweenLaws.{blocks_start, blocks_look, blocks_pass, blocks_end}
 use Rattle.nearest.specs.PassLaws.{place_there, passed_same}
 use Rattle.nearest.proofs.search_loop.Goals as goal
+use Rattle.nearest.proofs.search_loop.Goals.{then-not-is_passed, else-not-is_passed}
 
 pub loop-from-init : goal.loop-from-init
 loop-from-init c = blocks_start _ _ _ _
@@ -41,12 +41,13 @@ loop-from-preserved c =
     let pre = c.requires in
     let inv = c.loop-from.invariant in
     let taken = c.loop-from-test.true in
-    ⊎_elim (λ w. rw w.3 (blocks_look _ _ inv taken (rw (← w.1.ensures) w.2.ensures)))
-    (λ w. rw w.1
-    (blocks_pass _ _ inv taken
-    (passed_same pre.0 inv.place taken _ _ _ pre.2
-    (sym c.is_passed.ensures ∙ not-false _ w.0.left))))
-    c.if-not-is_passed.branch-raw
+    elim c.if-not-is_passed.branch [
+        then-not-is_passed w ↦ rw w.found-is (blocks_look _ _ inv taken (rw (← w.block_end.ensures) w.search_part-found.ensures))
+      | else-not-is_passed w ↦ rw w.found-is
+          (blocks_pass _ _ inv taken
+          (passed_same pre.0 inv.place taken _ _ _ pre.2
+          (sym c.is_passed.ensures ∙ not-false _ w.if-not-is_passed.false-raw)))
+    ]
 
 pub returns : goal.returns
 unfolding search_loop

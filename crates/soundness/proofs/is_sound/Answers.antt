@@ -9,7 +9,7 @@ use Rattle.soundness.proofs.is_sound.Goals as goal
 pub crosses_itself-requires : goal.crosses_itself-requires
 crosses_itself-requires c =
     outer_within
-    (judged _ (record { outer = λ i h. c.shared_slice_known-1.given i; holes = λ i h. c.shared_slice_known-2-1.given i })
+    (judged _ (record { outer = λ i h. c.type_inv.outer i; holes = λ i h. c.type_inv.holes i })
     c.requires)
 
 pub returns-then-crosses_itself : goal.returns-then-crosses_itself
@@ -24,7 +24,7 @@ loop_points-s-requires c = passed_place c.loop-k.invariant.0 c.loop-k-test.true
 pub is_hole_unsound-requires : goal.is_hole_unsound-requires
 is_hole_unsound-requires c =
     let fits : OutlineFits _ =
-    record { outer = λ i h. c.shared_slice_known-1.given i; holes = λ i h. c.shared_slice_known-2-1.given i } in
+    record { outer = λ i h. c.type_inv.outer i; holes = λ i h. c.type_inv.holes i } in
     let j = judged _ fits c.requires in
     (j, rw c.loop_points-s.ensures (j.within _ (omega (arith, c.loop-k-test.true))), omega (arith, c.loop-k-test.true))
 

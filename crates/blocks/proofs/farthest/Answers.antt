@@ -12,7 +12,7 @@ loop-i-preserved c =
     let inv = c.loop-i.invariant in
     let beyond = rw (c.reach-in-loop-i.ensures, c.reach.ensures) at c.is_farther.ensures in (
       elim c.if-is_farther.branch [
-          then-is_farther w ↦ rw w.far-is (far_moves inv.0 (omega arith) (rw (← beyond) w.if-is_farther.true))
+        | then-is_farther w ↦ rw w.far-is (far_moves inv.0 (omega arith) (rw (← beyond) w.if-is_farther.true))
         | else-is_farther w ↦ rw w.far-is (far_stays inv.0 (rw (← beyond) w.if-is_farther.false))
       ],
       omega arith,

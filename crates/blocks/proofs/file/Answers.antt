@@ -28,8 +28,7 @@ loop_points-requires-in-loop-k c = passed_place c.loop-k.invariant.0 c.loop-k-te
 
 pub file_loop-requires-in-loop-k : goal.file_loop-requires-in-loop-k
 file_loop-requires-in-loop-k c =
-    let in_loop = c.loop-k-test.true in
-    (
+    let in_loop = c.loop-k-test.true in (
       rw c.loop_points-in-loop-k.ensures (loop_few _ c.requires _ (omega arith)),
       hole_most c.loop-k.invariant.0 in_loop c.requires c.first_block-first.ensures,
     )

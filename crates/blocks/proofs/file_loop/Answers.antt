@@ -20,7 +20,7 @@ loop-from-preserved c =
       inv.0,
       place_next inv.1 c.loop-from-test.true,
       elim c.if-is_listed.branch [
-          then-is_listed w ↦ rw w.blocks-is (filed_next inv.2 inv.1 w.file_block.ensures)
+        | then-is_listed w ↦ rw w.blocks-is (filed_next inv.2 inv.1 w.file_block.ensures)
         | else-is_listed w ↦ rw w.blocks-is (filed_over inv.2 inv.1 (ltb-false _ _ (sym listed ∙ w.if-is_listed.false)))
       ],
     )

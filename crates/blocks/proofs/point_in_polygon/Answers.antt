@@ -28,9 +28,9 @@ loop-from-preserved c =
     let in_loop = c.loop-from-test.true in (
       inv.0,
       elim c.if-not-ray_misses.branch [
-          then-not-ray_misses w ↦ blocks_look _ _ inv.1 in_loop (w.inside-is ∙ rw w.block_end.ensures at w.crossings-inside.ensures)
+        | then-not-ray_misses w ↦ blocks_look _ _ inv.1 in_loop (w.inside-is ∙ rw w.block_end.ensures at w.crossings-inside.ensures)
         | else-not-ray_misses w ↦ rw w.inside-is (elim c.if-is_listed.branch [
-            then-is_listed v ↦ blocks_pass _ _ inv.1 in_loop
+          | then-is_listed v ↦ blocks_pass _ _ inv.1 in_loop
               (block_none (record { x = subst T (sym c.well_formed.0.1.1.0.1) tt; y = subst T (sym c.well_formed.0.1.1.1.0.1) tt })
               c.requires.0 inv.1.place in_loop (ltb-true _ _ (sym c.is_listed.ensures ∙ v.if-is_listed.true))
               (sym v.ray_misses.ensures ∙ sym v.value-is ∙ not-false _ w.if-not-ray_misses.false-raw) _)

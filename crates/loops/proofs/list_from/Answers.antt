@@ -65,10 +65,14 @@ bounds-lengths-k c =
     c.if-third-u.false
 
 pub offset_bounds-lengths-k : goal.offset_bounds-lengths-k
-offset_bounds-lengths-k c = omega (arith, slice-write-lengths (goal.at.offset_bounds-lengths-k c).After-slice_known-6-1)
+offset_bounds-lengths-k c =
+    let fits = visit_room c.requires c.if-v.false c.if-mark-eq1.false c.if-third-u.false in
+    omega (arith, fits)
 
 pub overflow_add-result : goal.overflow_add-result
-overflow_add-result c = omega (arith, slice-write-lengths (goal.at.overflow_add-result c).After-slice_known-6-1)
+overflow_add-result c =
+    let fits = visit_room c.requires c.if-v.false c.if-mark-eq1.false c.if-third-u.false in
+    omega (arith, fits)
 
 pub returns : goal.returns
 returns c =

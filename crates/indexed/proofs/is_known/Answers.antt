@@ -1,14 +1,15 @@
 -- `indexed::is_known` meets its contract: what is left of the walk answers for the edges filed, and a scan for the others. Every edge that joins u and v has the rectangle of that edge, and u's key is in it.
 use mathlib.Core.Path.{◌≡◌, sym, ◌∙◌}
 use mathlib.Core.Bool.{true, false}
-use borrow.Author.Tests.{not-true}
+use borrow.Author.Tests.{not-true, not-false}
 use lib.ListN.{length}
-use Rattle.laws.specs.Loop.{found_before}
+use Rattle.laws.specs.Loop.{found_before, unfound_none}
 use Rattle.geometry.specs.TestLaws.{test_passed}
 use Rattle.geometry.specs.Keys.{key_of, edge_bucket, spans_kept}
 use Rattle.pools.specs.Pool.{own_at}
 use Rattle.index.specs.Walk.{over}
-use Rattle.index.specs.WalkLaws.{walk_start, walk_next, walk_hit, walk_less}
+use Rattle.pools.specs.Filing.{unfound}
+use Rattle.index.specs.WalkLaws.{walk_start, walk_next, walk_hit, walk_none, walk_less}
 use Rattle.front.specs.State.{node_in, edge_is}
 use Rattle.indexed.specs.Laws.{known_meets}
 use Rattle.indexed.proofs.is_known.Goals as goal
@@ -58,6 +59,13 @@ loop-r-smaller c = walk_less c.after-t.ensures
 pub loop-r-preserved : goal.loop-r-preserved
 loop-r-preserved c =
     walk_next c.loop-r.invariant (tested (goal.at.loop-r-preserved c).After-is_edge ∙ c.if-is_edge.false) c.after-t.ensures
+
+pub known_from-requires : goal.known_from-requires
+known_from-requires c = (unfound_none _ _, c.requires.0)
+
+pub known_from-requires-2 : goal.known_from-requires-2
+known_from-requires-2 c =
+    (unfound c.filed.ensures c.requires.1 (walk_none c.loop-r.invariant (sym c.is_over.ensures ∙ not-false _ c.loop-r-test.false-raw)), c.requires.0)
 
 pub returns : goal.returns
 returns c = c.known_from-2.ensures

@@ -8,7 +8,7 @@ use Rattle.exam_entry.proofs.sitjorbe_exam.Goals as goal
 pub returns-then-not-may : goal.returns-then-not-may
 returns-then-not-may c =
     let args = c.args in
-    let m = exam_mesh args.nodes args.xs.now args.ys.now args.quad-count args.quads.now args.next.now args.prev.now
+    let m = exam_mesh args.nodes args.xs.now args.ys.now args.quad_count args.quads.now args.next.now args.prev.now
     args.origins.now in
     let q = request_numbered args.operation args.item args.value args.u args.v in
     let x = results args.thresholds.now args.count.now args.sum.now in
@@ -19,22 +19,22 @@ returns-then-not-may c =
 pub returns-in-Changes : goal.returns-in-Changes
 returns-in-Changes c =
     let args = c.args in
-    let m = exam_mesh args.nodes args.xs.now args.ys.now args.quad-count args.quads.now args.next.now args.prev.now
+    let m = exam_mesh args.nodes args.xs.now args.ys.now args.quad_count args.quads.now args.next.now args.prev.now
     args.origins.now in
     let q = request_numbered args.operation args.item args.value args.u args.v in
     let x = results args.thresholds.now args.count.now args.sum.now in
-    let left = c.change_results-refusal.new.thresholds in
+    
     exam_changes m x args.role q args.reply.now c.request_numbered-request.result c.request_numbered-request.ensures
     c.may.result c.may.ensures
     (not-false c.may.result c.if-not-may.false-raw) _ c.in-Changes.is c.nodes_lent-n.result
-    c.nodes_lent-n.ensures c.change_results-refusal.result (results left.0 left.1.0 left.1.1.0)
+    c.nodes_lent-n.ensures c.change_results-refusal.result (results c.change_results-refusal.new.thresholds c.change_results-refusal.new.count c.change_results-refusal.new.sum)
     c.change_results-refusal.ensures c.reply_or.result c.reply_or.ensures c.exam_numbers-in-Changes.result
     c.exam_numbers-in-Changes.ensures
 
 pub returns-in-ReadsMesh : goal.returns-in-ReadsMesh
 returns-in-ReadsMesh c =
     let args = c.args in
-    let m = exam_mesh args.nodes args.xs.now args.ys.now args.quad-count args.quads.now args.next.now args.prev.now
+    let m = exam_mesh args.nodes args.xs.now args.ys.now args.quad_count args.quads.now args.next.now args.prev.now
     args.origins.now in
     let q = request_numbered args.operation args.item args.value args.u args.v in
     let x = results args.thresholds.now args.count.now args.sum.now in
@@ -46,7 +46,7 @@ returns-in-ReadsMesh c =
 pub returns-in-ReadsResults : goal.returns-in-ReadsResults
 returns-in-ReadsResults c =
     let args = c.args in
-    let m = exam_mesh args.nodes args.xs.now args.ys.now args.quad-count args.quads.now args.next.now args.prev.now
+    let m = exam_mesh args.nodes args.xs.now args.ys.now args.quad_count args.quads.now args.next.now args.prev.now
     args.origins.now in
     let q = request_numbered args.operation args.item args.value args.u args.v in
     let x = results args.thresholds.now args.count.now args.sum.now in
@@ -59,7 +59,7 @@ returns-in-ReadsResults c =
 pub returns-in-Unknown : goal.returns-in-Unknown
 returns-in-Unknown c =
     let args = c.args in
-    let m = exam_mesh args.nodes args.xs.now args.ys.now args.quad-count args.quads.now args.next.now args.prev.now
+    let m = exam_mesh args.nodes args.xs.now args.ys.now args.quad_count args.quads.now args.next.now args.prev.now
     args.origins.now in
     let q = request_numbered args.operation args.item args.value args.u args.v in
     let x = results args.thresholds.now args.count.now args.sum.now in

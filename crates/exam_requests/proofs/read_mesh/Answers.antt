@@ -6,7 +6,7 @@ use Rattle.exam_requests.proofs.read_mesh.Goals as goal
 pub returns-in-ReadNode : goal.returns-in-ReadNode
 returns-in-ReadNode c =
     let args = c.args in
-    let m = exam_mesh args.nodes args.xs.now args.ys.now args.quad-count args.quads.now args.next.now args.prev.now
+    let m = exam_mesh args.nodes args.xs.now args.ys.now args.quad_count args.quads.now args.next.now args.prev.now
     args.origins.now in
     node_seen m args.reply.now args.read _ c.in-ReadNode.is c.nodes_lent-n.result c.nodes_lent-n.ensures
     c.node_reply.result c.node_reply.ensures
@@ -14,14 +14,14 @@ returns-in-ReadNode c =
 pub returns-in-ReadQuad : goal.returns-in-ReadQuad
 returns-in-ReadQuad c =
     let args = c.args in
-    let m = exam_mesh args.nodes args.xs.now args.ys.now args.quad-count args.quads.now args.next.now args.prev.now
+    let m = exam_mesh args.nodes args.xs.now args.ys.now args.quad_count args.quads.now args.next.now args.prev.now
     args.origins.now in
     quad_seen m args.reply.now args.read _ c.in-ReadQuad.is c.quad_reply.result c.quad_reply.ensures
 
 pub returns-in-ReadLoop : goal.returns-in-ReadLoop
 returns-in-ReadLoop c =
     let args = c.args in
-    let m = exam_mesh args.nodes args.xs.now args.ys.now args.quad-count args.quads.now args.next.now args.prev.now
+    let m = exam_mesh args.nodes args.xs.now args.ys.now args.quad_count args.quads.now args.next.now args.prev.now
     args.origins.now in
     loop_seen_lem m args.reply.now args.read _ c.in-ReadLoop.is c.nodes_lent-n.result c.nodes_lent-n.ensures
     c.loop_reply.result _ c.loop_reply.ensures

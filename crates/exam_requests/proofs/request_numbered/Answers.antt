@@ -42,7 +42,8 @@ returns-in-9 c = rw c.in-9.is refl
 
 pub returns-in_default : goal.returns-in_default
 unfolding request_numbered
-returns-in_default c = let out = c.in_default.rest in
+returns-in_default c =
+    let out = c.in_default.in_default-own.rest in
     rw (
       ne_eqb _ 9 out.1,
       ne_eqb _ 8 out.0.1,

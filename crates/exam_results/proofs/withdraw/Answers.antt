@@ -10,7 +10,7 @@ pub returns-then-refusal-ne0 : goal.returns-then-refusal-ne0
 returns-then-refusal-ne0 c =
     let args = c.args in
     let x = results args.thresholds.now args.count.now args.sum.now in
-    withdraw_refused args.nodes args.quad-count args.quads.now x args.node c.threshold_at-v.result
+    withdraw_refused args.nodes args.quad_count args.quads.now x args.node c.threshold_at-v.result
     c.refusal_at-refusal.result c.threshold_at-v.ensures.0 c.refusal_at-refusal.ensures c.if-refusal-ne0.true
 
 pub set_threshold-requires : goal.set_threshold-requires
@@ -19,14 +19,13 @@ set_threshold-requires c =
     let ok =
     taken args.nodes args.thresholds.now args.node c.threshold_at-v.result 17 c.refusal_at-refusal.result
     (lit≤ tt) c.refusal_at-refusal.ensures c.if-refusal-ne0.false in
-    (omega (arith, c.quad_count-m.ensures, quads_few args.quad-count args.quads.now), ok.place)
+    (omega (arith, c.quad_count-m.ensures, quads_few args.quad_count args.quads.now), ok.place)
 
 pub returns : goal.returns
 returns c =
     let args = c.args in
     let x = results args.thresholds.now args.count.now args.sum.now in
-    let left = c.set_threshold.new.thresholds in
-    withdraw_done args.nodes args.quad-count args.quads.now x args.node c.threshold_at-v.result
-    c.refusal_at-refusal.result c.quad_count-m.result (results left.0 left.1.0 left.1.1.0)
+    withdraw_done args.nodes args.quad_count args.quads.now x args.node c.threshold_at-v.result
+    c.refusal_at-refusal.result c.quad_count-m.result (results c.set_threshold.new.thresholds c.set_threshold.new.count c.set_threshold.new.sum)
     c.threshold_at-v.ensures.0 c.refusal_at-refusal.ensures c.if-refusal-ne0.false c.quad_count-m.ensures
     c.set_threshold.ensures

@@ -2,8 +2,8 @@
 use native.Mathlib.Omega.{arith}
 use Rattle.loop_reads.specs.Code.{finding_start, finding_end, finding_skip, finding_pass, finding_hit}
 use Rattle.topology.specs.Links.{link_of}
-use mathlib.Core.Logic.{⊎_elim}
 use Rattle.loop_reads.proofs.find_loop.Goals as goal
+use Rattle.loop_reads.proofs.find_loop.Goals.{then-length-ge3+else-left-eq0, else-length-ge3}
 
 pub loop-u-init : goal.loop-u-init
 loop-u-init c = let args = c.args in
@@ -29,9 +29,10 @@ loop-u-preserved c =
     let inv = c.loop-u.invariant in
     let here = c.loop-u-test.true in
     let found = c.loop_length-length in
-    ⊎_elim (λ w. finding_pass f args.n args.k inv here found.result found.ensures w.0.taken w.1.left w.2)
-    (λ w. finding_skip f args.n args.k inv here found.result found.ensures w.0.left w.1)
-    c.if-length-ge3.branch-raw
+    elim c.if-length-ge3.branch [
+      then-length-ge3+else-left-eq0 w ↦ finding_pass f args.n args.k inv here found.result found.ensures w.if-length-ge3.true w.if-left-eq0.false w.left-is
+      | else-length-ge3 w ↦ finding_skip f args.n args.k inv here found.result found.ensures w.if-length-ge3.false w.left-is
+    ]
 
 pub returns : goal.returns
 returns c = let args = c.args in

@@ -8,5 +8,5 @@ pub returns : goal.returns
 returns c =
     let v = c.args in
     c.put_on.ensures.0
-    ∙ (ap (λ (s : State). put_on v.d v.id_d_lem v.b s) c.add_front-f2.ensures.0
-    ∙ ap (λ (s : State). put_on v.d v.id_d_lem v.b (add_front v.id_c_lem v.id_d_lem s)) c.put_on-f1.ensures.0)
+    ∙ (ap (λ (s : State). put_on v.d v.id_d v.b s) c.add_front-f2.ensures.0
+    ∙ ap (λ (s : State). put_on v.d v.id_d v.b (add_front v.id_c v.id_d s)) c.put_on-f1.ensures.0)

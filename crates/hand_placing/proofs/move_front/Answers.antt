@@ -9,4 +9,4 @@ unfolding move_front
 returns c =
     let v = c.args in
     c.extend.ensures
-    ∙ ap (λ (s : State). put_on v.d v.id_d_lem v.b (add_front v.id_c_lem v.id_d_lem (put_on v.c v.a v.id_c_lem s))) c.strip-bare.ensures.0
+    ∙ ap (λ (s : State). put_on v.d v.id_d v.b (add_front v.id_c v.id_d (put_on v.c v.a v.id_c s))) c.strip-bare.ensures.0

@@ -42,7 +42,7 @@ loop-from-preserved c =
     let inv = c.loop-from.invariant in
     let taken = c.loop-from-test.true in
     elim c.if-not-is_passed.branch [
-        then-not-is_passed w ↦ rw w.found-is (blocks_look _ _ inv taken (rw (← w.block_end.ensures) w.search_part-found.ensures))
+      | then-not-is_passed w ↦ rw w.found-is (blocks_look _ _ inv taken (rw (← w.block_end.ensures) w.search_part-found.ensures))
       | else-not-is_passed w ↦ rw w.found-is
           (blocks_pass _ _ inv taken
           (passed_same pre.0 inv.place taken _ _ _ pre.2

@@ -1,14 +1,15 @@
 -- `crossfield::field` meets its contract. Assumes nothing.
+use Prim.Native.Nat.{ℕ}
 use mathlib.Core.Path.{refl, sym, ap, ◌∙◌}
 use Rattle.domain.specs.RefusalLaws.{answer_refused}
-use Rattle.crossfield.specs.Field.{made_of, field_refusal, field_answer}
+use Rattle.crossfield.specs.Field.{made_of, field_result, field_refusal, field_answer}
 use Rattle.crossfield.specs.declared.FieldAnswer.TheVariants.{Refused}
 use Rattle.crossfield.proofs.field.Goals as goal
 
 pub returns-then-refusal-ne0 : goal.returns-then-refusal-ne0
 unfolding field_answer field_refusal
 returns-then-refusal-ne0 c = record {
-  marks_after = rw (← c.min_usize-places.ensures, ← c.field_refusal-refusal.ensures) (sym (answer_refused Refused _ _ c.if-refusal-ne0.true));
+  marks_after = rw (← c.min_usize-places.ensures, ← c.field_refusal-refusal.ensures) (sym (answer_refused (λ (r : ℕ). field_result (Refused r) c.args.values.now c.args.marks.now) _ _ c.if-refusal-ne0.true));
   field_draws = refl;
 }
 

@@ -8,11 +8,11 @@ pub returns-in-Refused : goal.returns-in-Refused
 unfolding field_numbers record_numbers
 returns-in-Refused c =
     let both = c.field-answer.ensures in
-    (rw (← both.0, c.in-Refused.is), λ refused. rw c.in-Refused.is at both.1)
+    (rw (← both.marks_after, c.in-Refused.is), λ refused. rw c.in-Refused.is at both.field_draws)
 
 -- answered
 pub returns-in-Made : goal.returns-in-Made
 unfolding field_numbers record_numbers
 returns-in-Made c =
     let both = c.field-answer.ensures in
-    (rw (← both.0, c.in-Made.is), λ refused. absurd (refused refl))
+    (rw (← both.marks_after, c.in-Made.is), λ refused. absurd (refused refl))

@@ -10,7 +10,14 @@ def dependencies(text=None):
     text = (ROOT / "crates.txt").read_text() if text is None else text
     lines = (line.split("#")[0] for line in text.splitlines())
     pairs = (line.split(":") for line in lines if line.strip())
-    return {name.strip(): on.split() for name, on in pairs}
+    return {name.split()[0]: on.split() for name, on in pairs}
+
+
+def static_libraries(text=None):
+    """The crates that are static libraries: what C links."""
+    text = (ROOT / "crates.txt").read_text() if text is None else text
+    heads = (line.split("#")[0].partition(":")[0].split() for line in text.splitlines())
+    return [head[0] for head in heads if "staticlib" in head[1:]]
 
 
 def reached(crate, on):

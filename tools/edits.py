@@ -1,8 +1,8 @@
 """Why the check refused an edit that it must refuse: a fact that no longer holds, or something that shows nothing.
 
 A must-fail edit is to show that a contract or a theorem rules a wrong program or definition out. An edit that is refused for a name that can't be
-found, a form that isn't covered or a text that can't be read would be refused whatever the contract says. `rt` leaves what the check said of an
-edit in target/must-fail/CRATE/EDIT/.log; the first error decides.
+found, a form that isn't covered or a text that can't be read would be refused whatever the contract says. `rt ci` says the first error of each
+edit in a line, which the gate keeps in target/log/ci; that error decides.
 """
 
 import pathlib
@@ -66,7 +66,16 @@ def is_fact(error):
     return any(re.search(words, error) for words in FACTS) and not shows_nothing(error)
 
 
-def logs(root=ROOT):
-    """Of every edit in the repository the path to its log, which is there only if the edit was run."""
-    edits = sorted(root.glob("crates/*/must-fail/*.edit"))
-    return {f"{path.parts[-3]}/{path.stem}": root / "target/must-fail" / path.parts[-3] / path.stem / ".log" for path in edits}
+LOG = ROOT / "target/log/ci"
+# As `rt ci` says it of an edit that was run.
+RUN = re.compile(r"^(?:rt: )?must-fail (\w+)/(.+)\.edit: refused, as it must be(?: \([^)]*\))?(?:: (.*))?$", re.MULTILINE)
+
+
+def names(root=ROOT):
+    """Every edit in the repository."""
+    return sorted(f"{path.parts[-3]}/{path.stem}" for path in root.glob("crates/*/must-fail/*.edit"))
+
+
+def refused(log):
+    """Of every edit that a run of `rt ci` refused, what it said."""
+    return {f"{crate}/{edit}": said for crate, edit, said in RUN.findall(log)}

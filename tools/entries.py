@@ -1,7 +1,8 @@
 """What crosses to a host: the entries and the #[repr(C)] structs of the Rattle source, with the comments that stand above them.
 
-An entry is a function whose source says #[no_mangle] pub extern "C" fn sitjorbe_NAME. Functions exported under other names, as those of
-`numbers` that a benchmark calls, aren't entries. The archive, the C header and the Rust declarations are all made from this one reading.
+An entry is a function whose source says #[unsafe(no_mangle)] pub extern "C" fn sitjorbe_NAME. It stands twice: in the library that it comes
+from, and in the static library that a host links, which calls it. Functions exported under other names, as those of `numbers` that a
+benchmark calls, aren't entries. The archive, the C header and the Rust declarations are all made from this one reading.
 """
 
 import collections
@@ -14,9 +15,9 @@ import crates
 # The types that cross, and their sizes in bytes, which are their alignments too: x86-64.
 SIZES = {"bool": 1, "u8": 1, "u16": 2, "u32": 4, "u64": 8, "usize": 8, "i8": 1, "i16": 2, "i32": 4, "i64": 8, "f64": 8}
 
-FUNCTION = re.compile(r'(?P<exported>#\[no_mangle\]\s*pub\s+)?\bextern\s+"C"\s+fn\s+(?P<name>\w+)\s*(?:<[^>]*>)?\s*'
+FUNCTION = re.compile(r'(?P<exported>#\[unsafe\(no_mangle\)\]\s*pub\s+)?\bextern\s+"C"\s+fn\s+(?P<name>\w+)\s*(?:<[^>]*>)?\s*'
                       r'\((?P<parameters>[^)]*)\)(?:\s*->\s*(?P<answer>[^\s{;]+))?')
-STRUCT = re.compile(r"#\[repr\(C\)\](?:\s*pub\s+struct\s+(?P<name>\w+)\s*\{(?P<fields>[^}]*)\})?")
+STRUCT = re.compile(r"#\[repr\(C\)\](?:\s*#\[derive\([^)]*\)\])?(?:\s*pub\s+struct\s+(?P<name>\w+)\s*\{(?P<fields>[^}]*)\})?")
 TYPED = re.compile(r"(?:pub\s+)?(?P<name>\w+)\s*:\s*(?P<kind>.+)", re.DOTALL)
 REFERENCE = re.compile(r"&\s*(?:'\w+\s+)?(?P<mut>mut\s+)?(?P<slice>\[)?\s*(?P<kind>\w+)\s*(?(slice)\])")
 SHAPE_ENTRY = re.compile(r"sitjorbe_abi_(\d+)")
@@ -165,28 +166,46 @@ def crossing_structs(functions, structs):
     return [struct for struct in structs if struct.name in found]
 
 
-def joined(sources):
-    """The reading of several sources together. No name stands twice."""
+def all_of(sources):
+    """The entries of several sources, and the structs laid out as C does. No name stands twice."""
     functions, structs = [], []
     for source in sources:
         more = read(source)
         functions += [function for function in more[0] if function.name.startswith("sitjorbe_")]
         structs += more[1]
     once([function.name for function in functions] + [struct.name for struct in structs])
+    return functions, structs
+
+
+def joined(sources):
+    """The reading of several sources together."""
+    functions, structs = all_of(sources)
     return Reading(functions, crossing_structs(functions, structs))
 
 
-def by_crate(on):
-    """Crate to the names of its entries, for every crate that has some."""
-    found = {}
-    for crate in on:
-        functions = [function for path in crates.sources(crate) for function in read(path.read_text())[0]]
-        names = [function.name for function in functions if function.name.startswith("sitjorbe_")]
-        found |= {crate: names} if names else {}
+def texts(names):
+    return [path.read_text() for crate in names for path in crates.sources(crate)]
+
+
+def check_exports(functions, exports):
+    """Wrong where a static library doesn't export just the entries, each as the library has it that it comes from."""
+    wanted, found = set(map(str, functions)), set(map(str, exports))
+    wrong = [f"exported otherwise than its library has it: {name}" for name in sorted(found - wanted)]
+    wrong += [f"not exported: {name}" for name in sorted(wanted - found)]
+    if wrong:
+        raise Wrong("\n".join(wrong))
+
+
+def by_crate():
+    """Each static library to the names of its entries, where it has some."""
+    found = {crate: [function.name for function in all_of(texts([crate]))[0]] for crate in crates.static_libraries()}
     once([name for names in found.values() for name in names])
-    return found
+    return {crate: names for crate, names in found.items() if names}
 
 
 def repository():
-    """The reading of all crates, in the order of crates.txt."""
-    return joined([path.read_text() for crate in crates.dependencies() for path in crates.sources(crate)])
+    """The reading of all libraries, in the order of crates.txt; the static ones export just these entries."""
+    linked = crates.static_libraries()
+    reading = joined(texts(crate for crate in crates.dependencies() if crate not in linked))
+    check_exports(reading.functions, all_of(texts(linked))[0])
+    return reading

@@ -1,6 +1,7 @@
-"""Crates proved by `rt check`, which takes some minutes the first time: a line shows how far it is, and what rt says goes to a file."""
+"""Crates proved and built by `rt`, which takes some minutes the first time: a line shows how far it is, and what rt says goes to a file."""
 
-import re
+import concurrent.futures
+import os
 import shutil
 import subprocess
 import sys
@@ -11,7 +12,6 @@ from crates import ROOT
 from outlines import Unusable
 
 LOG = ROOT / "target/log/first-build"
-PROVED = re.compile(r"rt: (\w+) proved\b")
 
 
 def clock(seconds):
@@ -26,18 +26,28 @@ def show(command, words, last):
         print(f"{command}: {words}", file=sys.stderr, flush=True)
 
 
-def follow(command, wanted, lines, log):
-    """Keeps the lines that rt says, and shows how many of the crates wanted are proved, with the time so far."""
-    proved, began = set(), time.monotonic()
-    for line in lines:
-        log.write(line)
-        log.flush()
-        found = PROVED.match(line)
-        if found and found[1] in wanted - proved:
-            proved.add(found[1])
-            show(command, f"{len(proved)} of {len(wanted)} crates, {clock(time.monotonic() - began)}", proved == wanted)
-    if proved != wanted:
-        show(command, f"stopped at {len(proved)} of {len(wanted)} crates, {clock(time.monotonic() - began)}", True)
+def build(name):
+    """Proves and builds one crate, over those that it stands on; what rt says, and its status. A program is run once, on no input."""
+    folder = ROOT / "crates" / name
+    verb = "run" if (folder / "src/main.rt").is_file() else "lib"
+    ran = subprocess.run(["rt", verb], cwd=folder, stdin=subprocess.DEVNULL, stdout=subprocess.PIPE, stderr=subprocess.STDOUT, text=True)
+    return ran.stdout, ran.returncode
+
+
+def in_turn(wanted, on):
+    """Builds the crates wanted, those that wait for no other side by side, and gives each with what it came to; stops at the first that fails."""
+    done, running = set(), {}
+    with concurrent.futures.ThreadPoolExecutor(os.cpu_count()) as pool:
+        while len(done) < len(wanted):
+            for name in sorted(wanted - done - set(running.values())):
+                if not set(on[name]) & wanted - done:
+                    running[pool.submit(build, name)] = name
+            for ended in concurrent.futures.wait(running, return_when=concurrent.futures.FIRST_COMPLETED).done:
+                name = running.pop(ended)
+                done.add(name)
+                yield name, *ended.result()
+                if ended.result()[1]:
+                    return
 
 
 def prove(command, what, names):
@@ -48,7 +58,13 @@ def prove(command, what, names):
     LOG.parent.mkdir(parents=True, exist_ok=True)
     on = crates.dependencies()
     wanted = {reached for name in names for reached in crates.reached(name, on)}
-    with LOG.open("w") as log, subprocess.Popen(["rt", "check", *names], cwd=ROOT, stdout=subprocess.PIPE, stderr=subprocess.STDOUT, text=True) as rt:
-        follow(command, wanted, rt.stdout, log)
-    if rt.returncode:
+    began, count = time.monotonic(), 0
+    with LOG.open("w") as log:
+        for name, said, status in in_turn(wanted, on):
+            log.write(f"{name}:\n{said}")
+            log.flush()
+            count += not status
+            told = f"{count} of {len(wanted)} crates, {clock(time.monotonic() - began)}"
+            show(command, f"stopped at {told}" if status else told, status or count == len(wanted))
+    if count < len(wanted):
         raise Unusable(f"the {what} can't be built: {LOG} says why")

@@ -22,14 +22,14 @@ pub struct Inner { pub count: u32 }
 // ---- entries
 
 // Answers.
-#[no_mangle]
+#[unsafe(no_mangle)]
 pub extern "C" fn sitjorbe_first<'a>(points: &'a [f64], marks: &mut [u8], figure: &mut u32, size: f64, sweeps: u32) -> Answer
-    ensures { λ r. ⌜ r ≡ answer (now (points .entry)) ⌝ }
+    ensures { result ≡ answer points.now }
 { Answer { refusal: 0, whole: false, x: size } }
-// #[no_mangle] pub extern "C" fn sitjorbe_said() -> u32 { 2 }
-#[no_mangle] pub extern "C" fn sqrt_f64(x: f64) -> f64 { x }
+// #[unsafe(no_mangle)] pub extern "C" fn sitjorbe_said() -> u32 { 2 }
+#[unsafe(no_mangle)] pub extern "C" fn sqrt_f64(x: f64) -> f64 { x }
 pub fn sitjorbe_inner(x: f64) -> f64 { x }
-#[no_mangle] pub extern "C" fn sitjorbe_abi_7() -> u32 { 7 }
+#[unsafe(no_mangle)] pub extern "C" fn sitjorbe_abi_7() -> u32 { 7 }
 """
 
 # Edits after which the shape is another.
@@ -62,8 +62,8 @@ WRONG = [
     ("&'a [f64]", "&'a [u128]", "sitjorbe_first: points: u128 isn't a type that crosses"),
     ("pub x: f64", "pub x: Point", "Answer: x: Point isn't a type that crosses"),
     ("&mut u32", "&mut Inner", "sitjorbe_first: figure: Inner isn't a type that crosses"),
-    ("#[no_mangle]\npub extern", "pub extern", "sitjorbe_first isn't exported under its name"),
-    ("#[no_mangle] pub extern \"C\" fn sqrt_f64", "#[no_mangle] extern \"C\" fn sqrt_f64", "sqrt_f64 isn't exported under its name"),
+    ("#[unsafe(no_mangle)]\npub extern", "pub extern", "sitjorbe_first isn't exported under its name"),
+    ("#[unsafe(no_mangle)] pub extern \"C\" fn sqrt_f64", "#[unsafe(no_mangle)] extern \"C\" fn sqrt_f64", "sqrt_f64 isn't exported under its name"),
     ("pub struct Inner { pub count: u32 }", "pub struct Inner(u32);", "#[repr(C)] stands above something"),
     ("sitjorbe_abi_7", "sitjorbe_first", "sitjorbe_first stands 2 times in the source"),
     ("struct Inner", "struct Answer", "Answer stands 2 times in the source"),
@@ -131,11 +131,21 @@ class Repository(unittest.TestCase):
 
     def test_every_entry_is_found(self):
         # By a plain search beside the reading, so that none goes unread.
-        sources = [path.read_text() for path in (ROOT / "crates").glob("*/src/**/*.rt")]
-        searched = re.findall(r"^(?!//).*\bfn (sitjorbe_\w+)", "\n".join(sources), re.MULTILINE)
-        self.assertEqual(sorted(searched), sorted(function.name for function in self.reading.functions))
-        self.assertEqual(sorted(name for names in entries.by_crate(crates.dependencies()).values() for name in names), sorted(searched))
-        self.assertIn("sitjorbe_pave", searched)
+        linked = crates.static_libraries()
+        searched = {True: [], False: []}
+        for path in (ROOT / "crates").glob("*/src/**/*.rt"):
+            searched[path.relative_to(ROOT).parts[1] in linked] += re.findall(r"^(?!//).*\bfn (sitjorbe_\w+)", path.read_text(), re.MULTILINE)
+        self.assertEqual(sorted(searched[False]), sorted(function.name for function in self.reading.functions))
+        self.assertEqual(sorted(name for names in entries.by_crate().values() for name in names), sorted(searched[True]))
+        self.assertEqual(sorted(searched[True]), sorted(searched[False]))
+        self.assertIn("sitjorbe_pave", searched[True])
+
+    def test_exports_are_as_their_libraries_have_them(self):
+        functions = self.reading.functions
+        entries.check_exports(functions, functions[::-1])
+        for exports, words in ((functions[1:], "not exported: fn sitjorbe_"), ([*functions[1:], functions[0]._replace(answer="u8")], "exported otherwise")):
+            with self.assertRaisesRegex(entries.Wrong, words):
+                entries.check_exports(functions, exports)
 
     def test_every_way_to_an_exam_asks_for_a_role(self):
         # Beside an entry that asks for none, the roles would be no more than a wish.

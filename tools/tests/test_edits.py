@@ -135,15 +135,24 @@ class ToldApart(unittest.TestCase):
         self.assertTrue(edits.is_fact(edits.first_error(fact + name)))
 
 
+class Told(unittest.TestCase):
+    def test_lines_of_the_gate(self):
+        log = ("rt: must-fail t/a.edit: refused, as it must be: ./specs/T.antt:8:9: error: `three`: `omega`: the goal does not follow\n"
+               "rt: must-fail t/b.edit: refused, as it must be (only by a limit of the prover): note: src/lib.rt:5:1: it is not proved that it fits\n"
+               "rt: must-fail t/c.edit: refused, as it must be\nrt: must-fail t/d.edit: BAD EDIT: an 'old:' text is in src/lib.rt 0 times\n")
+        said = edits.refused(log)
+        self.assertEqual(list(said), ["t/a", "t/b", "t/c"])
+        self.assertEqual([edits.is_fact(edits.first_error(text)) for text in said.values()], [True, True, False])
+
+
 class Edits(unittest.TestCase):
     def setUp(self):
-        logs = edits.logs()
-        self.run_ones = {edit: path.read_text() for edit, path in logs.items() if path.is_file()}
-        self.not_run = len(logs) - len(self.run_ones)
+        self.run_ones = edits.refused(edits.LOG.read_text()) if edits.LOG.is_file() else {}
+        self.not_run = len(set(edits.names()) - set(self.run_ones))
 
     def test_each_was_run(self):
         if self.not_run:
-            self.skipTest(f"{self.not_run} must-fail edits have no log here: `rt ci` leaves one of each")
+            self.skipTest(f"{self.not_run} must-fail edits have no line in {edits.LOG}: the gate leaves one of each")
 
     def test_each_breaks_a_fact(self):
         if not self.run_ones:

@@ -1,0 +1,2 @@
+-- What the contract of the reading cites: Counts.
+pub mod Counts

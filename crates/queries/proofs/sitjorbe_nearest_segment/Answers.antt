@@ -13,9 +13,9 @@ pub returns-in-Refused : goal.returns-in-Refused
 unfolding nearest_numbers
 returns-in-Refused c =
     let fits : OutlineFits (outline c.args.outer.now c.args.holes.now c.args.lens.now)
-      = record { outer = λ i h. c.type_inv.outer i; holes = λ i h. c.type_inv.holes i } in
+    = record { outer = λ i h. c.type_inv.outer i; holes = λ i h. c.type_inv.holes i } in
     let here : PointFits (point c.args.x c.args.y)
-      = record { x = subst T (sym c.well_formed.1.1.1.0.1) tt; y = subst T (sym c.well_formed.1.1.1.1.0.1) tt } in
+    = record { x = subst T (sym c.well_formed.1.1.1.0.1) tt; y = subst T (sym c.well_formed.1.1.1.1.0.1) tt } in
     nearest_given _ _ fits here (rw (← c.query_nearest-answer.ensures, c.in-Refused.is) refl)
 
 -- answered
@@ -23,7 +23,7 @@ pub returns-in-Segment : goal.returns-in-Segment
 unfolding nearest_numbers
 returns-in-Segment c =
     let fits : OutlineFits (outline c.args.outer.now c.args.holes.now c.args.lens.now)
-      = record { outer = λ i h. c.type_inv.outer i; holes = λ i h. c.type_inv.holes i } in
+    = record { outer = λ i h. c.type_inv.outer i; holes = λ i h. c.type_inv.holes i } in
     let here : PointFits (point c.args.x c.args.y)
-      = record { x = subst T (sym c.well_formed.1.1.1.0.1) tt; y = subst T (sym c.well_formed.1.1.1.1.0.1) tt } in
+    = record { x = subst T (sym c.well_formed.1.1.1.0.1) tt; y = subst T (sym c.well_formed.1.1.1.1.0.1) tt } in
     nearest_given _ _ fits here (rw (← c.query_nearest-answer.ensures, c.in-Segment.is) refl)

@@ -14,8 +14,8 @@ loop-u-preserved c =
     let l = c.loop-u.invariant.0 in
     let h = c.loop-u-test.true in
     elim c.if-links-u.branch [
-      then-links-u w ↦ rw w.sum-is (count_on _ _ l h c.requires w.if-links-u.true, omega arith)
-    | else-links-u w ↦ rw w.sum-is (count_off _ _ l h c.requires w.if-links-u.false, omega arith)
+      | then-links-u w ↦ rw w.sum-is (count_on _ _ l h c.requires w.if-links-u.true, omega arith)
+      | else-links-u w ↦ rw w.sum-is (count_off _ _ l h c.requires w.if-links-u.false, omega arith)
     ]
 
 pub returns : goal.returns

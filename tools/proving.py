@@ -35,19 +35,18 @@ def build(name):
 
 
 def in_turn(wanted, on):
-    """Builds the crates wanted, those that wait for no other side by side, and gives each with what it came to; stops at the first that fails."""
-    done, running = set(), {}
+    """Builds the crates wanted, those that wait for no other side by side, and gives each with what it came to; after one that fails it begins no other."""
+    done, running, failed = set(), {}, False
     with concurrent.futures.ThreadPoolExecutor(os.cpu_count()) as pool:
-        while len(done) < len(wanted):
-            for name in sorted(wanted - done - set(running.values())):
+        while running or not failed and len(done) < len(wanted):
+            for name in [] if failed else sorted(wanted - done - set(running.values())):
                 if not set(on[name]) & wanted - done:
                     running[pool.submit(build, name)] = name
             for ended in concurrent.futures.wait(running, return_when=concurrent.futures.FIRST_COMPLETED).done:
-                name = running.pop(ended)
+                name, (said, status) = running.pop(ended), ended.result()
+                failed = failed or status != 0
                 done.add(name)
-                yield name, *ended.result()
-                if ended.result()[1]:
-                    return
+                yield name, said, status
 
 
 def prove(command, what, names):
@@ -64,7 +63,8 @@ def prove(command, what, names):
             log.write(f"{name}:\n{said}")
             log.flush()
             count += not status
-            told = f"{count} of {len(wanted)} crates, {clock(time.monotonic() - began)}"
-            show(command, f"stopped at {told}" if status else told, status or count == len(wanted))
+            if not status:
+                show(command, f"{count} of {len(wanted)} crates, {clock(time.monotonic() - began)}", count == len(wanted))
     if count < len(wanted):
+        show(command, f"stopped at {count} of {len(wanted)} crates, {clock(time.monotonic() - began)}", True)
         raise Unusable(f"the {what} can't be built: {LOG} says why")

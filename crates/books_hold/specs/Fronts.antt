@@ -29,6 +29,20 @@ data FoundEdge (es : List Edge) (u : ℕ) : Type 0 where
   taken : 0 < edges_sum (at u (follow es u)) es → FoundEdge es u
   none : follow es u ≡ off → ((v : ℕ) → edges_sum (at u v) es ≡ 0) → FoundEdge es u
 
+follow_later : (e : Edge) (es : List Edge) (u : ℕ) → eqb e.from u ≡ false → follow (e ∷ es) u ≡ follow es u
+unfolding follow
+follow_later e es u q = rw q
+
+sum_one_more : (f : ℕ → ℕ → ℕ) (e : Edge) (es : List Edge) → edges_sum f (e ∷ es) ≡ f e.from e.to + edges_sum f es
+unfolding edges_sum
+sum_one_more f e es = refl
+
+-- an edge found further on
+taken_later : (e : Edge) (es : List Edge) (u : ℕ) → eqb e.from u ≡ false → 0 < edges_sum (at u (follow es u)) es
+    → 0 < edges_sum (at u (follow (e ∷ es) u)) (e ∷ es)
+taken_later e es u q h =
+    rw (follow_later e es u q) (omega (arith, h, sum_one_more (at u (follow es u)) e es))
+
 found : (es : List Edge) (u : ℕ) → FoundEdge es u
 unfolding follow edges_sum
 found [] u = none refl (λ v. refl)
@@ -36,7 +50,7 @@ found (e ∷ es) u = by (eqb e.from u) refl (found es u)
   where
     by : (b : Bool) → eqb e.from u ≡ b → FoundEdge es u → FoundEdge (e ∷ es) u
     by true q later = taken (rw (q, eqb-true e.from u q) (omega (arith, at_self u e.to)))
-    by false q (taken h) = taken (rw q (omega arith))
+    by false q (taken h) = taken (taken_later e es u q h)
     by false q (none f z) =
         none (rw q f) (λ v. omega (arith, z v, at_other u v e.from e.to (eqb-false e.from u q)))
 

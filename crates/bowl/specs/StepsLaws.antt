@@ -161,7 +161,12 @@ module _ (xs ys : List Float) (a b d c : ℕ) (pa pb pd pc ab bd dc ca : Steps)
   pub shown_is : turns_left (vector ca) (vector ab) && (turns_left (vector ab) (vector bd) && (turns_left (vector bd) (vector dc) && turns_left (vector dc) (vector ca)))
       ≡ is_shown xs ys (ids a b d c)
   unfolding is_shown
-  shown_is = rw (AB.same, BD.same, DC.same, CA.same, A.same, B.same, D.same, C.same) refl
+  shown_is =
+      let from-a : vector ab ≡ way (steps_at xs ys a) (steps_at xs ys b) = AB.same ∙ ap₂ way A.same B.same in
+      let from-b : vector bd ≡ way (steps_at xs ys b) (steps_at xs ys d) = BD.same ∙ ap₂ way B.same D.same in
+      let from-d : vector dc ≡ way (steps_at xs ys d) (steps_at xs ys c) = DC.same ∙ ap₂ way D.same C.same in
+      let from-c : vector ca ≡ way (steps_at xs ys c) (steps_at xs ys a) = CA.same ∙ ap₂ way C.same A.same in
+      rw (from-a, from-b, from-d, from-c) refl
 
 -- ---- the buffer
 

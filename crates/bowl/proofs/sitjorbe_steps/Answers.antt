@@ -8,20 +8,20 @@ use Rattle.bowl.specs.GivenLaws.{nodes_within, given_passes, mesh_stored, mesh_r
 use Rattle.bowl.proofs.sitjorbe_steps.Goals as goal
 use Rattle.bowl.proofs.sitjorbe_steps.Goals.{Start}
 
-abbrev countsOf : Start → Counts
-countsOf c = counted c.args.node-count c.args.quad-count c.args.edge_count c.args.front_count_lem
+abbrev counts_of : Start → Counts
+counts_of c = counted c.args.node_count c.args.quad_count c.args.edge_count c.args.front_count
 
 -- the mesh as lent
 abbrev lent : Start → State
 lent c =
     lent_state c.args.xs.now c.args.ys.now c.args.next.now c.args.prev.now c.args.origins.now c.args.quads.now
-    c.args.edges.now (countsOf c)
+    c.args.edges.now (counts_of c)
 
 pub store_steps-requires : goal.store_steps-requires
 store_steps-requires c =
     let given = given_passes (lent (goal.at.store_steps-requires c).Start) _ (ap (λ (r : StepsAnswer). r.refusal) (sym c.steps_answer-r.ensures) ∙ c.if-r-eq0.true) in (
       nodes_within c.args.xs.now c.args.ys.now c.args.next.now c.args.prev.now c.args.origins.now
-          c.args.quads.now c.args.edges.now (countsOf (goal.at.store_steps-requires c).Start) (λ i h. c.shared_slice_known-1.given i)
+          c.args.quads.now c.args.edges.now (counts_of (goal.at.store_steps-requires c).Start) (λ i h. c.shared_slice_known-1.given i)
           (λ i h. c.shared_slice_known-2-1.given i) given.0,
       given.1,
     )

@@ -1,5 +1,4 @@
 -- `step_entries::given_refusal` meets its contract.
-use borrow.Author.Rules.{rules}
 use Rattle.direction.specs.Record.{field_record}
 use Rattle.step_entries.specs.EntryLaws.{given_drawn, given_record}
 use Rattle.step_entries.proofs.given_refusal.Goals as goal
@@ -8,9 +7,6 @@ pub returns-then-r-ne0 : goal.returns-then-r-ne0
 returns-then-r-ne0 c =
     let v = c.args in
     given_drawn _ _ (field_record v.grid v.values.now v.marks.now) c.drawn_refusal-r.ensures c.if-r-ne0.true
-
-record-refusal-requires : tie.Need-record-refusal-requires
-record-refusal-requires c κs = search rules
 
 pub returns : goal.returns
 returns c =

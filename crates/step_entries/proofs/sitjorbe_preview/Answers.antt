@@ -19,7 +19,7 @@ field s = field_record (grid_given s.args.xmin s.args.ymin s.args.h s.args.nx s.
     s.args.marks.now
 
 abbrev counts : Start → Counts
-counts s = counted s.args.node-count s.args.quad-count s.args.edge_count s.args.front_count_lem
+counts s = counted s.args.node_count s.args.quad_count s.args.edge_count s.args.front_count
 
 abbrev lent : Start → State
 lent s =

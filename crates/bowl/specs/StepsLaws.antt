@@ -11,7 +11,8 @@ use Rattle.std.proofs.lemmas.Int.{to_z-of_z}
 use Rattle.laws.specs.Loop.{for_up, forUp_keeps, Loop, loop_next}
 use Rattle.laws.specs.Tests.{T-ext}
 use Rattle.laws.specs.Ring.{var, num, ◌-ᵉ◌}
-use Rattle.laws.specs.Certificate.{Nonneg, prove, hyp, of-<ℤ, to-<ℤ}
+use Rattle.laws.specs.Certificate.{Nonneg, hyp}
+use Rattle.laws.proofs.Certificate.{prove, of-<ℤ, to-<ℤ}
 use Rattle.exact.specs.Corner.{Vector, cross}
 use Rattle.orientation.specs.Orient.{way}
 use Rattle.nearest_step.specs.Step.{nearest_step}

@@ -12,9 +12,11 @@ use Rattle.std.specs.Float.Ieee.Exact.{odd_sign, round_exact}
 use Rattle.std.specs.Float.Ieee.Fits.{down_pos, round_is, round-fits}
 use Rattle.std.specs.Float.Ieee.Order.{drop, kept, round_mono}
 use Rattle.std.specs.Float.Ieee.Scale.{round_same}
-use Rattle.laws.specs.Ring.{var, num, ◌+ᵉ◌, ◌*ᵉ◌, ◌-ᵉ◌, ring}
+use Rattle.laws.specs.Ring.{var, num, ◌+ᵉ◌, ◌*ᵉ◌, ◌-ᵉ◌}
+use Rattle.laws.proofs.Ring.{ring}
 use Rattle.laws.specs.Ring as R
-use Rattle.laws.specs.Certificate.{Nonneg, nonneg, of-≤ℤ, to-≤ℤ, hyp, ◌⊞◌, ◌⊠◌, prove}
+use Rattle.laws.specs.Certificate.{Nonneg, nonneg, of-≤ℤ, to-≤ℤ, hyp, ◌⊞◌, ◌⊠◌}
+use Rattle.laws.proofs.Certificate.{prove}
 use Rattle.numbers.specs.Float.{◌⊕◌, ◌⊖◌, ◌⊗◌, ◌⊘◌, is_finite, zero_f, one_f}
 use Rattle.numbers.specs.Nearest.{Representable, digits_of}
 use Rattle.exact.specs.Units.{W, W-pos, Val, signed, signed_not, units, size_of, val_of, neg_val, unlike_self, Within, within_units}

@@ -14,7 +14,8 @@ use Rattle.std.specs.Float.Ieee.{up, down, fits, lt, eq, le, below, level}
 use Rattle.std.specs.Float.Ieee.Bits.{is_true, is_false}
 use Rattle.std.specs.Float.Ieee.Fits.{down_pos, and_i, and_l, and_r, eq→eqb}
 use Rattle.laws.specs.Ring.{Expr, var, num, con, ◌+ᵉ◌, ◌*ᵉ◌, ◌-ᵉ◌, neg, eval, same}
-use Rattle.laws.specs.Certificate.{Nonneg, nonneg, not_nonneg, of_le, to_le, of-≤ℤ, of-<ℤ, to-<ℤ, <ℤ_or-≤ℤ, <ℤ_weaken, ≤ℤ_antisym, hyp, ◌⊞◌, prove}
+use Rattle.laws.specs.Certificate.{Nonneg, nonneg, not_nonneg, of_le, to_le, of-≤ℤ, <ℤ_or-≤ℤ, hyp, ◌⊞◌}
+use Rattle.laws.proofs.Certificate.{of-<ℤ, to-<ℤ, <ℤ_weaken, ≤ℤ_antisym, prove}
 use Rattle.laws.specs.Tests.{T-ext}
 use Rattle.numbers.specs.Float.{is_finite, abs_f}
 use Rattle.exact.specs.Units.{W, W-pos, Val, signed, sign_of, size_of, units, val_of, abs_val, Within, within_of, whole_val}

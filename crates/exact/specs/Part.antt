@@ -8,7 +8,8 @@ use Rattle.std.specs.Float.{nan, inf, fin, binary64}
 use Rattle.std.specs.Float.Ieee.{fits, is_nan, le, lt, eq, unlike, round, of_bits}
 use Rattle.std.specs.Float.Ieee.Fits.{add-fits, div-fits}
 use Rattle.laws.specs.Ring.{var, ◌+ᵉ◌, ◌-ᵉ◌, neg}
-use Rattle.laws.specs.Certificate.{of-≤ℤ, to-≤ℤ, <ℤ_or-≤ℤ, <ℤ_weaken, hyp, ◌⊞◌, prove}
+use Rattle.laws.specs.Certificate.{of-≤ℤ, to-≤ℤ, <ℤ_or-≤ℤ, hyp, ◌⊞◌}
+use Rattle.laws.proofs.Certificate.{<ℤ_weaken, prove}
 use Rattle.numbers.specs.Float.{◌⊕◌, ◌⊖◌, ◌⊗◌, ◌⊘◌, zero_f, one_f, clamp_f}
 use Rattle.exact.specs.Rounding.{Close}
 use Rattle.exact.specs.Units.{W, W-pos, Val, signed, units, Within, within_units}

@@ -11,7 +11,8 @@ use Rattle.std.specs.Float.Ieee.{unlike, le, of_bits}
 use Rattle.std.specs.Float.Ieee.Fits.{and_i, and_l, and_r, add-fits}
 use Rattle.laws.specs.Integer.{negℤ-*ℤ, *ℤ_negℤ}
 use Rattle.laws.specs.Ring.{var, num, ◌*ᵉ◌, ◌-ᵉ◌}
-use Rattle.laws.specs.Certificate.{Nonneg, nonneg, nonneg_is, to_le, hyp, nat, ◌⊞◌, ◌⊠◌, prove}
+use Rattle.laws.specs.Certificate.{Nonneg, nonneg, nonneg_is, to_le, hyp, nat, ◌⊞◌, ◌⊠◌}
+use Rattle.laws.proofs.Certificate.{prove}
 use Rattle.numbers.specs.Float.{◌⊕◌, ◌⊖◌, ◌⊗◌, ◌⊘◌, tolerance}
 use Rattle.exact.specs.Units.{W, W-pos, Val, signed, units, unlike_self, Within, within_units}
 use Rattle.exact.specs.Constants.{tolerance_units, tolerance_val}

@@ -6,9 +6,8 @@ use Rattle.std.proofs.Common.{sym, ap, ◌∙◌, subst, inl, inr, zero-lt-suc, 
 use mathlib.Core.Bool.{Bool, true, false, not}
 use Prim.Native.Nat.{ℕ, zero, suc, ◌+◌, ◌-◌, ◌*◌, ◌≤◌, ◌<◌}
 use Rattle.std.proofs.Math.IntN.{sub_ℕ, *ℤ-zero, +ℤ_idr, +ℤ_invr}
-use Rattle.std.specs.Int.Signed.{lt_z, lt_z_no, clash_ℤ}
-use Rattle.laws.specs.Integer.{eq_of_sub}
-use Rattle.laws.specs.Ring.{Expr, var, con, num, ◌+ᵉ◌, ◌*ᵉ◌, ◌-ᵉ◌, neg, eval, ring, same}
+use Rattle.std.specs.Int.Signed.{lt_z, lt_z_no}
+use Rattle.laws.specs.Ring.{Expr, con, ◌+ᵉ◌, ◌*ᵉ◌, eval}
 
 pub data Nonneg : ℤ → Type 0 where
   nonneg : (n : ℕ) → Nonneg (pos n)
@@ -149,11 +148,6 @@ sound ρ hs p es q (a ⊠ b) = nonneg-* (sound ρ hs p es q a) (sound ρ hs p es
 sound ρ hs p es q (sq e) = nonneg_sq (eval ρ e)
 sound ρ hs p es q (eqn i e) = subst Nonneg (sym (ap (λ (z : ℤ). eval ρ e *ℤ z) (nth_zero ρ es q i) ∙ *ℤ-zero (eval ρ e))) (nonneg 0)
 
-pub prove : (ρ : List ℤ) (hs : List Expr) → Hyps ρ hs → (es : List Expr) → Eqns ρ es → (k : ℕ) (goal : Expr) (c : Certificate)
-    → T (same (con (pos (suc k)) *ᵉ goal) (expr_of hs es c)) → Nonneg (eval ρ goal)
-prove ρ hs p es q k goal c t =
-    nonneg_cancel k (eval ρ goal) (subst Nonneg (sym (ring ρ (con (pos (suc k)) *ᵉ goal) (expr_of hs es c) t)) (sound ρ hs p es q c))
-
 -- ---- the library's order of ℤ
 
 pub of-≤ℤ : {a b : ℤ} → a ≤ℤ b → Nonneg (b -ℤ a)
@@ -175,32 +169,3 @@ pub <ℤ_or-≤ℤ : (a b : ℤ) → (a <ℤ b) ⊎ (b ≤ℤ a)
     go : (t : Bool) → lt_z a b ≡ t → (a <ℤ b) ⊎ (b ≤ℤ a)
     go true e = inl (record { lt = subst T (sym e) tt })
     go false e = inr (lt_z_no (subst (λ (t : Bool). T (not t)) (sym e) tt))
-
-pub of-<ℤ : {a b : ℤ} → a <ℤ b → Nonneg (b -ℤ a -ℤ pos 1)
-of-<ℤ {a} {b} h =
-    elim (sign (b -ℤ a -ℤ pos 1)) [
-      | inl n ↦ n
-      | inr n ↦ clash_ℤ h (to-≤ℤ (prove (a ∷ b ∷ []) ((neg (var 1 -ᵉ var 0 -ᵉ num 1) -ᵉ num 1) ∷ []) (n, tt) [] tt 0 (var 0 -ᵉ var 1) (hyp 0) tt))
-    ]
-
-pub to-<ℤ : {a b : ℤ} → Nonneg (b -ℤ a -ℤ pos 1) → a <ℤ b
-to-<ℤ {a} {b} n =
-    elim (<ℤ_or-≤ℤ a b) [
-      | inl h ↦ h
-      | inr h ↦ absurd
-          (not_nonneg {n = 0}
-          (prove (a ∷ b ∷ []) ((var 1 -ᵉ var 0 -ᵉ num 1) ∷ (var 0 -ᵉ var 1) ∷ []) (n, (of-≤ℤ h, tt)) [] tt 0 (neg (num 1)) (hyp 0 ⊞ hyp 1) tt))
-    ]
-
-pub <ℤ_weaken : {a b : ℤ} → a <ℤ b → a ≤ℤ b
-<ℤ_weaken {a} {b} h = to-≤ℤ (prove (a ∷ b ∷ []) ((var 1 -ᵉ var 0 -ᵉ num 1) ∷ []) (of-<ℤ h, tt) [] tt 0 (var 1 -ᵉ var 0) (hyp 0 ⊞ nat 1) tt)
-
-pub ≤ℤ_antisym : {a b : ℤ} → a ≤ℤ b → b ≤ℤ a → a ≡ b
-≤ℤ_antisym {a} {b} h k = go (nonneg_is (of-≤ℤ h)).0 (nonneg_is (of-≤ℤ h)).1
-  where
-    opposite : a -ℤ b ≡ neg_ℤ (b -ℤ a)
-    opposite = ring (a ∷ b ∷ []) (var 0 -ᵉ var 1) (neg (var 1 -ᵉ var 0)) tt
-
-    go : (n : ℕ) → b -ℤ a ≡ pos n → a ≡ b
-    go zero e = sym (eq_of_sub b a e)
-    go (suc n) e = absurd (not_nonneg (subst Nonneg (opposite ∙ ap neg_ℤ e) (of-≤ℤ {a = b} {b = a} k)))

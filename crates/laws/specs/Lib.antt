@@ -1,6 +1,5 @@
 pub mod Certificate
 pub mod Chain
-pub mod Examples
 pub mod Integer
 pub mod Loop
 pub mod Overlay

@@ -3,7 +3,8 @@ use mathlib.Core.Bool.{Bool, true, false}
 use Rattle.std.specs.Prelude.{List, [], ◌∷◌, ◌↔◌, ◌≡◌, refl, ℕ, zero, suc, ◌-◌, ◌<◌, ltb, ℤ, pos, negsuc, neg_ℤ, nat_abs, ◌+ℤ◌, ◌*ℤ◌, ◌-ℤ◌, ◌<ℤ◌, replicate}
 use Rattle.std.proofs.Common.{sym, ap, ap₂, ◌∙◌, arith, ltb-true, ltb-false, ltb→lt, lt→ltb}
 use Rattle.std.proofs.Math.IntN.{pos-ne-negsuc}
-use Rattle.laws.specs.Ring.{var, num, ◌+ᵉ◌, ◌*ᵉ◌, ◌-ᵉ◌, neg, ring}
+use Rattle.laws.specs.Ring.{var, num, ◌+ᵉ◌, ◌*ᵉ◌, ◌-ᵉ◌, neg}
+use Rattle.laws.proofs.Ring.{ring}
 use Rattle.laws.specs.Certificate.{sub_pos}
 use Rattle.exact.specs.Units.{units}
 use Rattle.exact.specs.Corner.{Vector, cross}

@@ -11,8 +11,10 @@ use Rattle.std.specs.Int.Signed.{lt_z, lt_z_yes}
 use Rattle.std.specs.Float.Ieee.Fits.{and_i, and_l, and_r, eq→eqb}
 use Rattle.laws.specs.Integer.{eq_of_sub}
 use Rattle.laws.specs.Ring.{Expr, var, num, ◌+ᵉ◌, ◌*ᵉ◌, ◌-ᵉ◌, neg}
-use Rattle.laws.specs.Certificate.{Nonneg, nonneg, nonneg_is, nonneg-+, nonneg_sq, not_nonneg, to_le, of-≤ℤ, of-<ℤ, <ℤ_or-≤ℤ, <ℤ_weaken, sign, hyp, nat, ◌⊞◌, ◌⊠◌}
-use Rattle.laws.specs.Certificate.{sq, eqn, prove, zero_of}
+use Rattle.laws.specs.Certificate.{Nonneg, nonneg, nonneg_is, nonneg-+, nonneg_sq, not_nonneg, to_le, of-≤ℤ, <ℤ_or-≤ℤ, sign, hyp, nat, ◌⊞◌, ◌⊠◌}
+use Rattle.laws.proofs.Certificate.{of-<ℤ, <ℤ_weaken}
+use Rattle.laws.specs.Certificate.{sq, eqn, zero_of}
+use Rattle.laws.proofs.Certificate.{prove}
 use Rattle.exact.specs.Corner.{Vector, cross}
 use Rattle.orientation.specs.Orient.{way, orient}
 use Rattle.sound_outlines.specs.Sound.{scalar_product, folds_back}

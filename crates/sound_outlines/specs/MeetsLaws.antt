@@ -7,9 +7,12 @@ use Rattle.std.proofs.Math.Dec.{not_T}
 use Rattle.std.proofs.Math.IntN.{pos, ℤ_discrete}
 use Rattle.std.specs.Int.Signed.{lt_z, lt_z_yes}
 use Rattle.laws.specs.Integer.{eq_of_sub}
-use Rattle.laws.specs.Ring.{Expr, var, num, ◌+ᵉ◌, ◌*ᵉ◌, ◌-ᵉ◌, neg, ring}
-use Rattle.laws.specs.Certificate.{Nonneg, nonneg, nonneg_is, not_nonneg, to_le, of-≤ℤ, to-≤ℤ, of-<ℤ, to-<ℤ, <ℤ_or-≤ℤ, ≤ℤ_antisym, sign, hyp, nat, ◌⊞◌, ◌⊠◌}
-use Rattle.laws.specs.Certificate.{eqn, prove, zero_of}
+use Rattle.laws.specs.Ring.{Expr, var, num, ◌+ᵉ◌, ◌*ᵉ◌, ◌-ᵉ◌, neg}
+use Rattle.laws.proofs.Ring.{ring}
+use Rattle.laws.specs.Certificate.{Nonneg, nonneg, nonneg_is, not_nonneg, to_le, of-≤ℤ, to-≤ℤ, <ℤ_or-≤ℤ, sign, hyp, nat, ◌⊞◌, ◌⊠◌}
+use Rattle.laws.proofs.Certificate.{of-<ℤ, to-<ℤ, ≤ℤ_antisym}
+use Rattle.laws.specs.Certificate.{eqn, zero_of}
+use Rattle.laws.proofs.Certificate.{prove}
 use Rattle.exact.specs.Corner.{Vector, cross}
 use Rattle.orientation.specs.Orient.{orient}
 use Rattle.sound_outlines.specs.Sound.{overlap, parted, meets}

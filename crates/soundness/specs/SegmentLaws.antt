@@ -8,7 +8,7 @@ use Rattle.std.specs.Bool.{beq}
 use Rattle.std.proofs.Math.Dec.{eqb}
 use Rattle.std.specs.Int.Signed.{lt_z, lt_z_yes, clash_ℤ}
 use Rattle.std.specs.Float.Ieee.{lt}
-use Rattle.laws.specs.Certificate.{<ℤ_weaken}
+use Rattle.laws.proofs.Certificate.{<ℤ_weaken}
 use Rattle.laws.specs.Tests.{T-ext, and_true, and_false}
 use Rattle.laws.specs.Loop.{any_up}
 use Rattle.exact.specs.Units.{units, Within, within_units}

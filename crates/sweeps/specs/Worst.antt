@@ -8,7 +8,7 @@ use Rattle.std.specs.Float.Ieee.{fits, is_nan, lt, le, eq, of_bits}
 use Rattle.std.specs.Float.Ieee.Fits.{add-fits}
 use Rattle.std.specs.Float.Ieee.Bits.{of_bits-fits}
 use Rattle.laws.specs.Loop.{for_up, forUp_related}
-use Rattle.laws.specs.Certificate.{<ℤ_weaken}
+use Rattle.laws.proofs.Certificate.{<ℤ_weaken}
 use Rattle.numbers.specs.Float.{◌⊖◌, zero_f, is_finite, abs_f, max_f}
 use Rattle.exact.specs.Units.{W, Val, val_of, size_of}
 use Rattle.exact.specs.Order.{lt_val, le_val, not_le_val}

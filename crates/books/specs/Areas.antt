@@ -1,20 +1,20 @@
 -- From paper 14's figures to every balance of areas: where the book went through, and the figures of its start are those of the quads and of the front left,
 -- its areas balance in whatever whole numbers coordinates are measured (`areas_balance`).
-use Rattle.std.specs.Prelude.{Bool, cond, List, [], ◌∷◌, ◌++◌, ◌≡◌, refl, ℕ, zero, suc, ◌+◌, ◌<◌, ◌≤◌, eqb, ℤ, ◌+ℤ◌, length, take, Float}
+use Rattle.std.specs.Prelude.{Bool, cond, List, [], ◌∷◌, ◌++◌, ◌≡◌, refl, ℕ, zero, suc, ◌<◌, ◌≤◌, eqb, ℤ, ◌+ℤ◌, length, take, Float}
 use Rattle.std.proofs.Math.Bool.{true, false}
-use Rattle.std.proofs.Math.Option.{Option, none, some}
+use Rattle.std.proofs.Math.Option.{none, some}
 use Rattle.std.proofs.Common.{sym, ◌∙◌, ap, ap₂, subst, arith, length-take, get_or-take}
 use Rattle.std.proofs.Math.ListN.{get_or}
 use Rattle.std.proofs.Math.Seq.{take-length}
 use Rattle.std.proofs.lemmas.List.{take-append-le}
 use Rattle.std.specs.Float.Ieee.{nan}
 use Rattle.laws.specs.Loop.{for_up}
-use Rattle.exact.specs.Corner.{Vector, cross}
+use Rattle.exact.specs.Corner.{cross}
 use Rattle.domain.specs.Outline.{Outline}
 use Rattle.topology.specs.Links.{at, at_self}
 use Rattle.front.specs.State.{State}
 use Rattle.books.specs.Book.{Edge, Book, book, Quad, quad_at, start_book, has, without, and_then, comes_off, goes_on, new_node, side, book_quad, book_after}
-use Rattle.books.specs.Book.{x_of, y_of, place_of, area_of, edges_sumℤ, front_area, quad_edges, quads_area}
+use Rattle.books.specs.Book.{place_of, area_of, edges_sumℤ, front_area, quad_edges, quads_area}
 use Rattle.books.specs.Net.{net, quads_edges}
 use Rattle.books.specs.Matches.{edges_sum}
 use Rattle.books.specs.BookLaws.{Gives, gives_then, area_anti}

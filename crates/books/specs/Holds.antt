@@ -1,6 +1,6 @@
 -- Demand 3: what holds of a run's books before the first quad, after each one, and where the run stops. Statements only.
-use Rattle.std.specs.Prelude.{◌≡◌, Bool, true, not, ◌↔◌, ℕ, ◌+◌, ◌*◌, ◌<◌, ◌≤◌, ℤ, ◌+ℤ◌, T, length, take, Float}
-use Rattle.std.proofs.Math.Option.{Option, some}
+use Rattle.std.specs.Prelude.{◌≡◌, Bool, true, not, ◌↔◌, ℕ, ◌+◌, ◌*◌, ◌<◌, ◌≤◌, ◌+ℤ◌, T, length, take, Float}
+use Rattle.std.proofs.Math.Option.{some}
 use mathlib.Core.List.{List, map, flatten}
 use Rattle.domain.specs.Outline.{Outline}
 use Rattle.front.specs.State.{State, next_of}

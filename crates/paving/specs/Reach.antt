@@ -1,5 +1,5 @@
 -- The states that a run of passes goes through: from one to the next by a snapshot or by one quad of the reference. Definitions only.
-use Rattle.std.specs.Prelude.{◌≡◌, true, false, ℕ, zero, suc, Float}
+use Rattle.std.specs.Prelude.{◌≡◌, true, false, ℕ, suc, Float}
 use Rattle.domain.specs.declared.Point.{Point}
 use Rattle.domain.specs.Outline.{Outline}
 use Rattle.front.specs.declared.Corner.{Corner}

@@ -1,11 +1,11 @@
 -- The state that `advance` leaves is reached from the one it began with. Assumes nothing.
-use Rattle.std.specs.Prelude.{◌≡◌, Bool, not, ◌&&◌, cond, ℕ, suc, min, ◌<◌, leb, Float}
+use Rattle.std.specs.Prelude.{◌≡◌, Bool, cond, ℕ, suc, min, leb, Float}
 use Rattle.std.proofs.Math.Path.{refl}
 use Rattle.std.proofs.Common.{subst}
 use Rattle.std.proofs.Math.Bool.{true, false}
 use Rattle.std.proofs.Math.ListN.{get_or}
 use Rattle.std.specs.Float.Ieee.{le}
-use Rattle.laws.specs.Loop.{Turn, go, out, Kept, run_keeps}
+use Rattle.laws.specs.Loop.{go, out, Kept, run_keeps}
 use Rattle.numbers.specs.Float.{◌⊖◌, tolerance}
 use Rattle.domain.specs.declared.Point.{Point}
 use Rattle.domain.specs.Outline.{Outline}
@@ -17,11 +17,11 @@ use Rattle.front.specs.State.{State, node}
 use Rattle.front.specs.Place.{place, is_full}
 use Rattle.paving.specs.declared.Attempt.{Attempt}
 use Rattle.paving.specs.declared.Attempt.TheVariants.{Nothing, Quad}
-use Rattle.paving.specs.declared.End.TheVariants.{Still, Passes, Cap, Full}
+use Rattle.paving.specs.declared.End.TheVariants.{Still, Cap, Full}
 use Rattle.paving.specs.Attempt.{attempt_quad, or_else, normal_of, try_toward, try_edge}
 use Rattle.paving.specs.Advance.{EndedPaving, paved, Passing, passing, Passed, most_quads, after_quad, settle, is_there, pass_turn, with_snapshot}
 use Rattle.paving.specs.Advance.{after_pass, pass, most_passes, passes_turn, all_used, advance}
-use Rattle.paving.specs.Reach.{Placement, Reaches, begin, snapshot, placed}
+use Rattle.paving.specs.Reach.{Reaches, begin, snapshot, placed}
 
 -- ---- what a try answers is an attempt's quad
 

@@ -1,5 +1,5 @@
 -- The laws of stretches: one is written, a node is copied into the snapshot, and what is gone over after a node. Assumes nothing.
-use Rattle.std.specs.Prelude.{Bool, ◌&&◌, List, ◌≡◌, ◌≢◌, ℕ, ◌+◌, ◌*◌, ◌/◌, ◌≤◌, ◌<◌, min, max, eqb, ltb, length, get_or, set}
+use Rattle.std.specs.Prelude.{Bool, ◌&&◌, List, ◌≡◌, ◌≢◌, ℕ, ◌+◌, ◌*◌, ◌/◌, ◌≤◌, ◌<◌, min, max, eqb, length, get_or, set}
 use Rattle.std.proofs.Math.Bool.{true, false, cond}
 use Rattle.std.proofs.Math.Path.{refl}
 use Rattle.std.proofs.Common.{sym, ◌∙◌}

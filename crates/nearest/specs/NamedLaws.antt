@@ -1,9 +1,9 @@
 -- The nearest segment of an outline that isn't refused has a name, which is right: `named`, at the end. Every distance is a number below infinity, so the first
 -- segment is taken; from then on what is kept is the first of the nearest so far. Assumes nothing.
-use Rattle.std.specs.Prelude.{Bool, true, false, cond, ◌⊎◌, ◌≡◌, ℕ, zero, suc, ◌+◌, ◌*◌, ◌^◌, ◌≤◌, ◌<◌, T, length}
+use Rattle.std.specs.Prelude.{Bool, true, false, cond, ◌⊎◌, ◌≡◌, ℕ, suc, ◌+◌, ◌*◌, ◌^◌, ◌≤◌, ◌<◌, T, length}
 use Rattle.std.proofs.Math.Logic.{inl, inr}
 use Rattle.std.proofs.Math.Path.{refl}
-use Rattle.std.proofs.Common.{sym, subst, le_trans, le_of_eq, mul-le-mul, mul-le-mul_right, eq-or-lt_of_le, le_of_suc-le-suc, arith, leb→le}
+use Rattle.std.proofs.Common.{subst, le_trans, le_of_eq, mul-le-mul, mul-le-mul_right, eq-or-lt_of_le, le_of_suc-le-suc, arith, leb→le}
 use Rattle.std.proofs.Math.Nat.{mul-mul-mul_comm}
 use Rattle.std.specs.Float.Ieee.{Float, fits, is_nan, lt, le}
 use Rattle.std.specs.Float.{nan, inf, fin, binary64}

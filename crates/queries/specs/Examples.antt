@@ -9,7 +9,6 @@ use Rattle.numbers.specs.Float.{zero_f, one_f, four_f, is_finite, abs_f, clamp_f
 use Rattle.domain.specs.Outline.{Outline, outline, point, hole_start, hole_at, loop_at, point_at, point_after, any_float, misshapen, loop_refusal, loops_refusal}
 use Rattle.domain.specs.Outline.{far_refusal, outline_refusal, point_refusal, query_refusal}
 use Rattle.domain.specs.Queries.{squared_distance, foot_of, point_segment_distance, nearer, nearest_in_loop, nearest_segment}
-use Rattle.queries.specs.declared.NearestAnswer.{NearestAnswer}
 use Rattle.queries.specs.Answers.{nearest_answer, nearest_numbers}
 
 -- (0, 0) (4, 0) (4, 4) (0, 4)

@@ -2,7 +2,6 @@
 use mathlib.Core.Path.{refl}
 use Rattle.soundness.specs.SegmentLaws.{point_in}
 use Rattle.soundness.specs.WalkLaws.{any_point}
-use Rattle.sound_outlines.specs.Sound.{is_inside}
 use Rattle.laws.specs.Loop.{scan_start, scan_next, scan_hit, scan_none}
 use Rattle.soundness.proofs.any_point.Goals as goal
 

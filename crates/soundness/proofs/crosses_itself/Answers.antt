@@ -1,8 +1,7 @@
 -- `soundness::crosses_itself` meets its contract: both loops are searches that have found nothing yet; the label is left where both have found something.
 use mathlib.Core.Path.{refl, sym, ◌∙◌}
-use mathlib.Core.Bool.{false}
 use native.Mathlib.Omega.{arith}
-use Rattle.sound_outlines.specs.Sound.{clash, crosses_itself}
+use Rattle.sound_outlines.specs.Sound.{crosses_itself}
 use Rattle.laws.specs.Loop.{scan_start, scan_next, scan_hit, scan_none}
 use Rattle.soundness.proofs.crosses_itself.Goals as goal
 

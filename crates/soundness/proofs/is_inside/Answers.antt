@@ -1,6 +1,5 @@
 -- `soundness::is_inside` meets its contract: the loop's invariant is `Loop` of the definition's turn.
 use mathlib.Core.Path.{refl}
-use mathlib.Core.Bool.{false}
 use Rattle.soundness.specs.SegmentLaws.{ray_at}
 use Rattle.sound_outlines.specs.Sound.{is_inside}
 use Rattle.domain.specs.Accepted.{after_within}

@@ -1,7 +1,6 @@
 -- `soundness::meets_loop` meets its contract: the loop is a search that has found nothing yet.
 use mathlib.Core.Path.{refl, sym, ◌∙◌}
 use Rattle.soundness.specs.SegmentLaws.{meets_at}
-use Rattle.sound_outlines.specs.Sound.{meets}
 use Rattle.domain.specs.Accepted.{after_within}
 use Rattle.laws.specs.Loop.{scan_start, scan_next, scan_hit, scan_none}
 use Rattle.soundness.proofs.meets_loop.Goals as goal

@@ -16,8 +16,8 @@ pub loop-k-preserved : goal.loop-k-preserved
 loop-k-preserved c =
     scan_next _ c.loop-k.invariant c.loop-k-test.true
     (elim c.if-edges-k.branch [
-      then-edges-k+else-edges-k-2 w ↦ simp (eq-eqb _ _ w.if-edges-k.true, ne_eqb _ _ w.if-edges-k-2.false)
-    | else-edges-k w ↦ simp (ne_eqb _ _ w.if-edges-k.false)
+      | then-edges-k+else-edges-k-2 w ↦ simp (eq-eqb _ _ w.if-edges-k.true, ne_eqb _ _ w.if-edges-k-2.false)
+      | else-edges-k w ↦ simp (ne_eqb _ _ w.if-edges-k.false)
     ])
 
 pub returns : goal.returns

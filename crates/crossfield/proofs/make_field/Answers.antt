@@ -25,8 +25,8 @@ pub seed_all-requires : goal.seed_all-requires
 unfolding field_refusal
 seed_all-requires c =
     let asked = seeds_ask _ _ _ _ _ (record { outer = λ i h. c.type_inv.outer i; holes = λ i h. c.type_inv.holes i })
-      (subst T (sym c.well_formed.1.1.1.0.1) tt) c.requires
-      c.bounds_of.ensures c.grid_of-g.ensures in
+    (subst T (sym c.well_formed.1.1.1.0.1) tt) c.requires
+    c.bounds_of.ensures c.grid_of-g.ensures in
     record {
       drawn = c.file.ensures;
       field_room = asked.0;

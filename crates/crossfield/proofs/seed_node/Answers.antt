@@ -43,13 +43,13 @@ pub returns : goal.returns
 unfolding seed_node set_value
 returns c = record {
   marks_after = rw (
-  ← c.requires.node.at,
-  ← c.grid_point-p.ensures,
-  ← c.nearest_segment-found.ensures,
-  ← c.tangent.ensures,
-  ← c.seed-v.ensures,
-  ← c.is_fixed.ensures,
-  ← c.mark_of-mark.ensures,
-) refl;
+    ← c.requires.node.at,
+    ← c.grid_point-p.ensures,
+    ← c.nearest_segment-found.ensures,
+    ← c.tangent.ensures,
+    ← c.seed-v.ensures,
+    ← c.is_fixed.ensures,
+    ← c.mark_of-mark.ensures,
+  ) refl;
   value = rw (← c.grid_point-p.ensures) c.nearest_segment-found.ensures;
 }

@@ -1,6 +1,6 @@
 -- An attempt by its parts in the code's order, and by what the code has at hand: the far corners, and then the other checks. Assumes nothing.
 use Rattle.std.proofs.Math.Path.{◌≡◌, refl}
-use Rattle.std.proofs.Common.{sym, ap, ◌∙◌, arith, eq-eqb, ne_eqb}
+use Rattle.std.proofs.Common.{ap, ◌∙◌, arith, eq-eqb, ne_eqb}
 use Rattle.std.specs.Prelude.{Bool, not, ◌&&◌, ◌≢◌, ℕ, eqb, Float}
 use Rattle.std.proofs.Math.Bool.{true, false}
 use Rattle.laws.specs.Chain.{passes, second_fails, exchange}

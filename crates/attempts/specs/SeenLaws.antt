@@ -1,5 +1,5 @@
 -- Each check reads only the lists that its function is lent; so an attempt on a state is that on what `seen_of` keeps of it. Assumes nothing.
-use Rattle.std.specs.Prelude.{◌≡◌, Bool, [], ℕ, Float}
+use Rattle.std.specs.Prelude.{◌≡◌, [], ℕ, Float}
 use Rattle.std.proofs.Math.Path.{refl}
 use Rattle.std.proofs.Common.{sym, ◌∙◌}
 use Rattle.numbers.specs.Float.{◌⊖◌}

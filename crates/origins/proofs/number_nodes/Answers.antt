@@ -41,7 +41,7 @@ loop-k-preserved c =
     let with_c = c.push_origin-n in
     let with-d = c.push_origin-n-in-loop-k in
     numbering_next _ _ _ c.loop-k.invariant c.loop-k-test.true c.requires long c.quad_at-q.ensures
-    with_c.ensures.0 with-d.ensures.0 with_c.ensures.1 with-d.ensures.1 with_c.auto.0 with-d.auto.0
+    with_c.ensures.0 with-d.ensures.0 with_c.ensures.1 with-d.ensures.1 with_c.auto.origins with-d.auto.origins
 
 pub shape_of-origins : goal.shape_of-origins
 shape_of-origins c =
@@ -50,4 +50,4 @@ shape_of-origins c =
 pub returns : goal.returns
 returns c =
     let samples = c.number_samples-n in
-    numbering_all _ _ _ c.loop-k.invariant c.loop-k-test.false _ (sym samples.auto.1.1.1.1.0) samples.ensures.1
+    numbering_all _ _ _ c.loop-k.invariant c.loop-k-test.false _ (sym samples.auto.origins) samples.ensures.1

@@ -190,8 +190,11 @@ def moves_of(crate, broken, say):
     uses = collections.defaultdict(set)
     stated, opened = set(), set()
     for module in modules.values():
-        scope, aliases = scope_of(crate, modules, module)
+        every, aliases = scope_of(crate, modules, module)
+        place = {it: i for i, it in enumerate(module.decls)}
         for it in module.decls:
+            # a declaration names those above it
+            scope = {name: jt for name, jt in every.items() if place.get(jt, -1) < place[it]}
             head, above = it, []
             while head.parent:
                 head = head.parent
@@ -229,6 +232,18 @@ def moves_of(crate, broken, say):
     for it in affected & (definitions | kept):
         say(f"{crate}: BY HAND: {of[it].name}.{it.names[0]} rests on what breaks and stays: {', '.join(jt.names[0] for jt in uses[it] & affected)}")
     moved = affected - definitions - kept
+    # in a section, what stays would need its parameters: what can go along does
+    def top(it):
+        return top(it.parent) if it.parent else it
+
+    split = {top(it) for it in moved if it.parent}
+    along = {it for it in of if it.parent and top(it) in split and it not in definitions | kept | seeds}
+    more = True
+    while more:
+        held = {it for jt in of if jt not in moved | along for it in uses[jt] & along}
+        along -= held
+        more = bool(held)
+    moved |= along
     # private helpers of moved theorems alone go along
     more = True
     while more:

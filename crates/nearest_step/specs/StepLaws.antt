@@ -84,9 +84,34 @@ moved true a k w N =
 
 -- THE BOUND. W units make 1: 128 times the way from x to its step is at most 1, either way
 pub step_near : (x : Float) → nat_abs (pos 128 *ℤ units x -ℤ pos (2 * W) *ℤ nearest_step x) ≤ W
-unfolding nearest_step
+unfolding nearest_step nearest_whole
 step_near x =
-    moved (sign_of x) (size_of x) (nearest_whole (64 * size_of x) W) W (nearest_near (64 * size_of x) W W-pos)
+    moved (sign_of x) (size_of x) (nearest_whole (64 * size_of x) W) W (near (64 * size_of x) W W-pos)
+  where
+    near : (t w : ℕ) → 0 < w → NearHalf t w (nearest_whole t w)
+    near t w h = by (ltb w (2 * (t % w))) refl (eqb (2 * (t % w)) w) refl (eqb (t / w % 2) 1)
+      where
+        q : ℕ
+        q = t / w
+
+        r : ℕ
+        r = t % w
+
+        whole : w * q + r ≡ t
+        whole = div-add-mod t w
+
+        less : r < w
+        less = mod-lt t h
+
+        grown : (k : ℕ) → w * (k + 1) ≡ w * k + w
+        grown k = mul-add w k 1 ∙ ap (λ (z : ℕ). w * k + z) (mul-one w)
+
+        by : (a : Bool) → ltb w (2 * r) ≡ a → (b : Bool) → eqb (2 * r) w ≡ b → (c : Bool) → NearHalf t w (cond (a || (b && c)) (q + 1) q)
+        by true ea b eb c = record { above = omega (arith, grown q, whole, ltb-true w (2 * r) ea); below = omega (arith, grown q, whole, less) }
+        by false ea true eb true =
+            record { above = omega (arith, grown q, whole, eqb-true (2 * r) w eb); below = omega (arith, grown q, whole, less) }
+        by false ea true eb false = record { above = omega (arith, whole); below = omega (arith, whole, ltb-false w (2 * r) ea) }
+        by false ea false eb c = record { above = omega (arith, whole); below = omega (arith, whole, ltb-false w (2 * r) ea) }
 
 -- ---- at most 64,064 steps either way
 

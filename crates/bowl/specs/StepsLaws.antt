@@ -16,7 +16,8 @@ use Rattle.laws.proofs.Certificate.{prove, of-<ℤ, to-<ℤ}
 use Rattle.exact.specs.Corner.{Vector, cross}
 use Rattle.orientation.specs.Orient.{way}
 use Rattle.nearest_step.specs.Step.{nearest_step}
-use Rattle.nearest_step.specs.StepLaws.{natAbs_neg, apart, step_few}
+use Rattle.nearest_step.specs.StepLaws.{natAbs_neg, apart}
+use Rattle.nearest_step.proofs.StepLaws.{step_few}
 use Rattle.bowl.specs.declared.Steps.{Steps}
 use Rattle.bowl.specs.Steps.{steps_at, turns_left, is_shown, store_turn, stored_steps}
 use Rattle.bowl.specs.Stepped.{vector, NodeWithin, FewSteps, IsVector, ids}

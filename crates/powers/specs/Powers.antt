@@ -4,7 +4,7 @@ use Rattle.std.specs.Prelude.{false, ◌≡◌, refl, ℕ, suc, ◌*◌, ◌^◌
 use Rattle.std.proofs.Common.{sym, ap, ◌∙◌, mul_comm, one-mul}
 use Rattle.std.specs.Float.{nan, inf, fin, binary64}
 use Rattle.std.specs.Float.Ieee.{up, down, unlike, round, mul, div, of_bits}
-use Rattle.numbers.specs.Float.{◌⊗◌, ◌⊘◌, bits, half_f, two_f, four_f}
+use Rattle.numbers.specs.Float.{◌⊗◌, ◌⊘◌, bits, four_f}
 
 -- 0.25
 abbrev pub quarter_f : Float
@@ -24,10 +24,6 @@ power_same k (inf s) = refl
 power_same k (fin s m e) =
     ap (λ (d : ℕ). round binary64 (unlike s false) (m * up e * 1) d)
     (mul_comm (down e) (2 ^ suc k) ∙ ap (λ (z : ℕ). z * down e) (sym (one-mul (2 ^ suc k))))
-
-pub half_same : (x : Float) → x ⊗ half_f ≡ x ⊘ two_f
-unfolding of_bits
-half_same x = power_same 0 x
 
 pub quarter_same : (x : Float) → x ⊗ quarter_f ≡ x ⊘ four_f
 unfolding of_bits mul div

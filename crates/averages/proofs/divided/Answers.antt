@@ -2,7 +2,8 @@
 use mathlib.Core.Path.{◌≡◌, refl, ap₂}
 use lib.Ieee.{of_bits, of_int}
 use Rattle.numbers.specs.Float.{four_f, two_f, to_float}
-use Rattle.powers.specs.Powers.{half_same, quarter_same}
+use Rattle.powers.specs.Powers.{quarter_same}
+use Rattle.powers.proofs.Powers.{half_same}
 use Rattle.domain.specs.Outline.{point}
 use Rattle.averages.proofs.divided.Goals as goal
 

@@ -8,7 +8,7 @@ use mir.Syntax.{w32}
 use mir.Val.{to_z, SFits}
 use mir.ValLaws.{to_z_pos, to_z-of_z}
 use Rattle.exact.specs.Units.{finite_val}
-use Rattle.nearest_step.specs.StepLaws.{parts_exponent, parts_few, parts_step}
+use Rattle.nearest_step.proofs.StepLaws.{parts_exponent, parts_few, parts_step}
 use Rattle.nearest_step.proofs.nearest_step.Goals as goal
 use Rattle.nearest_step.proofs.nearest_step.Goals.{After-size_in_steps-k}
 

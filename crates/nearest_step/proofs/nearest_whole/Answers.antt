@@ -5,7 +5,7 @@ use native.Mathlib.Nat.{le_trans, le_of_eq}
 use native.Mathlib.Omega.{arith}
 use lib.Dec.{lit<}
 use lib.Pow.{pow_pos, pow_mono, shl_exact}
-use Rattle.nearest_step.specs.StepLaws.{nearest_shift}
+use Rattle.nearest_step.proofs.StepLaws.{nearest_shift}
 use Rattle.nearest_step.proofs.nearest_whole.Goals as goal
 
 -- the half as it is computed

@@ -23,7 +23,6 @@ returns-in-Changes c =
     args.origins.now in
     let q = request_numbered args.operation args.item args.value args.u args.v in
     let x = results args.thresholds.now args.count.now args.sum.now in
-    
     exam_changes m x args.role q args.reply.now c.request_numbered-request.result c.request_numbered-request.ensures
     c.may.result c.may.ensures
     (not-false c.may.result c.if-not-may.false-raw) _ c.in-Changes.is c.nodes_lent-n.result

@@ -30,7 +30,7 @@ loop-u-preserved c =
     let here = c.loop-u-test.true in
     let found = c.loop_length-length in
     elim c.if-length-ge3.branch [
-      then-length-ge3+else-left-eq0 w ↦ finding_pass f args.n args.k inv here found.result found.ensures w.if-length-ge3.true w.if-left-eq0.false w.left-is
+      | then-length-ge3+else-left-eq0 w ↦ finding_pass f args.n args.k inv here found.result found.ensures w.if-length-ge3.true w.if-left-eq0.false w.left-is
       | else-length-ge3 w ↦ finding_skip f args.n args.k inv here found.result found.ensures w.if-length-ge3.false w.left-is
     ]
 

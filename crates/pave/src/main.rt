@@ -2,12 +2,26 @@
 // too much: so endless input ends too.
 #![tactic(auto)]
 
-use libc::{STDIN_FILENO, STDOUT_FILENO};
+ghost use Rattle.std.specs.Prelude.{IfSome, OnOk};
+ghost use Rattle.std.specs.Io.KnownBytes.{Appends};
+ghost use Rattle.file_listing.specs.Program.{program_listing};
 
-fn main() {
+use std::io;
+use std::io::{Read, Write};
+
+// Reads an outline's file and writes its whole listing.
+fn print_listing<R: Read, W: Write>(input: &mut R, output: &mut W) -> io::Result<()>
+    ensures { OnOk result (IfSome (R.remaining input.old) (λ file. Appends (W.contents output.old) (W.contents output.new) (program_listing file))) }
+{
     let mut file = [0u8; 4609];
     let mut out = [0u8; 117681];
-    let n = io::read_full(STDIN_FILENO, &mut file);
+    let n = file_reading::read_full(input, &mut file)?;
     let written = file_listing::list_file(&file[..n], &mut out);
-    io::write_all(STDOUT_FILENO, &out[..written]);
+    output.write_all(&out[..written])
+}
+
+fn main(rt: HostRuntime) -> io::Result<()> {
+    let mut input = rt.stdin();
+    let mut output = rt.stdout();
+    print_listing(&mut input, &mut output)
 }

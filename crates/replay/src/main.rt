@@ -2,13 +2,15 @@
 // differs, and last how many there are.
 #![tactic(auto)]
 
-ghost use Rattle.std.specs.Prelude.{◌≡◌, ◌+◌, ◌≤◌, min, length};
-ghost use Rattle.io.specs.Counts.{IsPrefixLen};
+ghost use Rattle.std.specs.Prelude.{◌≡◌, ◌+◌, ◌≤◌, min, length, IfOk};
+ghost use Rattle.file_reading.specs.Counts.{IsPrefixLen};
 ghost use Rattle.file_listing.specs.Program.{program_listing};
 ghost use Rattle.replay.specs.Compare.{compared, EndsAt};
 
 use file_listing::list_file;
-use libc::STDOUT_FILENO;
+use file_reading::read_full;
+use std::rt::Files;
+use std::{fs, io, str};
 
 // ---- on slices
 
@@ -70,72 +72,83 @@ struct Input {
     length: usize,
 }
 
+// Puts a file at the start of `bytes`, as far as they go, and answers its length.
+fn read_bytes(files: &impl Files, path: &[u8], bytes: &mut [u8]) -> io::Result<usize>
+    ensures { IfOk result (λ n. IsPrefixLen n bytes.new) }
+{
+    let Ok(name) = str::from_utf8(path) else {
+        return Err(io::Error::from(io::ErrorKind::InvalidFilename));
+    };
+    let mut file = fs::open(files, name)?;
+    read_full(&mut file, bytes)
+}
+
 // Puts a file at the start of `bytes`, as far as they go: 65,536 for an outline, of which 4,609 decide, and more for a listing than any has.
-fn read_file(path: &[u8], bytes: &mut [u8]) -> Input
+fn read_file(rt: &(impl Files + Eprint), path: &[u8], bytes: &mut [u8]) -> Input
     ensures { IsPrefixLen result.length bytes.new }
 {
-    let fd = os::open_read(path);
-    if fd < 0 {
-        os::fail(path);
-        return Input {
-            found: false,
-            length: 0,
-        };
-    }
-    let length = io::read_full(fd, bytes);
-    libc::close(fd);
-    Input {
-        found: true,
-        length,
+    match read_bytes(rt, path, bytes) {
+        Ok(length) => Input {
+            found: true,
+            length,
+        },
+        Err(error) => {
+            say_failure(rt, path, error);
+            Input {
+                found: false,
+                length: 0,
+            }
+        }
     }
 }
 
 // ---- what is printed
 
-fn say_missing(path: &[u8]) {
-    io::write_all(STDOUT_FILENO, path);
-    io::write_all(STDOUT_FILENO, b" can't be read\n");
+// On standard error, why a file can't be read. That this line can't be written is no failure.
+fn say_failure(rt: &impl Eprint, path: &[u8], error: io::Error) {
+    let name = str::from_utf8(path).unwrap_or("a name that is no text");
+    let _ = eprintln!(rt; "{name}: {error}");
 }
 
-fn say_difference(path: &[u8], at: usize) {
-    io::write_all(STDOUT_FILENO, path);
-    io::write_all(STDOUT_FILENO, b" differs at byte ");
-    io::print_decimal(STDOUT_FILENO, at as u64);
-    io::write_all(STDOUT_FILENO, b"\n");
+fn say_missing(rt: &impl Print, path: &[u8]) -> io::Result<()> {
+    rt.write_all(path)?;
+    rt.write_all(b" can't be read\n")
 }
 
-fn say_counts(files: usize, differences: usize) {
-    io::print_decimal(STDOUT_FILENO, files as u64);
-    io::write_all(STDOUT_FILENO, b" files, ");
-    io::print_decimal(STDOUT_FILENO, differences as u64);
-    io::write_all(STDOUT_FILENO, b" differences\n");
+fn say_difference(rt: &impl Print, path: &[u8], at: usize) -> io::Result<()> {
+    rt.write_all(path)?;
+    println!(rt; " differs at byte {at}")
+}
+
+fn say_counts(rt: &impl Print, files: usize, differences: usize) -> io::Result<()> {
+    println!(rt; "{files} files, {differences} differences")
 }
 
 // ---- the list
 
 // Runs one file, and answers how many differences there are: 0, or 1 and a line is printed. A file that is missing is one.
-fn replay(outline: &[u8], listing: &[u8]) -> usize
-    ensures { result ≤ 1 }
+fn replay(rt: &(impl Files + Print + Eprint), outline: &[u8], listing: &[u8]) -> io::Result<usize>
+    ensures { IfOk result (λ n. n ≤ 1) }
 {
-    let mut file = io::large_buffer();
-    let read = read_file(outline, &mut file);
+    let mut file = [0u8; 65536];
+    let read = read_file(rt, outline, &mut file);
     if !read.found {
-        say_missing(outline);
-        return 1;
+        say_missing(rt, outline)?;
+        return Ok(1);
     }
     let mut stored = [0u8; 120000];
-    let kept = read_file(listing, &mut stored);
+    let kept = read_file(rt, listing, &mut stored);
     if !kept.found {
-        say_missing(listing);
-        return 1;
+        say_missing(rt, listing)?;
+        return Ok(1);
     }
     let n = read.length;
     let m = kept.length;
     let Compared::DiffersAt(at) = check(&file[..n], &stored[..m]) else {
-        return 0;
+        return Ok(0);
     };
-    say_difference(listing, at);
-    1
+    say_difference(rt, listing, at)?;
+    Ok(1)
 }
 
 // The place after a line that ends at `end`.
@@ -146,7 +159,7 @@ fn after(end: usize, length: usize) -> usize
 }
 
 // Runs every file of a list, in which an outline's line and its listing's follow each other.
-fn replay_all(list: &[u8]) {
+fn replay_all(rt: &(impl Files + Print + Eprint), list: &[u8]) -> io::Result<()> {
     let mut files = 0;
     let mut differences = 0;
     let mut at = 0;
@@ -154,16 +167,16 @@ fn replay_all(list: &[u8]) {
         let end = line_end(list, at);
         let from = after(end, list.len());
         let last = line_end(list, from);
-        differences += replay(&list[at..end], &list[from..last]);
+        differences += replay(rt, &list[at..end], &list[from..last])?;
         files += 1;
         at = after(last, list.len());
     }
-    say_counts(files, differences);
+    say_counts(rt, files, differences)
 }
 
-fn main() {
-    let mut list = io::large_buffer();
-    let read = read_file(b"list", &mut list);
+fn main(rt: HostRuntime) -> io::Result<()> {
+    let mut list = [0u8; 65536];
+    let read = read_file(&rt, b"list", &mut list);
     let n = read.length;
-    replay_all(&list[..n]);
+    replay_all(&rt, &list[..n])
 }

@@ -3,7 +3,7 @@ use native.Mathlib.Omega.{arith}
 use Rattle.replay.proofs.replay_all.Goals as goal
 
 pub loop-at-init : goal.loop-at-init
-loop-at-init c = (omega arith, omega arith, omega arith)
+loop-at-init g c = (omega arith, omega arith, omega arith)
 
 pub loop-at-preserved : goal.loop-at-preserved
-loop-at-preserved c = (omega arith, omega arith, omega arith)
+loop-at-preserved g c = (omega arith, omega arith, omega arith)

@@ -4,7 +4,7 @@ use lib.ListN.{length}
 use Rattle.replay.proofs.replay_all.Given as goal
 
 abbrev pub invariant-loop-at : goal.invariant-loop-at
-invariant-loop-at l = (l.files ≤ l.at) × (l.differences ≤ l.files) × (l.at ≤ length l.list)
+invariant-loop-at g l = (l.files ≤ l.at) × (l.differences ≤ l.files) × (l.at ≤ length l.list)
 
 abbrev pub decreases-loop-at : goal.decreases-loop-at
-decreases-loop-at l = length l.list - l.at
+decreases-loop-at g l = length l.list - l.at

@@ -1,0 +1,2 @@
+-- What is printed of a whole input: Printed.
+pub mod Printed

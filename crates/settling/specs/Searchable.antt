@@ -34,7 +34,7 @@ use Rattle.ends.specs.declared.Settled.TheVariants.{Put}
 use Rattle.ends.specs.declared.Settled.TheVariants as settled_is
 use Rattle.ends.specs.declared.Swept.{Swept}
 use Rattle.ends.specs.Answers.{settled_counts, quad_settled, passed_counts, pass_answer}
-use Rattle.settling.specs.Paveable.{Paveable, Later, held, later_placed}
+use Rattle.settling.specs.Paveable.{Paveable, held, later_placed}
 
 -- ---- definitions
 

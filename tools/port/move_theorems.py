@@ -8,8 +8,8 @@ usage, at the top of the repository:
 
 rt must-fail takes an edit whose check leaves a theorem of specs/ out, since one that it rests on broke, for one that cannot be read. So each
 plain declaration moves that rests on a theorem that breaks, directly or through others. Abbreviations, unfoldable definitions, records, data,
-what a statement names and what an `unfolding` opens are definitions: they stay, and so does a theorem whose own statement is edited. A private
-helper goes along where only what moves uses it, and else becomes public. Who rests on whom is read off the words. What is left to do by hand
+what a statement names and what an `unfolding` opens are definitions: they stay. Where a theorem moves whose own statement is edited, the edit
+names the new file. A private helper goes along where only what moves uses it, and else becomes public. Who rests on whom is read off the words. What is left to do by hand
 is printed.
 """
 import collections
@@ -36,7 +36,7 @@ class Item:
     """A declaration with its comments, a section with its items, or a comment that stands alone."""
 
     def __init__(self, kind, lines, indent=0):
-        self.kind, self.lines, self.indent, self.items, self.names, self.mark, self.parent, self.moves = kind, lines, indent, [], [], "", None, False
+        self.kind, self.lines, self.indent, self.items, self.names, self.mark, self.parent, self.says = kind, lines, indent, [], [], "", None, set()
 
     def text(self):
         return "\n".join(self.lines)
@@ -206,6 +206,8 @@ def moves_of(crate, broken, say):
                     refs |= {other.own[name] for name in re.findall(r"(?<![\w.])" + re.escape(alias) + r"\.([^\s(){}\[\].,;]+)", bare(text)) if name in other.own}
                 uses[it] |= refs - {it}
                 into |= refs - {it}
+                if into is stated or it.kind == "type":
+                    it.says |= refs - {it}
             for line in it.lines:
                 if line.split()[:1] == ["unfolding"]:
                     opened |= {scope[name] for name in line.split()[1:] if name in scope}
@@ -229,9 +231,11 @@ def moves_of(crate, broken, say):
         found = {it for it in of if it not in affected and uses[it] & affected}
         affected |= found
         more = bool(found)
-    for it in affected & (definitions | kept):
+    for it in affected & definitions:
         say(f"{crate}: BY HAND: {of[it].name}.{it.names[0]} rests on what breaks and stays: {', '.join(jt.names[0] for jt in uses[it] & affected)}")
-    moved = affected - definitions - kept
+    moved = affected - definitions
+    for it in moved & kept:
+        say(f"{crate}: {of[it].name}.{it.names[0]}, whose own statement is edited, rests on what breaks: it moves, and its edit names proofs/{of[it].name}.antt now")
     # in a section, what stays would need its parameters: what can go along does
     def top(it):
         return top(it.parent) if it.parent else it
@@ -275,6 +279,9 @@ def make_public(it, say, crate, module):
         if it.kind == "type":
             it.lines[at + 1 :] = [re.sub(r"^(\s{%d})(?!pub |--)(\S.*? : )" % (it.indent + 2), r"\1pub \2", line) for line in it.lines[at + 1 :]]
         say(f"{crate}: {module.name}.{it.names[0]} becomes public")
+        for jt in it.says:
+            if module.own.get(jt.names[0]) is jt:
+                make_public(jt, say, crate, module)
 
 
 def make_unfoldable(it, say, crate, module):
@@ -380,6 +387,10 @@ def move(crates, dry):
                     make_public(jt, say, crate, of[jt])
         if dry:
             continue
+        for edit, path, old in list(edits_of(crate)):
+            for it in moved:
+                if path == f"specs/{of[it].name}.antt" and old in it.text():
+                    follow(f"crates/{crate}/must-fail/{edit}", path, old)
         for (its, name), (gone, whole) in [kv for kv in targets.items() if kv[0][0] == crate]:
             module = modules[name]
             old, new = f"crates/{crate}/specs/{name}.antt", f"crates/{crate}/proofs/{name}.antt"
@@ -448,6 +459,22 @@ def move(crates, dry):
                     say(f"BY HAND: {path}: {it[8]}. of {', '.join(sorted(gone))} are in proofs/ now")
         if out != lines:
             write(path, "\n".join(out))
+
+
+def follow(edit, path, old):
+    """Has the edit's pair name the file to which its theorem went."""
+    text = read(edit)
+    there = path.replace("specs/", "proofs/", 1)
+    lines = text.split("\n")
+    at = lines.index(f"old: {old}")
+    if sum(it.startswith("old: ") for it in lines) == 1:
+        lines = [it.replace(path, there) if it.startswith("file: ") else it for it in lines]
+    else:
+        lines[at:at] = [f"file: {there}"]
+        after = next((i for i in range(at + 2, len(lines)) if lines[i].startswith(("old: ", "file: "))), None)
+        if after and lines[after].startswith("old: "):
+            lines[after:after] = [f"file: {path}"]
+    write(edit, "\n".join(lines))
 
 
 def edit_lib(path, name, add):

@@ -11,7 +11,8 @@ use Rattle.laws.specs.Tests.{both}
 use Rattle.exact.specs.Corner.{Vector, cross}
 use Rattle.topology.specs.Sums.{one}
 use Rattle.topology.specs.Links.{delta, at}
-use Rattle.topology.specs.Balance.{front_sumℤ, Antisymmetric, difference, difference_add, difference_zero, gain, flip, weight_is, front_is}
+use Rattle.topology.specs.Balance.{front_sumℤ, Antisymmetric, difference, difference_add, difference_zero, gain, flip}
+use Rattle.topology.proofs.Balance.{weight_is, front_is}
 use Rattle.front.specs.State.{State, node_places}
 use Rattle.front.specs.Sound.{Sound, Frame}
 use Rattle.front.specs.FrameLaws.{extends_at}

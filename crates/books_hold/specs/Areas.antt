@@ -8,7 +8,7 @@ use Rattle.std.proofs.Math.Seq.{length-take-le}
 use Rattle.std.specs.Float.{nan}
 use Rattle.domain.specs.Outline.{Outline}
 use Rattle.topology.specs.Links.{at, link_of}
-use Rattle.topology.specs.Front.{source, target}
+use Rattle.topology.proofs.Front.{source, target}
 use Rattle.front.specs.State.{State, node_places, node_in, node}
 use Rattle.front.specs.Sound.{Frame}
 use Rattle.books.specs.Book.{Book, quad_at, start_book}

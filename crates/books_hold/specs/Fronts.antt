@@ -7,10 +7,12 @@ use Rattle.std.proofs.lemmas.Bool.{eqb-false}
 use Rattle.domain.specs.Outline.{Outline}
 use Rattle.topology.specs.Sums.{front_sum, front_one}
 use Rattle.topology.specs.Links.{off, at, at_self, at_other, link_of}
-use Rattle.topology.specs.Front.{Loops, loops_same, target, edge_next, edge_once}
+use Rattle.topology.specs.Front.{Loops, loops_same}
+use Rattle.topology.proofs.Front.{target, edge_next, edge_once}
 use Rattle.topology.specs.Follow as topology
-use Rattle.topology.specs.Follow.{Follows, follows_links}
-use Rattle.topology.specs.LongLoops.{walks_long}
+use Rattle.topology.specs.Follow.{Follows}
+use Rattle.topology.proofs.Follow.{follows_links}
+use Rattle.topology.proofs.LongLoops.{walks_long}
 use Rattle.front.specs.State.{State, next_of}
 use Rattle.front.specs.Sampling.{loop_count, sampled_count}
 use Rattle.front.specs.Sound.{Sound}

@@ -8,7 +8,8 @@ use Rattle.laws.specs.Loop.{any_up}
 use Rattle.laws.specs.Sums.{any_same}
 use Rattle.topology.specs.Sums.{front_sum}
 use Rattle.topology.specs.Links.{off, at, delta_same}
-use Rattle.topology.specs.Front.{Front, edge_next, next_edge, edge_prev}
+use Rattle.topology.specs.Front.{Front}
+use Rattle.topology.proofs.Front.{edge_next, next_edge, edge_prev}
 use Rattle.front.specs.State.{State, node, next_of, prev_of, edge_is, has_edge, push_edge, add_edge}
 use Rattle.front.specs.Sound.{Sound}
 use Rattle.books.specs.Book.{quad_at}

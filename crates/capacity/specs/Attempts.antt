@@ -13,7 +13,7 @@ use Rattle.domain.specs.declared.Point.{Point}
 use Rattle.domain.specs.Outline.{Outline, point}
 use Rattle.geometry.specs.declared.Corners.{Corners}
 use Rattle.topology.specs.Links.{off}
-use Rattle.topology.specs.Front.{next_in, prev_in}
+use Rattle.topology.proofs.Front.{next_in, prev_in}
 use Rattle.direction.specs.Record.{FieldRecord}
 use Rattle.front.specs.declared.Corner.{Corner}
 use Rattle.front.specs.declared.Corner.TheVariants.{Reused, Fresh}

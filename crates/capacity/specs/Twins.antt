@@ -7,7 +7,7 @@ use native.Mathlib.Omega.{arith}
 use Rattle.std.proofs.lemmas.Bool.{eqb-false}
 use Rattle.domain.specs.Outline.{Outline}
 use Rattle.topology.specs.Links.{off, link_in_lem}
-use Rattle.topology.specs.Front.{source, target, next_edge}
+use Rattle.topology.proofs.Front.{source, target, next_edge}
 use Rattle.direction.specs.Record.{FieldRecord}
 use Rattle.front.specs.declared.Corner.{Corner}
 use Rattle.front.specs.State.{State, next_of, node_places, quad_places, edge_places}

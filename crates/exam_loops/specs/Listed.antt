@@ -9,9 +9,10 @@ use Rattle.laws.specs.Loop.{any_false}
 use Rattle.laws.specs.Tests.{and_both}
 use Rattle.topology.specs.Sums.{front_one}
 use Rattle.topology.specs.Links.{off, link_of, delta, delta_same, delta_is}
-use Rattle.topology.specs.Front.{FrontOf, source, target}
-use Rattle.topology.specs.Listing.{walks_list}
-use Rattle.topology.specs.Pigeonhole.{ids_most}
+use Rattle.topology.specs.Front.{FrontOf}
+use Rattle.topology.proofs.Front.{source, target}
+use Rattle.topology.proofs.Listing.{walks_list}
+use Rattle.topology.proofs.Pigeonhole.{ids_most}
 use Rattle.front.specs.State.{State}
 use Rattle.front.specs.Sound.{Sound}
 use Rattle.paving.specs.Loops.{front_loops}

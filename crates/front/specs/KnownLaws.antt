@@ -8,7 +8,7 @@ use Rattle.std.proofs.Math.Dec.{eqb}
 use borrow.Author.Tests.{eqb-true}
 use Rattle.topology.specs.Sums.{front_sum}
 use Rattle.topology.specs.Links.{off, update, at, at_is, link_set}
-use Rattle.topology.specs.Front.{edge_next, next_edge}
+use Rattle.topology.proofs.Front.{edge_next, next_edge}
 use Rattle.topology.specs.Changes.{Change, remove, add, added_sum}
 use Rattle.topology.specs.Placing.{placing}
 use Rattle.front.specs.declared.Counts.{Counts}

@@ -4,7 +4,8 @@ use Rattle.std.specs.Prelude.{ℕ, zero, suc, ◌+◌, ◌<◌, ◌≤◌, List,
 use Rattle.std.proofs.Common.{sym, ◌∙◌, ap, arith}
 use Rattle.topology.specs.Sums.{front_sum}
 use Rattle.topology.specs.Links.{off, at, link_of, link_out}
-use Rattle.topology.specs.Front.{Loops, source, target, next_edge, next_in, no_self, next_of_prev, prev_in}
+use Rattle.topology.specs.Front.{Loops}
+use Rattle.topology.proofs.Front.{source, target, next_edge, next_in, no_self, next_of_prev, prev_in}
 use Rattle.topology.specs.Changes.{OffFront}
 use Rattle.topology.specs.Placing.{ByKind, Placeable, new_nodes}
 use Rattle.front.specs.declared.Corner.{Corner}

@@ -6,8 +6,10 @@ use Rattle.std.proofs.Math.ListN.{length}
 use Rattle.topology.specs.Sums.{All, Even, total, front_sum, one, loop_one}
 use Rattle.topology.specs.Links.{at}
 use Rattle.topology.specs.Changes.{removed_sum, added_sum}
-use Rattle.topology.specs.Placing.{Kind, reused, fresh, placing, After, placed, placed_edges}
-use Rattle.topology.specs.Balance.{front_sumℤ, quad_sumℤ, Antisymmetric, balance}
+use Rattle.topology.specs.Placing.{Kind, reused, fresh, placing, After, placed_edges}
+use Rattle.topology.proofs.Placing.{placed}
+use Rattle.topology.specs.Balance.{front_sumℤ, quad_sumℤ, Antisymmetric}
+use Rattle.topology.proofs.Balance.{balance}
 use Rattle.front.specs.declared.Corner.{Corner}
 use Rattle.front.specs.State.{State, Quad, quad_at, node, node_places, quad_places, edge_places, push_quad}
 use Rattle.front.specs.Place.{corner_point, id_c, id_d, add_edges, edges_added, is_full, place}

@@ -10,7 +10,7 @@ use borrow.Author.Tests.{eqb-true, lt-ltb, le-ltb}
 use Rattle.laws.specs.Loop.{any_found}
 use Rattle.laws.specs.Tests.{both}
 use Rattle.topology.specs.Links.{off}
-use Rattle.topology.specs.Front.{next_of_prev, prev_in}
+use Rattle.topology.proofs.Front.{next_of_prev, prev_in}
 use Rattle.topology.specs.Sums.{one}
 use Rattle.topology.specs.Changes.{reversed, removed_sum}
 use Rattle.topology.specs.Changes as changes

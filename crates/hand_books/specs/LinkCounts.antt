@@ -7,8 +7,10 @@ use Rattle.laws.specs.Sums.{sum_zero, sum_suc}
 use Rattle.topology.specs.Sums.{total, front_sum, one, front_one}
 use Rattle.previews.specs.FrontAfter.{sum_same}
 use Rattle.topology.specs.Links.{off, delta, at, delta_same, delta_other}
-use Rattle.topology.specs.Front.{Loops, target}
-use Rattle.topology.specs.Walk.{count, once, nodes, outside, cycles, link_count_lem}
+use Rattle.topology.specs.Front.{Loops}
+use Rattle.topology.proofs.Front.{target}
+use Rattle.topology.specs.Walk.{count, link_count_lem}
+use Rattle.topology.proofs.Walk.{once, nodes, outside, cycles}
 
 sum_add : (f g : ℕ → ℕ) (n : ℕ) → sum_up n (λ i. f i + g i) ≡ sum_up n f + sum_up n g
 sum_add f g zero = omega (arith, sum_zero (λ i. f i + g i), sum_zero f, sum_zero g)

@@ -17,7 +17,7 @@ use Rattle.exact.specs.Order.{le_val}
 use Rattle.direction.specs.Direction.{within}
 use Rattle.domain.specs.declared.Point.{Point}
 use Rattle.topology.specs.Links.{off, link_of}
-use Rattle.topology.specs.Front.{next_in, prev_in, prev_of_next, next_of_prev}
+use Rattle.topology.proofs.Front.{next_in, prev_in, prev_of_next, next_of_prev}
 use Rattle.front.specs.State.{State, node_in, node, next_of, prev_of, edge_from, edge_to, Quad, quad_at, node_places, quad_places, edge_places}
 use Rattle.front.specs.Sound.{Sound}
 use Rattle.front.specs.Ready.{Known, Joined}

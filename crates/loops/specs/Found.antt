@@ -8,8 +8,10 @@ use Rattle.topology.specs.Sums.{All, total, path_sum, loop_sum}
 use Rattle.topology.specs.Links.{off, delta, delta_same}
 use Rattle.topology.specs.Front.{Loops}
 use Rattle.topology.specs.Walk.{walk_by, count, least, least_from, turn_to, loop_from, Cycle}
-use Rattle.topology.specs.Walk.{least_le, turn_sum, turn_to_length, cycles, once, nodes, outside, walk_loop}
-use Rattle.topology.specs.Listing.{long_loops, walks, if_listed, total_one, total_add, total_listing}
+use Rattle.topology.specs.Walk.{least_le, turn_sum, turn_to_length}
+use Rattle.topology.proofs.Walk.{cycles, once, nodes, outside, walk_loop}
+use Rattle.topology.specs.Listing.{long_loops, walks, if_listed, total_one, total_add}
+use Rattle.topology.proofs.Listing.{total_listing}
 use Rattle.loops.specs.Walked.{walk_last, walk_more}
 
 -- ---- counts

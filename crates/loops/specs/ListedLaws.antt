@@ -11,10 +11,13 @@ use Rattle.laws.specs.Overlay.{overlay, filled_length, filled_at, filled_past}
 use Rattle.laws.specs.Tabulate.{tabulate}
 use Rattle.topology.specs.Sums.{total, front_one, total_ext}
 use Rattle.topology.specs.Links.{off, link_of, link_in_lem, link_out}
-use Rattle.topology.specs.Front.{Loops, target}
-use Rattle.topology.specs.Walk.{walk_by, count, nodes, cycles, link_count_lem}
-use Rattle.topology.specs.Listing.{walks, if_listed, walks_list, walks_total}
-use Rattle.topology.specs.Pigeonhole.{ids_most}
+use Rattle.topology.specs.Front.{Loops}
+use Rattle.topology.proofs.Front.{target}
+use Rattle.topology.specs.Walk.{walk_by, count, link_count_lem}
+use Rattle.topology.proofs.Walk.{nodes, cycles}
+use Rattle.topology.specs.Listing.{walks, if_listed}
+use Rattle.topology.proofs.Listing.{walks_list, walks_total}
+use Rattle.topology.proofs.Pigeonhole.{ids_most}
 use Rattle.front.specs.State.{State, next_of, node_places}
 use Rattle.front.specs.Sound.{Sound}
 use Rattle.front.specs.declared.Counts.{Counts}

@@ -14,10 +14,12 @@ use Rattle.laws.specs.Loop.{for_up, forUp_keeps, Loop, loop_start_lem, loop_next
 use Rattle.laws.specs.Overlay.{overlay, overlay_length, overlay_more}
 use Rattle.topology.specs.Sums.{total}
 use Rattle.topology.specs.Links.{off, delta, delta_same, delta_other}
-use Rattle.topology.specs.Front.{Loops, no_self}
-use Rattle.topology.specs.Walk.{walk_by, count, once, walk_off}
+use Rattle.topology.specs.Front.{Loops}
+use Rattle.topology.proofs.Front.{no_self}
+use Rattle.topology.specs.Walk.{walk_by, count, walk_off}
+use Rattle.topology.proofs.Walk.{once}
 use Rattle.topology.specs.Listing.{long_loops, walks, add_loop, total_one}
-use Rattle.topology.specs.Pigeonhole.{ids_most}
+use Rattle.topology.proofs.Pigeonhole.{ids_most}
 use Rattle.loops.specs.declared.Listed.{Listed}
 use Rattle.loops.specs.Listed.{Lists, lists, listed_of, written}
 use Rattle.loops.specs.Walked.{links_in, walk_in, mark_all, mark_length, walk_on, walk_last, walk_more, walk_length_lem, entry_read, link_node}

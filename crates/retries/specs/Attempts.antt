@@ -15,7 +15,7 @@ use Rattle.geometry.specs.Plane.{distance}
 use Rattle.direction.specs.Record.{FieldRecord}
 use Rattle.direction.specs.Direction.{nearest_direction}
 use Rattle.topology.specs.Links.{off, link_out}
-use Rattle.topology.specs.Front.{source, target, next_edge, next_in, next_of_prev, prev_in}
+use Rattle.topology.proofs.Front.{source, target, next_edge, next_in, next_of_prev, prev_in}
 use Rattle.front.specs.declared.Corner.{Corner}
 use Rattle.front.specs.declared.Corner.TheVariants.{Reused, Fresh}
 use Rattle.front.specs.declared.Neighbour.TheVariants.{At, Off}

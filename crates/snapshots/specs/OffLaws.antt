@@ -4,7 +4,7 @@ use Rattle.std.proofs.Common.{sym, ◌∙◌, arith, eqb-true}
 use Rattle.std.proofs.lemmas.Bool.{eqb-false}
 use Rattle.topology.specs.Sums.{front_sum}
 use Rattle.topology.specs.Links.{off, at, at_other}
-use Rattle.topology.specs.Front.{next_edge, edge_next, next_of_prev}
+use Rattle.topology.proofs.Front.{next_edge, edge_next, next_of_prev}
 use Rattle.topology.specs.Changes.{added_sum}
 use Rattle.front.specs.declared.Corner.{Corner}
 use Rattle.front.specs.declared.Corner.TheVariants.{Reused, Fresh}

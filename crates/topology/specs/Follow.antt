@@ -5,7 +5,7 @@ use Rattle.std.proofs.Common.{sym, ◌∙◌, arith, eqb-true}
 use Rattle.std.proofs.lemmas.Bool.{eqb-false}
 use Rattle.topology.specs.Sums.{All, total, path_sum, loop_sum, front_sum, Even}
 use Rattle.topology.specs.Links.{off, delta, at, delta_same, delta_other}
-use Rattle.topology.specs.Front.{Loops, edge_next, next_edge}
+use Rattle.topology.specs.Front.{Loops}
 use Rattle.topology.specs.Walk.{count}
 
 -- from u, h follows an edge of the loops, or there is none to follow and h is `off`
@@ -41,15 +41,6 @@ front_one_at : (x y : ℕ) (ls : List (List ℕ)) → front_sum (at x y) ls ≤ 
 front_one_at x y ls = omega (arith, front_two x y (suc y) ls (λ e. omega arith))
 
 -- ---- the theorems
-
--- what follows the edges of the loops is the links
-pub follows_links : (n : ℕ) (f h : ℕ → ℕ) (ls : List (List ℕ)) → Loops n f ls → (u : ℕ) → Follows ls h u → h u ≡ f u
-follows_links n f h ls L u (edge e) = sym (edge_next n f ls L u (h u) e)
-follows_links n f h ls L u (none e z) = by (eqb (f u) off) refl
-  where
-    by : (b : Bool) → eqb (f u) off ≡ b → h u ≡ f u
-    by true q = e ∙ sym (eqb-true (f u) off q)
-    by false q = absurd (omega (arith, z (f u), next_edge n f ls L u (f u) (eqb-false (f u) off q) refl))
 
 -- even loops, of nodes that stand in them once at most, are the loops of the links that follow their edges
 pub follows_loops : (n : ℕ) (h : ℕ → ℕ) (ls : List (List ℕ)) → n ≤ off → All Even ls → ((u : ℕ) → 0 < total (count u) ls → u < n)

@@ -11,6 +11,5 @@ pub mod Balance
 pub mod Walk
 pub mod Follow
 pub mod Listing
-pub mod Pigeonhole
 pub mod LongLoops
 pub mod Examples

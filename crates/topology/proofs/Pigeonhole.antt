@@ -7,7 +7,8 @@ use Rattle.laws.specs.Sums.{sum_zero, sum_suc, sum_most}
 use Rattle.topology.specs.Sums.{total}
 use Rattle.topology.specs.Links.{delta, delta_same}
 use Rattle.topology.specs.Front.{Loops}
-use Rattle.topology.specs.Walk.{count, once, nodes}
+use Rattle.topology.specs.Walk.{count}
+use Rattle.topology.proofs.Walk.{once, nodes}
 
 -- ---- sums
 

@@ -1,6 +1,6 @@
 -- The file of a request reads back as the request, the floats as doubles. `round_trip`, the last statement, says so of every request that a file can
 -- hold. The logic has one NaN, whose bits a file has as 0x7ff8_0000_0000_0000, so a NaN reads back as a NaN.
-use Rattle.std.specs.Prelude.{◌≡◌, Bool, true, false, T, drop, replicate, Float}
+use Rattle.std.specs.Prelude.{◌≡◌, true, T, drop, replicate, Float}
 use Rattle.std.proofs.Math.Path.{refl, sym, ap, ap₂, subst}
 use Rattle.std.proofs.Common.{◌∙◌, add_comm, mul-suc, pow-add, length-take, length-drop}
 use Rattle.std.proofs.Math.Bool.{not}
@@ -15,7 +15,7 @@ use Rattle.std.proofs.Math.Seq.{take_at, take-length, drop-append-add, get_or-ap
 use Rattle.std.specs.Float.Ieee.{nan, binary64, fits, to_bits}
 use Rattle.std.specs.Float.Ieee.Bits.{of_bits-to_bits, to_bits-lt}
 use Rattle.laws.specs.Tests.{both}
-use Rattle.laws.specs.Loop.{forUp_same, forUp_keeps, none_found, any_up, sum_up, sum_turn}
+use Rattle.laws.specs.Loop.{forUp_same, forUp_keeps, none_found, sum_up, sum_turn}
 use Rattle.laws.specs.Sums.{sum_term}
 use Rattle.laws.specs.Tabulate.{tabulate, tabulate_same, tabulate_take, tabulate_length, tabulate_map, tabulate_at}
 use Rattle.numbers.specs.Float.{bits}

@@ -1,5 +1,5 @@
 -- Laws of bytes, numbers and blocks: what the loops of the code rest on. Assumes nothing.
-use Rattle.std.specs.Prelude.{◌≡◌, refl, true, false, not, List, ℕ, zero, suc, ◌+◌, ◌-◌, ◌*◌, ◌%◌, ◌^◌, ◌≤◌, ◌<◌, T, get_or, drop, Float}
+use Rattle.std.specs.Prelude.{◌≡◌, refl, true, not, List, ℕ, zero, suc, ◌+◌, ◌-◌, ◌*◌, ◌%◌, ◌^◌, ◌≤◌, ◌<◌, T, get_or, drop, Float}
 use Rattle.std.proofs.Math.Path.{sym, ap}
 use Rattle.std.proofs.Common.{◌∙◌, subst, true≢false, mul-le-mul, lt_of_lt_of_le, lt-ltb, le-ltb, pow_mono, pow-add, drop_of_length-le}
 use native.Mathlib.Omega.{arith}

@@ -1,13 +1,11 @@
 -- Laws of reading a file that isn't refused. Assumes nothing.
-use Rattle.std.specs.Prelude.{◌≡◌, refl, ℕ, zero, suc, ◌+◌, ◌-◌, ◌*◌, ◌/◌, ◌%◌, ◌≤◌, ◌<◌, length, get_or, set, drop, Float}
+use Rattle.std.specs.Prelude.{◌≡◌, refl, ℕ, zero, suc, ◌+◌, ◌*◌, ◌/◌, ◌%◌, ◌≤◌, length, drop, Float}
 use Rattle.std.proofs.Math.Path.{sym, ap}
-use Rattle.std.proofs.Common.{ap₂, ◌∙◌, add-one, arith, length-append, length-take, length-drop, drop-cons}
-use mathlib.Core.List.{List, ◌++◌}
-use Rattle.std.proofs.lemmas.List.{set_at}
-use Rattle.std.proofs.Math.Seq.{append_snoc}
+use Rattle.std.proofs.Common.{◌∙◌, arith, length-take, length-drop}
+use mathlib.Core.List.{List}
 use Rattle.laws.specs.Loop.{for_up}
 use Rattle.laws.specs.Overlay.{overlay}
-use Rattle.laws.specs.Tabulate.{tabulate, tabulate_suc, tabulate_length, tabulate_at}
+use Rattle.laws.specs.Tabulate.{tabulate, tabulate_length, tabulate_at}
 use Rattle.domain.specs.Accepted.{first_zero}
 use Rattle.outline_file.specs.declared.Head.{Head}
 use Rattle.outline_file.specs.File.{number_at, float_at, block_at, block_refusal, head_loops, head_length, head_points, head_refusal, point_blocks}

@@ -1,6 +1,5 @@
 -- `outline_file::read_points` meets its contract: the loop's invariant is `Filling`, and each answer is a law of it.
 use Rattle.laws.specs.Overlay.{fill_start, fill_length, fill_next, fill_end}
-use Rattle.outline_file.specs.File.{coordinate_at}
 use native.Mathlib.Omega.{arith}
 use Rattle.outline_file.proofs.read_points.Goals as goal
 

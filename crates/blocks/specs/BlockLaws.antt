@@ -6,8 +6,10 @@ use Rattle.std.specs.Float.{binary64}
 use Rattle.std.specs.Float.Ieee.{fits}
 use Rattle.domain.specs.Outline.{Outline, hole_length, hole_start, hole_at, loop_at, points, point_at, point_after, most_points}
 use Rattle.domain.specs.Outline.{misshapen, outline_refusal, LoopPlace}
-use Rattle.domain.specs.OutlineLaws.{start_over, shaped, HolesPassed, passed_place, passed_few}
-use Rattle.domain.specs.Accepted.{OutlineFits, Accepted, accepted, each, loop_within}
+use Rattle.domain.specs.OutlineLaws.{start_over, shaped, HolesPassed}
+use Rattle.domain.proofs.OutlineLaws.{passed_place, passed_few}
+use Rattle.domain.specs.Accepted.{OutlineFits, Accepted, each, loop_within}
+use Rattle.domain.proofs.Accepted.{accepted}
 use Rattle.blocks.specs.Blocks.{reach, block_size, block_end, BlockThere, BlockFiled, LoopFiled, LoopDrawn, points_before, first_block, first_block_at}
 use Rattle.blocks.specs.Blocks.{Drawn, segment_extent, block_extent, Covers}
 use Rattle.blocks.specs.BetweenLaws.{BlockPlace}

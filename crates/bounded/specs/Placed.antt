@@ -11,7 +11,7 @@ use Rattle.exact.specs.Units.{widen}
 use Rattle.domain.specs.declared.Point.{Point}
 use Rattle.domain.specs.Outline.{Outline, point, outline_refusal}
 use Rattle.domain.specs.Accepted.{OutlineFits, PointFits}
-use Rattle.domain.specs.Inside.{inside}
+use Rattle.domain.proofs.Inside.{inside}
 use Rattle.geometry.specs.Plane.{convex_ccw}
 use Rattle.front.specs.declared.Corner.{Corner}
 use Rattle.front.specs.declared.Corner.TheVariants.{Reused, Fresh}

@@ -14,7 +14,8 @@ use Rattle.exact.specs.Blend.{Millionth, millionth, Fraction, fraction, blend}
 use Rattle.exact.specs.Monotone.{mean_within}
 use Rattle.domain.specs.declared.Point.{Point}
 use Rattle.domain.specs.Outline.{Outline, loop_at, points, point, point_at, point_after, outline_refusal}
-use Rattle.domain.specs.Accepted.{OutlineFits, PointWithin, accepted, loop_within, after_within}
+use Rattle.domain.specs.Accepted.{OutlineFits, PointWithin, loop_within, after_within}
+use Rattle.domain.proofs.Accepted.{accepted}
 use Rattle.geometry.specs.Plane.{distance}
 use Rattle.front.specs.Sampling.{stretch, cut, parts_of, parts}
 use Rattle.bounded.specs.Point.{Bounded}

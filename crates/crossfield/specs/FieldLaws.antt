@@ -6,7 +6,8 @@ use Rattle.std.specs.Float.{binary64}
 use Rattle.std.specs.Float.Ieee.{fits}
 use Rattle.numbers.specs.Float.{◌⊖◌, ◌⊗◌, half_f}
 use Rattle.domain.specs.Outline.{Outline, first_of, loop_at, outline_refusal}
-use Rattle.domain.specs.Accepted.{cond_zero, first_zero, OutlineFits, accepted}
+use Rattle.domain.specs.Accepted.{cond_zero, first_zero, OutlineFits}
+use Rattle.domain.proofs.Accepted.{accepted}
 use Rattle.blocks.specs.Blocks.{Drawn}
 use Rattle.direction.specs.declared.Grid.{Grid}
 use Rattle.direction.specs.Record.{grid_nodes, most_field_nodes}

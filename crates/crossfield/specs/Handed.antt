@@ -11,7 +11,8 @@ use Rattle.exact.specs.Order.{le_val}
 use Rattle.exact.specs.Operations.{sub_law}
 use Rattle.exact.specs.SineBounds.{rel}
 use Rattle.domain.specs.Outline.{Outline, any_float}
-use Rattle.domain.specs.Accepted.{OutlineFits, accepted}
+use Rattle.domain.specs.Accepted.{OutlineFits}
+use Rattle.domain.proofs.Accepted.{accepted}
 use Rattle.direction.specs.Record.{grid_nodes, most_field_nodes, FieldLists, FieldRecord}
 use Rattle.direction.specs.Direction.{least_spacing, most_spacing, most_origin, within, counts_sound, grid_sound, value_unsound}
 use Rattle.direction.specs.Direction.{record_refusal}

@@ -1,19 +1,18 @@
 -- What the refusals 1 to 4 leave of an outline: `Accepted`. And `loop_within`: where the outline's floats are doubles, every point of every loop
 -- is within 1,000. Assumes nothing.
-use Rattle.std.specs.Prelude.{Bool, true, false, ◌||◌, cond, List, ◌≡◌, refl, ℕ, zero, suc, ◌+◌, ◌-◌, ◌*◌, min, ◌≤◌, ◌<◌, T, ltb, length, get_or, take, drop, Float}
-use Rattle.std.proofs.Common.{inl, inr, sym, ap, ◌∙◌, subst, zero-le, le_of_eq, le_antisymm, le_of_suc-le-suc, eq-or-lt_of_le, lt_of_lt_of_le, arith, ltb-true, ltb-false, length-take, length-drop, get_or-drop, get_or-take}
+use Rattle.std.specs.Prelude.{Bool, true, false, ◌||◌, cond, List, ◌≡◌, refl, ℕ, zero, suc, ◌+◌, ◌-◌, ◌*◌, min, ◌≤◌, ◌<◌, T, ltb, length, get_or, drop, Float}
+use Rattle.std.proofs.Common.{sym, ap, ◌∙◌, subst, le_of_eq, lt_of_lt_of_le, arith, ltb-true, length-take, length-drop, get_or-drop, get_or-take}
 use Rattle.std.proofs.lemmas.Bool.{not-false}
 use Rattle.std.specs.Float.{nan, binary64}
-use Rattle.std.specs.Float.Ieee.{fits, lt, of_bits}
-use Rattle.laws.specs.Loop.{forUp_keeps, any_none}
+use Rattle.std.specs.Float.Ieee.{fits, of_bits}
 use Rattle.laws.specs.Tests.{neither}
-use Rattle.numbers.specs.Float.{is_finite, abs_f}
+use Rattle.numbers.specs.Float.{is_finite}
 use Rattle.exact.specs.Units.{W, Val, Within}
 use Rattle.exact.specs.Order.{within_abs}
 use Rattle.domain.specs.declared.Point.{Point}
 use Rattle.domain.specs.Outline.{Outline, hole_length, hole_start, hole_at, loop_at, points, point_at, point_after}
-use Rattle.domain.specs.Outline.{first_of, any_float, not_finite, farthest, beyond}
-use Rattle.domain.specs.Outline.{misshapen, loop_refusal, hole_refusal, loops_refusal, far_refusal, outline_refusal, point_refusal}
+use Rattle.domain.specs.Outline.{first_of, not_finite, farthest, beyond}
+use Rattle.domain.specs.Outline.{misshapen, point_refusal}
 
 -- ---- what owning floats of type f64 tells: they are doubles
 
@@ -50,30 +49,6 @@ pub first_zero : (a b : ℕ) → first_of a b ≡ 0 → (a ≡ 0) × (b ≡ 0)
 first_zero zero b e = (refl, e)
 first_zero (suc a) b e = absurd (omega arith)
 
--- no loop is refused
-loops_zero : (o : Outline) → loops_refusal o ≡ 0 → (k : ℕ) → k ≤ length o.lens → loop_refusal (loop_at o k) ≡ 0
-unfolding loops_refusal loop_at
-loops_zero o =
-    forUp_keeps (λ n r. r ≡ 0 → (k : ℕ) → k ≤ n → loop_refusal (loop_at o k) ≡ 0) (length o.lens) (hole_refusal o) (loop_refusal o.outer)
-    (λ e k h. ap (λ (j : ℕ). loop_refusal (loop_at o j)) (le_antisymm h zero-le) ∙ e)
-    (λ n r l ih e k h. elim (eq-or-lt_of_le h) [
-      | inl last ↦ ap (λ (j : ℕ). loop_refusal (loop_at o j)) last ∙ (first_zero r _ e).1
-      | inr less ↦ ih (first_zero r _ e).0 k (le_of_suc-le-suc less)
-    ])
-
--- no float of a list passes a test
-no_float : (test : Float → Bool) (xs : List Float) → any_float test xs ≡ false → (i : ℕ) → i < length xs → test (get_or xs i nan) ≡ false
-unfolding any_float
-no_float test xs e i h = any_none (λ i. test (get_or xs i nan)) (length xs) e i h
-
-loop_three : (s : List Float) → loop_refusal s ≡ 0 → 3 ≤ points s
-unfolding loop_refusal
-loop_three s e = ltb-false (points s) 3 (cond_zero (ltb (points s) 3) 1 _ e).0
-
-loop_finite : (s : List Float) → loop_refusal s ≡ 0 → (i : ℕ) → i < length s → is_finite (get_or s i nan) ≡ true
-unfolding loop_refusal
-loop_finite s e i h = not-false _ (no_float not_finite s (cond_zero _ 2 0 (cond_zero (ltb (points s) 3) 1 _ e).1).0 i h)
-
 -- where coordinate i of hole k stands in the holes' list
 record InHoles (o : Outline) (k i : ℕ) : Type 0 where
   there : 2 * hole_start o.lens k + i < length o.holes
@@ -95,20 +70,6 @@ pub each : (o : Outline) (P : Float → Type 0)
 unfolding loop_at
 each o P outer holes zero i h = outer i h
 each o P outer holes (suc k) i h = let a = in_holes o k i h in subst P (sym a.same) (holes (2 * hole_start o.lens k + i) a.there)
-
-pub accepted : (o : Outline) → outline_refusal o ≡ 0 → Accepted o
-unfolding outline_refusal far_refusal
-accepted o e =
-    let a = cond_zero (misshapen o) 0 _ e in
-    let b = first_zero (loops_refusal o) (far_refusal o) a.1 in
-    let loops = loops_zero o b.0 in
-    let c = neither (any_float beyond o.outer) (any_float beyond o.holes) (cond_zero _ 3 0 b.1).0 in
-    record {
-      shape = a.0;
-      three = λ k h. loop_three (loop_at o k) (loops k h);
-      finite = λ k i h. loop_finite (loop_at o k) (loops k h) i;
-      near = λ k i h. each o (λ x. beyond x ≡ false) (no_float beyond o.outer c.0) (no_float beyond o.holes c.1) k i;
-    }
 
 -- ---- the points of an accepted outline of doubles
 

@@ -1,6 +1,5 @@
 pub mod Accepted
 pub mod Examples
-pub mod Inside
 pub mod Limits
 pub mod Outline
 pub mod OutlineLaws

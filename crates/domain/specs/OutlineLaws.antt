@@ -71,25 +71,6 @@ pub record HolePart (o : Outline) (k start : ℕ) : Type 0 where
   pub few : length o.holes ≤ 2 * most_points
   pub same : take (2 * start + 2 * hole_length o.lens (k - 1) - 2 * start) (drop (2 * start) o.holes) ≡ loop_at o k
 
-pub hole_part : {o : Outline} {start : ℕ} (k : ℕ) → LoopPlace o k start → (k ≡ 0 → ⊥) → HolePart o k start
-unfolding loop_at hole_at
-hole_part zero l h = absurd (h refl)
-hole_part {o} {start} (suc k) l h =
-    let s = shaped o l.shape in
-    let over = start_over o.lens k (length o.lens) l.within in
-    let len = ap (hole_length o.lens) (last k) in
-    record {
-      ends = omega (arith, l.at, len);
-      few = omega arith;
-      same = rw (len, taken (2 * start) (2 * hole_length o.lens k), l.at) refl;
-    }
-  where
-    last : (k : ℕ) → suc k - 1 ≡ k
-    last k = omega arith
-
-    taken : (a b : ℕ) → a + b - a ≡ b
-    taken a b = omega arith
-
 -- the points handed out: loop 0 is the outer one, and loop k + 1 is hole k
 pub outer_points : (o : Outline) {s : List Float} → s ≡ loop_at o 0 → s ≡ o.outer
 unfolding loop_at
@@ -106,22 +87,6 @@ outer_place o e = record { shape = e; within = omega arith; at = refl }
 pub record HolesPassed (o : Outline) (k start : ℕ) : Type 0 where
   pub shape : misshapen o ≡ false
   pub at : start ≡ hole_start o.lens k
-
-module _ {o : Outline} where
-  pub passed_none : misshapen o ≡ false → HolesPassed o 0 0
-  passed_none e = record { shape = e; at = sym (start_first o.lens) }
-
-  module _ {k start : ℕ} (p : HolesPassed o k start) (h : k < length o.lens) where
-    pub passed_next : HolesPassed o (k + 1) (start + hole_length o.lens k)
-    passed_next = record { shape = p.shape; at = omega (arith, p.at, start_next o.lens k) }
-
-    pub passed_place : LoopPlace o (k + 1) start
-    passed_place = record { shape = p.shape; within = omega arith; at = rw add-one p.at }
-
-    pub passed_few : start + hole_length o.lens k ≤ most_points
-    passed_few =
-        let s = shaped o p.shape in
-        omega (arith, p.at, start_over o.lens k (length o.lens) h)
 
 -- ---- lengths taken off a total
 

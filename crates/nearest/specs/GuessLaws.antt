@@ -16,7 +16,8 @@ use Rattle.domain.specs.declared.Search.{Search}
 use Rattle.domain.specs.Outline.{Outline, hole_at, points, point_at, point_after}
 use Rattle.domain.specs.Queries.{squared_distance, foot_of, point_segment_distance, near, nowhere, nearer, segment_turn, nearest_in_loop, hole_turn, nearest_segment}
 use Rattle.domain.specs.Search.{search, search_start, searched, search_turn, search_loop, search_hole, search_from}
-use Rattle.domain.specs.SearchLaws.{Finds, finds_segment, search_same}
+use Rattle.domain.specs.SearchLaws.{Finds, finds_segment}
+use Rattle.domain.proofs.SearchLaws.{search_same}
 use Rattle.blocks.specs.OrderLaws.{lt_self, lt_cut}
 use Rattle.nearest.specs.FarLaws.{either_way}
 

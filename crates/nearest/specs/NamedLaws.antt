@@ -20,7 +20,8 @@ use Rattle.domain.specs.declared.Point.{Point}
 use Rattle.domain.specs.declared.Near.{Near}
 use Rattle.domain.specs.Outline.{Outline, loop_at, points, point_at, point_after, outline_refusal, point_refusal}
 use Rattle.domain.specs.Queries.{squared_distance, point_segment_distance, near, nowhere, nearer, segment_turn, nearest_in_loop, hole_turn, nearest_segment}
-use Rattle.domain.specs.Accepted.{OutlineFits, PointFits, Accepted, each, accepted, point_within, loop_within}
+use Rattle.domain.specs.Accepted.{OutlineFits, PointFits, Accepted, each, point_within, loop_within}
+use Rattle.domain.proofs.Accepted.{accepted}
 use Rattle.blocks.specs.OrderLaws.{lt_through, lt_cut, lt_self}
 use Rattle.nearest.specs.Far.{moderate_bound, ModeratePoint}
 use Rattle.nearest.specs.FarLaws.{EndsWithin, segment_ends, foot_lies}

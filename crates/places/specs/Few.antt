@@ -22,7 +22,8 @@ use Rattle.exact.specs.Corner.{norm}
 use Rattle.domain.specs.declared.Point.{Point}
 use Rattle.domain.specs.Outline.{Outline, hole_length, hole_start, hole_at, loop_at, points, point_at, point_after, most_points, outline_refusal}
 use Rattle.domain.specs.OutlineLaws.{start_first, start_next, start_over, shaped}
-use Rattle.domain.specs.Accepted.{OutlineFits, PointWithin, Accepted, accepted, loop_within, after_within}
+use Rattle.domain.specs.Accepted.{OutlineFits, PointWithin, Accepted, loop_within, after_within}
+use Rattle.domain.proofs.Accepted.{accepted}
 use Rattle.geometry.specs.Plane.{distance}
 use Rattle.crossfield.specs.Grid.{size_refusal}
 use Rattle.crossfield.specs.Spacing.{cells_le, Sized, sized, size_units}

@@ -9,7 +9,8 @@ use Rattle.std.specs.Float.Ieee.{fits}
 use Rattle.domain.specs.declared.Settings.{Settings}
 use Rattle.domain.specs.Outline.{Outline, first_of, misshapen, outline_refusal}
 use Rattle.domain.specs.Queries.{answer_by}
-use Rattle.domain.specs.Accepted.{first_zero, OutlineFits, accepted}
+use Rattle.domain.specs.Accepted.{first_zero, OutlineFits}
+use Rattle.domain.proofs.Accepted.{accepted}
 use Rattle.domain.specs.RefusalLaws.{first_stays, answer_refused}
 use Rattle.direction.specs.declared.Grid.{Grid}
 use Rattle.direction.specs.Record.{grid_nodes, most_field_nodes, FieldLists}

@@ -2,7 +2,7 @@
 use Rattle.std.specs.Prelude.{◌≡◌, ℕ, ◌<◌, ◌≤◌}
 use Rattle.std.proofs.Common.{le_of_suc-le-suc}
 use Rattle.domain.specs.Outline.{Outline, loop_at, points, outline_refusal}
-use Rattle.domain.specs.Accepted.{accepted}
+use Rattle.domain.proofs.Accepted.{accepted}
 use Rattle.front.specs.Sampling.{loop_count}
 
 -- every loop has three points or more

@@ -8,7 +8,8 @@ use Rattle.std.proofs.lemmas.Bool.{eqb-false}
 use Rattle.laws.specs.Tests.{both, neither, and_both}
 use Rattle.laws.specs.Loop.{any_up, any_none, none_found}
 use Rattle.domain.specs.Outline.{Outline, misshapen, outline_refusal, hole_at, loop_at, points}
-use Rattle.domain.specs.Accepted.{OutlineFits, LoopWithin, accepted, loop_within}
+use Rattle.domain.specs.Accepted.{OutlineFits, LoopWithin, loop_within}
+use Rattle.domain.proofs.Accepted.{accepted}
 use Rattle.sound_outlines.specs.Sound.{segment_start, crosses_itself, touch, is_inside, strays_out, lies_in, outline_sound}
 use Rattle.sound_outlines.specs.Whole.{is_whole}
 

@@ -1,8 +1,9 @@
 -- `blocks::file` meets its contract: the loop's invariant is that the loops passed are filed, and where the next hole's points begin.
 use mathlib.Core.Path.{refl, ◌∙◌}
 use native.Mathlib.Omega.{arith}
-use Rattle.domain.specs.OutlineLaws.{outer_place, passed_none, passed_next, passed_place, passed_few}
-use Rattle.domain.specs.Accepted.{accepted}
+use Rattle.domain.specs.OutlineLaws.{outer_place}
+use Rattle.domain.proofs.OutlineLaws.{passed_none, passed_next, passed_place, passed_few}
+use Rattle.domain.proofs.Accepted.{accepted}
 use Rattle.blocks.specs.BlockLaws.{loop_few, hole_asks, hole_most}
 use Rattle.blocks.specs.FilingLaws.{outer_filed, hole_filed, drawn}
 use Rattle.blocks.proofs.file.Goals as goal

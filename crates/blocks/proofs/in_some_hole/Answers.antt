@@ -1,7 +1,8 @@
 -- `blocks::in_some_hole` meets its contract: the loop's invariant is a search that has found nothing, and where the next hole's points begin.
 use native.Mathlib.Omega.{arith}
 use Rattle.laws.specs.Loop.{scan_start, scan_next, scan_hit, scan_none}
-use Rattle.domain.specs.OutlineLaws.{hole_points, passed_none, passed_next, passed_place, passed_few}
+use Rattle.domain.specs.OutlineLaws.{hole_points}
+use Rattle.domain.proofs.OutlineLaws.{passed_none, passed_next, passed_place, passed_few}
 use Rattle.blocks.specs.BlockLaws.{drawn_shape, hole_asks, hole_drawn}
 use Rattle.blocks.proofs.in_some_hole.Goals as goal
 

@@ -1,7 +1,8 @@
 -- `crossfield::bounds_of` meets its contract. Assumes nothing.
 use native.Mathlib.Omega.{arith}
 use Rattle.laws.specs.Loop.{loop_start_lem, loop_next, loop_end}
-use Rattle.domain.specs.OutlineLaws.{outer_points, hole_points, outer_place, passed_none, passed_next, passed_place, passed_few}
+use Rattle.domain.specs.OutlineLaws.{outer_points, hole_points, outer_place}
+use Rattle.domain.proofs.OutlineLaws.{passed_none, passed_next, passed_place, passed_few}
 use Rattle.crossfield.specs.Grid.{no_bounds, bounds}
 use Rattle.crossfield.proofs.bounds_of.Goals as goal
 

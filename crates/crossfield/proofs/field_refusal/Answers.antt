@@ -2,7 +2,7 @@
 use mathlib.Core.Path.{sym, ◌∙◌, subst}
 use lib.Dec.{T}
 use Rattle.domain.specs.RefusalLaws.{first_stays}
-use Rattle.domain.specs.Accepted.{accepted}
+use Rattle.domain.proofs.Accepted.{accepted}
 use Rattle.crossfield.specs.FieldLaws.{few}
 use Rattle.crossfield.proofs.field_refusal.Goals as goal
 

@@ -1,7 +1,7 @@
 -- `crossfield::make_field` meets its contract. Assumes nothing.
 use mathlib.Core.Path.{sym, subst}
 use lib.Dec.{T}
-use Rattle.domain.specs.Accepted.{accepted}
+use Rattle.domain.proofs.Accepted.{accepted}
 use Rattle.averages.specs.Places.{room_of}
 use Rattle.crossfield.specs.FieldLaws.{field_unrefused, few_made, room_made, seeds_ask}
 use Rattle.crossfield.specs.Field.{field_refusal, field_of}

@@ -1,7 +1,8 @@
 -- `nearest::search_all` meets its contract: the loop's invariant is `Loop` of the definition's turn over the holes, and where the next hole's points begin.
 use native.Mathlib.Omega.{arith}
 use Rattle.laws.specs.Loop.{loop_start_lem, loop_next, loop_end}
-use Rattle.domain.specs.OutlineLaws.{outer_place, passed_none, passed_next, passed_place, passed_few}
+use Rattle.domain.specs.OutlineLaws.{outer_place}
+use Rattle.domain.proofs.OutlineLaws.{passed_none, passed_next, passed_place, passed_few}
 use Rattle.blocks.specs.BlockLaws.{drawn_shape, hole_asks, hole_drawn, outer_drawn}
 use Rattle.nearest.specs.PassLaws.{searched_hole, searched_all}
 use Rattle.nearest.proofs.search_all.Goals as goal

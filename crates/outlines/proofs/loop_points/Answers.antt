@@ -2,7 +2,7 @@
 use mathlib.Core.Path.{refl}
 use native.Mathlib.Omega.{arith}
 use Rattle.domain.specs.Outline.{loop_at}
-use Rattle.domain.specs.OutlineLaws.{hole_part}
+use Rattle.domain.proofs.OutlineLaws.{hole_part}
 use Rattle.outlines.proofs.loop_points.Goals as goal
 
 pub returns-then-k-eq0 : goal.returns-then-k-eq0

@@ -1,7 +1,8 @@
 -- `domain::loops_refusal` meets its contract: the loop's invariant is that no loop so far is refused, and where the next hole's points begin.
 use mathlib.Core.Path.{sym}
 use native.Mathlib.Omega.{arith}
-use Rattle.domain.specs.OutlineLaws.{outer_points, hole_points, outer_place, passed_none, passed_next, passed_place, passed_few}
+use Rattle.domain.specs.OutlineLaws.{outer_points, hole_points, outer_place}
+use Rattle.domain.proofs.OutlineLaws.{passed_none, passed_next, passed_place, passed_few}
 use Rattle.domain.specs.RefusalLaws.{unrefused_start, unrefused_next, unrefused_end, outer_refused, hole_refused}
 use Rattle.outlines.proofs.loops_refusal.Goals as goal
 

@@ -3,7 +3,7 @@ use mathlib.Core.Path.{sym, ◌∙◌}
 use native.Mathlib.Omega.{arith}
 use borrow.Author.Tests.{lt-ltb, le-ltb}
 use Prim.Native.Nat.{ℕ, suc, ◌<◌, ◌≤◌}
-use Rattle.domain.specs.Accepted.{accepted}
+use Rattle.domain.proofs.Accepted.{accepted}
 use Rattle.domain.specs.RefusalLaws.{first_stays}
 use Rattle.crossfield.specs.FieldLaws.{field_unrefused}
 use Rattle.run_refusal.proofs.refusal.Goals as goal

@@ -1,6 +1,7 @@
 -- `soundness::clashes_before` meets its contract: the loop is a search that has found nothing yet, and where the next hole's points begin.
 use native.Mathlib.Omega.{arith}
-use Rattle.domain.specs.OutlineLaws.{hole_points, passed_none, passed_next, passed_place, passed_few}
+use Rattle.domain.specs.OutlineLaws.{hole_points}
+use Rattle.domain.proofs.OutlineLaws.{passed_none, passed_next, passed_place, passed_few}
 use Rattle.laws.specs.Loop.{scan_start, scan_next, scan_hit, scan_none}
 use Rattle.soundness.proofs.clashes_before.Goals as goal
 

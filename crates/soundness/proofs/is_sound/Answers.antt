@@ -1,8 +1,10 @@
 -- `soundness::is_sound` meets its contract: `sound_walk`: the loop is a search that has found nothing yet, and where the next hole's points begin.
 use native.Mathlib.Omega.{arith}
 use Rattle.soundness.specs.WalkLaws.{judged, outer_within, walk_outer, walk_holes}
-use Rattle.domain.specs.Accepted.{OutlineFits, accepted}
-use Rattle.domain.specs.OutlineLaws.{hole_points, passed_none, passed_next, passed_place, passed_few}
+use Rattle.domain.specs.Accepted.{OutlineFits}
+use Rattle.domain.proofs.Accepted.{accepted}
+use Rattle.domain.specs.OutlineLaws.{hole_points}
+use Rattle.domain.proofs.OutlineLaws.{passed_none, passed_next, passed_place, passed_few}
 use Rattle.laws.specs.Loop.{scan_start, scan_next, scan_hit, scan_none}
 use Rattle.soundness.proofs.is_sound.Goals as goal
 

@@ -14,7 +14,8 @@ use Rattle.domain.specs.declared.Point.{Point}
 use Rattle.domain.specs.Outline.{Outline, loop_at, points, point_at, point_after, outline_refusal}
 use Rattle.domain.specs.Queries.{ray_crosses, polygon_turn, point_in_polygon, contains}
 use Rattle.domain.specs.Parity.{odd_up, odd_same, odd_none, odd_ring}
-use Rattle.domain.specs.Accepted.{OutlineFits, PointFits, PointWithin, accepted, LoopWithin, loop_within, after_within}
+use Rattle.domain.specs.Accepted.{OutlineFits, PointFits, PointWithin, LoopWithin, loop_within, after_within}
+use Rattle.domain.proofs.Accepted.{accepted}
 
 -- ---- one edge from a to b
 

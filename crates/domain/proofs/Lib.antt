@@ -1,0 +1,4 @@
+pub mod Accepted
+pub mod Inside
+pub mod OutlineLaws
+pub mod SearchLaws

@@ -75,8 +75,8 @@ overflow_add-j c =
 pub loop-u-preserved : goal.loop-u-preserved
 loop-u-preserved c =
     elim c.if-v.branch [
-      then-v w ↦ rw (w.list-is, w.j-is) (written_on _ _ _ c.loop-u.invariant c.loop-u-test.true c.link_shown-v.ensures w.if-v.true)
-    | else-v w ↦ rw (w.list-is, w.j-is) (written_off _ _ _ c.loop-u.invariant c.loop-u-test.true c.link_shown-v.ensures w.if-v.false)
+      | then-v w ↦ rw (w.list-is, w.j-is) (written_on _ _ _ c.loop-u.invariant c.loop-u-test.true c.link_shown-v.ensures w.if-v.true)
+      | else-v w ↦ rw (w.list-is, w.j-is) (written_off _ _ _ c.loop-u.invariant c.loop-u-test.true c.link_shown-v.ensures w.if-v.false)
     ]
 
 pub returns : goal.returns

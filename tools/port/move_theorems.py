@@ -258,7 +258,15 @@ def moves_of(crate, broken, say):
                 along.add(it)
         moved |= along
         more = bool(along)
-    return modules, uses, of, moved
+    # in a split section, a private helper of both is written in both
+    copied, more = set(), True
+    while more:
+        found = {jt for it in moved | copied for jt in uses[it] - moved - copied if jt.parent and "pub" not in jt.mark and of[jt] is of[it] and top(jt) is top(it)}
+        copied |= found
+        more = bool(found)
+    for it in copied:
+        say(f"{crate}: {of[it].name}.{it.names[0]} is written in both")
+    return modules, uses, of, moved, copied
 
 
 def sources():
@@ -359,7 +367,7 @@ def move(crates, dry):
     targets, moved_files = {}, set()
     for word in crates:
         crate, _, broken = word.partition("=")
-        modules, uses, of, moved = moves_of(crate, [it for it in broken.split(",") if it], say)
+        modules, uses, of, moved, copied = moves_of(crate, [it for it in broken.split(",") if it], say)
         parts = collections.defaultdict(set)
         for it in moved:
             parts[of[it].name] |= {it}
@@ -370,15 +378,15 @@ def move(crates, dry):
                 targets[crate, name] = {jt for it in gone for jt in it.names}, whole
                 plain = sum(it.is_plain() for it in gone)
                 say(f"{crate}: {name}: {plain} theorems of {sum(it.is_plain() for it in module.decls)} move{', the whole file' if whole else ''}")
-        for it in moved:
-            for jt in uses[it] - moved:
+        for it in moved | copied:
+            for jt in uses[it] - moved - copied:
                 if "pub" not in jt.mark:
                     make_public(jt, say, crate, of[jt])
                 if jt.parent and jt.parent is it.parent or jt.parent and it.parent and it.parent.parent is jt.parent:
                     say(f"{crate}: BY HAND: {of[it].name}.{it.names[0]} moves and {jt.names[0]}, in the same section, stays: it takes the section's parameters")
             for line in it.lines:
                 if line.split()[:1] == ["unfolding"]:
-                    for jt in uses[it] - moved:
+                    for jt in uses[it] - moved - copied:
                         if jt.is_plain() and set(jt.names) & set(line.split()[1:]):
                             make_unfoldable(jt, say, crate, of[jt])
             for jt in [it]:
@@ -405,9 +413,9 @@ def move(crates, dry):
                 write(new, "\n".join(lines) + "\n")
                 edit_lib(f"crates/{crate}/specs/Lib.antt", name, False)
             else:
-                body = render(module.items, lambda it: it in moved)
+                body = render(module.items, lambda it: it in moved | copied)
                 text = "\n".join(body)
-                needed = [jt for kt in module.decls if kt not in moved for jt in kt.names if occurs(jt, text)]
+                needed = [jt for kt in module.decls if kt not in moved | copied for jt in kt.names if occurs(jt, text)]
                 lines = [f"-- What holds of the definitions of specs/{name}.antt."] + imports(module, crate, targets, text)
                 if needed:
                     lines.append(f"use Rattle.{crate}.specs.{name}.{{{', '.join(needed)}}}")
@@ -487,8 +495,94 @@ def edit_lib(path, name, add):
     write(path, text)
 
 
+def shown(path, commit):
+    ran = subprocess.run(["git", "show", f"{commit}:{path}"], capture_output=True, text=True)
+    return ran.stdout if not ran.returncode else ""
+
+
+def signature(it):
+    """The statement as it is written."""
+    at = it.at()
+    out = [it.lines[at]]
+    for line in it.lines[at + 1 :]:
+        if line.strip() and len(line) - len(line.lstrip()) <= it.indent:
+            break
+        out.append(line)
+    return [line for line in out if line.strip() and not line.strip().startswith("--")]
+
+
+def theorems(crate, commit):
+    """For each module, what stood in specs/ at the commit and stands in proofs/ now."""
+    folder = f"crates/{crate}/proofs"
+    for file in sorted(os.listdir(folder)) if os.path.isdir(folder) else []:
+        old = shown(f"crates/{crate}/specs/{file}", commit) if file.endswith(".antt") and file != "Lib.antt" else ""
+        if not old:
+            continue
+        path = f"crates/{crate}/specs/{file}"
+        was, now = Module(crate, file[:-5], old), Module(crate, file[:-5], read(f"{folder}/{file}"))
+        left = Module(crate, file[:-5], read(path)).own if os.path.exists(path) else {}
+        gone = [it for it in was.decls if it.names[0] in now.own and it.names[0] not in left]
+        for it in gone:
+            said, says = it.statement(), now.own[it.names[0]].statement()
+            if said != says:
+                print(f"{crate}: {file[:-5]}.{it.names[0]} said {said}\n  and says {says}")
+        lost = [it.names[0] for it in was.decls if it.names[0] not in now.own and it.names[0] not in left]
+        if lost:
+            print(f"{crate}: {file[:-5]}: neither in specs/ nor in proofs/: {', '.join(lost)}")
+        if gone:
+            yield file, gone
+
+
+def listed(commit, refusals):
+    out = ["# Theorems that moved from specs/ to proofs/", ""]
+    out += ["`rt must-fail` takes an edit of a definition for one that cannot be read where the check then leaves a theorem of specs/ out, since one that it"]
+    out += ["rests on broke. So these theorems moved to the file of the same name in proofs/, each with the statement that it had, word for word; the edits"]
+    out += ["are where they were. `python3 tools/port/move_theorems.py list` writes this page. Under a line `module _ (..) where` each statement is about its"]
+    out += ["parameters too.", ""]
+    count = 0
+    for crate in sorted(os.listdir("crates")):
+        parts = list(theorems(crate, commit))
+        if parts:
+            out += [f"## {crate}", ""]
+        for file, gone in parts:
+            out += [f"From crates/{crate}/specs/{file} to crates/{crate}/proofs/{file}:", "", "```"]
+            above = []
+            for it in gone:
+                if not it.is_plain():
+                    continue
+                heads, up = [], it.parent
+                while up:
+                    heads[:0] = [line for line in up.lines if line.strip() and not line.strip().startswith("--")]
+                    up = up.parent
+                if heads and heads != above:
+                    out += heads
+                above = heads
+                out += signature(it)
+                count += 1
+            out += ["```", ""]
+            helpers = [it.names[0] for it in gone if not it.is_plain()]
+            if helpers:
+                out += [f"With them, definitions that only they name: {', '.join(f'`{it}`' for it in helpers)}.", ""]
+    out[7:7] = [f"{count} theorems and lemmas moved.", ""] if count else []
+    out += ["# What refuses each edit", "", "The first error that the check gives with the edit.", "", "| crate | edit | refused by | in |", "|---|---|---|---|"]
+    told = {}
+    for line in read(refusals).split("\n"):
+        it = re.match(r"rt: must-fail (\w+)/(\S+)\.edit: (refused|BAD|NOT)(.*)", line)
+        if it:
+            at = re.search(r"(?:\./)?((?:src|specs|proofs)/\S+?):\d+:\d+:", it[4])
+            name = re.search(r"error: (`[^`]+`)|\((`[^`]+`)\)", it[4])
+            told[it[1], it[2]] = (next((jt for jt in name.groups() if jt), "") if name else it[4].strip(" :,")[:100], at[1] if at else "") if it[3] == "refused" else ("**not refused yet**", "")
+    for crate in sorted(os.listdir("crates")):
+        for edit in sorted({name[:-5] for name, _, _ in edits_of(crate)}):
+            by = told.get((crate, edit), ("not tried", ""))
+            out.append(f"| {crate} | {edit} | {by[0]} | {by[1]} |")
+    write("docs/PORT-THEOREMS.md", "\n".join(out) + "\n")
+
+
 if __name__ == "__main__":
     if sys.argv[1:2] in (["move"], ["dry"]) and sys.argv[2:]:
         move(sys.argv[2:], sys.argv[1] == "dry")
+    elif sys.argv[1:2] == ["list"] and len(sys.argv) == 4:
+        listed(*sys.argv[2:])
     else:
         sys.exit(__doc__)

@@ -3,12 +3,12 @@
 -- clamped quotient that finds the point of a segment next to another (`foot_part`). All of it rests on rounding's keeping the order (Keeps), so
 -- no error is left over. Assumes nothing.
 use Rattle.std.specs.Prelude.{◌≡◌, refl, ◌⊎◌, [], ◌∷◌, Bool, true, false, not, cond, ℕ, ◌+◌, ◌*◌, ◌^◌, ◌≤◌, ◌<◌, ℤ, pos, ◌*ℤ◌, ◌≤ℤ◌, T, Float}
-use Rattle.std.proofs.Common.{sym, ap, ◌∙◌, subst, inl, inr, zero-le, le_trans, le_of_eq, zero-mul, mul_comm, mul-le-mul_left, mul-le-mul_right, arith, le→leb}
+use Rattle.std.proofs.Common.{sym, ap, ◌∙◌, subst, inl, inr, zero-le, le_trans, le_of_eq, zero-mul, mul_comm, mul-le-mul_left, mul-le-mul_right, mul-pos, arith, le→leb}
 use Rattle.std.specs.Float.{nan, inf, fin, binary64}
 use Rattle.std.specs.Float.Ieee.{fits, is_nan, le, lt, eq, unlike, round, of_bits}
 use Rattle.std.specs.Float.Ieee.Fits.{add-fits, div-fits}
-use Rattle.laws.specs.Ring.{var, ◌+ᵉ◌, ◌-ᵉ◌, neg}
-use Rattle.laws.specs.Certificate.{of-≤ℤ, to-≤ℤ, <ℤ_or-≤ℤ, hyp, ◌⊞◌}
+use Rattle.laws.specs.Ring.{var, ◌+ᵉ◌, ◌*ᵉ◌, ◌-ᵉ◌, neg}
+use Rattle.laws.specs.Certificate.{of-≤ℤ, to-≤ℤ, <ℤ_or-≤ℤ, hyp, ◌⊞◌, ◌⊠◌}
 use Rattle.laws.proofs.Certificate.{<ℤ_weaken, prove}
 use Rattle.numbers.specs.Float.{◌⊕◌, ◌⊖◌, ◌⊗◌, ◌⊘◌, zero_f, one_f, clamp_f}
 use Rattle.exact.specs.Rounding.{Close}
@@ -17,7 +17,7 @@ use Rattle.exact.specs.Constants.{zero_val}
 use Rattle.exact.specs.Order.{above_of_not_le, within_le}
 use Rattle.exact.specs.Operations.{Moderate, sub_law, sum_within}
 use Rattle.exact.specs.Blend.{straddled}
-use Rattle.exact.specs.Keeps.{round_either, sizes_keep, rounds_keep, rounds_keep_over, sum_rounds, quotient_rounds, double_rounds}
+use Rattle.exact.specs.Keeps.{round_either, sizes_keep, rounds_keep, rounds_keep_over, sum_rounds, product_rounds, quotient_rounds, double_rounds}
 use Rattle.exact.specs.Keeps.{add_within, sub_within, mul_within, square_within}
 use Rattle.exact.specs.Keeps.{zero_fits, one_fits, zero_within, one_within, zero_units, one_units, zero_times, one_times}
 use Rattle.exact.specs.Keeps.{le_within, le_self, le_chain, le_of_not_lt, nonneg_units, nonpos_units, add_keeps_right, mul_keeps, mul_turns}
@@ -88,8 +88,17 @@ module _ {J L M : ℕ} {a t w e : Float} (l : Moderate L) (A : Within J a) (p : 
             (var 2 -ᵉ (var 0 +ᵉ var 1)) (hyp 0 ⊞ hyp 1) tt))
         | inr above ↦
             le_chain (a ⊕ t ⊗ w) (a ⊕ w) e (add-fits binary64 a (t ⊗ w)) (add-fits binary64 a w) g
-            (add_keeps_right P q A (plus l p f q ((le_within zero_within q).1 above))) k
+            (add_keeps_right P q A (at_most ((le_within zero_within q).1 above))) k
       ]
+    where
+      -- t·w is at most w
+      at_most : T (le zero_f w) → T (le (t ⊗ w) w)
+      at_most u =
+          subst (λ (x : Float). T (le (t ⊗ w) x)) (one_times f q)
+          (rounds_keep_over (mul-pos W-pos W-pos) (product_rounds p.within q) (product_rounds one_within q)
+          (to-≤ℤ
+          (prove (units t ∷ units one_f ∷ units w ∷ []) ((var 1 -ᵉ var 0) ∷ var 2 ∷ []) (of-≤ℤ ((le_within p.within one_within).0 p.most), (nonneg_units q u, tt)) []
+          tt 0 (var 1 *ᵉ var 2 -ᵉ var 0 *ᵉ var 2) (hyp 0 ⊠ hyp 1) tt)))
 
   pub part_least : T (le e a) → T (le e (a ⊕ w)) → T (le e (a ⊕ t ⊗ w))
   part_least h k =

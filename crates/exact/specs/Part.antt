@@ -2,7 +2,7 @@
 -- a + w, and the same below: `part_most`, `part_least`. Such a t is the quotient of heights for an edge that straddles one (`slope_part`), and the
 -- clamped quotient that finds the point of a segment next to another (`foot_part`). All of it rests on rounding's keeping the order (Keeps), so
 -- no error is left over. Assumes nothing.
-use Rattle.std.specs.Prelude.{◌≡◌, refl, ◌⊎◌, [], ◌∷◌, Bool, true, false, not, cond, ℕ, ◌+◌, ◌*◌, ◌^◌, ◌≤◌, ◌<◌, ℤ, pos, ◌*ℤ◌, ◌≤ℤ◌, T, Float}
+use Rattle.std.specs.Prelude.{◌≡◌, refl, ◌⊎◌, [], ◌∷◌, Bool, true, false, not, cond, ℕ, ◌+◌, ◌*◌, ◌≤◌, ◌<◌, ℤ, pos, ◌*ℤ◌, ◌≤ℤ◌, T, Float}
 use Rattle.std.proofs.Common.{sym, ap, ◌∙◌, subst, inl, inr, zero-le, le_trans, le_of_eq, zero-mul, mul_comm, mul-le-mul_left, mul-le-mul_right, mul-pos, arith, le→leb}
 use Rattle.std.specs.Float.{nan, inf, fin, binary64}
 use Rattle.std.specs.Float.Ieee.{fits, is_nan, le, lt, eq, unlike, round, of_bits}
@@ -18,9 +18,9 @@ use Rattle.exact.specs.Order.{above_of_not_le, within_le}
 use Rattle.exact.specs.Operations.{Moderate, sub_law, sum_within}
 use Rattle.exact.specs.Blend.{straddled}
 use Rattle.exact.specs.Keeps.{round_either, sizes_keep, rounds_keep, rounds_keep_over, sum_rounds, product_rounds, quotient_rounds, double_rounds}
-use Rattle.exact.specs.Keeps.{add_within, sub_within, mul_within, square_within}
+use Rattle.exact.specs.Keeps.{mul_within}
 use Rattle.exact.specs.Keeps.{zero_fits, one_fits, zero_within, one_within, zero_units, one_units, zero_times, one_times}
-use Rattle.exact.specs.Keeps.{le_within, le_self, le_chain, le_of_not_lt, nonneg_units, nonpos_units, add_keeps_right, mul_keeps, mul_turns}
+use Rattle.exact.specs.Keeps.{le_within, le_self, le_chain, le_of_not_lt, nonneg_units, nonpos_units, add_keeps_right, mul_turns}
 
 -- ---- t from 0 to 1
 
@@ -38,7 +38,7 @@ zero_to_one t f h k = record {
   most = k;
 }
 
-signed_zero : (s : Bool) → signed s 0 ≡ pos 0
+pub signed_zero : (s : Bool) → signed s 0 ≡ pos 0
 signed_zero true = refl
 signed_zero false = refl
 
@@ -53,17 +53,6 @@ module _ {L : ℕ} {t w : Float} (l : Moderate L) (p : ZeroToOne t) (f : T (fits
 
   nothing_units : units (zero_f ⊗ w) ≡ units zero_f
   nothing_units = within_units nothing ∙ signed_zero (unlike false q.sign) ∙ sym zero_units
-
-  plus : T (le zero_f w) → T (le (t ⊗ w) w)
-  plus h = subst (λ (x : Float). T (le (t ⊗ w) x)) (one_times f q) (mul_keeps p.within one_within q p.most h)
-
-  minus : T (le w zero_f) → T (le w (t ⊗ w))
-  minus h = subst (λ (x : Float). T (le x (t ⊗ w))) (one_times f q) (mul_turns p.within one_within q p.most h)
-
-  plus_least : T (le zero_f w) → T (le zero_f (t ⊗ w))
-  plus_least h =
-      (le_within zero_within part_within).1
-      (subst (λ (a : ℤ). a ≤ℤ units (t ⊗ w)) nothing_units ((le_within nothing part_within).0 (mul_keeps zero_within p.within q p.least h)))
 
   minus_most : T (le w zero_f) → T (le (t ⊗ w) zero_f)
   minus_most h =
@@ -99,20 +88,6 @@ module _ {J L M : ℕ} {a t w e : Float} (l : Moderate L) (A : Within J a) (p : 
           (to-≤ℤ
           (prove (units t ∷ units one_f ∷ units w ∷ []) ((var 1 -ᵉ var 0) ∷ var 2 ∷ []) (of-≤ℤ ((le_within p.within one_within).0 p.most), (nonneg_units q u, tt)) []
           tt 0 (var 1 *ᵉ var 2 -ᵉ var 0 *ᵉ var 2) (hyp 0 ⊠ hyp 1) tt)))
-
-  pub part_least : T (le e a) → T (le e (a ⊕ w)) → T (le e (a ⊕ t ⊗ w))
-  part_least h k =
-      elim (<ℤ_or-≤ℤ (units zero_f) (units w)) [
-        | inl above ↦
-            let m = nonneg_units P (plus_least l p f q ((le_within zero_within q).1 (<ℤ_weaken above))) in
-            rounds_keep_over W-pos (double_rounds g E) (sum_rounds A P)
-            (to-≤ℤ
-            (prove (units a ∷ units (t ⊗ w) ∷ units e ∷ []) ((var 0 -ᵉ var 2) ∷ var 1 ∷ []) (of-≤ℤ ((le_within E A).0 h), (m, tt)) [] tt 0
-            (var 0 +ᵉ var 1 -ᵉ var 2) (hyp 0 ⊞ hyp 1) tt))
-        | inr below ↦
-            le_chain e (a ⊕ w) (a ⊕ t ⊗ w) g (add-fits binary64 a w) (add-fits binary64 a (t ⊗ w)) k
-            (add_keeps_right q P A (minus l p f q ((le_within q zero_within).1 below)))
-      ]
 
 -- ---- the quotient of two sizes
 
@@ -201,16 +176,3 @@ quotient_number {x = x} {y = y} p q h =
     go nan s (inr (n, v)) = absurd v
     go (inf t) s e = tt
     go (fin t m e) s v = tt
-
--- how far from a to b the point of the segment next to p is
-pub foot_part : {px py ax ay bx by : Float} → Within (2 ^ 20) px → Within (2 ^ 20) py → Within 1000 ax → Within 1000 ay → Within 1000 bx → Within 1000 by
-    → let abx = bx ⊖ ax in
-    let aby = by ⊖ ay in
-    let length2 = abx ⊗ abx ⊕ aby ⊗ aby in
-    T (not (le length2 zero_f)) → ZeroToOne (clamp_f (((px ⊖ ax) ⊗ abx ⊕ (py ⊖ ay) ⊗ aby) ⊘ length2) zero_f one_f)
-foot_part px py ax ay bx by h =
-    let abx = sub_within tt tt bx ax in
-    let aby = sub_within tt tt by ay in
-    let dot = add_within tt tt (mul_within tt tt (sub_within tt tt px ax) abx) (mul_within tt tt (sub_within tt tt py ay) aby) in
-    let length2 = add_within tt tt (square_within tt abx) (square_within tt aby) in
-    clamp_part _ (div-fits binary64 _ _) (quotient_number dot length2 h)

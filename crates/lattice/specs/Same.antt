@@ -18,7 +18,7 @@ use Rattle.numbers.specs.Float.{◌⊕◌, ◌⊖◌, ◌⊗◌, to_float, zero_
 use Rattle.exact.specs.Units.{W, Val, Within, units_val}
 use Rattle.exact.specs.Units as exact
 use Rattle.exact.specs.Corner.{Vector, step_units, cross, squared_length, sine_above_third, corner_ok}
-use Rattle.exact.specs.Sine.{sine_theorem}
+use Rattle.exact.proofs.Sine.{sine_theorem}
 use Rattle.geometry.specs.Plane.{convex_ccw, doubled_area, area_term}
 use Rattle.lattice.specs.Fours.{lattice_point, first_point, second_point, third_point, fourth_point, accepted_four, corner_turns, above_third, points_of, four_turn, fours}
 use Rattle.lattice.specs.Tables.{float_of, small_difference, product, sum_is, zero_is, above_tolerance, steps_ok, grid_step, corner_is}

@@ -17,7 +17,8 @@ use Rattle.exact.specs.Units.{W-pos, signed, units, Within, widen}
 use Rattle.exact.specs.Order.{le_val}
 use Rattle.exact.specs.Keeps.{difference_rounds, double_rounds, rounds_keep_over, zero_fits, zero_within, zero_units}
 use Rattle.exact.specs.Keeps.{le_within, le_through, sub_turns, add_within, sub_within, square_within, squares_keep}
-use Rattle.exact.specs.Part.{ZeroToOne, part_within, part_most, part_least, foot_part}
+use Rattle.exact.specs.Part.{ZeroToOne, part_within, part_most}
+use Rattle.exact.proofs.Part.{part_least, foot_part}
 use Rattle.domain.specs.declared.Point.{Point}
 use Rattle.domain.specs.declared.Search.{Search}
 use Rattle.domain.specs.Outline.{points, point_at, point_after}

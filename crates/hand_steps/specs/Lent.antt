@@ -1,5 +1,5 @@
 -- What a placing may use of a mesh that 23 and 24 let pass, and what the code asks. Definitions only.
-use Rattle.std.specs.Prelude.{false, List, ◌≡◌, ◌≢◌, ℕ, ◌<◌, ◌≤◌, Float}
+use Rattle.std.specs.Prelude.{false, List, ◌≡◌, ◌≢◌, ℕ, ◌<◌, Float}
 use Rattle.topology.specs.Links.{off}
 use Rattle.domain.specs.Outline.{Outline, outline_refusal}
 use Rattle.domain.specs.Accepted.{OutlineFits}
@@ -11,7 +11,7 @@ use Rattle.front.specs.State.{State, next_of, prev_of}
 use Rattle.front.specs.Place.{is_full}
 use Rattle.paving.specs.declared.Attempt.{Attempt}
 use Rattle.paving.specs.declared.Attempt.TheVariants.{Quad}
-use Rattle.mesh_check.specs.Check.{lent_state, counts_beyond}
+use Rattle.mesh_check.specs.Check.{lent_state}
 use Rattle.mesh_check.specs.Passed.{MeshPasses, MeshRoom}
 use Rattle.hand_placing.specs.Room.{QuadRoom}
 

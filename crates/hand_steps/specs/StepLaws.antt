@@ -5,7 +5,7 @@ use Rattle.std.proofs.Common.{sym, ◌∙◌, arith, length-set}
 use Prim.Native.Nat.{ℕ, zero, suc, ◌+◌, ◌-◌, ◌<◌, ◌≤◌}
 use Rattle.std.proofs.Math.ListN.{length}
 use borrow.Author.Tests.{eq-eqb, ne_eqb, le-leb, lt-leb}
-use Rattle.laws.specs.Loop.{Loop, loop_start_lem, loop_next, loop_end, for_up, forUp_keeps}
+use Rattle.laws.specs.Loop.{Loop, loop_start_lem, loop_next, for_up, forUp_keeps}
 use Rattle.domain.specs.Outline.{Outline, first_of}
 use Rattle.direction.specs.declared.Grid.{Grid}
 use Rattle.direction.specs.Record.{FieldRecord, field_record}
@@ -20,7 +20,7 @@ use Rattle.paving.specs.Advance.{most_quads}
 use Rattle.attempts.specs.Seen.{seen_of}
 use Rattle.attempts.specs.SeenLaws.{try_seen}
 use Rattle.mesh_check.specs.Check.{all_off, lent_state, mesh_refusal, links_of, edge_refusal}
-use Rattle.mesh_check.specs.CheckLaws.{length_off, off_same}
+use Rattle.mesh_check.specs.CheckLaws.{off_same}
 use Rattle.mesh_check.specs.Passed.{room, mesh_passes}
 use Rattle.hand_steps.specs.declared.HandStep.TheVariants.{Refused, Done}
 use Rattle.hand_steps.specs.declared.StepOutcome.{StepOutcome}

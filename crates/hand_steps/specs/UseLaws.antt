@@ -32,12 +32,12 @@ use Rattle.paving.specs.AttemptLaws.{quad_chosen}
 use Rattle.paving.specs.Advance.{most_quads, is_there}
 use Rattle.paving.specs.ReachLaws.{tried}
 use Rattle.attempts.specs.Seen.{TryLent}
-use Rattle.mesh_check.specs.Check.{lent_state, beyond_places, counts_beyond, link_unsound, mesh_refusal, edge_refusal}
+use Rattle.mesh_check.specs.Check.{lent_state, beyond_places, mesh_refusal, edge_refusal}
 use Rattle.mesh_check.specs.Passed.{room, MeshRoom, mesh_passes, link_within, front_few}
 use Rattle.hand_placing.specs.Room.{QuadRoom}
 use Rattle.hand_placing.specs.Local.{placed_nodes}
 use Rattle.hand_placing.specs.PlaceLaws.{quad_room}
-use Rattle.hand_steps.specs.declared.StepOutcome.TheVariants.{Placed, None, Full, Cap}
+use Rattle.hand_steps.specs.declared.StepOutcome.TheVariants.{Placed, Full, Cap}
 use Rattle.hand_steps.specs.Hand.{hand_refusal, handled, settled_on, place_on}
 use Rattle.hand_steps.specs.Lent.{Around, OnFront}
 

@@ -185,6 +185,10 @@ def edits_of(crate):
                 yield name, path, line[5:]
 
 
+def top(it):
+    return top(it.parent) if it.parent else it
+
+
 def moves_of(crate, broken, say):
     modules = modules_of(crate)
     uses = collections.defaultdict(set)
@@ -193,8 +197,12 @@ def moves_of(crate, broken, say):
         every, aliases = scope_of(crate, modules, module)
         place = {it: i for i, it in enumerate(module.decls)}
         for it in module.decls:
-            # a declaration names those above it
-            scope = {name: jt for name, jt in every.items() if place.get(jt, -1) < place[it]}
+            # a declaration names those above it; a short word for what is private in a section means that there alone
+            scope = {
+                name: jt
+                for name, jt in every.items()
+                if place.get(jt, -1) < place[it] and (not jt.parent or "pub" in jt.mark or "_" in name or top(jt) is top(it))
+            }
             head, above = it, []
             while head.parent:
                 head = head.parent
@@ -237,9 +245,6 @@ def moves_of(crate, broken, say):
     for it in moved & kept:
         say(f"{crate}: {of[it].name}.{it.names[0]}, whose own statement is edited, rests on what breaks: it moves, and its edit names proofs/{of[it].name}.antt now")
     # in a section, what stays would need its parameters: what can go along does
-    def top(it):
-        return top(it.parent) if it.parent else it
-
     split = {top(it) for it in moved if it.parent}
     along = {it for it in of if it.parent and top(it) in split and it not in definitions | kept | seeds}
     more = True
@@ -415,7 +420,7 @@ def move(crates, dry):
             else:
                 body = render(module.items, lambda it: it in moved | copied)
                 text = "\n".join(body)
-                needed = [jt for kt in module.decls if kt not in moved | copied for jt in kt.names if occurs(jt, text)]
+                needed = [jt for kt in module.decls if kt not in moved | copied and (not kt.parent or "pub" in kt.mark or "_" in kt.names[0]) for jt in kt.names if occurs(jt, text)]
                 lines = [f"-- What holds of the definitions of specs/{name}.antt."] + imports(module, crate, targets, text)
                 if needed:
                     lines.append(f"use Rattle.{crate}.specs.{name}.{{{', '.join(needed)}}}")

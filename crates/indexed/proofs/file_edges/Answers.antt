@@ -2,7 +2,7 @@
 use mathlib.Core.Path.{refl, ap₂, ◌∙◌}
 use native.Mathlib.Omega.{arith}
 use Rattle.key_rects.specs.Rects.{edge_rect}
-use Rattle.pools.specs.Filing.{filing_next, filing_end}
+use Rattle.pools.proofs.Filing.{filing_next, filing_end}
 use Rattle.indexed.proofs.file_edges.Goals as goal
 
 pub loop-k-init : goal.loop-k-init

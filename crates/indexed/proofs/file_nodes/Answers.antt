@@ -2,7 +2,7 @@
 use mathlib.Core.Path.{refl, ap, ◌∙◌}
 use native.Mathlib.Omega.{arith}
 use Rattle.key_rects.specs.Rects.{node_rect}
-use Rattle.pools.specs.Filing.{filing_next, filing_end}
+use Rattle.pools.proofs.Filing.{filing_next, filing_end}
 use Rattle.indexed.proofs.file_nodes.Goals as goal
 
 pub loop-id-init : goal.loop-id-init

@@ -1,5 +1,6 @@
 -- `order_walks::file_steps` meets its contract: one item more a turn.
-use Rattle.pools.specs.Filing.{filing_start, filing_next, filing_end}
+use Rattle.pools.specs.Filing.{filing_start}
+use Rattle.pools.proofs.Filing.{filing_next, filing_end}
 use native.Mathlib.Omega.{arith}
 use Rattle.order_walks.proofs.file_steps.Goals as goal
 

@@ -8,7 +8,8 @@ use borrow.Author.Tests.{not-true, not-false}
 use lib.ListN.{set, length-set}
 use Rattle.laws.specs.Loop.{loop_end, for_up}
 use Rattle.pools.specs.Pool.{takes, file_line, file}
-use Rattle.pools.specs.FileLaws.{takes_some, rect_start, rect_room, rect_next}
+use Rattle.pools.specs.FileLaws.{takes_some}
+use Rattle.pools.proofs.FileLaws.{rect_start, rect_room, rect_next}
 use Rattle.pools.proofs.file.Goals as goal
 use Rattle.pools.proofs.file.Goals.{After-file_row-arg-1, At-loop-k}
 

@@ -6,7 +6,7 @@ use Rattle.file_listing.proofs.list_outline.Goals as goal
 pub returns : goal.returns
 unfolding program_lent
 returns c =
-    let kept = c.pave-paved.auto.xs in
+    let kept = c.pave-paved.auto in
     run_listed _ _ _ _ c.pave-paved.ensures.0 c.heading.ensures
-    (record { xs = kept.0; quads = kept.1.1.1.1.1.1.0; loops = kept.1.1.1.1.1.1.1.1.0; lengths = kept.1.1.1.1.1.1.1.1.1.0 })
+    (record { xs = kept.xs; quads = kept.quads; loops = kept.loops; lengths = kept.lengths })
     c.write_listing.ensures

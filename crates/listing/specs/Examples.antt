@@ -1,5 +1,5 @@
 -- Worked listings, byte for byte: document 01's square, a mesh with two loops left open, one with no loop that is open all the same, and a refusal.
-use Rattle.std.specs.Prelude.{◌≡◌, refl, true, false, List, [], ◌∷◌, ◌++◌, ℕ, Float}
+use Rattle.std.specs.Prelude.{◌≡◌, refl, true, false, [], ◌∷◌, ◌++◌, Float}
 use Rattle.std.specs.Float.{binary64}
 use Rattle.std.specs.Float.Ieee.{of_bits, to_bits}
 use Rattle.listing.specs.Text.{ascii}

@@ -1,7 +1,7 @@
 -- How long a listing is at most, whatever the lists hold, and what a buffer with room for it holds.
 use Rattle.std.specs.Prelude.{◌≡◌, refl, Bool, true, false, cond, List, [], ◌∷◌, ◌++◌, ltb, Float, length, take, drop, replicate}
-use Rattle.std.proofs.Common.{sym, ap, ◌∙◌, length-drop}
-use Prim.Native.Nat.{ℕ, zero, suc, ◌+◌, ◌*◌, ◌/◌, ◌%◌, ◌≤◌, ◌<◌, min}
+use Rattle.std.proofs.Common.{ap, ◌∙◌, length-drop}
+use Prim.Native.Nat.{ℕ, zero, suc, ◌+◌, ◌*◌, ◌/◌, ◌%◌, ◌≤◌, min}
 use Prim.Native.Char.{code}
 use native.Mathlib.Omega.{arith}
 use Rattle.std.specs.Float.{binary64}
@@ -10,8 +10,7 @@ use Rattle.std.proofs.Math.ListN.{length-append, length-take}
 use Rattle.std.proofs.lemmas.List.{length-replicate}
 use Rattle.std.proofs.Math.Seq.{take-append_seam}
 use Rattle.listing.specs.declared.Heading.{Heading}
-use Rattle.listing.specs.Text.{ascii}
-use Rattle.listing.specs.Listing.{decimal_of, decimal, hex_of, hex_digit, hex_bits, spaced, row, row_lines, node_line, node_lines, quad_lines, loop_lines}
+use Rattle.listing.specs.Listing.{decimal_of, decimal, hex_of, hex_bits, spaced, row, row_lines, node_line, node_lines, quad_lines, loop_lines}
 use Rattle.listing.specs.Listing.{end_word, whole_word, head_line, refused_listing, mesh_listing, listing}
 use Rattle.listing.specs.Buffer.{Buffer, buffer, buffer_written}
 use Rattle.listing.specs.BufferLaws.{written_whole}

@@ -1,9 +1,9 @@
 -- The links read so are those of the state after the quad; their count stays that of the front's edges; and a quad adds two edges at most. Assumes nothing.
-use Rattle.std.specs.Prelude.{Bool, List, ◌≢◌, ◌≡◌, length, set}
+use Rattle.std.specs.Prelude.{Bool, ◌≢◌, ◌≡◌, length, set}
 use Rattle.std.proofs.Math.Bool.{true, false, cond}
-use Rattle.std.proofs.Math.Path.{refl, fun_ext, subst}
+use Rattle.std.proofs.Math.Path.{refl, subst}
 use Rattle.std.proofs.Common.{sym, ap, ◌∙◌, add_assoc, add-one}
-use Prim.Native.Nat.{ℕ, zero, suc, ◌+◌, ◌-◌, ◌*◌, ◌<◌, ◌≤◌}
+use Prim.Native.Nat.{ℕ, zero, suc, ◌+◌, ◌-◌, ◌<◌, ◌≤◌}
 use native.Mathlib.Omega.{arith}
 use Rattle.std.proofs.Math.Dec.{eqb}
 use Rattle.std.proofs.Math.ListN.{length-set}

@@ -1,5 +1,5 @@
 -- The loop that writes the front edges by their first node. Assumes nothing.
-use Rattle.std.specs.Prelude.{Bool, true, false, cond, List, ◌≡◌, refl, ℕ, suc, ◌+◌, ◌*◌, ◌<◌, ◌≤◌, eqb, length, set}
+use Rattle.std.specs.Prelude.{Bool, true, false, cond, List, ◌≡◌, refl, ℕ, ◌+◌, ◌*◌, ◌<◌, ◌≤◌, eqb, length, set}
 use Rattle.std.proofs.Common.{sym, ap, ◌∙◌, subst, add-one, arith, length-set, eq-eqb, ne_eqb}
 use Rattle.laws.specs.Loop.{Loop, loop_start_lem, loop_next, loop_end, sum_up}
 use Rattle.laws.specs.Sums.{sum_zero, sum_suc, sum_term}

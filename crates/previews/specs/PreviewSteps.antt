@@ -1,7 +1,7 @@
 -- What the code of a preview has at hand makes the preview: the front that it lists is that of the mesh after the placing. Assumes nothing.
 use Rattle.std.specs.Prelude.{Bool, true, false, cond, List, [], ◌≢◌, leb, ltb, eqb, length, set, Float}
 use Rattle.std.proofs.Math.Path.{◌≡◌, refl}
-use Rattle.std.proofs.Common.{sym, ap, ◌∙◌, subst, add-one, arith}
+use Rattle.std.proofs.Common.{sym, ap, ◌∙◌, subst, arith}
 use Prim.Native.Nat.{ℕ, zero, suc, ◌+◌, ◌*◌, ◌/◌, ◌<◌, ◌≤◌}
 use borrow.Author.Tests.{le-leb, lt-leb, lt-ltb, le-ltb, ltb-false, eq-eqb, ne_eqb}
 use Rattle.laws.specs.Loop.{sum_up, forUp_keeps}
@@ -14,7 +14,7 @@ use Rattle.topology.specs.Links.{off, link_of}
 use Rattle.front.specs.declared.Counts.{Counts}
 use Rattle.front.specs.declared.Corner.{Corner}
 use Rattle.front.specs.State.{State, next_of}
-use Rattle.front.specs.Place.{added, id_c, id_d, place, is_full}
+use Rattle.front.specs.Place.{place, is_full}
 use Rattle.paving.specs.declared.Attempt.{Attempt}
 use Rattle.paving.specs.declared.Attempt.TheVariants.{Nothing, Quad}
 use Rattle.paving.specs.Attempt.{try_edge}
@@ -24,7 +24,7 @@ use Rattle.attempts.specs.SeenLaws.{try_seen}
 use Rattle.mesh_check.specs.Check.{lent_state, link_count, mesh_refusal, links_of, edge_refusal}
 use Rattle.mesh_check.specs.Passed.{mesh_passes, room, front_few}
 use Rattle.hand_steps.specs.declared.StepOutcome.{StepOutcome}
-use Rattle.hand_steps.specs.declared.StepOutcome.TheVariants.{Placed, None, Full, Cap}
+use Rattle.hand_steps.specs.declared.StepOutcome.TheVariants.{Placed, Full, Cap}
 use Rattle.hand_steps.specs.Hand.{hand_refusal, Handled, handled, settled_on, place_on}
 use Rattle.hand_steps.specs.Lent.{OnFront}
 use Rattle.hand_steps.specs.UseLaws.{front_room, quad_fits_lem}

@@ -1,14 +1,14 @@
 -- Laws of shifted keys: they stay in order, no two move apart, and rectangles that overlap as keys meet as shifted keys.
-use Rattle.std.specs.Prelude.{Bool, true, false, not, cond, ◌&&◌, ◌≡◌, refl, ℕ, zero, suc, ◌+◌, ◌-◌, ◌<◌, ◌≤◌, min, max, leb, ltb, ℤ, pos, negsuc, nat_abs, ◌+ℤ◌, ◌-ℤ◌, Float}
-use Rattle.std.proofs.Common.{true≢false, sym, ap, ◌∙◌, arith, leb-true, leb-false, ltb-true, ltb-false, le-ltb}
-use Rattle.std.proofs.Math.IntN.{sub_ℕ, pos-+ℤ-pos}
+use Rattle.std.specs.Prelude.{Bool, true, false, cond, ◌&&◌, ◌≡◌, ℕ, zero, suc, ◌+◌, ◌-◌, ◌≤◌, min, max, leb, ℤ, pos, negsuc, ◌+ℤ◌, Float}
+use Rattle.std.proofs.Common.{true≢false, sym, ap, ◌∙◌, arith, leb-true, leb-false, le-ltb}
+use Rattle.std.proofs.Math.IntN.{pos-+ℤ-pos}
 use Rattle.std.specs.Int.Signed.{le_z}
 use Rattle.laws.specs.Tests.{both}
 use Rattle.domain.specs.declared.Point.{Point}
 use Rattle.geometry.specs.declared.Key.{Key}
 use Rattle.geometry.specs.declared.Corners.{Corners}
 use Rattle.geometry.specs.Keys.{gap, at_most, lesser, greater, spans_of, ranges_meet, rectangles_meet, near_keys, between}
-use Rattle.geometry.specs.Keys.{key_of, edge_bucket, spans_kept, is_too_close, too_close_at, lowest, highest, is_in_box, in_box_at, is_candidate, candidate_at}
+use Rattle.geometry.specs.Keys.{key_of, edge_bucket, spans_kept, lowest, highest, is_in_box, in_box_at, is_candidate, candidate_at}
 use Rattle.geometry.specs.KeyLaws.{at_most_lem, abs_subℕ}
 use Rattle.pools.specs.Pool.{InRect}
 use Rattle.key_rects.specs.Rects.{shifted, rect_of, rect_at, rect_around, rect_empty, node_rect, edge_rect, Meets}
@@ -136,11 +136,6 @@ unfolding rect_empty
 empty_none i j w = omega (arith, w.left, w.right)
 
 -- ---- what the paving's queries look for
-
--- a node too close to p is under the keys round p's
-pub close_meets : (size : Float) (p q : Point) → is_too_close size p q ≡ true → Meets (node_rect size q) (rect_around (key_of size p))
-unfolding is_too_close too_close_at node_rect
-close_meets size p q e = near_meets (key_of size p) (key_of size q) (both (near_keys (key_of size p) (key_of size q)) _ e).0
 
 -- a node in a quad's key rectangle
 pub box_meets : (size : Float) (p : Corners) (q : Point) → is_in_box size p q ≡ true

@@ -9,7 +9,7 @@ use Rattle.pools.specs.Pool.{filed, own_at}
 use Rattle.index.specs.Walk.{over}
 use Rattle.pools.specs.Filing.{unfound}
 use Rattle.index.specs.WalkLaws.{walk_start, walk_next, walk_hit, walk_none, walk_less}
-use Rattle.key_rects.specs.KeyLaws.{close_meets}
+use Rattle.key_rects.proofs.KeyLaws.{close_meets}
 use Rattle.indexed.specs.Rects.{close_at}
 use Rattle.indexed.specs.Laws.{close_is}
 use Rattle.indexed.proofs.any_close.Goals as goal

@@ -1,0 +1,15 @@
+-- What holds of the definitions of specs/KeyLaws.antt.
+use Rattle.std.specs.Prelude.{true, ◌≡◌, Float}
+use Rattle.laws.specs.Tests.{both}
+use Rattle.domain.specs.declared.Point.{Point}
+use Rattle.geometry.specs.Keys.{near_keys}
+use Rattle.geometry.specs.Keys.{key_of, is_too_close, too_close_at}
+use Rattle.key_rects.specs.Rects.{rect_around, node_rect, Meets}
+use Rattle.key_rects.specs.KeyLaws.{near_meets}
+
+-- ---- what the paving's queries look for
+
+-- a node too close to p is under the keys round p's
+pub close_meets : (size : Float) (p q : Point) → is_too_close size p q ≡ true → Meets (node_rect size q) (rect_around (key_of size p))
+unfolding is_too_close too_close_at node_rect
+close_meets size p q e = near_meets (key_of size p) (key_of size q) (both (near_keys (key_of size p) (key_of size q)) _ e).0

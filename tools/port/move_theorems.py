@@ -185,6 +185,11 @@ def edits_of(crate):
                 yield name, path, line[5:]
 
 
+def is_free(name, text):
+    name = re.escape(name)
+    return len(name) > 2 and not re.search(rf"let {name} |[({{][^(){{}}:]*(?<!\S){name} [^(){{}}:]*:|[({{]{name} [^(){{}}:]*:|λ [^.]*{name}|^\s+{name} :", text, re.M)
+
+
 def top(it):
     return top(it.parent) if it.parent else it
 
@@ -197,11 +202,11 @@ def moves_of(crate, broken, say):
         every, aliases = scope_of(crate, modules, module)
         place = {it: i for i, it in enumerate(module.decls)}
         for it in module.decls:
-            # a declaration names those above it; a short word for what is private in a section means that there alone
+            # a declaration names those above it; where it binds the name of what is private in a section, it means its own
             scope = {
                 name: jt
                 for name, jt in every.items()
-                if place.get(jt, -1) < place[it] and (not jt.parent or "pub" in jt.mark or "_" in name or top(jt) is top(it))
+                if place.get(jt, -1) < place[it] and (not jt.parent or "pub" in jt.mark or top(jt) is top(it) or is_free(name, it.text()))
             }
             head, above = it, []
             while head.parent:
@@ -420,7 +425,7 @@ def move(crates, dry):
             else:
                 body = render(module.items, lambda it: it in moved | copied)
                 text = "\n".join(body)
-                needed = [jt for kt in module.decls if kt not in moved | copied and (not kt.parent or "pub" in kt.mark or "_" in kt.names[0]) for jt in kt.names if occurs(jt, text)]
+                needed = [jt for kt in module.decls if kt not in moved | copied and (not kt.parent or "pub" in kt.mark) for jt in kt.names if occurs(jt, text)]
                 lines = [f"-- What holds of the definitions of specs/{name}.antt."] + imports(module, crate, targets, text)
                 if needed:
                     lines.append(f"use Rattle.{crate}.specs.{name}.{{{', '.join(needed)}}}")

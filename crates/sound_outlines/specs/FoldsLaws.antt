@@ -230,12 +230,6 @@ more_folds a b c h =
       back = more_back a b c _ _ _ _ (weights_of s) s.x s.y o;
     }
 
--- NEIGHBOURS FOLD BACK EXACTLY IF THEY HAVE MORE IN COMMON THAN THEIR COMMON END.
-pub folds_shares : (a b c : Vector) → T (folds_back a b c) ↔ SharesMore a b c
-folds_shares a b c =
-    let f = folds_parts a b c in
-    (λ t. folds_more a b c (f.0 t), λ h. f.1 (more_folds a b c h))
-
 -- ---- in place of the scalar product
 
 -- v is above both u and w, or below both

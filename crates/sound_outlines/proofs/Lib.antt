@@ -1,0 +1,3 @@
+pub mod FoldsLaws
+pub mod Meaning
+pub mod MeetsLaws

@@ -1,5 +1,5 @@
 -- `directions::directions_refusal` meets its contract. Assumes nothing.
-use Rattle.directions.specs.Laws.{lists_refused, lists_pass}
+use Rattle.directions.proofs.Laws.{lists_refused, lists_pass}
 use mathlib.Core.Path.{sym, ◌∙◌}
 use Rattle.directions.proofs.directions_refusal.Goals as goal
 

@@ -1,5 +1,5 @@
 -- `directions::lists_unfit` meets its contract: a third of the places against the points is three a point (`unfit_room`). Assumes nothing.
-use Rattle.directions.specs.Laws.{unfit_lengths, unfit_half, unfit_room}
+use Rattle.directions.proofs.Laws.{unfit_lengths, unfit_half, unfit_room}
 use Rattle.directions.proofs.lists_unfit.Goals as goal
 
 pub returns-then-points-targets : goal.returns-then-points-targets

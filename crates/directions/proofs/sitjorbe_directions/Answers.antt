@@ -1,5 +1,5 @@
 -- `directions::sitjorbe_directions` meets its contract: `given_refused` and `given_answered`. Assumes nothing.
-use Rattle.directions.specs.Laws.{directions_unrefused, given_refused, given_answered}
+use Rattle.directions.proofs.Laws.{directions_unrefused, given_refused, given_answered}
 use Rattle.direction.specs.RecordLaws.{record_lent_lem}
 use mathlib.Core.Path.{sym, ◌∙◌}
 use Rattle.directions.proofs.sitjorbe_directions.Goals as goal

@@ -5,7 +5,7 @@ use Rattle.std.proofs.Math.Path.{refl, ap}
 use Rattle.std.proofs.Common.{sym, ◌∙◌}
 use Prim.Native.Nat.{ℕ, zero, suc, ◌+◌, ◌-◌, ◌*◌, ◌≤◌, ◌<◌, min}
 use native.Mathlib.Omega.{arith}
-use Rattle.laws.specs.Loop.{for_up, forUp_keeps}
+use Rattle.laws.specs.Loop.{for_up, for_up_keeps}
 use Rattle.blocks.specs.Blocks.{for_between, block_size, block_end}
 
 module _ {A : Type 0} (turn : ℕ → A → A) where
@@ -33,7 +33,7 @@ module _ {A : Type 0} (turn : ℕ → A → A) where
   pub between_none : (from to : ℕ) (s : A) → ((i : ℕ) → from ≤ i → i < to → turn i s ≡ s) → for_between from to turn s ≡ s
   unfolding for_between
   between_none from to s h =
-      forUp_keeps (λ j t. t ≡ s) (to - from) (λ j. turn (from + j)) s refl (λ j t l e. ap (turn (from + j)) e ∙ h (from + j) (omega arith) (omega arith))
+      for_up_keeps (λ j t. t ≡ s) (to - from) (λ j. turn (from + j)) s refl (λ j t l e. ap (turn (from + j)) e ∙ h (from + j) (omega arith) (omega arith))
 
 -- ---- a loop from `from` up to `to`
 

@@ -1,7 +1,7 @@
 -- The snapshot that a pass begins with leaves the state sound, and the book's.
 use Rattle.std.specs.Prelude.{ℕ, List, get_or}
 use Rattle.std.proofs.Common.{arith}
-use Rattle.laws.specs.Loop.{forUp_keeps}
+use Rattle.laws.specs.Loop.{for_up_keeps}
 use Rattle.topology.specs.Links.{off}
 use Rattle.front.specs.State.{State, quad_places, edge_places}
 use Rattle.front.specs.Sound.{Sound, Extends, Frame}
@@ -13,7 +13,7 @@ use Rattle.books.specs.Matches.{Matches}
 copied_extends : (n : ℕ) (links l : List ℕ) → Extends 0 n l (copied n links l)
 unfolding copied
 copied_extends n links l =
-    forUp_keeps (λ i m. Extends 0 n l m) n (copy_turn links) l (extends_same 0 n l)
+    for_up_keeps (λ i m. Extends 0 n l m) n (copy_turn links) l (extends_same 0 n l)
     (λ i m h E. extends_set 0 n l m i (get_or links i off) (omega arith) h E)
 
 pub snapshot_frame : (s : State) → Frame s (with_snapshot s)

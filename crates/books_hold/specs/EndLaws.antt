@@ -5,7 +5,7 @@ use Rattle.std.proofs.Common.{◌∙◌, ap, subst, true≢false, ⊎_elim, eq-o
 use Rattle.std.proofs.Math.Bool.{true, false}
 use Rattle.std.proofs.Math.Dec.{leb, ltb}
 use borrow.Author.Tests.{leb-true, leb-false, eq-eqb, ne_eqb, ltb-true, ltb-false}
-use Rattle.laws.specs.Loop.{Turn, go, out, forUp_keeps, Kept, run_keeps_at}
+use Rattle.laws.specs.Loop.{Turn, go, out, for_up_keeps, Kept, run_keeps_at}
 use Rattle.domain.specs.Outline.{Outline}
 use Rattle.topology.specs.Links.{off, link_of, link_in_lem, link_out}
 use Rattle.direction.specs.Record.{FieldRecord}
@@ -36,7 +36,7 @@ last_or_less i n h last less = ⊎_elim last less (eq-or-lt_of_le (le_of_suc-le-
 pub copied_at : (n : ℕ) (links l : List ℕ) → n ≤ length l → (a : ℕ) → a < n → get_or (copied n links l) a 0 ≡ get_or links a off
 unfolding copied
 copied_at n links l long a h =
-    (forUp_keeps (λ k m. (length m ≡ length l) × ((a : ℕ) → a < k → get_or m a 0 ≡ get_or links a off)) n (copy_turn links) l
+    (for_up_keeps (λ k m. (length m ≡ length l) × ((a : ℕ) → a < k → get_or m a 0 ≡ get_or links a off)) n (copy_turn links) l
     (refl, λ a h. absurd (omega arith)) one).1 a h
   where
     one : (k : ℕ) (m : List ℕ) → k < n → (length m ≡ length l) × ((a : ℕ) → a < k → get_or m a 0 ≡ get_or links a off)

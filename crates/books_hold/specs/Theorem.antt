@@ -18,13 +18,13 @@ use Rattle.books_hold.specs.Runs.{accepted_run_lem, advance_holds}
 -- answered has gone through, its edges net and its areas balance, its quads turn left with sine above 1/3, its front is one even closed
 -- loop for each loop of the outline, and its counts agree; in the end its nodes, front, counts and loops are the run's. That the
 -- outline's floats are doubles is what a slice of f64 holds.
-pub books_hold_lem : (o : Outline) (set : Settings) (f : FieldLists) (lent : State) → OutlineFits o → run_refusal o set f lent ≡ 0
+pub books_hold : (o : Outline) (set : Settings) (f : FieldLists) (lent : State) → OutlineFits o → run_refusal o set f lent ≡ 0
     → BooksHold o set.size (run_of o set f lent).paving.state
 unfolding run_of
-books_hold_lem o set f lent doubles none =
+books_hold o set f lent doubles none =
     advance_holds o set.size lent (accepted_run_lem o set f lent doubles none) (field_of o set.size set.sweeps f) set.passes
 
 -- In the demand's own words, with its exception for sides shorter than 1e-150, which is never used.
 pub demand_met : (o : Outline) (set : Settings) (f : FieldLists) (lent : State) → OutlineFits o → run_refusal o set f lent ≡ 0
     → Demanded o set.size (run_of o set f lent).paving.state
-demand_met o set f lent doubles none = as_demanded o set.size _ (books_hold_lem o set f lent doubles none)
+demand_met o set f lent doubles none = as_demanded o set.size _ (books_hold o set f lent doubles none)

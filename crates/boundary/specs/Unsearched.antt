@@ -5,7 +5,7 @@ use Rattle.std.proofs.Math.Path.{refl, ap}
 use Rattle.std.proofs.Common.{sym, ◌∙◌, arith}
 use Prim.Native.Nat.{ℕ, zero, suc, ◌+◌, ◌-◌, ◌%◌, ◌≤◌, ◌<◌}
 use borrow.Author.Tests.{lt-ltb, ltb-true, ltb-false, eq-eqb}
-use Rattle.laws.specs.Loop.{for_up, forUp_keeps}
+use Rattle.laws.specs.Loop.{for_up, for_up_keeps}
 use Rattle.domain.specs.declared.Point.{Point}
 use Rattle.domain.specs.Outline.{Outline, loop_at, points, after}
 use Rattle.topology.specs.Links.{off, update, update_other}
@@ -124,7 +124,7 @@ module _ {n : ℕ} (r : Ring) (st : State) (U : Unlinked n r st) where
   pub ring_unsearched : join_ring r st ≡ link_ring r st
   unfolding join_ring link_ring for_up
   ring_unsearched =
-      (forUp_keeps (RingJoined r st) (ring_count r) (join_turn r) st
+      (for_up_keeps (RingJoined r st) (ring_count r) (join_turn r) st
       (record {
         frame = frame_same st;
         nodes = refl;

@@ -8,7 +8,7 @@ use Rattle.std.specs.Int.Signed.{mag, lt_z, lt_z_yes}
 use Rattle.std.specs.Float.{nan}
 use Rattle.std.specs.Int.{w32, w64}
 use Rattle.std.proofs.lemmas.Int.{to_z-of_z}
-use Rattle.laws.specs.Loop.{for_up, forUp_keeps, Loop, loop_next}
+use Rattle.laws.specs.Loop.{for_up, for_up_keeps, Loop, loop_next}
 use Rattle.laws.specs.Tests.{T-ext}
 use Rattle.laws.specs.Ring.{var, num, ◌-ᵉ◌}
 use Rattle.laws.specs.Certificate.{Nonneg, hyp}
@@ -16,7 +16,7 @@ use Rattle.laws.proofs.Certificate.{prove, of-<ℤ, to-<ℤ}
 use Rattle.exact.specs.Corner.{Vector, cross}
 use Rattle.orientation.specs.Orient.{way}
 use Rattle.nearest_step.specs.Step.{nearest_step}
-use Rattle.nearest_step.specs.StepLaws.{natAbs_neg, apart}
+use Rattle.nearest_step.specs.StepLaws.{nat_abs_neg, apart}
 use Rattle.nearest_step.proofs.StepLaws.{step_few}
 use Rattle.bowl.specs.declared.Steps.{Steps}
 use Rattle.bowl.specs.Steps.{steps_at, turns_left, is_shown, store_turn, stored_steps}
@@ -24,20 +24,20 @@ use Rattle.bowl.specs.Stepped.{vector, NodeWithin, FewSteps, IsVector, ids}
 
 -- ---- sizes
 
-natAbs_plus : (a b : ℤ) → nat_abs (a +ℤ b) ≤ nat_abs a + nat_abs b
-natAbs_plus (pos m) (pos n) = omega arith
-natAbs_plus (pos m) (negsuc n) = apart m (suc n) (m + suc n) (omega arith) (omega arith)
-natAbs_plus (negsuc m) (pos n) = rw (+ℤ_comm (negsuc m) (pos n)) (apart n (suc m) (suc m + n) (omega arith) (omega arith))
-natAbs_plus (negsuc m) (negsuc n) = omega arith
+nat_abs_plus : (a b : ℤ) → nat_abs (a +ℤ b) ≤ nat_abs a + nat_abs b
+nat_abs_plus (pos m) (pos n) = omega arith
+nat_abs_plus (pos m) (negsuc n) = apart m (suc n) (m + suc n) (omega arith) (omega arith)
+nat_abs_plus (negsuc m) (pos n) = rw (+ℤ_comm (negsuc m) (pos n)) (apart n (suc m) (suc m + n) (omega arith) (omega arith))
+nat_abs_plus (negsuc m) (negsuc n) = omega arith
 
-pub natAbs_minus : (a b : ℤ) → nat_abs (a -ℤ b) ≤ nat_abs a + nat_abs b
-natAbs_minus a b = le_trans (natAbs_plus a (neg_ℤ b)) (rw (natAbs_neg b) (omega arith))
+pub nat_abs_minus : (a b : ℤ) → nat_abs (a -ℤ b) ≤ nat_abs a + nat_abs b
+nat_abs_minus a b = le_trans (nat_abs_plus a (neg_ℤ b)) (rw (nat_abs_neg b) (omega arith))
 
-natAbs_times : (a b : ℤ) → nat_abs (a *ℤ b) ≡ nat_abs a * nat_abs b
-natAbs_times (pos m) (pos n) = ap nat_abs (pos-*ℤ-pos m n)
-natAbs_times (pos m) (negsuc n) = ap nat_abs (pos-*ℤ-negsuc m n) ∙ natAbs_neg (pos (m * suc n))
-natAbs_times (negsuc m) (pos n) = ap nat_abs (negsuc-*ℤ-pos m n) ∙ natAbs_neg (pos (suc m * n))
-natAbs_times (negsuc m) (negsuc n) = ap nat_abs (negsuc-*ℤ-negsuc m n)
+nat_abs_times : (a b : ℤ) → nat_abs (a *ℤ b) ≡ nat_abs a * nat_abs b
+nat_abs_times (pos m) (pos n) = ap nat_abs (pos-*ℤ-pos m n)
+nat_abs_times (pos m) (negsuc n) = ap nat_abs (pos-*ℤ-negsuc m n) ∙ nat_abs_neg (pos (m * suc n))
+nat_abs_times (negsuc m) (pos n) = ap nat_abs (negsuc-*ℤ-pos m n) ∙ nat_abs_neg (pos (suc m * n))
+nat_abs_times (negsuc m) (negsuc n) = ap nat_abs (negsuc-*ℤ-negsuc m n)
 
 -- ---- what fits 64 bits
 
@@ -82,10 +82,10 @@ module _ (m : ℕ) (few : m ≤ 2 ^ 30) (a b : ℤ) (ha : nat_abs a ≤ m) (hb :
   held_b = held_64 b (omega arith)
 
   small_minus : nat_abs (a -ℤ b) ≤ 2 * m
-  small_minus = omega (arith, natAbs_minus a b)
+  small_minus = omega (arith, nat_abs_minus a b)
 
   small_times : nat_abs (a *ℤ b) ≤ 2 ^ 60
-  small_times = rw (natAbs_times a b) (le_trans (mul-le-mul (le_trans ha few) (le_trans hb few)) (omega arith))
+  small_times = rw (nat_abs_times a b) (le_trans (mul-le-mul (le_trans ha few) (le_trans hb few)) (omega arith))
 
   pub minus_fits : SFits w64 (to_z w64 (of_z w64 a) -ℤ to_z w64 (of_z w64 b))
   minus_fits = rw (held_a, held_b) (fits_64 (a -ℤ b) (omega (arith, small_minus)))
@@ -142,8 +142,8 @@ module _ (a b : Steps) where
         same = refl;
         few =
             record {
-              x = omega (arith, natAbs_minus b.x a.x, A.x, B.x);
-              y = omega (arith, natAbs_minus b.y a.y, A.y, B.y);
+              x = omega (arith, nat_abs_minus b.x a.x, A.x, B.x);
+              y = omega (arith, nat_abs_minus b.y a.y, A.y, B.y);
             };
       })
 
@@ -175,7 +175,7 @@ module _ (xs ys : List Float) (a b d c : ℕ) (pa pb pd pc ab bd dc ca : Steps)
 stored_length : (xs ys : List Float) (n : ℕ) (steps : List ℤ) → length (for_up n (store_turn xs ys) steps) ≡ length steps
 unfolding store_turn
 stored_length xs ys n steps =
-    forUp_keeps (λ i l. length l ≡ length steps) n (store_turn xs ys) steps refl
+    for_up_keeps (λ i l. length l ≡ length steps) n (store_turn xs ys) steps refl
     (λ i l h e. length-set (set l (2 * i) (nearest_step (get_or xs i nan))) (2 * i + 1) (nearest_step (get_or ys i nan))
     ∙ (length-set l (2 * i) (nearest_step (get_or xs i nan)) ∙ e))
 

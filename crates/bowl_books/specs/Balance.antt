@@ -16,7 +16,7 @@ use Rattle.books.specs.Book.{Book, start_book, book_after, place_of, front_area,
 use Rattle.books.specs.Holds.{HoldsAfter, Closes, BooksHold}
 use Rattle.books.specs.Areas.{areas_balance}
 use Rattle.books_hold.specs.Runs.{AcceptedRun, accepted_run_lem, sampled_joins}
-use Rattle.books_hold.specs.Theorem.{books_hold_lem}
+use Rattle.books_hold.specs.Theorem.{books_hold}
 use Rattle.hand_books.specs.Moves.{Move, moves_on}
 use Rattle.hand_books.specs.Sequences.{sequence_holds}
 use Rattle.nearest_step.specs.Step.{nearest_step}
@@ -44,7 +44,7 @@ books_balance o size lent A s B k h =
 pub run_balance : (o : Outline) (set : Settings) (f : FieldLists) (lent : State) → OutlineFits o → run_refusal o set f lent ≡ 0
     → (k : ℕ) → k ≤ (run_of o set f lent).paving.state.counts.quads → StepsBalance o set.size (run_of o set f lent).paving.state k
 run_balance o set f lent doubles none =
-    books_balance o set.size lent (accepted_run_lem o set f lent doubles none) (run_of o set f lent).paving.state (books_hold_lem o set f lent doubles none)
+    books_balance o set.size lent (accepted_run_lem o set f lent doubles none) (run_of o set f lent).paving.state (books_hold o set f lent doubles none)
 
 -- THE BALANCE OF EVERY HAND-STEPPED SEQUENCE that begins with a sampled outline, passes between the steps included.
 pub sequence_balance : (o : Outline) (size : Float) (lent : State) → AcceptedRun o size lent → (field : FieldRecord) (ms : List Move) (k : ℕ)

@@ -4,7 +4,7 @@ use Rattle.std.specs.Prelude.{◌≡◌, refl, Bool, true, false, ◌||◌, cond
 use Rattle.std.proofs.Common.{sym, ◌∙◌, subst, true≢false, inl, inr, zero-le, arith}
 use Rattle.std.specs.Float.{nan, inf, fin}
 use Rattle.std.specs.Float.Ieee.{is_nan, lt, le, eq}
-use Rattle.laws.specs.Loop.{forUp_keeps}
+use Rattle.laws.specs.Loop.{for_up_keeps}
 use Rattle.laws.specs.Tests.{neither}
 use Rattle.numbers.specs.Float.{◌⊖◌, infinity_f, neg_infinity_f, min_f, max_f}
 use Rattle.exact.specs.Units.{W, Within}
@@ -65,13 +65,13 @@ widened_boxed p b x y h = record {
 loop_boxed : (s : List Float) (b : Bounds) → LoopWithin s → Boxed b → Boxed (loop_bounds s b)
 unfolding loop_bounds
 loop_boxed s b near start =
-    forUp_keeps (λ (i : ℕ) (b : Bounds). Boxed b) (points s) (bounds_turn s) b start
+    for_up_keeps (λ (i : ℕ) (b : Bounds). Boxed b) (points s) (bounds_turn s) b start
     (λ i b h boxed. widened_boxed (point_at s i) b (near i h).x (near i h).y boxed)
 
 bounds_boxed : (o : Outline) → OutlineFits o → Accepted o → Boxed (bounds o)
 unfolding bounds
 bounds_boxed o held a =
-    forUp_keeps (λ (k : ℕ) (b : Bounds). Boxed b) (length o.lens) (hole_bounds o) (loop_bounds o.outer no_bounds)
+    for_up_keeps (λ (k : ℕ) (b : Bounds). Boxed b) (length o.lens) (hole_bounds o) (loop_bounds o.outer no_bounds)
     (loop_boxed o.outer no_bounds (outer_near o held a) (record { xmin = inl refl; xmax = inl refl; ymin = inl refl; ymax = inl refl }))
     (λ k b h boxed. loop_boxed (hole_at o k) b (hole_near o held a k h) boxed)
 

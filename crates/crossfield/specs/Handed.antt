@@ -4,7 +4,7 @@ use Rattle.std.specs.Prelude.{◌≡◌, refl, Bool, true, false, not, List, ℕ
 use Rattle.std.proofs.Common.{sym, ap, subst, le_of_eq, mul_comm, arith, le-leb, eq-eqb, le→leb, lit≤}
 use Rattle.std.specs.Float.{nan, binary64}
 use Rattle.std.specs.Float.Ieee.{fits, le, of_bits}
-use Rattle.laws.specs.Loop.{any_up, any_turn, forUp_keeps}
+use Rattle.laws.specs.Loop.{any_up, any_turn, for_up_keeps}
 use Rattle.numbers.specs.Float.{◌⊖◌, ◌⊗◌, four_f, half_f, is_finite, abs_f}
 use Rattle.exact.specs.Units.{W, Val, finite_val, abs_val, Within}
 use Rattle.exact.specs.Order.{le_val}
@@ -49,7 +49,7 @@ sound_within {x} p = ap not (within_true four_f x 4 p.sign p.size four_val p.val
 none_unsound : (values : List Float) → SoundList (length values) values → any_float value_unsound values ≡ false
 unfolding any_float any_up
 none_unsound values s =
-    forUp_keeps (λ (i : ℕ) (b : Bool). b ≡ false) (length values) (any_turn (λ (i : ℕ). value_unsound (get_or values i nan))) false refl
+    for_up_keeps (λ (i : ℕ) (b : Bool). b ≡ false) (length values) (any_turn (λ (i : ℕ). value_unsound (get_or values i nan))) false refl
     (λ i b h e. rw (e, sound_within (s.sound i h)))
 
 -- ---- the grid's floats

@@ -4,7 +4,7 @@ use Rattle.std.proofs.Math.Path.{refl}
 use Rattle.std.proofs.Common.{◌∙◌, mul_comm, arith}
 use Rattle.std.proofs.Math.Bool.{true, false}
 use Rattle.std.proofs.Math.Seq.{drop-set-lt}
-use Rattle.laws.specs.Loop.{Turn, go, out, onwards, answer, for_up, forUp_keeps, run}
+use Rattle.laws.specs.Loop.{Turn, go, out, onwards, answer, for_up, for_up_keeps, run}
 use Rattle.domain.specs.declared.Point.{Point}
 use Rattle.domain.specs.Outline.{Outline}
 use Rattle.direction.specs.declared.Grid.{Grid}
@@ -22,8 +22,8 @@ module _ (P : List Float → Type 0) (g : Grid) (marks : List ℕ)
   sweep_keeps : (values : List Float) → P values → P (sweep g marks values).values
   unfolding sweep sweep_row
   sweep_keeps values p =
-      forUp_keeps (λ (j : ℕ) (s : SweptField). P s.values) g.ny (sweep_row g marks) (swept values true) p
-      (λ j s l p. forUp_keeps (λ (i : ℕ) (s : SweptField). P s.values) g.nx (sweep_node g marks j) s p (λ i s h p. visit j i s h l p))
+      for_up_keeps (λ (j : ℕ) (s : SweptField). P s.values) g.ny (sweep_row g marks) (swept values true) p
+      (λ j s l p. for_up_keeps (λ (i : ℕ) (s : SweptField). P s.values) g.nx (sweep_node g marks j) s p (λ i s h p. visit j i s h l p))
 
   abbrev SweepHeld : Turn (List Float) (List Float) → Type 0
   SweepHeld (go values) = P values
@@ -33,7 +33,7 @@ module _ (P : List Float → Type 0) (g : Grid) (marks : List ℕ)
   unfolding sweeps run
   sweeps_keep n values p =
       last (for_up n (onwards (sweep_turn g marks)) (go values))
-      (forUp_keeps (λ (k : ℕ) (t : Turn (List Float) (List Float)). SweepHeld t) n (onwards (sweep_turn g marks)) (go values) p keeps)
+      (for_up_keeps (λ (k : ℕ) (t : Turn (List Float) (List Float)). SweepHeld t) n (onwards (sweep_turn g marks)) (go values) p keeps)
     where
       after : (s : SweptField) (quiet : Bool) → P s.values → SweepHeld (cond quiet (out s.values) (go s.values))
       after s true p = p
@@ -74,8 +74,8 @@ module _ (g : Grid) where
   seeded_past : (o : Outline) (f : FieldLists) → Past g f (seeded o g f)
   unfolding seeded seed_row seed_node
   seeded_past o f =
-      forUp_keeps (λ (j : ℕ) (s : FieldLists). Past g f s) g.ny (seed_row o g) f (record { values = refl; marks = refl })
-      (λ j s l p. forUp_keeps (λ (i : ℕ) (s : FieldLists). Past g f s) g.nx (seed_node o g j) s p
+      for_up_keeps (λ (j : ℕ) (s : FieldLists). Past g f s) g.ny (seed_row o g) f (record { values = refl; marks = refl })
+      (λ j s l p. for_up_keeps (λ (i : ℕ) (s : FieldLists). Past g f s) g.nx (seed_node o g j) s p
       (λ i s h p. record {
         values = value_past f.values s.values (node_at g i j) _ (node_below i j h l) p.values;
         marks = drop-set-lt (grid_nodes g) s.marks (node_at g i j) _ (node_below i j h l) ∙ p.marks;

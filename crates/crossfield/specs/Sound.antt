@@ -8,7 +8,7 @@ use Rattle.std.proofs.lemmas.Bool.{eqb-false}
 use Rattle.std.proofs.Math.ListN.{length-set}
 use Rattle.std.specs.Float.{nan}
 use Rattle.std.specs.Float.Ieee.{lt, le, of_bits, of_int}
-use Rattle.laws.specs.Loop.{for_up, forUp_keeps}
+use Rattle.laws.specs.Loop.{for_up, for_up_keeps}
 use Rattle.numbers.specs.Float.{◌⊕◌, ◌⊖◌, ◌⊘◌, zero_f, one_f, tolerance, to_float}
 use Rattle.exact.specs.Units.{W, W-pos, Val, Within}
 use Rattle.exact.specs.Operations.{div_law}
@@ -49,7 +49,7 @@ nearer_ends p a b k i best within_a within_b e = pick (lt (point_segment_distanc
 loop_ends : (p : Point) (s : List Float) (k : ℕ) (best : Near) → LoopWithin s → Ends best → Ends (nearest_in_loop p s k best)
 unfolding nearest_in_loop
 loop_ends p s k best h e =
-    forUp_keeps (λ (i : ℕ) (n : Near). Ends n) (points s) (segment_turn p s k) best e
+    for_up_keeps (λ (i : ℕ) (n : Near). Ends n) (points s) (segment_turn p s k) best e
     (λ i n l e. nearer_ends p (point_at s i) (point_after s i) k i n (h i l) (after_within s h i l) e)
 
 origin_within : Within 1000 zero_f
@@ -59,7 +59,7 @@ origin_within = record { sign = false; size = 0; val = (refl, refl); small = lit
 nearest_ends : (o : Outline) → OutlineFits o → Accepted o → (p : Point) → Ends (nearest_segment o p)
 unfolding nearest_segment
 nearest_ends o held a p =
-    forUp_keeps (λ (k : ℕ) (n : Near). Ends n) (length o.lens) (hole_turn o p) (nearest_in_loop p o.outer 0 nowhere)
+    for_up_keeps (λ (k : ℕ) (n : Near). Ends n) (length o.lens) (hole_turn o p) (nearest_in_loop p o.outer 0 nowhere)
     (loop_ends p o.outer 0 nowhere (outer_near o held a) (record { a = origin; b = origin }))
     (λ k n h e. loop_ends p (hole_at o k) (suc k) n (hole_near o held a k h) e)
   where
@@ -152,14 +152,14 @@ module _ (o : Outline) (held : OutlineFits o) (accepted : Accepted o) (g : Grid)
     unfolding seed_row
     row_seeded j f l s =
         subst (λ (n : ℕ). Seeded n floats bytes (for_up g.nx (seed_node o g j) f)) (sym (suc-mul j g.nx))
-        (forUp_keeps (λ (i : ℕ) (f : FieldLists). Seeded (j * g.nx + i) floats bytes f) g.nx (seed_node o g j) f
+        (for_up_keeps (λ (i : ℕ) (f : FieldLists). Seeded (j * g.nx + i) floats bytes f) g.nx (seed_node o g j) f
         (subst (λ (n : ℕ). Seeded n floats bytes f) (sym (add-zero (j * g.nx))) s) (λ i f h s. node_seeded j i f h l s))
 
     pub seeds_sound : (f : FieldLists) → length f.values ≡ floats → length f.marks ≡ bytes
         → Seeded (g.ny * g.nx) floats bytes (seeded o g f)
     unfolding seeded
     seeds_sound f v m =
-        forUp_keeps (λ (j : ℕ) (f : FieldLists). Seeded (j * g.nx) floats bytes f) g.ny (seed_row o g) f
+        for_up_keeps (λ (j : ℕ) (f : FieldLists). Seeded (j * g.nx) floats bytes f) g.ny (seed_row o g) f
         (subst (λ (n : ℕ). Seeded n floats bytes f) (sym (zero-mul g.nx))
         (record { values_length = v; marks_length = m; sound = λ k h. absurd (none k h) }))
         (λ j f l s. row_seeded j f l s)

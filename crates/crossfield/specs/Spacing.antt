@@ -10,7 +10,7 @@ use Rattle.std.proofs.lemmas.Bool.{not-false}
 use Rattle.std.specs.Float.{nan, inf, fin, binary64}
 use Rattle.std.specs.Float.Ieee.{up, down, fits, lt, le, of_bits}
 use Rattle.std.specs.Float.Ieee.Fits.{down_pos}
-use Rattle.laws.specs.Loop.{Turn, go, out, onwards, answer, for_up, forUp_keeps, run}
+use Rattle.laws.specs.Loop.{Turn, go, out, onwards, answer, for_up, for_up_keeps, run}
 use Rattle.laws.specs.Tests.{neither}
 use Rattle.numbers.specs.Float.{◌⊖◌, ◌⊗◌, ◌⊘◌, half_f, zero_f, is_finite}
 use Rattle.numbers.specs.Whole.{ceil_div, ceil_count}
@@ -206,7 +206,7 @@ module _ (width height : Float) (p : Within 4000 width) (q : Within 4000 height)
           let d = mul_assoc 6 l w in omega arith
 
   start_held : (h : Float) → GrownSpacing 0 h → GrowthHeld growths (for_up growths (onwards (grow_turn width height)) (go h))
-  start_held h g = forUp_keeps GrowthHeld growths (onwards (grow_turn width height)) (go h) g keeps
+  start_held h g = for_up_keeps GrowthHeld growths (onwards (grow_turn width height)) (go h) g keeps
     where
       keeps : (k : ℕ) (t : Turn Float Float) → k < growths → GrowthHeld k t → GrowthHeld (suc k) (onwards (grow_turn width height) k t)
       keeps k (go h) l g = one_more k h (too_many_nodes width height h) refl g

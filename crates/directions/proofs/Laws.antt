@@ -7,7 +7,7 @@ use Prim.Native.Nat.{ℕ, zero, suc, ◌+◌, ◌*◌, ◌/◌, ◌%◌, ◌<◌
 use borrow.Author.Tests.{lt-ltb, ltb-true, ltb-false, eqb-true, eq-eqb, ne_eqb, not-false}
 use Rattle.std.proofs.Math.ListN.{length, take, drop, length-append}
 use Rattle.std.proofs.Math.Seq.{drop_at}
-use Rattle.laws.specs.Loop.{for_up, forUp_same}
+use Rattle.laws.specs.Loop.{for_up, for_up_same}
 use Rattle.laws.specs.Tests.{neither, same_truth}
 use Rattle.domain.specs.declared.Point.{Point}
 use Rattle.domain.specs.Outline.{points, point_at}
@@ -31,7 +31,7 @@ answered_same : (r : FieldRecord) (ps targets answers : List Float) → record_r
 unfolding points_answered strung
 answered_same r ps targets answers e =
     ap (λ (l : List Float). l ++ drop (3 * points ps) answers)
-    (forUp_same (points ps) _ _ [] (λ i l h. ap (λ (d : Direction). l ++ direction_floats d) (answer_same r (point_at ps i) (point_at targets i) e)))
+    (for_up_same (points ps) _ _ [] (λ i l h. ap (λ (d : Direction). l ++ direction_floats d) (answer_same r (point_at ps i) (point_at targets i) e)))
 
 -- ---- three floats a point
 

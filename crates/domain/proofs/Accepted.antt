@@ -3,7 +3,7 @@ use Rattle.std.specs.Prelude.{Bool, true, false, List, ◌≡◌, ℕ, ◌-◌, 
 use Rattle.std.proofs.Common.{inl, inr, ap, ◌∙◌, zero-le, le_antisymm, le_of_suc-le-suc, eq-or-lt_of_le, ltb-false}
 use Rattle.std.proofs.lemmas.Bool.{not-false}
 use Rattle.std.specs.Float.{nan}
-use Rattle.laws.specs.Loop.{forUp_keeps, any_none}
+use Rattle.laws.specs.Loop.{for_up_keeps, any_none}
 use Rattle.laws.specs.Tests.{neither}
 use Rattle.numbers.specs.Float.{is_finite}
 use Rattle.domain.specs.Outline.{Outline, loop_at, points}
@@ -17,7 +17,7 @@ use Rattle.domain.specs.Accepted.{Accepted, cond_zero, first_zero, each}
 loops_zero : (o : Outline) → loops_refusal o ≡ 0 → (k : ℕ) → k ≤ length o.lens → loop_refusal (loop_at o k) ≡ 0
 unfolding loops_refusal loop_at
 loops_zero o =
-    forUp_keeps (λ n r. r ≡ 0 → (k : ℕ) → k ≤ n → loop_refusal (loop_at o k) ≡ 0) (length o.lens) (hole_refusal o) (loop_refusal o.outer)
+    for_up_keeps (λ n r. r ≡ 0 → (k : ℕ) → k ≤ n → loop_refusal (loop_at o k) ≡ 0) (length o.lens) (hole_refusal o) (loop_refusal o.outer)
     (λ e k h. ap (λ (j : ℕ). loop_refusal (loop_at o j)) (le_antisymm h zero-le) ∙ e)
     (λ n r l ih e k h. elim (eq-or-lt_of_le h) [
       | inl last ↦ ap (λ (j : ℕ). loop_refusal (loop_at o j)) last ∙ (first_zero r _ e).1

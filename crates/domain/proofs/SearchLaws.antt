@@ -2,7 +2,7 @@
 use Rattle.std.specs.Prelude.{false, List, ◌≡◌, refl, ℕ, suc, length, Float}
 use Rattle.std.specs.Float.{binary64}
 use Rattle.std.specs.Float.Ieee.Fits.{inf-fits}
-use Rattle.laws.specs.Loop.{forUp_related}
+use Rattle.laws.specs.Loop.{for_up_related}
 use Rattle.numbers.specs.Root.{root}
 use Rattle.domain.specs.declared.Point.{Point}
 use Rattle.domain.specs.declared.Near.{Near}
@@ -16,7 +16,7 @@ use Rattle.domain.specs.SearchLaws.{Finds, finds_segment}
 finds_loop : (p : Point) (l : List Float) (k : ℕ) (s : Search) (n : Near) → Finds s n → Finds (search_loop p l k s) (nearest_in_loop p l k n)
 unfolding search_loop nearest_in_loop
 finds_loop p l k s n f =
-    forUp_related Finds (points l) (search_turn p l k) (segment_turn p l k) s n f
+    for_up_related Finds (points l) (search_turn p l k) (segment_turn p l k) s n f
     (λ i t m g. finds_segment p (point_at l i) (point_after l i) k i t m g)
 
 finds_start : Finds search_start nowhere
@@ -26,7 +26,7 @@ finds_start = record { same = refl; held = inf-fits binary64 false; root = refl 
 finds_all : (o : Outline) (p : Point) → Finds (search_from o p search_start) (nearest_segment o p)
 unfolding search_from nearest_segment
 finds_all o p =
-    forUp_related Finds (length o.lens) (search_hole o p) (hole_turn o p) (search_loop p o.outer 0 search_start) (nearest_in_loop p o.outer 0 nowhere)
+    for_up_related Finds (length o.lens) (search_hole o p) (hole_turn o p) (search_loop p o.outer 0 search_start) (nearest_in_loop p o.outer 0 nowhere)
     (finds_loop p o.outer 0 search_start nowhere finds_start)
     (λ k s n f. finds_loop p (hole_at o k) (suc k) s n f)
 

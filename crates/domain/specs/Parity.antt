@@ -2,7 +2,7 @@
 use Rattle.std.specs.Prelude.{Bool, true, false, cond, ◌≡◌, refl, ℕ, suc, ◌+◌, ◌<◌, ltb}
 use Rattle.std.proofs.Common.{sym, ap, ap₂, ◌∙◌, le_refl, add-one, lt-ltb, le-ltb}
 use Rattle.std.specs.Float.Ieee.{unlike}
-use Rattle.laws.specs.Loop.{for_up, forUp_keeps, forUp_same}
+use Rattle.laws.specs.Loop.{for_up, for_up_keeps, for_up_same}
 use Rattle.exact.specs.Units.{unlike_self}
 use Rattle.domain.specs.Outline.{after}
 
@@ -14,11 +14,11 @@ abbrev pub odd_up : ℕ → (ℕ → Bool) → Bool
 odd_up n test = for_up n (odd_turn test) false
 
 pub odd_same : (n : ℕ) (test other : ℕ → Bool) → ((i : ℕ) → i < n → test i ≡ other i) → odd_up n test ≡ odd_up n other
-odd_same n test other same = forUp_same n (odd_turn test) (odd_turn other) false (λ i odd h. ap (unlike odd) (same i h))
+odd_same n test other same = for_up_same n (odd_turn test) (odd_turn other) false (λ i odd h. ap (unlike odd) (same i h))
 
 -- 0 is even
 pub odd_none : (n : ℕ) (test : ℕ → Bool) → ((i : ℕ) → i < n → test i ≡ false) → odd_up n test ≡ false
-odd_none n test none = forUp_keeps (λ i odd. odd ≡ false) n (odd_turn test) false refl (λ i odd h e. ap₂ unlike e (none i h))
+odd_none n test none = for_up_keeps (λ i odd. odd ≡ false) n (odd_turn test) false refl (λ i odd h e. ap₂ unlike e (none i h))
 
 unlike_between : (a b c : Bool) → unlike (unlike a b) (unlike b c) ≡ unlike a c
 unlike_between true true true = refl
@@ -34,7 +34,7 @@ unlike_between false false false = refl
 -- differs from flag 0, and the last step is back to flag 0.
 pub odd_ring : (n : ℕ) (flag : ℕ → Bool) → odd_up n (λ i. unlike (flag i) (flag (after n i))) ≡ false
 odd_ring n flag =
-    forUp_keeps (λ i odd. odd ≡ unlike (flag 0) (at i)) n (odd_turn change) false (first (ltb 0 n)) step
+    for_up_keeps (λ i odd. odd ≡ unlike (flag 0) (at i)) n (odd_turn change) false (first (ltb 0 n)) step
     ∙ ap (λ (b : Bool). unlike (flag 0) (flag (cond b n 0))) (le-ltb n n (le_refl n)) ∙ unlike_self (flag 0)
   where
     change : ℕ → Bool

@@ -2,7 +2,7 @@
 use Rattle.std.specs.Prelude.{◌≡◌, refl, ℕ, zero, suc, ◌+◌, ◌≤◌, ◌<◌, length}
 use Rattle.std.proofs.Math.Path.{sym}
 use Rattle.std.proofs.Common.{◌∙◌, subst, arith}
-use Rattle.laws.specs.Loop.{for_up, Loop, loop_start_lem, loop_next, loop_end, forUp_stays}
+use Rattle.laws.specs.Loop.{for_up, Loop, loop_start_lem, loop_next, loop_end, for_up_stays}
 use Rattle.domain.specs.Outline.{Outline, hole_at, first_of, loop_refusal, hole_refusal, loops_refusal}
 use Rattle.domain.specs.Queries.{answer_by}
 
@@ -34,14 +34,14 @@ module _ (o : Outline) where
   pub outer_refused : (r : ℕ) → loop_refusal o.outer ≡ r → (r ≡ 0 → ⊥) → r ≡ loops_refusal o
   unfolding loops_refusal for_up
   outer_refused r e h =
-      sym (forUp_stays (length o.lens) 0 (hole_refusal o) (loop_refusal o.outer) r (omega arith) e (λ j. first_stays r (loop_refusal (hole_at o j)) h))
+      sym (for_up_stays (length o.lens) 0 (hole_refusal o) (loop_refusal o.outer) r (omega arith) e (λ j. first_stays r (loop_refusal (hole_at o j)) h))
 
   pub hole_refused : {k : ℕ} (r : ℕ) → Unrefused k → k < length o.lens → loop_refusal (hole_at o k) ≡ r → (r ≡ 0 → ⊥) → r ≡ loops_refusal o
   unfolding loops_refusal
   hole_refused {k} r l i e h =
       let next = loop_next (hole_refusal o) (loop_refusal o.outer) l i in
       sym
-      (forUp_stays (length o.lens) (k + 1) (hole_refusal o) (loop_refusal o.outer) r next.within (sym next.same ∙ e)
+      (for_up_stays (length o.lens) (k + 1) (hole_refusal o) (loop_refusal o.outer) r next.within (sym next.same ∙ e)
       (λ j. first_stays r (loop_refusal (hole_at o j)) h))
 
 -- ---- an answer

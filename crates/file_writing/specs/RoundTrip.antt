@@ -15,7 +15,7 @@ use Rattle.std.proofs.Math.Seq.{take_at, take-length, drop-append-add, get_or-ap
 use Rattle.std.specs.Float.Ieee.{nan, binary64, fits, to_bits}
 use Rattle.std.specs.Float.Ieee.Bits.{of_bits-to_bits, to_bits-lt}
 use Rattle.laws.specs.Tests.{both}
-use Rattle.laws.specs.Loop.{forUp_same, forUp_keeps, none_found, sum_up, sum_turn}
+use Rattle.laws.specs.Loop.{for_up_same, for_up_keeps, none_found, sum_up, sum_turn}
 use Rattle.laws.specs.Sums.{sum_term}
 use Rattle.laws.specs.Tabulate.{tabulate, tabulate_same, tabulate_take, tabulate_length, tabulate_map, tabulate_at}
 use Rattle.numbers.specs.Float.{bits}
@@ -105,7 +105,7 @@ pub check_same : (p q : List ℕ) → length p ≡ 510 → check_of (p ++ q) ≡
 unfolding check_of sum_up
 check_same p q e =
     ap (λ (n : ℕ). n % 65521)
-    (forUp_same 510 (sum_turn (weighted_byte (p ++ q))) (sum_turn (weighted_byte p)) 0 (λ i s h. rw (get_or-append p q 0 i (omega arith))))
+    (for_up_same 510 (sum_turn (weighted_byte (p ++ q))) (sum_turn (weighted_byte p)) 0 (λ i s h. rw (get_or-append p q 0 i (omega arith))))
 
 check_small : (b : List ℕ) → check_of b < 65536
 unfolding check_of
@@ -341,7 +341,7 @@ module _ (r : Request) (fit : Fileable r) where
   unfolding head_points total_points sum_up
   points_are =
       ap (head_points head) loops_are
-      ∙ forUp_same (length lens) (sum_turn (head_length head)) (sum_turn (λ k. get_or lens k 0)) 0 (λ k s h. ap (λ (x : ℕ). s + x) (length_is k h))
+      ∙ for_up_same (length lens) (sum_turn (head_length head)) (sum_turn (λ k. get_or lens k 0)) 0 (λ k s h. ap (λ (x : ℕ). s + x) (length_is k h))
 
   head_accepted : head_refusal head ≡ 0
   unfolding head_refusal head_sound
@@ -373,7 +373,7 @@ module _ (r : Request) (fit : Fileable r) where
   blocks_accepted : blocks_refusal (file_of r) count ≡ 0
   unfolding blocks_refusal
   blocks_accepted =
-      forUp_keeps (λ k refusal. refusal ≡ 0) (point_blocks count) (points_turn (file_of r) count) 0 refl (λ k refusal h e. rw (e, points_accepted k h))
+      for_up_keeps (λ k refusal. refusal ≡ 0) (point_blocks count) (points_turn (file_of r) count) 0 refl (λ k refusal h e. rw (e, points_accepted k h))
 
   file_points_lem : file_points (file_of r) ≡ count
   file_points_lem = ap (λ (b : List ℕ). head_points b (head_loops b)) file_head ∙ points_are ∙ sym count_is

@@ -4,7 +4,7 @@ use Rattle.std.proofs.Common.{sym, ◌∙◌, ap, ap₂, add-one, arith, eqb-tru
 use Rattle.std.proofs.Math.ListN.{length-set}
 use Rattle.std.proofs.Math.Seq.{get_or-set_same, get_or-set_other}
 use Rattle.std.proofs.lemmas.Bool.{eqb-false}
-use Rattle.laws.specs.Loop.{for_up, any_turn, any_up, forUp_same}
+use Rattle.laws.specs.Loop.{for_up, any_turn, any_up, for_up_same}
 use Rattle.front.specs.State.{State, counted, edge_from, edge_to, edge_is, has_edge, push_edge, add_edge}
 use Rattle.front.specs.Place.{add_edges, missing, edges_added}
 use Rattle.front.specs.Sound.{Extends}
@@ -71,7 +71,7 @@ push_has x y u v s =
     let E = (pushed x y s).list in
     let same : (i : ℕ) → i < n → edge_is s.edges (min u v) (max u v) i ≡ edge_is (push_edge x y s).edges (min u v) (max u v) i =
     λ i l. rw (extends_at _ _ _ _ E (2 * i) 0 (omega arith), extends_at _ _ _ _ E (2 * i + 1) 0 (omega arith)) in
-    let e = forUp_same n (any_turn (edge_is s.edges (min u v) (max u v))) (any_turn (edge_is (push_edge x y s).edges (min u v) (max u v))) false
+    let e = for_up_same n (any_turn (edge_is s.edges (min u v) (max u v))) (any_turn (edge_is (push_edge x y s).edges (min u v) (max u v))) false
     (λ i f l. rw (same i l)) in
     rw (add-one n, ← e)
 

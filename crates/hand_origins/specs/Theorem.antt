@@ -4,7 +4,7 @@ use Rattle.std.proofs.Math.Bool.{true, false}
 use Rattle.std.proofs.Math.Path.{refl, sym, ap}
 use Rattle.std.proofs.Common.{◌∙◌, subst, add-one, arith, eqb-true}
 use Rattle.std.proofs.Math.Dec.{eqb}
-use Rattle.laws.specs.Loop.{for_up, forUp_same}
+use Rattle.laws.specs.Loop.{for_up, for_up_same}
 use Rattle.laws.specs.Overlay.{overlay}
 use Rattle.domain.specs.Outline.{Outline}
 use Rattle.domain.specs.Accepted.{first_zero}
@@ -105,7 +105,7 @@ module _ (o : Outline) (size : Float) (field : FieldRecord) (s : State) (F : Fro
     earlier : origins_after o size t.quads s.counts.quads ≡ L
     unfolding origins_after
     earlier =
-        forUp_same s.counts.quads _ _ _
+        for_up_same s.counts.quads _ _ _
         (λ i x h. ap (λ (q : QuadIds). quad_origins q x)
         (quad_same t i ∙ (ap ids_of (frame_quad s t placed.frame i h) ∙ sym (quad_same s i))))
 

@@ -5,7 +5,7 @@ use Rattle.std.proofs.Common.{sym, ◌∙◌, arith, length-set}
 use Prim.Native.Nat.{ℕ, zero, suc, ◌+◌, ◌-◌, ◌<◌, ◌≤◌}
 use Rattle.std.proofs.Math.ListN.{length}
 use borrow.Author.Tests.{eq-eqb, ne_eqb, le-leb, lt-leb}
-use Rattle.laws.specs.Loop.{Loop, loop_start_lem, loop_next, for_up, forUp_keeps}
+use Rattle.laws.specs.Loop.{Loop, loop_start_lem, loop_next, for_up, for_up_keeps}
 use Rattle.domain.specs.Outline.{Outline, first_of}
 use Rattle.direction.specs.declared.Grid.{Grid}
 use Rattle.direction.specs.Record.{FieldRecord, field_record}
@@ -90,7 +90,7 @@ settleable o size g values xs ys next prev origins quads edges k a b S {t} e =
 pub origins_length : (a n m : ℕ) (l : List ℕ) → length (new_origins a n m l) ≡ length l
 unfolding new_origins
 origins_length a n m l =
-    forUp_keeps (λ i x. length x ≡ length l) (m - n) (origin_turn (get_or l a 0) n) l refl (λ i x h e. length-set x (n + i) (get_or l a 0) ∙ e)
+    for_up_keeps (λ i x. length x ≡ length l) (m - n) (origin_turn (get_or l a 0) n) l refl (λ i x h e. length-set x (n + i) (get_or l a 0) ∙ e)
 
 -- no new nodes, nothing written
 pub origins_same : (a n : ℕ) (l : List ℕ) → l ≡ new_origins a n n l

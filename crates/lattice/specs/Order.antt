@@ -5,7 +5,7 @@ use Rattle.std.specs.Prelude.{◌≡◌, refl, List, [], ◌∷◌, ◌++◌, �
 use Rattle.std.proofs.Common.{sym, ap, ◌∙◌, append_assoc, inl, inr, ⊎_elim, true≢false, eq-or-lt_of_le, arith, length-append}
 use Rattle.std.proofs.Math.ListN.{get_or-append}
 use Rattle.std.proofs.lemmas.List.{get_or_at}
-use Rattle.laws.specs.Loop.{for_up, forUp_keeps, forUp_related}
+use Rattle.laws.specs.Loop.{for_up, for_up_keeps, for_up_related}
 use Rattle.lattice.specs.Fours.{first_point, second_point, third_point, fourth_point, accepted_four, corner_turns, above_third, points_of, four_turn, fours}
 use Rattle.lattice.specs.Same.{test_same}
 
@@ -32,7 +32,7 @@ written_out_more (x ∷ ks) k = ap (λ (l : List ℕ). points_of x ++ l) (writte
 pub fours_written : (test : ℕ → Bool) → fours test ≡ written_out (numbers_below test 65536)
 unfolding fours numbers_below written_out
 fours_written test =
-    forUp_related (λ (l m : List ℕ). l ≡ written_out m) 65536 (four_turn test) (number_turn test) [] [] refl (λ k l m e. go k l m e (test k))
+    for_up_related (λ (l m : List ℕ). l ≡ written_out m) 65536 (four_turn test) (number_turn test) [] [] refl (λ k l m e. go k l m e (test k))
   where
     go : (k : ℕ) (l m : List ℕ) → l ≡ written_out m → (b : Bool) → cond b (l ++ points_of k) l ≡ written_out (cond b (m ++ k ∷ []) m)
     go k l m e true = ap (λ (x : List ℕ). x ++ points_of k) e ∙ sym (written_out_more m k)
@@ -115,7 +115,7 @@ module _ (test : ℕ → Bool) (n : ℕ) (l : List ℕ) (p : NumbersBelow test n
 pub numbers_below_are : (test : ℕ → Bool) (n : ℕ) → NumbersBelow test n (numbers_below test n)
 unfolding numbers_below
 numbers_below_are test n =
-    forUp_keeps (NumbersBelow test) n (number_turn test) [] start (λ i l h p. go i l p (test i) refl)
+    for_up_keeps (NumbersBelow test) n (number_turn test) [] start (λ i l h p. go i l p (test i) refl)
   where
     start : NumbersBelow test 0 []
     start = record { below = λ i h. absurd (omega arith); passes = λ i h. absurd (omega arith); rising = λ i j h k. absurd (omega arith); all = λ k h t. absurd (omega arith) }

@@ -9,7 +9,7 @@ use Rattle.std.specs.Int.Signed.{lt_z, lt_z_yes}
 use Rattle.std.specs.Int.Count.{count_trailing_zeros}
 use Rattle.std.specs.Float.Ieee.{le, of_int, round, units, odd, size, span, climb}
 use Rattle.std.specs.Float.Ieee.Fits.{and_l, and_r}
-use Rattle.laws.specs.Loop.{forUp_same}
+use Rattle.laws.specs.Loop.{for_up_same}
 use Rattle.laws.specs.Ring.{var, num, neg, ◌+ᵉ◌, ◌*ᵉ◌, ◌-ᵉ◌}
 use Rattle.laws.proofs.Ring.{ring}
 use Rattle.laws.specs.Certificate.{Nonneg, to_le, sub_pos, zero_of, hyp, nat, eqn, ◌⊞◌}
@@ -258,4 +258,4 @@ test_same k h =
 -- above 1/3, worked out in integers.
 pub fours_same : fours accepted_four ≡ fours above_third
 unfolding fours
-fours_same = forUp_same 65536 (four_turn accepted_four) (four_turn above_third) [] (λ i l h. ap (λ (b : Bool). cond b (l ++ points_of i) l) (test_same i h))
+fours_same = for_up_same 65536 (four_turn accepted_four) (four_turn above_third) [] (λ i l h. ap (λ (b : Bool). cond b (l ++ points_of i) l) (test_same i h))

@@ -33,24 +33,24 @@ beq_eq true false h = absurd h
 beq_eq false true h = absurd h
 beq_eq false false h = refl
 
-sameZ_eq : (x y : ℤ) → T (same_z x y) → x ≡ y
+same_z_eq : (x y : ℤ) → T (same_z x y) → x ≡ y
 unfolding same_z
-sameZ_eq (pos a) (pos b) h = ap pos (eqb→eq a b h)
-sameZ_eq (pos a) (negsuc b) h = absurd h
-sameZ_eq (negsuc a) (pos b) h = absurd h
-sameZ_eq (negsuc a) (negsuc b) h = ap negsuc (eqb→eq a b h)
+same_z_eq (pos a) (pos b) h = ap pos (eqb→eq a b h)
+same_z_eq (pos a) (negsuc b) h = absurd h
+same_z_eq (negsuc a) (pos b) h = absurd h
+same_z_eq (negsuc a) (negsuc b) h = ap negsuc (eqb→eq a b h)
 
-sameF_eq : (x y : Float) → T (same_f x y) → x ≡ y
+same_f_eq : (x y : Float) → T (same_f x y) → x ≡ y
 unfolding same_f
-sameF_eq nan y h = absurd h
-sameF_eq (inf s) y h = absurd h
-sameF_eq (fin s m e) nan h = absurd h
-sameF_eq (fin s m e) (inf t) h = absurd h
-sameF_eq (fin s m e) (fin t n d) h =
+same_f_eq nan y h = absurd h
+same_f_eq (inf s) y h = absurd h
+same_f_eq (fin s m e) nan h = absurd h
+same_f_eq (fin s m e) (inf t) h = absurd h
+same_f_eq (fin s m e) (fin t n d) h =
     let rest = and_r (beq s t) (eqb m n && same_z e d) h in
     let p = beq_eq s t (and_l (beq s t) (eqb m n && same_z e d) h) in
     let q = eqb→eq m n (and_l (eqb m n) (same_z e d) rest) in
-    let r = sameZ_eq e d (and_r (eqb m n) (same_z e d) rest) in
+    let r = same_z_eq e d (and_r (eqb m n) (same_z e d) rest) in
     cc
 
 kept : (b : Bool) → not b ≡ false → T b
@@ -61,7 +61,7 @@ pub same_bool : (a b : Bool) → not (beq a b) ≡ false → a ≡ b
 same_bool a b e = beq_eq a b (kept (beq a b) e)
 
 same_of : (x y : Float) → not (same_f x y) ≡ false → x ≡ y
-same_of x y e = sameF_eq x y (kept (same_f x y) e)
+same_of x y e = same_f_eq x y (kept (same_f x y) e)
 
 -- ---- differences, products and sums
 

@@ -38,37 +38,37 @@ module _ {A : Type 0} (turn : ℕ → A → A) (a : A) where
   loop_end {n} {i} l h = l.same ∙ ap (λ (k : ℕ). for_up k turn a) (le_antisymm l.within h)
 
 -- what the first turns keep, the whole loop has: `keeps` shows it of one turn more
-pub forUp_keeps {ℓ m} : {A : Type ℓ} (P : ℕ → A → Type m) (n : ℕ) (turn : ℕ → A → A) (a : A)
+pub for_up_keeps {ℓ m} : {A : Type ℓ} (P : ℕ → A → Type m) (n : ℕ) (turn : ℕ → A → A) (a : A)
     → P 0 a → ((i : ℕ) (s : A) → i < n → P i s → P (suc i) (turn i s)) → P n (for_up n turn a)
 unfolding for_up
-forUp_keeps P zero turn a start keeps = start
-forUp_keeps P (suc n) turn a start keeps =
-    keeps n (for_up n turn a) (omega arith) (forUp_keeps P n turn a start (λ i s h. keeps i s (omega arith)))
+for_up_keeps P zero turn a start keeps = start
+for_up_keeps P (suc n) turn a start keeps =
+    keeps n (for_up n turn a) (omega arith) (for_up_keeps P n turn a start (λ i s h. keeps i s (omega arith)))
 
 -- two turns that do the same to every state give the same loop
-pub forUp_same {ℓ} : {A : Type ℓ} (n : ℕ) (turn other : ℕ → A → A) (a : A)
+pub for_up_same {ℓ} : {A : Type ℓ} (n : ℕ) (turn other : ℕ → A → A) (a : A)
     → ((i : ℕ) (s : A) → i < n → turn i s ≡ other i s) → for_up n turn a ≡ for_up n other a
 unfolding for_up
-forUp_same zero turn other a same = refl
-forUp_same (suc n) turn other a same =
-    same n (for_up n turn a) (omega arith) ∙ ap (other n) (forUp_same n turn other a (λ i s h. same i s (omega arith)))
+for_up_same zero turn other a same = refl
+for_up_same (suc n) turn other a same =
+    same n (for_up n turn a) (omega arith) ∙ ap (other n) (for_up_same n turn other a (λ i s h. same i s (omega arith)))
 
 -- two loops whose turns keep their states related, each turn of one with the same turn of the other
-pub forUp_related {ℓ m} : {A B : Type ℓ} (R : A → B → Type m) (n : ℕ) (turn : ℕ → A → A) (other : ℕ → B → B) (a : A) (b : B)
+pub for_up_related {ℓ m} : {A B : Type ℓ} (R : A → B → Type m) (n : ℕ) (turn : ℕ → A → A) (other : ℕ → B → B) (a : A) (b : B)
     → R a b → ((i : ℕ) (s : A) (t : B) → R s t → R (turn i s) (other i t)) → R (for_up n turn a) (for_up n other b)
 unfolding for_up
-forUp_related R zero turn other a b start keeps = start
-forUp_related R (suc n) turn other a b start keeps =
-    keeps n (for_up n turn a) (for_up n other b) (forUp_related R n turn other a b start keeps)
+for_up_related R zero turn other a b start keeps = start
+for_up_related R (suc n) turn other a b start keeps =
+    keeps n (for_up n turn a) (for_up n other b) (for_up_related R n turn other a b start keeps)
 
 -- a state that no later turn changes is the loop's answer
-pub forUp_stays {ℓ} : {A : Type ℓ} (n i : ℕ) (turn : ℕ → A → A) (a s : A) → i ≤ n
+pub for_up_stays {ℓ} : {A : Type ℓ} (n i : ℕ) (turn : ℕ → A → A) (a s : A) → i ≤ n
     → for_up i turn a ≡ s → ((j : ℕ) → turn j s ≡ s) → for_up n turn a ≡ s
 unfolding for_up
-forUp_stays zero i turn a s h e fixed = ap (λ (k : ℕ). for_up k turn a) (le_antisymm zero-le h) ∙ e
-forUp_stays (suc n) i turn a s h e fixed =
+for_up_stays zero i turn a s h e fixed = ap (λ (k : ℕ). for_up k turn a) (le_antisymm zero-le h) ∙ e
+for_up_stays (suc n) i turn a s h e fixed =
     ⊎_elim (λ same. ap (λ (k : ℕ). for_up k turn a) (sym same) ∙ e)
-    (λ less. ap (turn n) (forUp_stays n i turn a s (le_of_suc-le-suc less) e fixed) ∙ fixed n) (eq-or-lt_of_le h)
+    (λ less. ap (turn n) (for_up_stays n i turn a s (le_of_suc-le-suc less) e fixed) ∙ fixed n) (eq-or-lt_of_le h)
 
 -- ---- a loop that can be left: its turn goes on with a state, or is out with the answer
 
@@ -105,7 +105,7 @@ module _ {S R : Type 0} (turn : ℕ → S → Turn S R) (end : S → R) (a : S) 
   unfolding run
   run_out {n} {i} {s} r l h e =
       let next = loop_next (onwards turn) (go a) l h in
-      ap (answer end) (sym (forUp_stays n (i + 1) (onwards turn) (go a) (out r) next.within (sym next.same ∙ e) (λ j. refl)))
+      ap (answer end) (sym (for_up_stays n (i + 1) (onwards turn) (go a) (out r) next.within (sym next.same ∙ e) (λ j. refl)))
 
   pub run_end : {n i : ℕ} {s : S} → Run n i s → n ≤ i → end s ≡ run n turn end a
   unfolding run
@@ -121,7 +121,7 @@ pub run_keeps_at : {S R : Type 0} (P : ℕ → S → Type 0) (Q : R → Type 0) 
     → P 0 s → ((i : ℕ) (t : S) → i < n → P i t → Kept (P (suc i)) Q (turn i t)) → ((t : S) → P n t → Q (end t)) → Q (run n turn end s)
 unfolding run
 run_keeps_at {S} {R} P Q n turn end s start keeps ends =
-    last (for_up n (onwards turn) (go s)) (forUp_keeps (λ i t. Kept (P i) Q t) n (onwards turn) (go s) start next)
+    last (for_up n (onwards turn) (go s)) (for_up_keeps (λ i t. Kept (P i) Q t) n (onwards turn) (go s) start next)
   where
     next : (i : ℕ) (t : Turn S R) → i < n → Kept (P i) Q t → Kept (P (suc i)) Q (onwards turn i t)
     next i (go t) h p = keeps i t h p
@@ -158,7 +158,7 @@ module _ (test : ℕ → Bool) where
   unfolding any_up
   scan_hit {n} {i} l h e =
       let next = loop_next (any_turn test) false l h in
-      sym (forUp_stays n (i + 1) (any_turn test) false true next.within (sym next.same ∙ e) (λ j. refl))
+      sym (for_up_stays n (i + 1) (any_turn test) false true next.within (sym next.same ∙ e) (λ j. refl))
 
   pub scan_none : {n i : ℕ} → Scan n i → n ≤ i → false ≡ any_up n test
   unfolding any_up
@@ -178,7 +178,7 @@ module _ (test : ℕ → Bool) where
 
   pub none_found : (n : ℕ) → ((i : ℕ) → i < n → test i ≡ false) → any_up n test ≡ false
   unfolding any_up
-  none_found n none = forUp_keeps (λ i found. found ≡ false) n (any_turn test) false refl (λ i found h e. ap₂ (λ (b c : Bool). b || c) e (none i h))
+  none_found n none = for_up_keeps (λ i found. found ≡ false) n (any_turn test) false refl (λ i found h e. ap₂ (λ (b c : Bool). b || c) e (none i h))
 
   pub any_none : (n : ℕ) → any_up n test ≡ false → (i : ℕ) → i < n → test i ≡ false
   unfolding any_up for_up

@@ -2,7 +2,7 @@
 use Rattle.std.specs.Prelude.{◌≡◌, Bool, false, ◌||◌, ℕ, zero, suc, ◌+◌, ◌*◌, ◌<◌, ◌≤◌}
 use Rattle.std.proofs.Math.Path.{refl}
 use Rattle.std.proofs.Common.{ap, ⊎_elim, eq-or-lt_of_le, le_of_suc-le-suc, arith}
-use Rattle.laws.specs.Loop.{for_up, forUp_same, sum_up, any_up, any_turn}
+use Rattle.laws.specs.Loop.{for_up, for_up_same, sum_up, any_up, any_turn}
 
 -- ---- sums
 
@@ -50,4 +50,4 @@ any_suc test n = refl
 pub any_same : (test other : ℕ → Bool) (n : ℕ) → ((i : ℕ) → i < n → test i ≡ other i) → any_up n test ≡ any_up n other
 unfolding any_up
 any_same test other n same =
-    forUp_same n (any_turn test) (any_turn other) false (λ i found h. ap (λ (b : Bool). found || b) (same i h))
+    for_up_same n (any_turn test) (any_turn other) false (λ i found h. ap (λ (b : Bool). found || b) (same i h))

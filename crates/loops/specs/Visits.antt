@@ -10,7 +10,7 @@ use Rattle.std.proofs.Math.ListN.{length, get_or, length-map}
 use Rattle.std.proofs.lemmas.List.Edits.{sets, sets-eq}
 use Rattle.std.proofs.Math.Seq.{length-sets, take-append_seam, drop-append-add}
 use Rattle.std.proofs.lemmas.Bool.{eqb-false}
-use Rattle.laws.specs.Loop.{for_up, forUp_keeps, Loop, loop_start_lem, loop_next, loop_end}
+use Rattle.laws.specs.Loop.{for_up, for_up_keeps, Loop, loop_start_lem, loop_next, loop_end}
 use Rattle.laws.specs.Overlay.{overlay, overlay_length, overlay_more}
 use Rattle.topology.specs.Sums.{total}
 use Rattle.topology.specs.Links.{off, delta, delta_same, delta_other}
@@ -400,5 +400,5 @@ visited_lengths a l s k = by (leb 3 (length l))
 pub visiting_lengths : {next : List ℕ} {a s : Lists} {i : ℕ} → Visiting next a i s → SameLengths a s
 visiting_lengths {next} {a} {s} {i} l =
     subst (SameLengths a) (sym l.turns.same)
-    (forUp_keeps (λ j t. SameLengths a t) i (visit (walk_in next)) a (record { marks = refl; loops = refl; lengths = refl })
+    (for_up_keeps (λ j t. SameLengths a t) i (visit (walk_in next)) a (record { marks = refl; loops = refl; lengths = refl })
     (λ j t h. visited_lengths a (walk_in next j) t))

@@ -3,7 +3,7 @@ use Rattle.std.specs.Prelude.{Bool, true, false, not, ◌&&◌, ◌||◌, cond, 
 use Rattle.std.proofs.Common.{true≢false, subst, arith}
 use Rattle.std.proofs.Math.Dec.{ltb}
 use borrow.Author.Tests.{ltb-false, leb-false, eqb-true}
-use Rattle.laws.specs.Loop.{any_up, any_none, sum_up, sum_turn, forUp_keeps}
+use Rattle.laws.specs.Loop.{any_up, any_none, sum_up, sum_turn, for_up_keeps}
 use Rattle.laws.specs.Tests.{neither}
 use Rattle.topology.specs.Links.{off, link_of}
 use Rattle.front.specs.declared.Counts.{Counts}
@@ -119,7 +119,7 @@ link_within n links back u e ne = by (eqb (link_of n links u) off) refl e
 pub links_few : (n : ℕ) (links : List ℕ) → link_count n links ≤ n
 unfolding link_count sum_up
 links_few n links =
-    forUp_keeps (λ i sum. sum ≤ i) n (sum_turn (is_linked n links)) 0 (omega arith) (λ i sum h p. omega (arith, p, one (eqb (link_of n links i) off)))
+    for_up_keeps (λ i sum. sum ≤ i) n (sum_turn (is_linked n links)) 0 (omega arith) (λ i sum h p. omega (arith, p, one (eqb (link_of n links i) off)))
   where
     one : (b : Bool) → cond {A = ℕ} b 0 1 ≤ 1
     one true = omega arith

@@ -6,7 +6,7 @@ use Rattle.std.specs.Float.{nan, inf, fin, binary64}
 use Rattle.std.specs.Float.Ieee.{fits, is_nan, lt}
 use Rattle.std.specs.Float.Ieee.Bits.{is_true}
 use Rattle.std.specs.Float.Ieee.Fits.{add-fits}
-use Rattle.laws.specs.Loop.{forUp_related}
+use Rattle.laws.specs.Loop.{for_up_related}
 use Rattle.laws.specs.Tests.{both}
 use Rattle.numbers.specs.Float.{sqrt, infinity_f}
 use Rattle.exact.specs.Root.{root_lt}
@@ -96,13 +96,13 @@ guess_segment r p a b k i s n (inr (m, up)) = decide (lt d r) refl
 guess_loop : (r : Float) (p : Point) (l : List Float) (k : ℕ) (s : Search) (n : Near) → Guess r s n → Guess r (search_loop p l k s) (nearest_in_loop p l k n)
 unfolding search_loop nearest_in_loop
 guess_loop r p l k s n g =
-    forUp_related (Guess r) (points l) (search_turn p l k) (segment_turn p l k) s n g
+    for_up_related (Guess r) (points l) (search_turn p l k) (segment_turn p l k) s n g
     (λ i t m. guess_segment r p (point_at l i) (point_after l i) k i t m)
 
 guess_all : (r : Float) (o : Outline) (p : Point) (s : Search) → Guess r s nowhere → Guess r (search_from o p s) (nearest_segment o p)
 unfolding search_from nearest_segment
 guess_all r o p s g =
-    forUp_related (Guess r) (length o.lens) (search_hole o p) (hole_turn o p) (search_loop p o.outer 0 s) (nearest_in_loop p o.outer 0 nowhere)
+    for_up_related (Guess r) (length o.lens) (search_hole o p) (hole_turn o p) (search_loop p o.outer 0 s) (nearest_in_loop p o.outer 0 nowhere)
     (guess_loop r p o.outer 0 s nowhere g)
     (λ k t n. guess_loop r p (hole_at o k) (suc k) t n)
 

@@ -9,7 +9,7 @@ use Rattle.std.specs.Float.Ieee.{Float, fits, is_nan, lt, le}
 use Rattle.std.specs.Float.{nan, inf, fin, binary64}
 use Rattle.std.specs.Float.Ieee.Bits.{is_true}
 use Rattle.std.specs.Float.Ieee.Fits.{add-fits}
-use Rattle.laws.specs.Loop.{forUp_keeps}
+use Rattle.laws.specs.Loop.{for_up_keeps}
 use Rattle.numbers.specs.Float.{◌⊗◌, infinity_f}
 use Rattle.exact.specs.Units.{W, unlike_self, Val, Within, widen}
 use Rattle.exact.specs.Order.{le_val, not_lt_val}
@@ -169,7 +169,7 @@ module _ (o : Outline) (held : OutlineFits o) (taken : Accepted o) (p : Point) (
 
   best_outer : Best 1 0 (nearest_in_loop p (loop_at o 0) 0 nowhere)
   unfolding nearest_in_loop
-  best_outer = best_loop 0 _ (last (forUp_keeps BegunLoop (points (loop_at o 0)) (segment_turn p (loop_at o 0) 0) nowhere (inl (refl, refl)) next))
+  best_outer = best_loop 0 _ (last (for_up_keeps BegunLoop (points (loop_at o 0)) (segment_turn p (loop_at o 0) 0) nowhere (inl (refl, refl)) next))
     where
       next : (i : ℕ) (n : Near) → i < points (loop_at o 0) → BegunLoop i n → BegunLoop (suc i) (segment_turn p (loop_at o 0) 0 i n)
       next i n l (inl (x, y)) = inr (rw (x, y) best_first)
@@ -183,13 +183,13 @@ module _ (o : Outline) (held : OutlineFits o) (taken : Accepted o) (p : Point) (
   unfolding nearest_in_loop loop_at
   best_hole k n h best =
       best_loop (suc k) _
-      (forUp_keeps (Best (suc k)) (points (loop_at o (suc k))) (segment_turn p (loop_at o (suc k)) (suc k)) n best
+      (for_up_keeps (Best (suc k)) (points (loop_at o (suc k))) (segment_turn p (loop_at o (suc k)) (suc k)) n best
       (λ i t l b. best_next (suc k) i h l t b))
 
   best_all : Best (suc (length o.lens)) 0 (nearest_segment o p)
   unfolding nearest_segment loop_at
   best_all =
-      forUp_keeps (λ (k : ℕ) (n : Near). Best (suc k) 0 n) (length o.lens) (hole_turn o p) (nearest_in_loop p o.outer 0 nowhere) best_outer
+      for_up_keeps (λ (k : ℕ) (n : Near). Best (suc k) 0 n) (length o.lens) (hole_turn o p) (nearest_in_loop p o.outer 0 nowhere) best_outer
       (λ k n h b. best_hole k n h b)
 
   named_by : Named o p (nearest_segment o p)

@@ -8,7 +8,7 @@ use Rattle.numbers.specs.declared.Parts.{Parts}
 use Rattle.numbers.specs.TakenApart.{IsParts}
 use Rattle.exact.specs.Units.{W, W-pos, Val, Within, signed, sign_of, size_of, size_val, sign_val, within_size}
 use Rattle.nearest_step.specs.Step.{nearest_whole, nearest_step}
-use Rattle.nearest_step.specs.StepLaws.{nearest_near, natAbs_neg, exponent_few}
+use Rattle.nearest_step.specs.StepLaws.{nearest_near, nat_abs_neg, exponent_few}
 
 -- ---- at most 64,064 steps either way
 
@@ -21,13 +21,13 @@ few_steps a w h few =
     let less : 2 * k ≤ 128129 = le_of_mul-le-mul_right twice h in
     omega arith
 
-natAbs_signed : (s : Bool) (a : ℕ) → nat_abs (signed s a) ≡ a
-natAbs_signed false a = refl
-natAbs_signed true a = natAbs_neg (pos a)
+nat_abs_signed : (s : Bool) (a : ℕ) → nat_abs (signed s a) ≡ a
+nat_abs_signed false a = refl
+nat_abs_signed true a = nat_abs_neg (pos a)
 
 pub step_few : {x : Float} → Within 1001 x → nat_abs (nearest_step x) ≤ 64064
 unfolding nearest_step
-step_few {x} w = rw (natAbs_signed (sign_of x) (nearest_whole (64 * size_of x) W)) (few_steps (size_of x) W W-pos (within_size w))
+step_few {x} w = rw (nat_abs_signed (sign_of x) (nearest_whole (64 * size_of x) W)) (few_steps (size_of x) W W-pos (within_size w))
 
 -- ---- how the code rounds
 

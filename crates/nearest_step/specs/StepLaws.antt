@@ -45,10 +45,10 @@ nearest_near t w h = by (ltb w (2 * (t % w))) refl (eqb (2 * (t % w)) w) refl (e
 
 -- ---- no coordinate moves by more than 1/128
 
-pub natAbs_neg : (z : ℤ) → nat_abs (neg_ℤ z) ≡ nat_abs z
-natAbs_neg (pos zero) = refl
-natAbs_neg (pos (suc n)) = refl
-natAbs_neg (negsuc n) = refl
+pub nat_abs_neg : (z : ℤ) → nat_abs (neg_ℤ z) ≡ nat_abs z
+nat_abs_neg (pos zero) = refl
+nat_abs_neg (pos (suc n)) = refl
+nat_abs_neg (negsuc n) = refl
 
 minus_under : (m n : ℕ) → m ≤ n → pos m -ℤ pos n ≡ neg_ℤ (pos (n - m))
 minus_under m n h =
@@ -63,7 +63,7 @@ apart m n d h k = by (leb n m) refl
   where
     by : (t : Bool) → leb n m ≡ t → nat_abs (pos m -ℤ pos n) ≤ d
     by true e = rw (sub_pos n m (leb-true n m e)) (omega arith)
-    by false e = let less : m ≤ n = omega (arith, leb-false n m e) in rw (minus_under m n less, natAbs_neg (pos (n - m))) (omega arith)
+    by false e = let less : m ≤ n = omega (arith, leb-false n m e) in rw (minus_under m n less, nat_abs_neg (pos (n - m))) (omega arith)
 
 moved_size : (a k w : ℕ) → NearHalf (64 * a) w k → nat_abs (pos 128 *ℤ pos a -ℤ pos (2 * w) *ℤ pos k) ≤ w
 moved_size a k w N =
@@ -77,7 +77,7 @@ moved true a k w N =
       *ℤ_negℤ (pos 128) (pos a),
       *ℤ_negℤ (pos (2 * w)) (pos k),
       ← neg_ℤ-+ℤ (pos 128 *ℤ pos a) (neg_ℤ (pos (2 * w) *ℤ pos k)),
-      natAbs_neg (pos 128 *ℤ pos a -ℤ pos (2 * w) *ℤ pos k),
+      nat_abs_neg (pos 128 *ℤ pos a -ℤ pos (2 * w) *ℤ pos k),
     ) (moved_size a k w N)
 
 -- THE BOUND. W units make 1: 128 times the way from x to its step is at most 1, either way

@@ -38,13 +38,13 @@ digit_root n r h = go (nat_le ((2 * r + 1) * (2 * r + 1)) n) (leb→le ((2 * r +
     go true y z = let k = y tt in record { reach = k; under = omega arith }
     go false y z = let k = z tt in record { reach = omega arith; under = omega arith }
 
-isqrtIn_root : (k n : ℕ) → n < 4 ^ k → IsRoot n (isqrt_in k n)
+isqrt_in_root : (k n : ℕ) → n < 4 ^ k → IsRoot n (isqrt_in k n)
 unfolding isqrt_in
-isqrtIn_root zero n h = record { reach = omega arith; under = omega arith }
-isqrtIn_root (suc k) n h = digit_root n (isqrt_in k (n / 4)) (isqrtIn_root k (n / 4) (omega (arith, pow-succ' 4 k)))
+isqrt_in_root zero n h = record { reach = omega arith; under = omega arith }
+isqrt_in_root (suc k) n h = digit_root n (isqrt_in k (n / 4)) (isqrt_in_root k (n / 4) (omega (arith, pow-succ' 4 k)))
 
 pub isqrt_root : (n : ℕ) → IsRoot n (isqrt n)
-isqrt_root n = isqrtIn_root (root_size n) n (lt_of_lt_of_le (size-lt n) (le_trans (pow_mono (halves (size n))) (le_of_eq (four_pow (root_size n)))))
+isqrt_root n = isqrt_in_root (root_size n) n (lt_of_lt_of_le (size-lt n) (le_trans (pow_mono (halves (size n))) (le_of_eq (four_pow (root_size n)))))
   where
     halves : (z : ℕ) → z ≤ (z + 1) / 2 + (z + 1) / 2
     halves z = omega arith

@@ -67,14 +67,14 @@ dropped N k lo hi =
 abbrev keeping : ℕ → ℕ → ℕ → Float
 keeping n k m = let q = isqrt m in units binary64 false (nearest q (compare (4 * n) ((2 * q + 1) * (2 * q + 1) * 4 ^ k))) k
 
-rootUnits_is : (n k : ℕ) → root_size n - 53 ≡ k → root_units n ≡ keeping n k (n / 4 ^ k)
+root_units_is : (n k : ℕ) → root_size n - 53 ≡ k → root_units n ≡ keeping n k (n / 4 ^ k)
 unfolding root_units
-rootUnits_is n k e = ap (λ (j : ℕ). keeping n j (n / 4 ^ j)) e
+root_units_is n k e = ap (λ (j : ℕ). keeping n j (n / 4 ^ j)) e
 
 pub root_near : (N k Q : ℕ) → 2 ^ 104 ≤ N → N < 2 ^ 106 → NearRoot N Q → root_units (N * 4 ^ k) ≡ units binary64 false Q k
 root_near N k Q lo hi near =
     let c = 4 ^ k in
-    rootUnits_is (N * c) k (dropped N k lo hi)
+    root_units_is (N * c) k (dropped N k lo hi)
     ∙ ap (keeping (N * c) k) (mul-div_cancel N (four_pos k))
     ∙ ap (λ (y : ℕ). units binary64 false y k) (near_unique N (picked N c) Q (picked_near N c (omega arith) (four_pos k)) near)
 

@@ -20,7 +20,7 @@ use Rattle.books.specs.Holds.{BooksHold}
 use Rattle.books.specs.BookLaws.{count_sum, has_edge_lem, Gives}
 use Rattle.sampled.specs.Outlines.{outline_three}
 use Rattle.books_hold.specs.Runs.{accepted_run_lem}
-use Rattle.books_hold.specs.Theorem.{books_hold_lem}
+use Rattle.books_hold.specs.Theorem.{books_hold}
 use Rattle.origins.specs.Origins.{origins_after, SameOrigin, SameAlong, SameInLoop, OneOrigin}
 use Rattle.origins.specs.Steps.{NumberedAfter, same_self, same_join, along_has, numbered_after}
 use Rattle.origins.specs.Start.{start_numbered}
@@ -94,4 +94,4 @@ pub origins_hold : (o : Outline) (set : Settings) (f : FieldLists) (lent : State
     → (k : ℕ) → k ≤ (run_of o set f lent).paving.state.counts.quads → OneOrigin o set.size (run_of o set f lent).paving.state k
 origins_hold o set f lent doubles none =
     let A = accepted_run_lem o set f lent doubles none in
-    origins_booked o set.size lent (run_of o set f lent).paving.state A.outline A.front (books_hold_lem o set f lent doubles none)
+    origins_booked o set.size lent (run_of o set f lent).paving.state A.outline A.front (books_hold o set f lent doubles none)

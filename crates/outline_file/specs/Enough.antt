@@ -8,7 +8,7 @@ use Prim.Native.Nat.{ℕ, zero, suc, ◌+◌, ◌-◌, ◌*◌, ◌/◌, ◌≤�
 use native.Mathlib.Omega.{arith}
 use Rattle.std.proofs.Math.ListN.{take}
 use Rattle.std.proofs.Math.Seq.{take-take, take-nil, drop-nil}
-use Rattle.laws.specs.Loop.{forUp_same}
+use Rattle.laws.specs.Loop.{for_up_same}
 use Rattle.laws.specs.Tabulate.{tabulate, tabulate_same}
 use Rattle.domain.specs.Outline.{first_of}
 use Rattle.outline_file.specs.File.{block_at, head_refusal, point_blocks, points_refusal, points_turn, blocks_refusal, coordinate_at}
@@ -48,7 +48,7 @@ module _ (file : List ℕ) where
   module _ (n : ℕ) (few : n ≤ 248) where
     blocks_same : blocks_refusal start n ≡ blocks_refusal file n
     unfolding blocks_refusal points_refusal
-    blocks_same = forUp_same (point_blocks n) (points_turn start n) (points_turn file n) 0 (λ k r h. rw (block_same (k + 1) (omega arith)))
+    blocks_same = for_up_same (point_blocks n) (points_turn start n) (points_turn file n) 0 (λ k r h. rw (block_same (k + 1) (omega arith)))
 
     end_same : end_refusal start n ≡ end_refusal file n
     unfolding end_refusal

@@ -7,7 +7,7 @@ use Prim.Native.Nat.{ℕ, ◌+◌, ◌-◌, ◌*◌, ◌≤◌, ◌<◌, min}
 use borrow.Author.Tests.{lt-ltb, le-ltb, le-leb, lt-leb, eq-eqb, ne_eqb, ltb-false, leb-true}
 use Rattle.std.proofs.Math.Dec.{ltb}
 use Rattle.std.proofs.Math.ListN.{length}
-use Rattle.laws.specs.Loop.{Loop, loop_start_lem, loop_end, loop_next, sum_up, sum_turn, forUp_stays}
+use Rattle.laws.specs.Loop.{Loop, loop_start_lem, loop_end, loop_next, sum_up, sum_turn, for_up_stays}
 use Rattle.laws.specs.Tests.{both}
 use Rattle.domain.specs.Outline.{first_of}
 use Rattle.domain.specs.RefusalLaws.{first_stays}
@@ -181,7 +181,7 @@ module _ (file : List ℕ) (n : ℕ) where
     unfolding blocks_refusal
     blocks_unrefused_out z =
         let next = loop_next (points_turn file n) 0 l within in
-        sym (forUp_stays (point_blocks n) (k + 1) (points_turn file n) 0 r next.within (sym next.same ∙ sym e)
+        sym (for_up_stays (point_blocks n) (k + 1) (points_turn file n) 0 r next.within (sym next.same ∙ sym e)
         (λ j. first_stays r (points_refusal file n j) z))
 
   pub blocks_unrefused_end : {k : ℕ} → BlocksUnrefused k → n ≤ 31 * k → 0 ≡ blocks_refusal file n

@@ -1,7 +1,7 @@
 -- The turns of a pass in the code. Assumes nothing.
 use Rattle.std.specs.Prelude.{◌≡◌, refl, Bool, true, false, List, ℕ, ◌≤◌, ◌<◌, get_or, Float}
 use Rattle.std.proofs.Common.{sym, ◌∙◌, subst, arith}
-use Rattle.laws.specs.Loop.{Loop, Turn, go, out, onwards, forUp_keeps, Run, run_go, run_end, Kept, run}
+use Rattle.laws.specs.Loop.{Loop, Turn, go, out, onwards, for_up_keeps, Run, run_go, run_end, Kept, run}
 use Rattle.topology.specs.Links.{off}
 use Rattle.domain.specs.Outline.{Outline}
 use Rattle.direction.specs.declared.Grid.{Grid}
@@ -101,7 +101,7 @@ pass_whole o size field s snapshot w e E = rw (← e) E
 pub run_has : {S R : Type 0} (P : S → Type 0) (Q : R → Type 0) (turn : ℕ → S → Turn S R) {a : S} {n i : ℕ} {s : S} → P a
     → ((j : ℕ) (t : S) → P t → Kept P Q (turn j t)) → Loop (onwards turn) (go a) n i (go s) → P s
 run_has {S} {R} P Q turn {a} {n} {i} {s} start keeps L =
-    subst (λ (t : Turn S R). Kept P Q t) (sym L.same) (forUp_keeps (λ j t. Kept P Q t) i (onwards turn) (go a) start (λ j t h. next j t))
+    subst (λ (t : Turn S R). Kept P Q t) (sym L.same) (for_up_keeps (λ j t. Kept P Q t) i (onwards turn) (go a) start (λ j t h. next j t))
   where
     next : (j : ℕ) (t : Turn S R) → Kept P Q t → Kept P Q (onwards turn j t)
     next j (go t) p = keeps j t p

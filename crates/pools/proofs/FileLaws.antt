@@ -7,7 +7,7 @@ use Rattle.std.proofs.Common.{inr, ◌∙◌, subst, mul-zero, mul-suc, mul-le-m
 use Rattle.std.proofs.Math.Path.{refl, sym, ap, ap₂, fun_ext}
 use Prim.Native.Nat.{ℕ, suc, ◌+◌, ◌-◌, ◌*◌, ◌<◌, ◌≤◌}
 use borrow.Author.Tests.{leb-false}
-use Rattle.laws.specs.Loop.{Loop, loop_start_lem, loop_next, for_up, forUp_keeps}
+use Rattle.laws.specs.Loop.{Loop, loop_start_lem, loop_next, for_up, for_up_keeps}
 use Rattle.pools.specs.declared.Rect.{Rect}
 use Rattle.laws.specs.Sums.{sum_suc}
 use Rattle.pools.specs.Pool.{cells, capacity, own_place, link_place, used, filed, head_at, own_at, link_at, chain, cell_of}
@@ -22,7 +22,7 @@ pub rect_kept : {S : ℕ → ℕ → Type 0} (n count u : ℕ) (r : Rect) (own h
     → u + span r.left r.right * h ≤ capacity n → PoolKept n count u S pool
     → PoolKept n count (u + span r.left r.right * h) (with_rows S (cells n) r own h) (for_up h (file_line r own) pool)
 rect_kept {S} n count u r own h pool some small room K =
-    forUp_keeps (λ k p. PoolKept n count (u + w * k) (with_rows S (cells n) r own k) p) h (file_line r own) pool start more
+    for_up_keeps (λ k p. PoolKept n count (u + w * k) (with_rows S (cells n) r own k) p) h (file_line r own) pool start more
   where
     w : ℕ
     w = span r.left r.right
@@ -59,7 +59,7 @@ rect_kept {S} n count u r own h pool some small room K =
 
 lines_length : (r : Rect) (own h : ℕ) (pool : List ℕ) → length (for_up h (file_line r own) pool) ≡ length pool
 lines_length r own h pool =
-    forUp_keeps (λ k q. length q ≡ length pool) h (file_line r own) pool refl
+    for_up_keeps (λ k q. length q ≡ length pool) h (file_line r own) pool refl
     (λ k q less e. row_length r.left r.right (r.low + k) own q ∙ e)
 
 pub filed_length : (r : Rect) (own : ℕ) (pool : List ℕ) → length (file r own pool) ≡ length pool

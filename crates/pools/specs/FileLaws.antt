@@ -8,7 +8,7 @@ use Rattle.std.proofs.Math.Path.{refl, sym, ap, ap₂}
 use Prim.Native.Nat.{ℕ, suc, ◌+◌, ◌-◌, ◌*◌, ◌%◌, ◌<◌, ◌≤◌, min}
 use Rattle.std.proofs.Math.Nat.{mod-add-mod}
 use borrow.Author.Tests.{eq-eqb, ne_eqb, eqb-true, leb-true, leb-false, le-leb, lt-leb}
-use Rattle.laws.specs.Loop.{Loop, loop_start_lem, loop_next, loop_end, for_up, forUp_keeps, forUp_same, sum_up, sum_turn}
+use Rattle.laws.specs.Loop.{Loop, loop_start_lem, loop_next, loop_end, for_up, for_up_keeps, for_up_same, sum_up, sum_turn}
 use Rattle.laws.specs.Tests.{both, or_right}
 use Rattle.pools.specs.declared.Rect.{Rect}
 use Rattle.laws.specs.Sums.{sum_zero}
@@ -246,7 +246,7 @@ unfolding file_row
 row_kept {S} n count u left right j own pool some small room K =
     subst (λ (m : ℕ). PoolKept n count (u + span left right) (with_row S (cells n) left j own (span left right))
     (for_up (span left right) (file_column (cells m) left j own) pool)) (sym K.long)
-    (forUp_keeps (λ k p. PoolKept n count (u + k) (with_row S (cells n) left j own k) p) (span left right)
+    (for_up_keeps (λ k p. PoolKept n count (u + k) (with_row S (cells n) left j own k) p) (span left right)
     (file_column (cells n) left j own) pool start more)
   where
     start : PoolKept n count (u + 0) (with_row S (cells n) left j own 0) pool
@@ -284,13 +284,13 @@ with_rows S m r own h d x =
 pub row_length : (left right j own : ℕ) (pool : List ℕ) → length (file_row left right j own pool) ≡ length pool
 unfolding file_row
 row_length left right j own pool =
-    forUp_keeps (λ k q. length q ≡ length pool) (span left right) (file_column (cells (length pool)) left j own) pool refl
+    for_up_keeps (λ k q. length q ≡ length pool) (span left right) (file_column (cells (length pool)) left j own) pool refl
     (λ k q h e. pool_push_length (cell_of (cells (length pool)) (left + k) j) own q ∙ e)
 
 pub row_used : (left right j own : ℕ) (pool : List ℕ) → 0 < length pool → used (file_row left right j own pool) ≡ used pool + span left right
 unfolding file_row
 row_used left right j own pool some =
-    (forUp_keeps (λ k q. (length q ≡ length pool) × (used q ≡ used pool + k)) (span left right) (file_column (cells (length pool)) left j own) pool
+    (for_up_keeps (λ k q. (length q ≡ length pool) × (used q ≡ used pool + k)) (span left right) (file_column (cells (length pool)) left j own) pool
     (refl, omega arith)
     (λ k q h e.
     let c = cell_of (cells (length pool)) (left + k) j in
@@ -355,7 +355,7 @@ indexed_past past le I =
 sum_same : (rects rects' : ℕ → Rect) (n : ℕ) → ((id : ℕ) → id < n → rects id ≡ rects' id) → key_sum rects n ≡ key_sum rects' n
 unfolding sum_up
 sum_same rects rects' n same =
-    forUp_same n (sum_turn (λ id. key_count (rects id))) (sum_turn (λ id. key_count (rects' id))) 0
+    for_up_same n (sum_turn (λ id. key_count (rects id))) (sum_turn (λ id. key_count (rects' id))) 0
     (λ i sum less. ap (λ (q : Rect). sum + key_count q) (same i less))
 
 -- it depends on the rectangles below the count alone
@@ -410,7 +410,7 @@ indexed_none pool rects = by (leb 4 (length pool)) refl
 
     emptied : 4 ≤ length pool → Empty (cells (length pool)) p
     emptied some =
-        forUp_keeps Empty (cells (length pool)) clear_cell (set (set pool 0 0) 1 0) (
+        for_up_keeps Empty (cells (length pool)) clear_cell (set (set pool 0 0) 1 0) (
           length-set (set pool 0 0) 1 0 ∙ length-set pool 0 0,
           get_or-set_other (set pool 0 0) 1 0 0 0 (λ e. omega arith) ∙ get_or-set_same pool 0 0 0 (omega arith),
           get_or-set_same (set pool 0 0) 1 0 0 (simp length-set (omega arith)),

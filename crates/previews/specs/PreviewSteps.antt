@@ -4,7 +4,7 @@ use Rattle.std.proofs.Math.Path.{◌≡◌, refl}
 use Rattle.std.proofs.Common.{sym, ap, ◌∙◌, subst, arith}
 use Prim.Native.Nat.{ℕ, zero, suc, ◌+◌, ◌*◌, ◌/◌, ◌<◌, ◌≤◌}
 use borrow.Author.Tests.{le-leb, lt-leb, lt-ltb, le-ltb, ltb-false, eq-eqb, ne_eqb}
-use Rattle.laws.specs.Loop.{sum_up, forUp_keeps}
+use Rattle.laws.specs.Loop.{sum_up, for_up_keeps}
 use Rattle.laws.specs.Sums.{sum_zero, sum_suc}
 use Rattle.domain.specs.Outline.{Outline, first_of}
 use Rattle.domain.specs.Accepted.{first_zero}
@@ -100,7 +100,7 @@ module _ (o : Outline) (size : Float) (field : FieldRecord) (a b : ℕ) (s : Sta
 edges_counted : (m : ℕ) (g : ℕ → ℕ) (l : List ℕ) → (front_listed m g l).count ≡ sum_up m (is_on g)
 unfolding front_listed
 edges_counted m g l =
-    forUp_keeps (λ i w. w.count ≡ sum_up i (is_on g)) m (edge_turn g) (edge_list l 0) (sym (sum_zero (is_on g))) turn
+    for_up_keeps (λ i w. w.count ≡ sum_up i (is_on g)) m (edge_turn g) (edge_list l 0) (sym (sum_zero (is_on g))) turn
   where
     turn : (i : ℕ) (w : EdgeList) → i < m → w.count ≡ sum_up i (is_on g) → (edge_turn g i w).count ≡ sum_up (suc i) (is_on g)
     turn i w h e = by (eqb (g i) off) refl

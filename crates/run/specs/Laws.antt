@@ -37,7 +37,7 @@ use Rattle.books.specs.Book.{Book, quad_at, new_node, side, book_quad, book_afte
 use Rattle.books.specs.Net.{quads_edges}
 use Rattle.books.specs.Holds.{BooksHold, Closes, LoopsAnswered}
 use Rattle.books_hold.specs.Runs.{accepted_run_lem}
-use Rattle.books_hold.specs.Theorem.{books_hold_lem}
+use Rattle.books_hold.specs.Theorem.{books_hold}
 use Rattle.origins.specs.Origins.{origins_after}
 use Rattle.origins.specs.Writing.{booked_answered}
 use Rattle.run_refusal.specs.Lengths.{lengths_refusal}
@@ -206,7 +206,7 @@ module _ (o : Outline) (set : Settings) (l : Lent) (m : ℕ) (e : m ≡ snapshot
       let part = state_part (narrowed l) in
       let s = (run_of o set (field_part l) part).paving.state in
       let A = accepted_run_lem o set (field_part l) part doubles (none_of z).0 in
-      let B = books_unread o set.size s snapshot (books_hold_lem o set (field_part l) part doubles (none_of z).0) in
+      let B = books_unread o set.size s snapshot (books_hold o set (field_part l) part doubles (none_of z).0) in
       record {
         equal = rw (z, e) (ap (λ (w : Ran). ran w.answer (broadened l w.lists)) same);
         refused = λ n. absurd (n (ap (λ (w : Ran). w.answer.refusal) same));

@@ -4,7 +4,7 @@ use Rattle.std.proofs.Math.Path.{sym}
 use Prim.Native.Nat.{ℕ, zero, suc, ◌+◌, ◌<◌, ◌≤◌}
 use native.Mathlib.Omega.{arith}
 use Rattle.std.proofs.Common.{length-append}
-use Rattle.laws.specs.Loop.{forUp_keeps, sum_up}
+use Rattle.laws.specs.Loop.{for_up_keeps, sum_up}
 use Rattle.laws.specs.Sums.{sum_zero, sum_suc, sum_term, sum_least}
 use Rattle.laws.specs.Tabulate.{tabulate, tabulate_length}
 use Rattle.domain.specs.declared.Point.{Point}
@@ -68,7 +68,7 @@ module _ {n : ℕ} (s : State) (R : Room n s) where
   segment_pushed : (a b : Point) (m : ℕ) → s.counts.nodes + m ≤ n → Pushed s (sample_segment a b m s) (tabulate m (cut a b m))
   unfolding sample_segment tabulate
   segment_pushed a b m h =
-      forUp_keeps (λ i t. Pushed s t (tabulate i (cut a b m))) m (cut_turn a b m) s (push_none s)
+      for_up_keeps (λ i t. Pushed s t (tabulate i (cut a b m))) m (cut_turn a b m) s (push_none s)
       (λ i t q P. push_more P (push_one (cut a b m i) t (room_kept n s t P.frame R) (omega (arith, P.count, tabulate_length i (cut a b m)))))
 
 module _ {n : ℕ} (size : Float) (l : List Float) (s : State) (R : Room n s) where
@@ -76,6 +76,6 @@ module _ {n : ℕ} (size : Float) (l : List Float) (s : State) (R : Room n s) wh
   pub loop_pushed : s.counts.nodes + loop_parts size l ≤ n → Pushed s (sample_loop size l s) (loop_cuts size l)
   unfolding sample_loop loop_parts cuts_before
   loop_pushed h =
-      forUp_keeps (λ i t. Pushed s t (cuts_before size l i)) (points l) (sample_turn size l) s (push_none s)
+      for_up_keeps (λ i t. Pushed s t (cuts_before size l i)) (points l) (sample_turn size l) s (push_none s)
       (λ i t q P. push_more P (segment_pushed t (room_kept n s t P.frame R) (point_at l i) (point_after l i) (parts size l i)
       (omega (arith, P.count, cuts_before_lem size l i, sum_term (parts size l) i (points l) q))))

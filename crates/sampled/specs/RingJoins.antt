@@ -4,7 +4,7 @@ use Rattle.std.proofs.Math.Path.{refl, sym, ap}
 use Rattle.std.proofs.Common.{◌∙◌, arith, lt-ltb, le-ltb}
 use Prim.Native.Nat.{ℕ, zero, suc, ◌+◌, ◌<◌}
 use Rattle.std.proofs.Math.Numerals.{add-one}
-use Rattle.laws.specs.Loop.{for_up, forUp_same}
+use Rattle.laws.specs.Loop.{for_up, for_up_same}
 use Rattle.laws.specs.Tabulate.{tabulate, tabulate_at}
 use Rattle.domain.specs.Outline.{after}
 use Rattle.topology.specs.Changes.{Change, stored}
@@ -53,7 +53,7 @@ module _ {S : Type 0} (store : S → ℕ → ℕ → S) where
     ring_edges m =
         rw (le-ltb (m + 1) (suc m) (omega arith))
         (ap (λ (t : S). store t (f m) (f 0))
-        (forUp_same m (λ i t. store t (f i) (f (after (suc m) i))) (λ i t. store t (f i) (f (i + 1))) s
+        (for_up_same m (λ i t. store t (f i) (f (after (suc m) i))) (λ i t. store t (f i) (f (i + 1))) s
         (λ i t q. rw (lt-ltb (i + 1) (suc m) (omega arith))) ∙ path_stored m)
         ∙ sym (edges_snoc (tabulate m f) (f m) (f 0) s))
 

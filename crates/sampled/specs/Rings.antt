@@ -6,7 +6,7 @@ use Rattle.std.proofs.Math.Bool.{true, false, cond}
 use Rattle.std.proofs.Math.Dec.{ltb, eqb}
 use Rattle.std.specs.Float.Ieee.{lt}
 use borrow.Author.Tests.{eqb-true, eqb-false, ltb-true, ltb-false}
-use Rattle.laws.specs.Loop.{forUp_keeps}
+use Rattle.laws.specs.Loop.{for_up_keeps}
 use Rattle.laws.specs.Tabulate.{tabulate_length}
 use Rattle.domain.specs.Outline.{after}
 use Rattle.topology.specs.Sums.{All}
@@ -19,7 +19,7 @@ use Rattle.sampled.specs.Lists.{all_tabulate, distinct_tabulate}
 pub longest_in : (xs ys : List Float) (base n : ℕ) (turned : Bool) → 0 < n → longest_edge xs ys base n turned < n
 unfolding longest_edge
 longest_in xs ys base n turned h =
-    forUp_keeps (λ i best. best < n) n (longest_turn xs ys base n turned) 0 h
+    for_up_keeps (λ i best. best < n) n (longest_turn xs ys base n turned) 0 h
     (λ i best q p. by i best q p (lt (edge_length xs ys base n turned i) (edge_length xs ys base n turned best)))
   where
     by : (i best : ℕ) → i < n → best < n → (b : Bool) → cond b best i < n

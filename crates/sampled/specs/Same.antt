@@ -7,7 +7,7 @@ use mathlib.Core.List.{List, [], ◌∷◌, ◌++◌}
 use Prim.Native.Nat.{ℕ, zero, suc, ◌+◌, ◌-◌, ◌<◌, ◌≤◌}
 use Rattle.std.specs.Float.{nan}
 use Rattle.std.specs.Float.Ieee.{lt, unlike}
-use Rattle.laws.specs.Loop.{for_up, forUp_same, forUp_keeps}
+use Rattle.laws.specs.Loop.{for_up, for_up_same, for_up_keeps}
 use Rattle.laws.specs.Tabulate.{tabulate}
 use Rattle.numbers.specs.Float.{◌⊕◌, ◌⊗◌, zero_f, half_f}
 use Rattle.domain.specs.declared.Point.{Point}
@@ -32,7 +32,7 @@ module _ (xs ys xs' ys' : List Float) (base n : ℕ) (some : 0 < n)
   unfolding signed_area
   area_same =
       ap (λ (sum : Float). half_f ⊗ sum)
-      (forUp_same n (area_turn xs ys base n) (area_turn xs' ys' base n) zero_f
+      (for_up_same n (area_turn xs ys base n) (area_turn xs' ys' base n) zero_f
       (λ i sum h. ap₂ (λ (p q : Point). sum ⊕ area_term p q) (same (base + i) (omega arith)) (same (base + after n i) (omega (arith, after_in n i some)))))
 
   module _ (turned : Bool) where
@@ -47,7 +47,7 @@ module _ (xs ys xs' ys' : List Float) (base n : ℕ) (some : 0 < n)
     longest_same : longest_edge xs ys base n turned ≡ longest_edge xs' ys' base n turned
     unfolding longest_edge for_up
     longest_same =
-        (forUp_keeps (λ i best. (best ≡ for_up i other 0) × (best < n)) n turn 0 (refl, some)
+        (for_up_keeps (λ i best. (best ≡ for_up i other 0) × (best < n)) n turn 0 (refl, some)
         (λ i best h R. (
           ap₂ (λ (p q : Float). cond (lt p q) best i) (length_same i h) (length_same best R.1) ∙ ap (other i) R.0,
           less (lt (edge_length xs ys base n turned i) (edge_length xs ys base n turned best)) best i R.1 h,

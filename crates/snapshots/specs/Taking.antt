@@ -4,7 +4,7 @@ use Rattle.std.proofs.Math.Path.{sym}
 use Rattle.std.proofs.Common.{◌∙◌, ap, subst, arith, length-set, get_or-set_same, get_or-set_other, ltb-true, ltb-false, lt-ltb, le-ltb, eqb-true, eq-eqb, ne_eqb}
 use Rattle.std.proofs.lemmas.List.{set-get_or}
 use Rattle.std.proofs.lemmas.Bool.{eqb-false}
-use Rattle.laws.specs.Loop.{Loop, loop_start_lem, loop_next, loop_end, for_up, forUp_stays}
+use Rattle.laws.specs.Loop.{Loop, loop_start_lem, loop_next, loop_end, for_up, for_up_stays}
 use Rattle.topology.specs.Links.{off, link_in_lem, link_read}
 use Rattle.paving.specs.Advance.{copy_turn, copied}
 use Rattle.snapshots.specs.Stretches.{stretched, node_after, Joining, joining, join_node, joining_turn, stretches_joined, OffBoth, Stretches, FewerTries}
@@ -60,7 +60,7 @@ module _ (next snapshot₀ tried₀ : List ℕ) (n : ℕ) (few : n ≤ length ne
         let within = T.loop.within in
         sym
         (ap (λ (s : Joining). s.tried)
-        (forUp_stays n T.turns (joining_turn next n) (joining 0 0 tried₀) (joining from i tried) (omega (arith, T.few)) (sym T.joined)
+        (for_up_stays n T.turns (joining_turn next n) (joining 0 0 tried₀) (joining from i tried) (omega (arith, T.few)) (sym T.joined)
         (λ k. rw (le-ltb i n h))))
 
     -- a turn of the definition

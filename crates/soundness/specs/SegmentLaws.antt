@@ -27,8 +27,8 @@ or_false_right false = refl
 -- ---- the order of coordinates
 
 -- Rust's `<` is that of the units
-pub lt_ltZ : {K L : ℕ} {x y : Float} → Within K x → Within L y → lt x y ≡ lt_z (units x) (units y)
-lt_ltZ {K} {L} {x} {y} p q =
+pub lt_lt_z : {K L : ℕ} {x y : Float} → Within K x → Within L y → lt x y ≡ lt_z (units x) (units y)
+lt_lt_z {K} {L} {x} {y} p q =
     let i = lt_val x y p.sign q.sign p.size q.size p.val q.val in
     T-ext (lt x y) (lt_z (units x) (units y))
     (λ t. rw (within_units p, within_units q) (i.0 t).lt) (λ t. i.1 (lt_z_yes (rw (← within_units p, ← within_units q) t)))
@@ -50,16 +50,16 @@ pick_within false p q = q
 
 module _ {K : ℕ} {x y : Float} (p : Within K x) (q : Within K y) where
   least_units : units (lesser_f x y) ≡ min_z (units x) (units y)
-  least_units = pick (lt x y) x y ∙ ap (λ (b : Bool). cond b (units x) (units y)) (lt_ltZ p q)
+  least_units = pick (lt x y) x y ∙ ap (λ (b : Bool). cond b (units x) (units y)) (lt_lt_z p q)
 
   greatest_units : units (greater_f x y) ≡ max_z (units x) (units y)
-  greatest_units = pick (lt x y) y x ∙ ap (λ (b : Bool). cond b (units y) (units x)) (lt_ltZ p q)
+  greatest_units = pick (lt x y) y x ∙ ap (λ (b : Bool). cond b (units y) (units x)) (lt_lt_z p q)
 
 -- the greater of u and v is below the lesser of s and t
 pub clear_below : {K : ℕ} {u v s t : Float} → Within K u → Within K v → Within K s → Within K t
     → lt (greater_f u v) (lesser_f s t) ≡ lt_z (max_z (units u) (units v)) (min_z (units s) (units t))
 clear_below {K} {u} {v} {s} {t} p q r w =
-    lt_ltZ (pick_within (lt u v) q p) (pick_within (lt s t) r w) ∙ ap₂ lt_z (greatest_units p q) (least_units r w)
+    lt_lt_z (pick_within (lt u v) q p) (pick_within (lt s t) r w) ∙ ap₂ lt_z (greatest_units p q) (least_units r w)
 
 -- and so of two stretches: one lies below the other, or neither does
 module _ {K : ℕ} {u v s t : Float} (p : Within K u) (q : Within K v) (r : Within K s) (w : Within K t) where

@@ -6,7 +6,7 @@ use Rattle.std.specs.Float.{nan, inf, fin, binary64}
 use Rattle.std.specs.Float.Ieee.{fits, is_nan, lt, le, eq, of_bits}
 use Rattle.std.specs.Float.Ieee.Fits.{add-fits}
 use Rattle.std.specs.Float.Ieee.Bits.{of_bits-fits}
-use Rattle.laws.specs.Loop.{forUp_related}
+use Rattle.laws.specs.Loop.{for_up_related}
 use Rattle.laws.proofs.Certificate.{<ℤ_weaken}
 use Rattle.numbers.specs.Float.{◌⊖◌, zero_f, is_finite, abs_f, max_f}
 use Rattle.exact.specs.Units.{W, Val, val_of, size_of}
@@ -195,9 +195,9 @@ zero_quiet = refl
 sweep_same : (g : Grid) (marks : List ℕ) (values : List Float) → Same (sweep g marks values) (changed_sweep g marks values)
 unfolding sweep sweep_row changed_sweep changed_row
 sweep_same g marks values =
-    forUp_related Same g.ny (sweep_row g marks) (changed_row g marks) (swept values true) (changed values zero_f)
+    for_up_related Same g.ny (sweep_row g marks) (changed_row g marks) (swept values true) (changed values zero_f)
     (record { values = refl; quiet = zero_quiet; held = of_bits-fits binary64 0; number = zero_number })
-    (λ j s t r. forUp_related Same g.nx (sweep_node g marks j) (changed_node g marks j) s t r (λ i s t r. node_same g marks j i s t r))
+    (λ j s t r. for_up_related Same g.nx (sweep_node g marks j) (changed_node g marks j) s t r (λ i s t r. node_same g marks j i s t r))
 
 -- the same values, and a quiet sweep is one whose greatest change is below 1e-7
 pub sweep_worst : (g : Grid) (marks : List ℕ) (values : List Float)

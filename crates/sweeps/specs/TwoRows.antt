@@ -6,7 +6,7 @@ use Rattle.std.proofs.Math.Bool.{true, false, cond}
 use Rattle.std.proofs.lemmas.List.{set_comm}
 use Rattle.std.specs.Float.{nan}
 use Rattle.std.specs.Float.Ieee.{le}
-use Rattle.laws.specs.Loop.{for_up, forUp_keeps}
+use Rattle.laws.specs.Loop.{for_up, for_up_keeps}
 use Rattle.domain.specs.declared.Point.{Point}
 use Rattle.domain.specs.Outline.{point, point_at}
 use Rattle.direction.specs.declared.Grid.{Grid}
@@ -132,13 +132,13 @@ module _ (lower upper : ℕ → SweptField → SweptField) (n : ℕ)
   past : (i : ℕ) → i + 1 < n → (t : SweptField) → lower (i + 1) (for_up i upper t) ≡ for_up i upper (lower (i + 1) t)
   unfolding for_up
   past i h t =
-      forUp_keeps (λ (k : ℕ) (u : SweptField). lower (i + 1) u ≡ for_up k upper (lower (i + 1) t)) i upper t refl
+      for_up_keeps (λ (k : ℕ) (u : SweptField). lower (i + 1) u ≡ for_up k upper (lower (i + 1) t)) i upper t refl
       (λ k u l e. commute k (i + 1) (omega arith) h u ∙ ap (upper k) e)
 
   behind : (m : ℕ) → m < n → for_up m (λ i t. upper i (lower (i + 1) t)) (lower 0 s) ≡ for_up m upper (for_up (suc m) lower s)
   unfolding for_up
   behind m h =
-      forUp_keeps (λ (i : ℕ) (t : SweptField). t ≡ for_up i upper (for_up (suc i) lower s)) m (λ i t. upper i (lower (i + 1) t)) (lower 0 s) refl
+      for_up_keeps (λ (i : ℕ) (t : SweptField). t ≡ for_up i upper (for_up (suc i) lower s)) m (λ i t. upper i (lower (i + 1) t)) (lower 0 s) refl
       (λ i t l e. ap (upper i) (ap (lower (i + 1)) e ∙ past i (omega arith) (for_up (suc i) lower s) ∙ rw add-one))
 
 -- ---- two rows

@@ -13,7 +13,8 @@ use Rattle.lent_mesh.specs.declared.QuadIds.{QuadIds}
 use Rattle.lent_mesh.specs.Mesh.{Mesh, quad_of}
 use Rattle.thresholds.specs.Figures.{no_threshold, most_threshold, threshold_at, stands, is_complete, names}
 use Rattle.thresholds.specs.Figures.{Results, unless_refused, refusal_at, with_threshold, enter_answer, withdraw_answer}
-use Rattle.thresholds.specs.Laws.{stands_means, complete_same, four_same, other_same, taken}
+use Rattle.thresholds.specs.Laws.{stands_means, taken}
+use Rattle.thresholds.proofs.Laws.{complete_same, four_same, other_same}
 use Rattle.estimates.specs.declared.EstimateAnswer.{EstimateAnswer}
 use Rattle.estimates.specs.Estimate.{estimate_of, least_threshold, greatest_threshold, estimate_refusal, estimated, estimate_answer}
 use Rattle.estimates.specs.Moves.{estimate_moves, estimate_least, estimate_greatest}

@@ -7,7 +7,8 @@ use Rattle.std.proofs.Math.Dec.{eqb}
 use Rattle.domain.specs.Queries.{answer_by}
 use Rattle.lent_mesh.specs.Mesh.{Mesh, quad_of, quads_few}
 use Rattle.thresholds.specs.Figures.{threshold_at, Results}
-use Rattle.thresholds.specs.Kept.{Afresh, enter_unmoved, withdraw_unmoved, enter_kept, withdraw_kept, begin_kept}
+use Rattle.thresholds.specs.Kept.{Afresh, enter_unmoved, withdraw_unmoved}
+use Rattle.thresholds.proofs.Kept.{enter_kept, withdraw_kept, begin_kept}
 use Rattle.thresholds.specs.Figures.{begin_answer}
 use Rattle.estimates.specs.declared.EstimateAnswer.{EstimateAnswer}
 use Rattle.estimates.specs.Estimate.{least_threshold, greatest_threshold, estimate_answer, estimate_refusal, estimate_of, estimated}

@@ -8,7 +8,8 @@ use Rattle.domain.specs.RefusalLaws.{answer_refused}
 use Rattle.lent_mesh.specs.declared.QuadIds.{QuadIds}
 use Rattle.lent_mesh.specs.Mesh.{mesh, quad_in, quad_count_of}
 use Rattle.thresholds.specs.Figures.{threshold_at, most_threshold, is_complete}
-use Rattle.thresholds.specs.Laws.{AllStand, complete_means}
+use Rattle.thresholds.specs.Laws.{AllStand}
+use Rattle.thresholds.proofs.Laws.{complete_means}
 use Rattle.estimates.specs.Estimate.{estimate, estimate_of, estimate_refusal, estimated, estimate_answer}
 
 -- ---- no step of the sum wraps

@@ -13,7 +13,8 @@ use Rattle.lent_mesh.specs.declared.QuadIds.{QuadIds}
 use Rattle.lent_mesh.specs.Mesh.{Mesh, mesh, quad_of, quad_count_of}
 use Rattle.thresholds.specs.Figures.{no_threshold, most_threshold, threshold_at, stands, is_complete, quad_total, count_at, sum_at, names, share_at, share_of, moved}
 use Rattle.thresholds.specs.Figures.{Results, results, outcome, unless_refused, is_missing, refusal_at, with_threshold, enter_answer, withdraw_answer}
-use Rattle.thresholds.specs.Laws.{share_at_most, count_at_most, sum_at_most, quad_total_most}
+use Rattle.thresholds.specs.Laws.{share_at_most, count_at_most}
+use Rattle.thresholds.proofs.Laws.{sum_at_most, quad_total_most}
 
 -- ---- reading
 

@@ -1,19 +1,17 @@
 -- Laws of the figures: what a change at one node does to a sum over the quads, and how large the figures can be.
-use Prim.Native.Nat.{ℕ, zero, suc, ◌+◌, ◌-◌, ◌*◌, ◌≤◌, ◌<◌}
-use Rattle.std.specs.Prelude.{◌≡◌, Bool, ◌&&◌, ◌||◌, List, length, set, ltb, leb}
+use Prim.Native.Nat.{ℕ, zero, suc, ◌+◌, ◌≤◌, ◌<◌}
+use Rattle.std.specs.Prelude.{◌≡◌, Bool, ◌||◌, List, length, ltb, leb}
 use Rattle.std.proofs.Math.Path.{refl}
-use Rattle.std.proofs.Common.{sym, ◌∙◌, get_or-set_other, leb-false, leb-true, ltb-false, ltb-true}
+use Rattle.std.proofs.Common.{sym, ◌∙◌, leb-false, leb-true, ltb-false, ltb-true}
 use Rattle.std.proofs.Math.Bool.{true, false, cond}
 use native.Mathlib.Omega.{arith}
-use Rattle.std.proofs.Math.Dec.{eqb}
-use Rattle.std.proofs.lemmas.Bool.{eqb-false}
 use Rattle.laws.specs.Loop.{sum_up}
 use Rattle.laws.specs.Sums.{sum_zero, sum_suc, sum_most, sum_below}
 use Rattle.laws.specs.Tests.{neither, both}
 use Rattle.lent_mesh.specs.declared.QuadIds.{QuadIds}
 use Rattle.lent_mesh.specs.Mesh.{Mesh, quad_of}
-use Rattle.thresholds.specs.Figures.{no_threshold, most_threshold, threshold_at, stands, is_complete, once_only, quad_total}
-use Rattle.thresholds.specs.Figures.{count_at, sum_at, count_afresh, sum_afresh, names, share_at, share_of, moved, is_missing, refusal_at}
+use Rattle.thresholds.specs.Figures.{most_threshold, threshold_at, stands, is_complete}
+use Rattle.thresholds.specs.Figures.{count_at, count_afresh, names, share_at, share_of, moved, is_missing, refusal_at}
 
 -- ---- sums and shares
 
@@ -51,40 +49,6 @@ module _ (m : Mesh) (id : ℕ) where
   unfolding share_of
   share_law f h same = share_sums f h same m.quads
 
--- ---- a change at one node
-
-module _ (t : List ℕ) (id v : ℕ) where
-  -- at another node the list reads the same
-  pub other_same : (x : ℕ) → eqb x id ≡ false → threshold_at (set t id v) x ≡ threshold_at t x
-  other_same x e = get_or-set_other t id x v no_threshold (eqb-false x id e)
-
-  -- none of the four is id
-  pub four_same : (q : QuadIds) → names q id ≡ false
-      → (threshold_at (set t id v) q.a ≡ threshold_at t q.a) × (threshold_at (set t id v) q.b ≡ threshold_at t q.b)
-      × (threshold_at (set t id v) q.d ≡ threshold_at t q.d) × (threshold_at (set t id v) q.c ≡ threshold_at t q.c)
-  unfolding names
-  four_same q e =
-      let p = neither (eqb q.a id) (eqb q.b id || (eqb q.d id || eqb q.c id)) e in
-      let r = neither (eqb q.b id) (eqb q.d id || eqb q.c id) p.1 in
-      let s = neither (eqb q.d id) (eqb q.c id) r.1 in
-      (other_same q.a p.0, other_same q.b r.0, other_same q.d s.0, other_same q.c s.1)
-
-  pub complete_same : (n : ℕ) (q : QuadIds) → names q id ≡ false → is_complete n (set t id v) q ≡ is_complete n t q
-  unfolding is_complete stands
-  complete_same n q e = let p = four_same q e in rw (p.0, p.1, p.2, p.3)
-
-  quad_total_same : (q : QuadIds) → names q id ≡ false → quad_total (set t id v) q ≡ quad_total t q
-  unfolding quad_total
-  quad_total_same q e = let p = four_same q e in rw (p.0, p.1, p.2, p.3)
-
-  pub count_at_same : (m : Mesh) (k : ℕ) → names (quad_of m k) id ≡ false → count_at m t k ≡ count_at m (set t id v) k
-  unfolding count_at
-  count_at_same m k e = rw (complete_same m.nodes (quad_of m k) e)
-
-  pub sum_at_same : (m : Mesh) (k : ℕ) → names (quad_of m k) id ≡ false → sum_at m t k ≡ sum_at m (set t id v) k
-  unfolding sum_at
-  sum_at_same m k e = rw (complete_same m.nodes (quad_of m k) e, quad_total_same (quad_of m k) e)
-
 -- ---- how large
 
 -- a threshold that stands
@@ -100,38 +64,6 @@ pub record AllStand (n : ℕ) (t : List ℕ) (q : QuadIds) : Type 0 where
   pub d : (q.d < n) × (threshold_at t q.d ≤ most_threshold)
   pub c : (q.c < n) × (threshold_at t q.c ≤ most_threshold)
 
-pub complete_means : (n : ℕ) (t : List ℕ) (q : QuadIds) → is_complete n t q ≡ true → AllStand n t q
-unfolding is_complete
-complete_means n t q e =
-    let p = both (stands n t q.a) (stands n t q.b && (stands n t q.d && stands n t q.c)) e in
-    let r = both (stands n t q.b) (stands n t q.d && stands n t q.c) p.1 in
-    let s = both (stands n t q.d) (stands n t q.c) r.1 in
-    record {
-      a = stands_means n t q.a p.0;
-      b = stands_means n t q.b r.0;
-      d = stands_means n t q.d s.0;
-      c = stands_means n t q.c s.1;
-    }
-
-once_most : (r : Bool) (x b : ℕ) → x ≤ b → once_only r x ≤ b
-once_most true x b h = omega arith
-once_most false x b h = h
-
-total_most : (t : List ℕ) (q : QuadIds) (b : ℕ)
-    → threshold_at t q.a ≤ b → threshold_at t q.b ≤ b → threshold_at t q.d ≤ b → threshold_at t q.c ≤ b → quad_total t q ≤ 4 * b
-unfolding quad_total
-total_most t q b ha hb hd hc =
-    omega (
-      arith,
-      once_most (eqb q.b q.a) (threshold_at t q.b) b hb,
-      once_most (eqb q.d q.a || eqb q.d q.b) (threshold_at t q.d) b hd,
-      once_most (eqb q.c q.a || (eqb q.c q.b || eqb q.c q.d)) (threshold_at t q.c) b hc,
-    )
-
-pub quad_total_most : (n : ℕ) (t : List ℕ) (q : QuadIds) → is_complete n t q ≡ true → quad_total t q ≤ 2000
-quad_total_most n t q e =
-    let w = complete_means n t q e in total_most t q 500 w.a.1 w.b.1 w.d.1 w.c.1
-
 pub count_at_most : (m : Mesh) (t : List ℕ) (k : ℕ) → count_at m t k ≤ 1
 unfolding count_at
 count_at_most m t k = by (is_complete m.nodes t (quad_of m k))
@@ -140,22 +72,10 @@ count_at_most m t k = by (is_complete m.nodes t (quad_of m k))
     by true = omega arith
     by false = omega arith
 
-pub sum_at_most : (m : Mesh) (t : List ℕ) (k : ℕ) → sum_at m t k ≤ 2000
-unfolding sum_at
-sum_at_most m t k = by (is_complete m.nodes t (quad_of m k)) refl
-  where
-    by : (b : Bool) → is_complete m.nodes t (quad_of m k) ≡ b → cond b (quad_total t (quad_of m k)) 0 ≤ 2000
-    by true e = quad_total_most m.nodes t (quad_of m k) e
-    by false e = omega arith
-
 -- both figures fit 31 bits
 pub count_small : (m : Mesh) (t : List ℕ) → m.quads ≤ 250000 → count_afresh m t ≤ 250000
 unfolding count_afresh
 count_small m t h = omega (arith, sum_most m.quads 1 (count_at m t) (count_at_most m t))
-
-pub sum_afresh_small : (m : Mesh) (t : List ℕ) → m.quads ≤ 250000 → sum_afresh m t ≤ 500000000
-unfolding sum_afresh
-sum_afresh_small m t h = omega (arith, sum_most m.quads 2000 (sum_at m t) (sum_at_most m t))
 
 -- what is lost and won moves a figure to the new one
 pub moved_is : (x y lost won : ℕ) → y + lost ≡ x + won → lost ≤ x → x < 4294967296 → y < 4294967296 → moved x lost won ≡ y

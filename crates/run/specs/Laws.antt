@@ -231,7 +231,7 @@ pub paves_refused : (o : Outline) (set : Settings) (l : Lent) (number : ℕ) →
 unfolding run_answer refused_answer
 paves_refused o set l number e n r q =
     record {
-      equal = rw (← e, q) (sym (answer_refused _ _ _ n));
+      equal = rw (← e, q) (sym (answer_refused (λ (number : ℕ). ran (refused_answer number) l) (accepted_run o set l) number n));
       refused = λ _. refl;
       books = λ z. absurd (n (sym (ap (λ (v : Paved). v.refusal) q) ∙ z));
       origins = λ z. absurd (n (sym (ap (λ (v : Paved). v.refusal) q) ∙ z));

@@ -26,6 +26,6 @@ pub returns : goal.returns
 returns c =
     c.advance.ensures
     ∙ ap
-        (advance (outline c.args.outer.now c.args.holes.now c.args.lens.now) c.args.size
-        (field_record c.args.grid c.args.values.now []) c.args.passes)
-        (c.from_boundary-k.ensures c.args.snapshot.now c.args.quads.now unused c.requires.front)
+    (advance (outline c.args.outer.now c.args.holes.now c.args.lens.now) c.args.size
+    (field_record c.args.grid c.args.values.now []) c.args.passes)
+    (c.from_boundary-k.ensures c.args.snapshot.now c.args.quads.now unused c.requires.front)

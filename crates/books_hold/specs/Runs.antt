@@ -20,8 +20,9 @@ use Rattle.books.specs.Book.{start_book}
 use Rattle.books.specs.Holds.{BooksHold}
 use Rattle.books.specs.Areas.{FrontJoins}
 use Rattle.sampled.specs.Outlines.{outline_three}
-use Rattle.sampled.specs.Begun.{Begun, begun}
-use Rattle.sampled.specs.Starts.{starts}
+use Rattle.sampled.specs.Begun.{Begun}
+use Rattle.sampled.proofs.Begun.{begun}
+use Rattle.sampled.proofs.Starts.{starts}
 use Rattle.bounded.specs.Point.{Bounded}
 use Rattle.bounded.specs.Nodes.{AllNodes}
 use Rattle.bounded.specs.Placed.{placement_holds}

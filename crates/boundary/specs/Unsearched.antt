@@ -23,8 +23,10 @@ use Rattle.sampled.specs.Cuts.{loop_cuts, cuts_length}
 use Rattle.sampled.specs.Rings.{ring_in_lem, ring_differ, ring_longest}
 use Rattle.sampled.specs.Joins.{join, OnlyLinked, Joinable, join_is, join_one, next_joined}
 use Rattle.sampled.specs.Laid.{Laid, linked_pushed, off_pushed}
-use Rattle.sampled.specs.Turn.{split_points, split_count, split_pushed, turn_sampled, sampled_count_lem, cuts_three}
-use Rattle.sampled.specs.Begun.{Places, state_at, loops_at, turn_ready, turn_fits}
+use Rattle.sampled.specs.Turn.{split_points, split_count, split_pushed}
+use Rattle.sampled.proofs.Turn.{turn_sampled, sampled_count_lem, cuts_three}
+use Rattle.sampled.specs.Begun.{Places, state_at, loops_at}
+use Rattle.sampled.proofs.Begun.{turn_ready, turn_fits}
 use Rattle.sampled.specs.Outlines.{Threes}
 use Rattle.boundary.specs.Laying.{link_turn, link_ring, lay_loop}
 

@@ -7,8 +7,9 @@ use Rattle.front.specs.State.{State}
 use Rattle.front.specs.Sampling.{front_refusal, from_boundary}
 use Rattle.paving.specs.Reach.{Reaches}
 use Rattle.sampled.specs.Outlines.{outline_three}
-use Rattle.sampled.specs.Begun.{begun}
-use Rattle.sampled.specs.Points.{OfSamples, sampled_all}
+use Rattle.sampled.proofs.Begun.{begun}
+use Rattle.sampled.specs.Points.{OfSamples}
+use Rattle.sampled.proofs.Points.{sampled_all}
 use Rattle.bounded.specs.Point.{Bounded}
 use Rattle.bounded.specs.Sampled.{sample_bounded, mean_bounded}
 use Rattle.bounded.specs.Nodes.{AllNodes}

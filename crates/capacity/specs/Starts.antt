@@ -18,10 +18,12 @@ use Rattle.front.specs.FrameLaws.{frame_node_places, frame_quad_places, frame_ed
 use Rattle.sampled.specs.Nodes.{nodes_of, nodes_at}
 use Rattle.sampled.specs.Cuts.{loop_cuts, cuts_length, cuts_least}
 use Rattle.sampled.specs.Rings.{ring_longest, after_in, ring_in_lem, ids_length}
-use Rattle.sampled.specs.Turn.{split_points, turn_points, turn_sampled, turn_length}
+use Rattle.sampled.specs.Turn.{split_points, turn_points}
+use Rattle.sampled.proofs.Turn.{turn_sampled, turn_length}
 use Rattle.sampled.specs.Outlines.{Threes}
-use Rattle.sampled.specs.Begun.{Begun, Places, refusal_places, state_at, TurnReady, turn_ready, turn_fits, turn_at, begun_in}
-use Rattle.sampled.specs.Same.{turn_same, same_at, same_start}
+use Rattle.sampled.specs.Begun.{Begun, Places, refusal_places, state_at, TurnReady}
+use Rattle.sampled.proofs.Begun.{turn_ready, turn_fits, turn_at, begun_in}
+use Rattle.sampled.proofs.Same.{turn_same, same_at, same_start}
 use Rattle.capacity.specs.Alike.{EdgesAlike, Alike, add_alike}
 use Rattle.capacity.specs.Placings.{SameEdges, same_trans, either, same_add, alike_same, alike_more, Longer, longer}
 use Rattle.capacity.specs.Twins.{NoFewer, Twins}

@@ -16,7 +16,7 @@ use Rattle.paving.specs.Loops.{front_loops}
 use Rattle.paving.specs.ReachLaws.{advance_reaches}
 use Rattle.whole_run.specs.Run.{run_refusal, run_of}
 use Rattle.sampled.specs.Outlines.{outline_three}
-use Rattle.sampled.specs.Begun.{begun}
+use Rattle.sampled.proofs.Begun.{begun}
 use Rattle.books_hold.specs.Stages.{Standing, standing}
 use Rattle.run.specs.declared.Paved.{Paved}
 use Rattle.run.specs.Run.{Lent, narrowed, field_part, state_part, Ran, ran, answered_state, refused_answer, refusal_of, accepted_in, accepted_run, run_answer}

@@ -24,10 +24,13 @@ use Rattle.books.specs.BookLaws.{matches_nodes}
 use Rattle.sampled.specs.Lists.{all_append, all_tabulate}
 use Rattle.sampled.specs.Rings.{ring_longest, ring_in_lem, ids_all}
 use Rattle.sampled.specs.Cuts.{loop_cuts, cuts_length}
-use Rattle.sampled.specs.Turn.{sampled_count_lem, cuts_three, split_count}
+use Rattle.sampled.specs.Turn.{split_count}
+use Rattle.sampled.proofs.Turn.{sampled_count_lem, cuts_three}
 use Rattle.sampled.specs.Outlines.{Threes}
-use Rattle.sampled.specs.Begun.{Places, state_at, turn_fits, turn_ready, refusal_places, begun}
-use Rattle.sampled.specs.Starts.{room_for_lem, starts}
+use Rattle.sampled.specs.Begun.{Places, state_at, refusal_places}
+use Rattle.sampled.proofs.Begun.{turn_fits, turn_ready, begun}
+use Rattle.sampled.specs.Starts.{room_for_lem}
+use Rattle.sampled.proofs.Starts.{starts}
 use Rattle.origins.specs.Origins.{origin_of, loop_origins, sampled_origins, SameAlong}
 use Rattle.origins.specs.Steps.{Numbered}
 

@@ -9,6 +9,5 @@ pub mod Laid
 pub mod Turn
 pub mod Outlines
 pub mod Begun
-pub mod Same
 pub mod Points
 pub mod Starts

@@ -15,7 +15,8 @@ use Rattle.loops.specs.Listed.{Listable}
 use Rattle.loops.specs.ListedLaws.{sound_listable}
 use Rattle.settling.specs.Paveable.{Paveable}
 use Rattle.sampled.specs.Outlines.{outline_three}
-use Rattle.sampled.specs.Begun.{Begun, begun}
+use Rattle.sampled.specs.Begun.{Begun}
+use Rattle.sampled.proofs.Begun.{begun}
 use Rattle.books_hold.specs.Stages.{Standing, standing}
 use Rattle.origins.specs.Writing.{Numberable, advance_numberable}
 use Rattle.sampled_advance.specs.Asked.{CanPave}

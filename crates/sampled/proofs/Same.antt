@@ -20,9 +20,11 @@ use Rattle.front.specs.Sampling.{ring_of, ordered_at, sampled_at, midpoint, ring
 use Rattle.sampled.specs.Nodes.{nodes_of, nodes_length, nodes_at, Pushed}
 use Rattle.sampled.specs.Cuts.{loop_cuts, cuts_length, cuts_least}
 use Rattle.sampled.specs.Rings.{ring_longest, ordered_in, after_in}
-use Rattle.sampled.specs.Turn.{split_points, added_points, turn_points, turn_sampled}
+use Rattle.sampled.specs.Turn.{split_points, added_points, turn_points}
+use Rattle.sampled.proofs.Turn.{turn_sampled}
 use Rattle.sampled.specs.Outlines.{Threes}
-use Rattle.sampled.specs.Begun.{Places, no_nodes, state_at, loops_at, turn_ready, turn_fits, turn_at}
+use Rattle.sampled.specs.Begun.{Places, no_nodes, state_at, loops_at}
+use Rattle.sampled.proofs.Begun.{turn_ready, turn_fits, turn_at}
 
 -- ---- a ring is read off the nodes from its base on
 

@@ -12,7 +12,8 @@ use Rattle.thresholds.proofs.Kept.{enter_kept, withdraw_kept, begin_kept}
 use Rattle.thresholds.specs.Figures.{begin_answer}
 use Rattle.estimates.specs.declared.EstimateAnswer.{EstimateAnswer}
 use Rattle.estimates.specs.Estimate.{least_threshold, greatest_threshold, estimate_answer, estimate_refusal, estimate_of, estimated}
-use Rattle.estimates.specs.OneOff.{tenths_apart, EqualWithin, one_off, elsewhere, between_corners}
+use Rattle.estimates.specs.OneOff.{tenths_apart, EqualWithin, elsewhere}
+use Rattle.estimates.proofs.OneOff.{one_off, between_corners}
 use Rattle.exam.specs.declared.ResultChange.{ResultChange}
 use Rattle.exam.specs.declared.ResultChange.TheVariants.{Begin, Enter, Withdraw}
 use Rattle.exam.specs.declared.ResultRead.TheVariants.{ReadEstimate}

@@ -23,8 +23,8 @@ DECL = re.compile(r"^(\s*)" + HEAD + r"([^\s(){}=:]\S*(?: [^\s(){}=:]\S*)*?)(?: 
 TYPE = re.compile(r"^(\s*)" + HEAD + r"(record|data) (\S+)")
 HEAD_ALONE = re.compile(r"^(\s*)" + HEAD + r"([^\s(){}=:]\S*)$")
 SECTION = re.compile(r"^\s*module _\b")
-USE = re.compile(r"^(\s*(?:pub |ghost )*use )(Rattle\.(\w+)\.(specs|proofs)\.([\w.]+?))(\.\{([^}]*)\}| as (\S+))?(;?)\s*$")
-ANY_USE = re.compile(r"^(?:pub |ghost )*use ")
+USE = re.compile(r"^(\s*(?:pub |ghost |unfoldable |abbrev )*use )(Rattle\.(\w+)\.(specs|proofs)\.([\w.]+?))(\.\{([^}]*)\}| as (\S+))?(;?)\s*$")
+ANY_USE = re.compile(r"^(?:pub |ghost |unfoldable |abbrev )*use ")
 WORD = re.compile(r"(?<![^\s(){}\[\],;`\"«»|])[^\s(){}\[\].,;`\"«»|]+")
 
 
@@ -341,7 +341,7 @@ def imports(module, crate, targets, body, extra=""):
     found, text, out = words(body), body, []
     for use in module.uses:
         line = use.lines[-1]
-        braces = re.match(r"^((?:pub )?use )(\S+?)\.\{([^}]*)\}\s*$", line)
+        braces = re.match(r"^((?:pub |unfoldable |abbrev )*use )(\S+?)\.\{([^}]*)\}\s*$", line)
         if not braces:
             alias = re.match(r".* as (\S+)", line)
             if not alias or re.search(r"(?<!\S)\(*" + re.escape(alias[1]) + r"\.", text) or alias[1] + "." in text:

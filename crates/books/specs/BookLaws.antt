@@ -3,7 +3,7 @@
 use Rattle.std.specs.Prelude.{ℕ, ◌+◌, ◌*◌, ◌<◌, ◌≡◌, refl, Bool, true, false, cond, ◌&&◌, ◌||◌, ℤ, neg_ℤ, ◌+ℤ◌, ◌-ℤ◌, ◌*ℤ◌, eqb, length, Float}
 use mathlib.Core.List.{List, [], ◌∷◌}
 use Rattle.std.proofs.Math.Path.{sym}
-use Rattle.std.proofs.Common.{◌∙◌, ap, ap₂, arith, length-take-le, eqb-true, eq-eqb, ne_eqb}
+use Rattle.std.proofs.Common.{◌∙◌, ap, arith, length-take-le, eqb-true, eq-eqb, ne_eqb}
 use Rattle.std.proofs.Math.Option.{Option, none, some}
 use Rattle.std.proofs.Math.IntN.{neg_ℤ-neg_ℤ, neg_ℤ-+ℤ, +ℤ_comm, *ℤ_comm}
 use Rattle.std.proofs.lemmas.Bool.{eqb-false}
@@ -11,12 +11,11 @@ use Rattle.laws.specs.Tests.{both}
 use Rattle.exact.specs.Corner.{Vector, cross}
 use Rattle.topology.specs.Sums.{one}
 use Rattle.topology.specs.Links.{delta, at}
-use Rattle.topology.specs.Balance.{front_sumℤ, Antisymmetric, difference, difference_add, difference_zero, gain, flip}
-use Rattle.topology.proofs.Balance.{weight_is, front_is}
+use Rattle.topology.specs.Balance.{Antisymmetric}
 use Rattle.front.specs.State.{State, node_places}
 use Rattle.front.specs.Sound.{Sound, Frame}
 use Rattle.front.specs.FrameLaws.{extends_at}
-use Rattle.books.specs.Book.{Edge, edge, Book, is_edge, has, without, and_then, quad_at, area_of, edges_sumℤ}
+use Rattle.books.specs.Book.{Edge, edge, Book, is_edge, has, without, and_then, quad_at, area_of}
 use Rattle.books.specs.Net.{count_edge}
 use Rattle.books.specs.Matches.{edges_sum, Matches}
 
@@ -123,19 +122,6 @@ matches_nodes n s ls b S M = ap length (sym M.xs) ∙ length-take-le s.counts.no
 pub matches_edges : (n : ℕ) (s : State) (ls : List (List ℕ)) (b : Book) → Sound n s ls → Matches s ls b
     → length b.front ≡ s.counts.front
 matches_edges n s ls b S M = sym (edges_length b.front) ∙ (M.sums one ∙ sym S.edges)
-
--- ---- sums over ℤ
-
--- an antisymmetric weight over the book's front is that over the loops
-module _ (w : ℕ → ℕ → ℤ) (anti : Antisymmetric w) where
-  pub edges_is : (es : List Edge) → edges_sumℤ w es ≡ difference (edges_sum (gain w) es) (edges_sum (flip (gain w)) es)
-  unfolding edges_sumℤ edges_sum
-  edges_is [] = sym difference_zero
-  edges_is (e ∷ es) = rw (weight_is w anti e.from e.to, edges_is es) (difference_add _ _ _ _)
-
-  pub matches_sum : (s : State) (ls : List (List ℕ)) (b : Book) → Matches s ls b → edges_sumℤ w b.front ≡ front_sumℤ w ls
-  matches_sum s ls b M =
-      edges_is b.front ∙ (ap₂ difference (M.sums (gain w)) (M.sums (flip (gain w))) ∙ sym (front_is w anti ls))
 
 -- ---- areas
 

@@ -14,8 +14,9 @@ use Rattle.front.specs.Sound.{Frame}
 use Rattle.books.specs.Book.{Book, quad_at, start_book}
 use Rattle.books.specs.Net.{net, quads_edges}
 use Rattle.books.specs.Matches.{Matches}
-use Rattle.books.specs.BookLaws.{matches_sum}
-use Rattle.books.specs.NetLaws.{net_weight, net_anti, net_sum}
+use Rattle.books.proofs.BookLaws.{matches_sum}
+use Rattle.books.specs.NetLaws.{net_weight, net_anti}
+use Rattle.books.proofs.NetLaws.{net_sum}
 use Rattle.books.specs.Areas.{FrontJoins}
 use Rattle.books.specs.Holds.{QuadHolds}
 use Rattle.bounded.specs.Corners.{node_of}

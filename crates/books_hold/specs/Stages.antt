@@ -26,7 +26,7 @@ use Rattle.books.specs.Matches.{Matches}
 use Rattle.books.specs.Holds.{QuadHolds}
 use Rattle.bounded.specs.Corners.{corners_in}
 use Rattle.books.specs.Step.{Stepped, answered_step}
-use Rattle.books.specs.Booked.{booked}
+use Rattle.books.proofs.Booked.{booked}
 use Rattle.books.specs.Snapshot.{snapshot_frame, snapshot_sound, snapshot_matches}
 
 -- ---- definitions

@@ -20,7 +20,8 @@ use Rattle.books.specs.BookLaws.{count_sum, without_sum, Gives, gives_then}
 use Rattle.lent_mesh.specs.Mesh.{quad_in}
 use Rattle.lent_mesh.specs.Answered.{quad_same}
 use Rattle.order.specs.Order.{needs, order_accepted, order_answer}
-use Rattle.order.specs.Accepted.{Lays, laid_bd, laid_dc, laid_ca, Uses, used_ab, used_bd, used_ca, says_needs, accepted_iff}
+use Rattle.order.specs.Accepted.{Lays, laid_bd, laid_dc, laid_ca, Uses, used_ab, used_bd, used_ca}
+use Rattle.order.proofs.Accepted.{says_needs, accepted_iff}
 
 -- ---- what happened in the book
 

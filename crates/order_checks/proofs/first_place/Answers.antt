@@ -1,5 +1,6 @@
 -- `order::first_place` meets its contract: i stands nowhere before k.
-use Rattle.order.specs.PlaceLaws.{seek_start, seek_hit, seek_next, seek_end}
+use Rattle.order.specs.PlaceLaws.{seek_start, seek_end}
+use Rattle.order.proofs.PlaceLaws.{seek_hit, seek_next}
 use mathlib.Core.Path.{sym, ◌∙◌}
 use Rattle.order_checks.proofs.first_place.Goals as goal
 

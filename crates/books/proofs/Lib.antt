@@ -1,0 +1,4 @@
+pub mod Areas
+pub mod BookLaws
+pub mod Booked
+pub mod NetLaws

@@ -1,13 +1,13 @@
 -- What a placing may use of a mesh that 23 and 24 let pass: `on_front_lem`. So the quad that an attempt answers fits where it isn't full, and the
 -- attempts can be made with no pools and no blocks. Assumes nothing.
-use Rattle.std.specs.Prelude.{Bool, ◌||◌, List, ◌≡◌, ◌≢◌, ℕ, ◌+◌, ◌<◌, ◌≤◌, leb, eqb, length, get_or, Float}
+use Rattle.std.specs.Prelude.{Bool, List, ◌≡◌, ◌≢◌, ℕ, ◌+◌, ◌<◌, ◌≤◌, eqb, length, get_or, Float}
 use Rattle.std.proofs.Math.Bool.{true, false, not, cond, true≢false}
 use Rattle.std.proofs.Math.Path.{refl, ap, subst}
 use Rattle.std.proofs.Common.{sym, ◌∙◌}
 use native.Mathlib.Omega.{arith}
 use Rattle.std.proofs.Math.Dec.{ltb}
-use borrow.Author.Tests.{eqb-true, eqb-false, ltb-true, ltb-false, eq-eqb, lt-leb}
-use Rattle.laws.specs.Tests.{both, neither}
+use borrow.Author.Tests.{eqb-true, eqb-false, ltb-true, eq-eqb, lt-leb}
+use Rattle.laws.specs.Tests.{both}
 use Rattle.domain.specs.declared.Point.{Point}
 use Rattle.domain.specs.Outline.{Outline}
 use Rattle.domain.specs.Accepted.{first_zero}
@@ -21,24 +21,21 @@ use Rattle.front.specs.declared.Counts.{Counts}
 use Rattle.front.specs.declared.Corner.{Corner}
 use Rattle.front.specs.declared.Corner.TheVariants.{Reused, Fresh}
 use Rattle.front.specs.declared.Neighbour.TheVariants.{At, Off}
-use Rattle.front.specs.State.{State, next_of, prev_of, node_places, quad_places, edge_places}
+use Rattle.front.specs.State.{State, next_of, prev_of}
 use Rattle.front.specs.Neighbours.{neighbour_of}
-use Rattle.front.specs.Place.{added, corner_id, id_c, id_d, edges_added, place, is_full}
+use Rattle.front.specs.Place.{added, corner_id, id_c, id_d, is_full}
 use Rattle.front.specs.Stores.{Ids}
-use Rattle.paving.specs.declared.Attempt.{Attempt}
-use Rattle.paving.specs.declared.Attempt.TheVariants.{Nothing, Quad}
+use Rattle.paving.specs.declared.Attempt.TheVariants.{Quad}
 use Rattle.paving.specs.Attempt.{is_reused, corner_at, corner_c, corner_d, try_edge}
 use Rattle.paving.specs.AttemptLaws.{quad_chosen}
-use Rattle.paving.specs.Advance.{most_quads, is_there}
+use Rattle.paving.specs.Advance.{is_there}
 use Rattle.paving.specs.ReachLaws.{tried}
 use Rattle.attempts.specs.Seen.{TryLent}
-use Rattle.mesh_check.specs.Check.{lent_state, beyond_places, mesh_refusal, edge_refusal}
+use Rattle.mesh_check.specs.Check.{lent_state, mesh_refusal, edge_refusal}
 use Rattle.mesh_check.specs.Passed.{room, MeshRoom, mesh_passes, link_within, front_few}
 use Rattle.hand_placing.specs.Room.{QuadRoom}
-use Rattle.hand_placing.specs.Local.{placed_nodes}
 use Rattle.hand_placing.specs.PlaceLaws.{quad_room}
-use Rattle.hand_steps.specs.declared.StepOutcome.TheVariants.{Placed, Full, Cap}
-use Rattle.hand_steps.specs.Hand.{hand_refusal, handled, settled_on, place_on}
+use Rattle.hand_steps.specs.Hand.{hand_refusal}
 use Rattle.hand_steps.specs.Lent.{Around, OnFront}
 
 -- only a node that is there has a link
@@ -124,41 +121,6 @@ module _ (o : Outline) (size : Float) (field : FieldRecord) (s : State) (a b : �
         id_c_lem = omega (arith, C);
         id_d_lem = omega (arith, D);
       }
-
--- ---- how many nodes a placing leaves: no fewer, and no more than there are places
-
-module _ (o : Outline) (size : Float) (field : FieldRecord) (s : State) (a b : ℕ) (S : OnFront s a b) where
-  abbrev NodesGrown : ℕ → Type 0
-  NodesGrown m = (s.counts.nodes ≤ m) × (m ≤ node_places s)
-
-  same_grown : NodesGrown s.counts.nodes
-  unfolding beyond_places
-  same_grown = (omega arith, ltb-false _ _ (neither (ltb (node_places s) s.counts.nodes) _ S.passes.counts).0)
-
-  -- quads or edges are beyond those lent
-  abbrev quads_or_edges : Corner → Corner → Bool
-  quads_or_edges c d = ltb (quad_places s) (s.counts.quads + 1) || ltb (edge_places s) (s.counts.edges + edges_added s a b (id_d s c d) (id_c s c))
-
-  settled_grown : (t : Attempt) → NodesGrown (settled_on a b t s).state.counts.nodes
-  unfolding is_full
-  settled_grown Nothing = same_grown
-  settled_grown (Quad c d) = by (is_full s a b c d) refl
-    where
-      by : (full : Bool) → is_full s a b c d ≡ full → NodesGrown (cond full (handled s Full) (handled (place a b c d s) Placed)).state.counts.nodes
-      by true f = same_grown
-      by false f =
-          let N = placed_nodes a b c d s in
-          let m = s.counts.nodes + added c + added d in
-          let first : ltb (node_places s) m ≡ false = (neither (ltb (node_places s) m) (quads_or_edges c d) f).0 in
-          (omega (arith, N), omega (arith, N, ltb-false (node_places s) m first))
-
-  pub place_grown : NodesGrown (place_on o size field a b s).state.counts.nodes
-  unfolding place_on
-  place_grown = by (leb most_quads s.counts.quads)
-    where
-      by : (cap : Bool) → NodesGrown (cond cap (handled s Cap) (settled_on a b (try_edge o size field s a b) s)).state.counts.nodes
-      by true = same_grown
-      by false = settled_grown (try_edge o size field s a b)
 
 -- ---- the lists as they are lent
 

@@ -9,7 +9,8 @@ use Rattle.front.specs.State.{State, node_places}
 use Rattle.mesh_check.specs.Check.{lent_state}
 use Rattle.mesh_check.specs.CheckLaws.{length_off}
 use Rattle.hand_steps.specs.Hand.{Handled}
-use Rattle.hand_steps.specs.UseLaws.{on_front_lem, front_room, place_grown}
+use Rattle.hand_steps.specs.UseLaws.{on_front_lem, front_room}
+use Rattle.hand_steps.proofs.UseLaws.{place_grown}
 use Rattle.hand_steps.specs.StepLaws.{step_refused, step_done}
 use Rattle.stepping.proofs.step.Goals as goal
 use Rattle.stepping.proofs.step.Goals.{Start}

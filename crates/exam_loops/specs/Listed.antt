@@ -7,16 +7,10 @@ use Rattle.std.proofs.Math.Dec.{eqb}
 use Rattle.std.proofs.lemmas.Bool.{eqb-false}
 use Rattle.laws.specs.Loop.{any_false}
 use Rattle.laws.specs.Tests.{and_both}
-use Rattle.topology.specs.Sums.{front_one}
 use Rattle.topology.specs.Links.{off, link_of, delta, delta_same, delta_is}
 use Rattle.topology.specs.Front.{FrontOf}
 use Rattle.topology.proofs.Front.{source, target}
-use Rattle.topology.proofs.Listing.{walks_list}
-use Rattle.topology.proofs.Pigeonhole.{ids_most}
-use Rattle.front.specs.State.{State}
-use Rattle.front.specs.Sound.{Sound}
-use Rattle.paving.specs.Loops.{front_loops}
-use Rattle.exam_loops.specs.Loops.{links_back, are_paired, links_sound, linked_loops}
+use Rattle.exam_loops.specs.Loops.{links_back, are_paired, links_sound}
 
 module _ (n : ℕ) (next prev : List ℕ) (ls : List (List ℕ)) (F : FrontOf n next prev ls) where
   abbrev f : ℕ → ℕ
@@ -68,15 +62,3 @@ module _ (n : ℕ) (next prev : List ℕ) (ls : List (List ℕ)) (F : FrontOf n 
   front_sound =
       ap not (any_false (λ u. not (links_back n prev u (f u) && links_back n next u (g u))) n
       (λ u h. ap not (and_both (links_back n prev u (f u)) (links_back n next u (g u)) (next_back u h) (prev_back u h))))
-
--- of a sound state the loops are those that `front_loops` lists
-pub sound_listed : (sampled : ℕ) (s : State) (ls : List (List ℕ)) → Sound sampled s ls
-    → linked_loops s.counts.nodes s.next s.prev ≡ front_loops s
-unfolding linked_loops front_loops
-sound_listed sampled s ls S =
-    let n = s.counts.nodes in
-    let f = link_of n s.next in
-    let L = S.front.loops in
-    rw (front_sound n s.next s.prev ls S.front)
-    (walks_list n f ls L n (ids_most n f ls L) 3
-    ∙ sym (walks_list n f ls L s.counts.front (omega (arith, S.edges, front_one ls)) 3))

@@ -1,20 +1,19 @@
 -- Laws of walks along links: step by step, by index, where a walk ends, and that of sound links none starts above the node before it.
 use Rattle.std.specs.Prelude.{Bool, List, [], ◌∷◌, ◌++◌, ◌≢◌, ◌≡◌, eqb, get_or}
-use Rattle.std.proofs.Math.Bool.{true, false, not}
+use Rattle.std.proofs.Math.Bool.{true, false}
 use Rattle.std.proofs.Math.Logic.{⊎_elim}
 use Rattle.std.proofs.Math.Path.{refl, ap}
 use Rattle.std.proofs.Common.{sym, ◌∙◌, eq-or-lt_of_le, le_of_suc-le-suc, arith, length-append}
-use Prim.Native.Nat.{ℕ, zero, suc, ◌+◌, ◌<◌, ◌≤◌}
+use Prim.Native.Nat.{ℕ, zero, suc, ◌<◌, ◌≤◌}
 use Rattle.std.proofs.Math.Dec.{ltb, leb}
 use Rattle.std.proofs.Math.ListN.{length}
-use borrow.Author.Tests.{eqb-true, eqb-false, eq-eqb, ne_eqb, ltb-true, ltb-false, lt-ltb, le-ltb, le-leb, leb-true, leb-false, not-true, not-false}
-use Rattle.laws.specs.Loop.{for_up, any_none}
-use Rattle.laws.specs.Tests.{both, or_cases}
-use Rattle.topology.specs.Links.{off, link_of}
+use borrow.Author.Tests.{eqb-true, eqb-false, eq-eqb, ne_eqb, ltb-true, ltb-false, lt-ltb, le-ltb, le-leb, leb-true, leb-false}
+use Rattle.laws.specs.Loop.{for_up}
+use Rattle.topology.specs.Links.{off}
 use Rattle.topology.specs.Walk.{walk_by, prepend}
 use Rattle.topology.specs.Listing.{long_loops, add_loop}
-use Rattle.loops.specs.Walked.{walk_on, walk_last, walk_more, link_node, Onward}
-use Rattle.exam_loops.specs.Loops.{links_back, are_paired, links_sound, loop_numbered}
+use Rattle.loops.specs.Walked.{walk_last, walk_more, Onward}
+use Rattle.exam_loops.specs.Loops.{loop_numbered}
 
 -- ---- one step
 
@@ -88,40 +87,6 @@ module _ (f : ℕ → ℕ) where
   walk_closes (suc m) k z u h =
       let s = onwards k z u (omega (arith, h)) in
       walk_closes m s.most z (f u) (omega (arith, h, ap length s.rest))
-
--- ---- sound links
-
-module _ (n : ℕ) (next prev : List ℕ) (sound : links_sound n next prev ≡ true) where
-  -- the links of every node are answered
-  pub sound_paired : (u : ℕ) → u < n → are_paired n next prev u ≡ true
-  unfolding links_sound
-  sound_paired u h =
-      not-false (are_paired n next prev u) (any_none (λ v. not (are_paired n next prev v)) n (not-true _ sound) u h)
-
-  -- the node that u is linked to is linked back to u
-  pub linked_back : (u v : ℕ) → link_of n next u ≡ v → v ≢ off → link_of n prev v ≡ u
-  unfolding are_paired links_back
-  linked_back u v e on =
-      let un = link_node n next u (λ q. on (sym e ∙ q)) in
-      let half = (both (links_back n prev u (link_of n next u)) (links_back n next u (link_of n prev u)) (sound_paired u un)).0 in
-      ⊎_elim (λ q. absurd (on (sym e ∙ eqb-true (link_of n next u) off q)))
-      (λ q. ap (link_of n prev) (sym e) ∙ eqb-true (link_of n prev (link_of n next u)) u (both (ltb (link_of n next u) n) _ q).1)
-      (or_cases (eqb (link_of n next u) off) _ half)
-
-  -- where the node before u is below it, no loop starts at u
-  pub starts_none : (u : ℕ) → n ≤ off → link_of n prev u < u → length (walk_by (link_of n next) n u u) ≡ 0
-  starts_none u few low = by (length (walk_by f n u u)) refl
-    where
-      f : ℕ → ℕ
-      f = link_of n next
-
-      by : (m : ℕ) → length (walk_by f n u u) ≡ m → m ≡ 0
-      by zero e = refl
-      by (suc m) e =
-          let un = link_node n next u (walk_on f n u u (omega (arith, e))) in
-          let c = walk_closes f m n u u e in
-          let back = linked_back c.last u c.back (λ q. omega (arith, un, few, q)) in
-          absurd (omega (arith, low, back, c.above))
 
 -- ---- loop k of a list of loops
 

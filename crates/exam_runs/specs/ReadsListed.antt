@@ -24,7 +24,7 @@ use Rattle.lent_mesh.specs.Mesh.{node_count_of}
 use Rattle.exam.specs.Exam.{nodes_lent}
 use Rattle.exam_loops.specs.Loops.{linked_loops, loop_numbered, read_into, read_loop}
 use Rattle.exam_loops.specs.Walks.{numbered_past}
-use Rattle.exam_loops.specs.Listed.{sound_listed}
+use Rattle.exam_loops.proofs.Listed.{sound_listed}
 
 module _ (o : Outline) (set : Settings) (f : FieldLists) (lent : State) (none : run_refusal o set f lent ≡ 0) where
   -- the state that a run leaves where no refusal stops it

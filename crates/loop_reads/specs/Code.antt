@@ -15,7 +15,8 @@ use Rattle.topology.specs.Listing.{long_loops, walks}
 use Rattle.laws.specs.Overlay.{overlay}
 use Rattle.loop_reads.specs.declared.FoundLoop.{FoundLoop}
 use Rattle.exam_loops.specs.Loops.{links_back, are_paired, links_sound, linked_loops, loop_numbered, loop_reading, loop_read, read_into, read_loop}
-use Rattle.exam_loops.specs.Walks.{walk_under, walk_closed, walk_onward, walk_first, walk_along, starts_none}
+use Rattle.exam_loops.specs.Walks.{walk_under, walk_closed, walk_onward, walk_first, walk_along}
+use Rattle.exam_loops.proofs.Walks.{starts_none}
 use Rattle.exam_loops.specs.Walks.{numbered_last, numbered_past, listing_long, listing_short, listing_stays}
 
 -- ---- links

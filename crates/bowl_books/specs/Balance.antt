@@ -18,7 +18,7 @@ use Rattle.books.proofs.Areas.{areas_balance}
 use Rattle.books_hold.specs.Runs.{AcceptedRun, accepted_run_lem, sampled_joins}
 use Rattle.books_hold.specs.Theorem.{books_hold}
 use Rattle.hand_books.specs.Moves.{Move, moves_on}
-use Rattle.hand_books.specs.Sequences.{sequence_holds}
+use Rattle.hand_books.proofs.Sequences.{sequence_holds}
 use Rattle.nearest_step.specs.Step.{nearest_step}
 use Rattle.bowl.specs.Steps.{steps_at}
 

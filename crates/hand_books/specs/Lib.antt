@@ -1,9 +1,7 @@
 -- In reading order: sequences of steps and passes; THE THEOREM that their exact books hold and that 23 refuses none of their meshes; what a sequence
 -- begins with; then the laws behind them.
 pub mod Moves
-pub mod Sequences
 pub mod Begins
-pub mod Lending
 pub mod LinkCounts
 pub mod Unrefused
 pub mod MoveLaws

@@ -37,8 +37,9 @@ use Rattle.mesh_check.specs.Check.{mesh_refusal, edge_refusal}
 use Rattle.hand_steps.specs.UseLaws.{there_of, on_front_lem, quad_below}
 use Rattle.hand_steps.specs.StepLaws.{origins_same}
 use Rattle.hand_books.specs.Moves.{Move, moves_on}
-use Rattle.hand_books.specs.Sequences.{sequence_holds}
-use Rattle.hand_books.specs.MoveLaws.{FromOutline, from_outline, moves_kept}
+use Rattle.hand_books.proofs.Sequences.{sequence_holds}
+use Rattle.hand_books.specs.MoveLaws.{FromOutline, from_outline}
+use Rattle.hand_books.proofs.MoveLaws.{moves_kept}
 use Rattle.hand_origins.specs.Pushed.{push_counts, new_pushed}
 
 -- ---- NO FRONT LOOP AND NO QUAD OF A SEQUENCE HAS NODES OF TWO NUMBERS

@@ -10,7 +10,8 @@ use Rattle.books_hold.specs.Runs.{AcceptedRun, reached_holds}
 use Rattle.mesh_check.specs.Check.{mesh_refusal}
 use Rattle.hand_books.specs.Moves.{Move, moves_on}
 use Rattle.hand_books.specs.Unrefused.{reached_unrefused}
-use Rattle.hand_books.specs.MoveLaws.{FromOutline, from_outline, moves_kept}
+use Rattle.hand_books.specs.MoveLaws.{FromOutline, from_outline}
+use Rattle.hand_books.proofs.MoveLaws.{moves_kept}
 
 -- Take any outline, any size and any lists that document 01 doesn't refuse, any field, and any list of moves: steps on named edges, be they on the front or
 -- not, and automatic passes between them. A sequence of hand steps is one whose moves are all `named`. Since it holds for every list, it holds after every

@@ -27,7 +27,8 @@ use Rattle.attempts.specs.Seen.{seen_edges}
 use Rattle.retries.specs.Vain.{forgotten, Remembers}
 use Rattle.snapshots.specs.Stretches.{OffBoth, Stretches, FewerTries}
 use Rattle.snapshots.specs.OffLaws.{off_stays}
-use Rattle.retries.specs.VainLaws.{Forgets, forgets, forgotten_remembers, remembers_later, remembers_same, remembers_fewer}
+use Rattle.retries.specs.VainLaws.{Forgets, forgets}
+use Rattle.retries.proofs.VainLaws.{forgotten_remembers, remembers_later, remembers_same, remembers_fewer}
 use Rattle.retries.specs.Untried.{seen_mesh}
 use Rattle.ends.specs.declared.Settled.{Settled}
 use Rattle.ends.specs.declared.Settled.TheVariants.{Put}

@@ -1,6 +1,6 @@
 -- `retries::try_untried` meets its contract: the list has the edge, or it is tried, and noted where that is in vain. Assumes nothing.
 use mathlib.Core.Path.{sym, ◌∙◌, refl}
-use Rattle.retries.specs.Untried.{untried_vain, untried_kept, untried_left, untried_noted}
+use Rattle.retries.proofs.Untried.{untried_vain, untried_kept, untried_left, untried_noted}
 use Rattle.front.specs.State.{State}
 use Rattle.domain.specs.Outline.{Outline, outline}
 use Rattle.attempts.specs.Seen.{seen_state}

@@ -1,7 +1,7 @@
 -- `snapshots::copy_links` meets its contract: the loop copies node by node, but for the stretches. Assumes nothing.
 use native.Mathlib.Omega.{arith}
 use Rattle.snapshots.specs.StretchLaws.{after_more}
-use Rattle.snapshots.specs.Taking.{taking_starts, taking_on, taking_over, taking_ends, taking_joined}
+use Rattle.snapshots.proofs.Taking.{taking_starts, taking_on, taking_over, taking_ends, taking_joined}
 use Rattle.snapshots.proofs.copy_links.Goals as goal
 
 pub loop-i-init : goal.loop-i-init

@@ -1,0 +1,2 @@
+pub mod Untried
+pub mod VainLaws

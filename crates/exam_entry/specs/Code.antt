@@ -14,7 +14,7 @@ use Rattle.exam.specs.declared.ExamAnswer.{ExamAnswer}
 use Rattle.exam.specs.Exam.{ExamMesh, nodes_in, mesh_in, may, seen, mesh_seen, change_answer, reply_or, result_reply}
 use Rattle.exam.specs.Exam.{Acted, acted, does, exam_acts, exam_numbers, exam_answer}
 use Rattle.exam.specs.Statement.{ExamGiven}
-use Rattle.exam.specs.Given.{exam_given}
+use Rattle.exam.proofs.Given.{exam_given}
 
 module _ (m : ExamMesh) (x : Results) (role : ℕ) (q : ExamRequest) (list : List ℕ) (p : ExamRequest) (asked : p ≡ q) where
   -- what is done where the role may

@@ -524,6 +524,8 @@ def signature(it):
 def theorems(crate, commit):
     """For each module, what stood in specs/ at the commit and stands in proofs/ now."""
     folder = f"crates/{crate}/proofs"
+    files = [it for it in sorted(os.listdir(folder)) if it.endswith(".antt") and it != "Lib.antt"] if os.path.isdir(folder) else []
+    every = {name: it for file in files for name, it in Module(crate, file[:-5], read(f"{folder}/{file}")).own.items()}
     for file in sorted(os.listdir(folder)) if os.path.isdir(folder) else []:
         old = shown(f"crates/{crate}/specs/{file}", commit) if file.endswith(".antt") and file != "Lib.antt" else ""
         if not old:
@@ -531,12 +533,13 @@ def theorems(crate, commit):
         path = f"crates/{crate}/specs/{file}"
         was, now = Module(crate, file[:-5], old), Module(crate, file[:-5], read(f"{folder}/{file}"))
         left = Module(crate, file[:-5], read(path)).own if os.path.exists(path) else {}
-        gone = [it for it in was.decls if it.names[0] in now.own and it.names[0] not in left]
+        there = {**every, **now.own}
+        gone = [it for it in was.decls if it.names[0] in there and it.names[0] not in left]
         for it in gone:
-            said, says = it.statement(), now.own[it.names[0]].statement()
+            said, says = it.statement(), there[it.names[0]].statement()
             if said != says:
                 print(f"{crate}: {file[:-5]}.{it.names[0]} said {said}\n  and says {says}")
-        lost = [it.names[0] for it in was.decls if it.names[0] not in now.own and it.names[0] not in left]
+        lost = [it.names[0] for it in was.decls if it.names[0] not in there and it.names[0] not in left]
         if lost:
             print(f"{crate}: {file[:-5]}: neither in specs/ nor in proofs/: {', '.join(lost)}")
         if gone:

@@ -3,9 +3,7 @@
 pub mod Stages
 pub mod Areas
 pub mod Fronts
-pub mod Assembled
 pub mod Demanded
 pub mod Ends
 pub mod EndLaws
 pub mod Runs
-pub mod Theorem

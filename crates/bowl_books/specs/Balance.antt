@@ -15,8 +15,9 @@ use Rattle.whole_run.specs.Run.{run_refusal, run_of}
 use Rattle.books.specs.Book.{Book, start_book, book_after, place_of, front_area, quads_area}
 use Rattle.books.specs.Holds.{HoldsAfter, Closes, BooksHold}
 use Rattle.books.proofs.Areas.{areas_balance}
-use Rattle.books_hold.specs.Runs.{AcceptedRun, accepted_run_lem, sampled_joins}
-use Rattle.books_hold.specs.Theorem.{books_hold}
+use Rattle.books_hold.specs.Runs.{AcceptedRun}
+use Rattle.books_hold.proofs.Runs.{accepted_run_lem, sampled_joins}
+use Rattle.books_hold.proofs.Theorem.{books_hold}
 use Rattle.hand_books.specs.Moves.{Move, moves_on}
 use Rattle.hand_books.proofs.Sequences.{sequence_holds}
 use Rattle.nearest_step.specs.Step.{nearest_step}

@@ -18,7 +18,8 @@ use Rattle.paving.specs.Attempt.{try_edge}
 use Rattle.paving.specs.Advance.{most_quads, is_there, with_snapshot}
 use Rattle.paving.specs.Reach.{Reaches, begin, snapshot, placed}
 use Rattle.paving.specs.ReachLaws.{Reached, tried, advance_reaches}
-use Rattle.books_hold.specs.Runs.{AcceptedRun, begins}
+use Rattle.books_hold.specs.Runs.{AcceptedRun}
+use Rattle.books_hold.proofs.Runs.{begins}
 use Rattle.mesh_check.specs.Check.{mesh_refusal, edge_refusal}
 use Rattle.hand_placing.specs.Local.{placed_nodes}
 use Rattle.hand_steps.specs.declared.StepOutcome.TheVariants.{Placed, Full, Cap}

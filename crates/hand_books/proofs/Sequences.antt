@@ -6,7 +6,8 @@ use Rattle.front.specs.State.{State}
 use Rattle.front.specs.Sampling.{from_boundary}
 use Rattle.books.specs.Holds.{BooksHold}
 use Rattle.books_hold.specs.Demanded.{Demanded, as_demanded}
-use Rattle.books_hold.specs.Runs.{AcceptedRun, reached_holds}
+use Rattle.books_hold.specs.Runs.{AcceptedRun}
+use Rattle.books_hold.proofs.Runs.{reached_holds}
 use Rattle.mesh_check.specs.Check.{mesh_refusal}
 use Rattle.hand_books.specs.Moves.{Move, moves_on}
 use Rattle.hand_books.specs.Unrefused.{reached_unrefused}

@@ -29,8 +29,10 @@ use Rattle.paving.specs.Advance.{with_snapshot}
 use Rattle.paving.specs.Reach.{Reaches, begin, snapshot, placed}
 use Rattle.books.specs.Answered.{answered}
 use Rattle.bounded.specs.Run.{run_bounded}
-use Rattle.books_hold.specs.Stages.{standing, stage_at}
-use Rattle.books_hold.specs.Runs.{AcceptedRun, begins, start, turns}
+use Rattle.books_hold.specs.Stages.{standing}
+use Rattle.books_hold.proofs.Stages.{stage_at}
+use Rattle.books_hold.specs.Runs.{AcceptedRun}
+use Rattle.books_hold.proofs.Runs.{begins, start, turns}
 use Rattle.bounded.specs.Point.{Bounded}
 use Rattle.bounded.specs.Nodes.{AllNodes}
 use Rattle.mesh_check.specs.Check.{beyond_places, counts_beyond, beyond_nodes, ids_beyond, link_unsound, link_count, farthest_node, coordinate_unsound}

@@ -26,7 +26,7 @@ use Rattle.paving.specs.ReachLaws.{tried}
 use Rattle.books.specs.BookLaws.{frame_quad}
 use Rattle.books.specs.Step.{Stepped, answered_step}
 use Rattle.books_hold.specs.Stages.{standing}
-use Rattle.books_hold.specs.Runs.{start, reached_holds}
+use Rattle.books_hold.proofs.Runs.{start, reached_holds}
 use Rattle.origins.specs.Origins.{push_origin, quad_origins, origins_after}
 use Rattle.origins.specs.Theorem.{origins_booked}
 use Rattle.origins.specs.Writing.{push_count, push_at, push_length, push_over}

@@ -24,7 +24,8 @@ use Rattle.sampled.specs.Outlines.{outline_three}
 use Rattle.sampled.specs.Begun.{refusal_places}
 use Rattle.boundary.specs.Counting.{most, even_up}
 use Rattle.boundary.specs.Progress.{outline_shaped, Progress, nodes_of_lem, progress_none, progress_fits, progress_next}
-use Rattle.books_hold.specs.Runs.{AcceptedRun, advance_holds, advance_facts}
+use Rattle.books_hold.specs.Runs.{AcceptedRun}
+use Rattle.books_hold.proofs.Runs.{advance_holds, advance_facts}
 use Rattle.origins.specs.Origins.{origin_of, sampled_origins, push_origin, quad_origins, origins_after, OriginsAnswered}
 use Rattle.origins.specs.Start.{first_origins, first_length, sampled_length}
 use Rattle.origins.specs.Theorem.{booked_after, origins_booked}

@@ -11,7 +11,8 @@ use Rattle.paving.specs.Reach.{Reaches}
 use Rattle.books.specs.Book.{Book, book_after}
 use Rattle.books.specs.Holds.{HoldsAfter, Closes, BooksHold}
 use Rattle.books.proofs.Areas.{areas_balance}
-use Rattle.books_hold.specs.Stages.{Start, Stage, QuadsTurn, stage_at, stage_before}
+use Rattle.books_hold.specs.Stages.{Start, Stage, QuadsTurn}
+use Rattle.books_hold.proofs.Stages.{stage_at, stage_before}
 use Rattle.books_hold.specs.Areas.{start_joins, net_edges, quads_turn}
 use Rattle.books_hold.specs.Fronts.{loops_hold, counts_hold, closes}
 

@@ -9,8 +9,7 @@ use Rattle.crossfield.specs.Field.{field_of}
 use Rattle.front.specs.State.{State}
 use Rattle.whole_run.specs.Run.{run_refusal, run_of}
 use Rattle.books.specs.Holds.{BooksHold}
-use Rattle.books_hold.specs.Demanded.{Demanded, as_demanded}
-use Rattle.books_hold.specs.Runs.{accepted_run_lem, advance_holds}
+use Rattle.books_hold.proofs.Runs.{accepted_run_lem, advance_holds}
 
 -- THE EXACT BOOKS OF EVERY RUN HOLD. Take any outline o, any settings (the size, the sweeps and the passes allowed) and any lists f and
 -- lent, of whatever lengths and contents, that document 01 refuses none of. The reference's run on them, `run_of`, leaves a state; and
@@ -23,8 +22,3 @@ pub books_hold : (o : Outline) (set : Settings) (f : FieldLists) (lent : State) 
 unfolding run_of
 books_hold o set f lent doubles none =
     advance_holds o set.size lent (accepted_run_lem o set f lent doubles none) (field_of o set.size set.sweeps f) set.passes
-
--- In the demand's own words, with its exception for sides shorter than 1e-150, which is never used.
-pub demand_met : (o : Outline) (set : Settings) (f : FieldLists) (lent : State) → OutlineFits o → run_refusal o set f lent ≡ 0
-    → Demanded o set.size (run_of o set f lent).paving.state
-demand_met o set f lent doubles none = as_demanded o set.size _ (books_hold o set f lent doubles none)

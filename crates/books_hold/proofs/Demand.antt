@@ -1,0 +1,15 @@
+-- Demand 3 met, in its own words.
+use Rattle.std.specs.Prelude.{◌≡◌}
+use Rattle.domain.specs.declared.Settings.{Settings}
+use Rattle.domain.specs.Outline.{Outline}
+use Rattle.domain.specs.Accepted.{OutlineFits}
+use Rattle.direction.specs.Record.{FieldLists}
+use Rattle.front.specs.State.{State}
+use Rattle.whole_run.specs.Run.{run_refusal, run_of}
+use Rattle.books_hold.specs.Demanded.{Demanded, as_demanded}
+use Rattle.books_hold.proofs.Theorem.{books_hold}
+
+-- In the demand's own words, with its exception for sides shorter than 1e-150, which is never used.
+pub demand_met : (o : Outline) (set : Settings) (f : FieldLists) (lent : State) → OutlineFits o → run_refusal o set f lent ≡ 0
+    → Demanded o set.size (run_of o set f lent).paving.state
+demand_met o set f lent doubles none = as_demanded o set.size _ (books_hold o set f lent doubles none)

@@ -1,0 +1,6 @@
+pub mod Assembled
+pub mod EndLaws
+pub mod Runs
+pub mod Stages
+pub mod Theorem
+pub mod Demand

@@ -1,5 +1,5 @@
 -- Small meshes in steps. The check computes each.
-use Rattle.std.specs.Prelude.{◌≡◌, refl, List, [], ◌∷◌, ℕ, ℤ, pos, negsuc, length, Float}
+use Rattle.std.specs.Prelude.{◌≡◌, refl, List, [], ◌∷◌, ℕ, ℤ, pos, negsuc, Float}
 use Rattle.std.specs.Float.Ieee.{of_bits, lt, le, eq}
 use Rattle.laws.specs.Loop.{for_up, run, any_up, sum_up}
 use Rattle.numbers.specs.Float.{bits, zero_f, one_f, two_f, is_finite, abs_f}
@@ -11,7 +11,6 @@ use Rattle.front.specs.State.{State, counted, node_places, quad_places, edge_pla
 use Rattle.lent_mesh.specs.Mesh.{quad_in}
 use Rattle.mesh_check.specs.Check.{all_off, lent_state, beyond_places, ids_beyond, link_unsound, link_count, front_unsound, coordinate_unsound, mesh_unsound, mesh_refusal}
 use Rattle.nearest_step.specs.Step.{nearest_whole, nearest_step}
-use Rattle.bowl.specs.declared.StepsAnswer.{StepsAnswer}
 use Rattle.bowl.specs.Steps.{turns_left, is_shown, steps_given, mesh_unstepped, hidden_at, lowest_hidden, steps_answer, store_turn, stored_steps, steps_left}
 
 -- what computes here

@@ -1,5 +1,5 @@
 -- What a mesh that 23 lets pass gives the code, and what the entry answers, way out by way out. Assumes nothing.
-use Rattle.std.specs.Prelude.{Bool, true, false, not, ◌&&◌, ◌||◌, cond, ◌≡◌, ℕ, zero, suc, ◌+◌, ◌*◌, ◌/◌, ◌<◌, ◌≤◌, T, eqb, leb, ℤ, pos, length, drop, Float}
+use Rattle.std.specs.Prelude.{Bool, true, false, ◌&&◌, cond, ◌≡◌, ℕ, ◌+◌, ◌*◌, ◌/◌, ◌<◌, ◌≤◌, T, eqb, leb, ℤ, pos, length, drop, Float}
 use mathlib.Core.List.{List}
 use Rattle.std.proofs.Math.Path.{refl, ap}
 use Rattle.std.proofs.Common.{sym, ◌∙◌, arith, leb→le}
@@ -7,7 +7,7 @@ use Rattle.std.proofs.Math.Nat.{mul-div-le}
 use Rattle.std.proofs.Math.ListN.{get_or}
 use Rattle.std.specs.Float.{nan, binary64}
 use Rattle.std.specs.Float.Ieee.{fits, le, of_bits}
-use borrow.Author.Tests.{eqb-true, eqb-false, eq-eqb, ne_eqb, leb-true, leb-false, le-leb, lt-leb, not-false}
+use borrow.Author.Tests.{eqb-true, eq-eqb, ne_eqb, leb-true, leb-false, le-leb, lt-leb, not-false}
 use Rattle.laws.specs.Tests.{both, neither}
 use Rattle.numbers.specs.Float.{is_finite, abs_f}
 use Rattle.exact.specs.Units.{W, Val, sign_of, size_of, val_of, abs_val, Within, within_of}
@@ -16,13 +16,13 @@ use Rattle.domain.specs.Accepted.{AllFit}
 use Rattle.direction.specs.Direction as direction
 use Rattle.front.specs.declared.Counts.{Counts}
 use Rattle.front.specs.State.{State}
-use Rattle.mesh_check.specs.Check.{lent_state, farthest_node, coordinate_unsound, node_unsound, mesh_refusal}
+use Rattle.mesh_check.specs.Check.{lent_state, farthest_node, coordinate_unsound, mesh_refusal}
 use Rattle.mesh_check.specs.Passed.{MeshPasses, mesh_passes, MeshRoom, room}
 use Rattle.nearest_step.specs.Step.{nearest_step}
 use Rattle.nearest_step.specs.StepLaws.{step_near}
 use Rattle.bowl.specs.declared.StepsAnswer.{StepsAnswer}
-use Rattle.bowl.specs.Steps.{steps_given, mesh_unstepped, lowest_hidden, steps_answer, stored_steps, steps_left}
-use Rattle.bowl.specs.Stepped.{NodeWithin, NodesWithin, QuadsWithin, NearStep, MeshStepped}
+use Rattle.bowl.specs.Steps.{mesh_unstepped, lowest_hidden, steps_answer, stored_steps, steps_left}
+use Rattle.bowl.specs.Stepped.{NodesWithin, QuadsWithin, NearStep, MeshStepped}
 use Rattle.bowl.specs.StepsLaws.{stored_x, stored_y, stored_steps_past}
 
 -- ---- coordinates

@@ -1,13 +1,10 @@
 -- What each answer means: 25 names the lowest quad that doesn't turn left in steps at all four corners, and nothing is refused exactly if there is none (`steps_mean`).
-use Rattle.std.specs.Prelude.{Bool, true, false, ◌&&◌, cond, List, ◌≡◌, refl, ℕ, suc, ◌*◌, ◌<◌, ◌≤◌, eqb, leb, Float}
-use Rattle.std.proofs.Common.{⊎_elim, ap, ◌∙◌, le_of_suc-le-suc, eq-or-lt_of_le, arith, eqb-true, leb-true, leb-false}
-use Rattle.std.proofs.lemmas.Bool.{eqb-false}
-use Rattle.laws.specs.Loop.{Turn, go, out, Kept, run_keeps_at}
+use Rattle.std.specs.Prelude.{Bool, true, false, ◌≡◌, ℕ, ◌*◌, ◌<◌, ◌≤◌}
 use Rattle.front.specs.State.{State}
 use Rattle.lent_mesh.specs.Mesh.{quad_in}
 use Rattle.mesh_check.specs.Check.{mesh_refusal}
 use Rattle.bowl.specs.declared.StepsAnswer.{StepsAnswer}
-use Rattle.bowl.specs.Steps.{is_shown, steps_given, mesh_unstepped, hidden_at, hidden_turn, lowest_hidden, steps_answer}
+use Rattle.bowl.specs.Steps.{is_shown, steps_given, mesh_unstepped, hidden_at}
 
 -- the quads of a mesh that the bowl can show
 abbrev pub shown_in : State → ℕ → Bool
@@ -23,40 +20,3 @@ pub data StepsMean (s : State) (places : ℕ) (r : StepsAnswer) : Type 0 where
   is_unsound : r ≡ mesh_unstepped → (Steppable s places → ⊥) → StepsMean s places r
   is_hidden : (k : ℕ) → r ≡ hidden_at k → Steppable s places → k < s.counts.quads → shown_in s k ≡ false
       → ((j : ℕ) → j < k → shown_in s j ≡ true) → StepsMean s places r
-
--- ---- the search
-
--- of the first n quads
-data StepsSearched (s : State) (n : ℕ) (r : StepsAnswer) : Type 0 where
-  all_shown : r ≡ steps_given → ((k : ℕ) → k < n → shown_in s k ≡ true) → StepsSearched s n r
-  found : (k : ℕ) → r ≡ hidden_at k → k < n → shown_in s k ≡ false → ((j : ℕ) → j < k → shown_in s j ≡ true) → StepsSearched s n r
-
-searched : (s : State) (n : ℕ) → StepsSearched s n (lowest_hidden s.xs s.ys s.quads n)
-unfolding lowest_hidden
-searched s n =
-    run_keeps_at (λ i u. Before i) (StepsSearched s n) n (hidden_turn s.xs s.ys s.quads) (λ u. steps_given) tt (λ k h. absurd (omega arith))
-    (λ i u h below. next i u h below (shown_in s i) refl) (λ u below. all_shown refl below)
-  where
-    Before : ℕ → Type 0
-    Before i = (k : ℕ) → k < i → shown_in s k ≡ true
-
-    next : (i : ℕ) (u : Unit {0}) → i < n → Before i → (t : Bool) → shown_in s i ≡ t
-        → Kept {S = Unit {0}} (λ u. Before (suc i)) (StepsSearched s n) (cond t (go u) (out (hidden_at i)))
-    next i u h below true e = λ k less. ⊎_elim (λ same. ap (shown_in s) same ∙ e) (below k) (eq-or-lt_of_le (le_of_suc-le-suc less))
-    next i u h below false e = found i refl h e below
-
--- ---- THE STATEMENT
-
-pub steps_mean : (s : State) (places : ℕ) → StepsMean s places (steps_answer s places)
-unfolding steps_answer
-steps_mean s places = by (eqb (mesh_refusal s) 0) refl (leb (2 * s.counts.nodes) places) refl
-  where
-    last : Steppable s places → {r : StepsAnswer} → StepsSearched s s.counts.quads r → StepsMean s places r
-    last S (all_shown e all) = is_given e S all
-    last S (found k e h hid below) = is_hidden k e S h hid below
-
-    by : (a : Bool) → eqb (mesh_refusal s) 0 ≡ a → (b : Bool) → leb (2 * s.counts.nodes) places ≡ b
-        → StepsMean s places (cond (a && b) (lowest_hidden s.xs s.ys s.quads s.counts.quads) mesh_unstepped)
-    by true p true q = last (record { sound = eqb-true (mesh_refusal s) 0 p; room = leb-true (2 * s.counts.nodes) places q }) (searched s s.counts.quads)
-    by true p false q = is_unsound refl (λ S. omega (arith, S.room, leb-false (2 * s.counts.nodes) places q))
-    by false p b q = is_unsound refl (λ S. eqb-false (mesh_refusal s) 0 p S.sound)

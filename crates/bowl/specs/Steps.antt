@@ -5,7 +5,6 @@ use Rattle.std.specs.Float.{nan}
 use Rattle.laws.specs.Loop.{for_up, Turn, go, out, run}
 use Rattle.exact.specs.Corner.{Vector, cross}
 use Rattle.orientation.specs.Orient.{way}
-use Rattle.front.specs.declared.Counts.{Counts}
 use Rattle.front.specs.State.{State}
 use Rattle.lent_mesh.specs.declared.QuadIds.{QuadIds}
 use Rattle.lent_mesh.specs.Mesh.{quad_in}

@@ -1,9 +1,9 @@
 -- Laws of steps as the code works with them: sizes of differences and products, the turn by a comparison, the buffer place by place. Assumes nothing.
-use Rattle.std.specs.Prelude.{◌&&◌, ◌⊎◌, List, [], ◌∷◌, ◌≡◌, T, pos, negsuc, neg_ℤ, nat_abs, ◌+ℤ◌, ◌-ℤ◌, ◌*ℤ◌, ◌<ℤ◌, length, get_or, set, drop, Float}
-use Rattle.std.proofs.Common.{⊎_elim, sym, ◌∙◌, ap, ap₂, le_trans, mul-le-mul, le_of_suc-le-suc, eq-or-lt_of_le, arith, length-set, get_or-set_same, get_or-set_other, drop-set-lt, to_z, of_z, SFits}
+use Rattle.std.specs.Prelude.{◌&&◌, ◌⊎◌, List, [], ◌∷◌, ◌≡◌, T, pos, negsuc, neg_ℤ, nat_abs, ◌+ℤ◌, ◌-ℤ◌, ◌*ℤ◌, length, get_or, set, drop, Float}
+use Rattle.std.proofs.Common.{⊎_elim, ◌∙◌, ap, ap₂, le_trans, mul-le-mul, le_of_suc-le-suc, eq-or-lt_of_le, arith, length-set, get_or-set_same, get_or-set_other, drop-set-lt, to_z, of_z, SFits}
 use Rattle.std.proofs.Math.Path.{refl}
 use Prim.Native.Nat.{ℕ, zero, suc, ◌+◌, ◌*◌, ◌^◌, ◌<◌, ◌≤◌}
-use Rattle.std.proofs.Math.IntN.{ℤ, +ℤ_comm, neg_ℤ-+ℤ, pos-+ℤ-pos, pos-*ℤ-pos, pos-*ℤ-negsuc, negsuc-*ℤ-pos, negsuc-*ℤ-negsuc}
+use Rattle.std.proofs.Math.IntN.{ℤ, +ℤ_comm, pos-*ℤ-pos, pos-*ℤ-negsuc, negsuc-*ℤ-pos, negsuc-*ℤ-negsuc}
 use Rattle.std.specs.Int.Signed.{mag, lt_z, lt_z_yes}
 use Rattle.std.specs.Float.{nan}
 use Rattle.std.specs.Int.{w32, w64}
@@ -11,7 +11,7 @@ use Rattle.std.proofs.lemmas.Int.{to_z-of_z}
 use Rattle.laws.specs.Loop.{for_up, for_up_keeps, Loop, loop_next}
 use Rattle.laws.specs.Tests.{T-ext}
 use Rattle.laws.specs.Ring.{var, num, ◌-ᵉ◌}
-use Rattle.laws.specs.Certificate.{Nonneg, hyp}
+use Rattle.laws.specs.Certificate.{hyp}
 use Rattle.laws.proofs.Certificate.{prove, of-<ℤ, to-<ℤ}
 use Rattle.exact.specs.Corner.{Vector, cross}
 use Rattle.orientation.specs.Orient.{way}

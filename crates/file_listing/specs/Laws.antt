@@ -2,7 +2,7 @@
 -- read) and `start_decides` (of endless input the first 4,609 bytes decide). Assumes nothing.
 use Rattle.std.specs.Prelude.{◌≡◌, false, List, [], ℕ, zero, suc, ◌-◌, ◌*◌, ◌/◌, ◌≤◌, length, get_or, take, drop, Float}
 use Rattle.std.proofs.Math.Path.{refl, ap}
-use Rattle.std.proofs.Common.{sym, ◌∙◌, subst, arith, length-append, length-drop, length-take-le}
+use Rattle.std.proofs.Common.{sym, ◌∙◌, subst, arith, length-append, length-take-le}
 use Rattle.laws.specs.Overlay.{overlay, overlay_length}
 use Rattle.laws.specs.Tabulate.{tabulate_length, tabulate_at}
 use Rattle.laws.specs.Sums.{sum_term}

@@ -28,7 +28,7 @@ use Rattle.books.specs.Step.{Stepped, answered_step}
 use Rattle.books_hold.specs.Stages.{standing}
 use Rattle.books_hold.proofs.Runs.{start, reached_holds}
 use Rattle.origins.specs.Origins.{push_origin, quad_origins, origins_after}
-use Rattle.origins.specs.Theorem.{origins_booked}
+use Rattle.origins.proofs.Theorem.{origins_booked}
 use Rattle.origins.specs.Writing.{push_count, push_at, push_length, push_over}
 use Rattle.hand_steps.specs.declared.StepOutcome.TheVariants.{Placed, Full, Cap}
 use Rattle.hand_steps.specs.Hand.{hand_refusal, handled, settled_on, place_on, step_on, new_origins, origins_on}

@@ -7,7 +7,7 @@ use Rattle.front.specs.State.{State}
 use Rattle.front.specs.Sampling.{from_boundary}
 use Rattle.books_hold.specs.Runs.{AcceptedRun}
 use Rattle.origins.specs.Origins.{origins_after, OneOrigin}
-use Rattle.origins.specs.Theorem.{origins_booked}
+use Rattle.origins.proofs.Theorem.{origins_booked}
 use Rattle.hand_books.specs.Moves.{Move, moves_on}
 use Rattle.hand_books.proofs.Sequences.{sequence_holds}
 use Rattle.hand_books.specs.MoveLaws.{from_outline}

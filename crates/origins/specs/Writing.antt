@@ -2,33 +2,25 @@
 -- are then as they are to be answered: `booked_numberable` and `booked_answered`. So every paving has it: `advance_numberable`.
 use Rattle.std.specs.Prelude.{ℕ, zero, suc, ◌+◌, ◌*◌, ◌<◌, ◌≤◌, min, ◌≡◌, Bool, true, false, cond, eqb, leb, set, Float}
 use mathlib.Core.List.{List, [], ◌∷◌, ◌++◌}
-use Rattle.std.proofs.Math.Path.{refl, sym, ap, subst⁻¹}
+use Rattle.std.proofs.Math.Path.{refl, sym, ap}
 use Rattle.std.proofs.Common.{◌∙◌, add-one, length-append, eq-eqb, ne_eqb, leb-true, leb-false}
 use native.Mathlib.Omega.{arith}
 use Rattle.std.proofs.Math.ListN.{length, drop, replicate, length-take, length-replicate, get_or-append}
 use Rattle.std.proofs.lemmas.List.{replicate-append-replicate}
-use Rattle.std.proofs.Math.Seq.{sets, take_at, drop_at}
+use Rattle.std.proofs.Math.Seq.{sets}
 use Rattle.laws.specs.Loop.{for_up, sum_up}
 use Rattle.laws.specs.Overlay.{overlay, overlay_more}
 use Rattle.domain.specs.Outline.{Outline, loop_at, hole_at, hole_start, hole_length, loop_start, outline_refusal}
 use Rattle.domain.specs.OutlineLaws.{start_next, shaped}
-use Rattle.direction.specs.Record.{FieldRecord}
-use Rattle.front.specs.State.{State, node_places}
-use Rattle.front.specs.Sampling.{loop_count, loop_parts, loop_nodes, sampled_count, front_refusal, from_boundary}
-use Rattle.paving.specs.Advance.{EndedPaving, advance}
+use Rattle.front.specs.Sampling.{loop_count, loop_parts, loop_nodes, sampled_count}
 use Rattle.lent_mesh.specs.declared.QuadIds.{QuadIds}
 use Rattle.lent_mesh.specs.Mesh.{quad_in}
 use Rattle.loops.specs.Walked.{sets_more}
-use Rattle.books.specs.Holds.{BooksHold}
 use Rattle.sampled.specs.Outlines.{outline_three}
-use Rattle.sampled.specs.Begun.{refusal_places}
 use Rattle.boundary.specs.Counting.{most, even_up}
 use Rattle.boundary.specs.Progress.{outline_shaped, Progress, nodes_of_lem, progress_none, progress_fits, progress_next}
-use Rattle.books_hold.specs.Runs.{AcceptedRun}
-use Rattle.books_hold.proofs.Runs.{advance_holds, advance_facts}
-use Rattle.origins.specs.Origins.{origin_of, sampled_origins, push_origin, quad_origins, origins_after, OriginsAnswered}
+use Rattle.origins.specs.Origins.{origin_of, sampled_origins, push_origin, quad_origins, origins_after}
 use Rattle.origins.specs.Start.{first_origins, first_length, sampled_length}
-use Rattle.origins.specs.Theorem.{booked_after, origins_booked}
 
 -- ---- definitions
 
@@ -284,51 +276,3 @@ module _ (o : Outline) (size : Float) (quads : List ℕ) where
         few = A.few;
         room = omega (arith, A.room, numbers_grow 0 count (omega arith), sampled_length o size);
       }
-
--- ---- every run meets what is asked
-
-few_places : (s : State) → node_places s ≤ 4294967294
-unfolding node_places
-few_places s = omega arith
-
--- a state whose books hold, as a caller gets it
-module _ (o : Outline) (size : Float) (lent s : State) (fine : outline_refusal o ≡ 0) (none : front_refusal o size lent ≡ 0) (B : BooksHold o size s) where
-  -- as many numbers as nodes
-  booked_length : length (origins_after o size s.quads s.counts.quads) ≡ s.counts.nodes
-  booked_length =
-      let O = origins_booked o size lent s fine none B s.counts.quads (omega arith) in
-      O.holds.long ∙ sym (B.closes O.book O.steps).nodes
-
-  -- It has what `number_nodes` asks, wherever as many places are lent as it has nodes.
-  pub booked_numberable : (places : ℕ) → s.counts.quads ≤ 4294967296 → s.counts.nodes ≤ places
-      → Numberable o size s.quads s.counts.quads places
-  booked_numberable places small room =
-      let H = B.each s.counts.quads (omega arith) in
-      record {
-        outline = fine;
-        few = omega (arith, (refusal_places o size lent none).nodes, few_places lent);
-        small = small;
-        room = omega (arith, booked_length);
-        old = (booked_after o size lent s fine none B s.counts.quads H.book H.steps).old;
-      }
-
-  -- And what `number_nodes` leaves in a list is as it is to be answered.
-  pub booked_answered : (before : List ℕ)
-      → OriginsAnswered o size s before (overlay (origins_after o size s.quads s.counts.quads) before)
-  unfolding overlay
-  booked_answered before =
-      let l = origins_after o size s.quads s.counts.quads in
-      record {
-        written = take_at l (drop (length l) before) s.counts.nodes booked_length;
-        kept = drop_at l (drop (length l) before) s.counts.nodes booked_length ∙ ap (λ (n : ℕ). drop n before) booked_length;
-        each = origins_booked o size lent s fine none B;
-      }
-
--- of a paving, from a sampled outline that isn't refused
-pub advance_numberable : (o : Outline) (size : Float) (lent : State) → AcceptedRun o size lent → (field : FieldRecord) (passes : ℕ) (end : EndedPaving)
-    → end ≡ advance o size field passes (from_boundary o size lent) → (places : ℕ) → end.state.counts.nodes ≤ places
-    → Numberable o size end.state.quads end.state.counts.quads places
-advance_numberable o size lent A field passes end e places room =
-    subst⁻¹ (λ (p : EndedPaving). p.state.counts.nodes ≤ places → Numberable o size p.state.quads p.state.counts.quads places) e
-    (booked_numberable o size lent _ A.outline A.front (advance_holds o size lent A field passes) places
-    (omega (arith, (advance_facts o size lent A field passes).few))) room

@@ -39,7 +39,7 @@ use Rattle.books.specs.Holds.{BooksHold, Closes, LoopsAnswered}
 use Rattle.books_hold.proofs.Runs.{accepted_run_lem}
 use Rattle.books_hold.proofs.Theorem.{books_hold}
 use Rattle.origins.specs.Origins.{origins_after}
-use Rattle.origins.specs.Writing.{booked_answered}
+use Rattle.origins.proofs.Writing.{booked_answered}
 use Rattle.run_refusal.specs.Lengths.{lengths_refusal}
 use Rattle.sampled_advance.specs.Asked.{CanPave}
 use Rattle.run.specs.declared.Paved.{Paved}

@@ -18,7 +18,8 @@ use Rattle.sampled.specs.Outlines.{outline_three}
 use Rattle.sampled.specs.Begun.{Begun}
 use Rattle.sampled.proofs.Begun.{begun}
 use Rattle.books_hold.specs.Stages.{Standing, standing}
-use Rattle.origins.specs.Writing.{Numberable, advance_numberable}
+use Rattle.origins.specs.Writing.{Numberable}
+use Rattle.origins.proofs.Writing.{advance_numberable}
 use Rattle.sampled_advance.specs.Asked.{CanPave}
 
 module _ (o : Outline) (blocks : List ℕ) (size : Float) (g : Grid) (values : List Float) (s : State) (C : CanPave o blocks size g values s) where

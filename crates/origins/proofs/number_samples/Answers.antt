@@ -1,7 +1,6 @@
 -- `origins::number_samples` meets its contract: the loop's invariant is `LoopsNumbered`, and each answer is a law of it.
 use mathlib.Core.Path.{ap}
 use native.Mathlib.Omega.{arith}
-use Rattle.domain.specs.Outline.{outline}
 use Rattle.boundary.specs.Counting.{even_up, start_few}
 use Rattle.boundary.specs.Progress.{outline_shaped}
 use Rattle.origins.specs.Writing.{loops_few, numbered_none, parts_exact, numbered_few, numbered_fits, numbered_next, numbered_all}

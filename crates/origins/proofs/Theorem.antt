@@ -1,5 +1,5 @@
 -- THE THEOREM: after each quad of a run every front edge, every front loop and every quad has nodes of one number. What it says: Origins.antt.
-use Rattle.std.specs.Prelude.{ℕ, ◌+◌, ◌<◌, ◌≤◌, ◌≡◌, refl, Float}
+use Rattle.std.specs.Prelude.{ℕ, ◌<◌, ◌≤◌, ◌≡◌, refl, Float}
 use mathlib.Core.List.{List, [], ◌∷◌, ◌++◌}
 use Rattle.std.proofs.Common.{subst, arith, eq-eqb}
 use Rattle.std.proofs.Math.Bool.{true}
@@ -14,7 +14,7 @@ use Rattle.direction.specs.Record.{FieldLists}
 use Rattle.front.specs.State.{State}
 use Rattle.front.specs.Sampling.{loop_count, front_refusal}
 use Rattle.whole_run.specs.Run.{run_refusal, run_of}
-use Rattle.books.specs.Book.{Edge, edge, Book, is_edge, has, edges_to, loop_edges, book_after}
+use Rattle.books.specs.Book.{Edge, edge, Book, is_edge, edges_to, loop_edges, book_after}
 use Rattle.books.specs.Net.{count_edge}
 use Rattle.books.specs.Holds.{BooksHold}
 use Rattle.books.specs.BookLaws.{count_sum, has_edge_lem, Gives}
@@ -23,7 +23,7 @@ use Rattle.books_hold.proofs.Runs.{accepted_run_lem}
 use Rattle.books_hold.proofs.Theorem.{books_hold}
 use Rattle.origins.specs.Origins.{origins_after, SameOrigin, SameAlong, SameInLoop, OneOrigin}
 use Rattle.origins.specs.Steps.{NumberedAfter, same_self, same_join, along_has, numbered_after}
-use Rattle.origins.specs.Start.{start_numbered}
+use Rattle.origins.proofs.Start.{start_numbered}
 
 -- ---- edges of which each is on the front
 

@@ -1,0 +1,3 @@
+pub mod Start
+pub mod Theorem
+pub mod Writing

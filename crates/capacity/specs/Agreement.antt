@@ -1,5 +1,5 @@
 -- Two runs of one outline with the same settings and field, the second in lists of no fewer places: they answer the same, or the first is full
--- and what it answers is where the second begins. THE THEOREM is `runs_agree`, the last statement.
+-- and what it answers is where the second begins. THE THEOREM is `runs_agree` in proofs/Agreement.antt.
 use Rattle.std.specs.Prelude.{ℕ, ◌<◌, ◌≤◌, ◌≡◌}
 use Rattle.front.specs.State.{State, node, next_of}
 use Rattle.paving.specs.declared.End.TheVariants.{Full}

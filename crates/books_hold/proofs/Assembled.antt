@@ -1,6 +1,6 @@
 -- The books of a run from a start on: what holds after each quad, and at the end, put together.
-use Rattle.std.specs.Prelude.{ℕ, ◌≤◌, List, ◌≡◌, length, Float}
-use Rattle.std.proofs.Common.{sym, ◌∙◌, ap, subst, arith}
+use Rattle.std.specs.Prelude.{ℕ, List, ◌≡◌, length, Float}
+use Rattle.std.proofs.Common.{sym, ◌∙◌, ap, subst}
 use Rattle.std.proofs.Math.Option.{some}
 use Rattle.exact.specs.Units.{units}
 use Rattle.domain.specs.Outline.{Outline}

@@ -3,9 +3,9 @@ use Rattle.std.specs.Prelude.{List, ◌≡◌, ℕ, ◌≤◌, Float}
 use Rattle.std.proofs.Common.{arith}
 use Rattle.domain.specs.declared.Settings.{Settings}
 use Rattle.domain.specs.Outline.{Outline}
-use Rattle.domain.specs.Accepted.{OutlineFits, first_zero}
+use Rattle.domain.specs.Accepted.{OutlineFits}
 use Rattle.direction.specs.Record.{FieldLists, FieldRecord}
-use Rattle.crossfield.specs.Field.{field_refusal, field_of}
+use Rattle.crossfield.specs.Field.{field_of}
 use Rattle.front.specs.State.{State, cleared}
 use Rattle.front.specs.Sampling.{sampled_count, from_boundary, boundary_loops}
 use Rattle.front.specs.FrameLaws.{frame_trans}
@@ -29,7 +29,7 @@ use Rattle.books_hold.specs.Areas.{start_joins}
 use Rattle.books_hold.proofs.Assembled.{reached_hold}
 use Rattle.books_hold.specs.Ends.{Ended}
 use Rattle.books_hold.proofs.EndLaws.{advance_ends}
-use Rattle.books_hold.specs.Runs.{AcceptedRun, RunFacts}
+use Rattle.books_hold.specs.Runs.{AcceptedRun, RunFacts, accepted_run_lem}
 
 -- ---- laws
 
@@ -88,12 +88,6 @@ module _ (o : Outline) (size : Float) (lent : State) (A : AcceptedRun o size len
 -- ---- the run
 
 module _ (o : Outline) (set : Settings) (f : FieldLists) (lent : State) (doubles : OutlineFits o) (none : run_refusal o set f lent ≡ 0) where
-  pub accepted_run_lem : AcceptedRun o set.size lent
-  unfolding run_refusal field_refusal
-  accepted_run_lem =
-      let both = first_zero _ _ none in
-      record { doubles = doubles; outline = (first_zero _ _ both.0).0; front = both.1 }
-
   pub run_facts : RunFacts o set.size (run_of o set f lent).field set.passes lent (run_of o set f lent).paving
   unfolding run_of
-  run_facts = advance_facts o set.size lent accepted_run_lem (field_of o set.size set.sweeps f) set.passes
+  run_facts = advance_facts o set.size lent (accepted_run_lem o set f lent doubles none) (field_of o set.size set.sweeps f) set.passes

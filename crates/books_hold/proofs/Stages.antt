@@ -1,5 +1,5 @@
 -- What holds of the definitions of specs/Stages.antt.
-use Rattle.std.specs.Prelude.{ℕ, suc, ◌+◌, ◌<◌, ◌≤◌, List, ◌≡◌, refl, Bool, true, false, leb, ℤ, ◌+ℤ◌, Float}
+use Rattle.std.specs.Prelude.{ℕ, suc, ◌<◌, ◌≤◌, List, ◌≡◌, refl, Bool, true, false, leb, ℤ, ◌+ℤ◌, Float}
 use Rattle.std.proofs.Math.Path.{sym, ap}
 use Rattle.std.proofs.Common.{◌∙◌, subst, arith, leb-true, leb-false}
 use Rattle.std.proofs.Math.Option.{Option}

@@ -9,7 +9,8 @@ use Rattle.crossfield.specs.Field.{field_of}
 use Rattle.front.specs.State.{State}
 use Rattle.whole_run.specs.Run.{run_refusal, run_of}
 use Rattle.books.specs.Holds.{BooksHold}
-use Rattle.books_hold.proofs.Runs.{accepted_run_lem, advance_holds}
+use Rattle.books_hold.specs.Runs.{accepted_run_lem}
+use Rattle.books_hold.proofs.Runs.{advance_holds}
 
 -- THE EXACT BOOKS OF EVERY RUN HOLD. Take any outline o, any settings (the size, the sweeps and the passes allowed) and any lists f and
 -- lent, of whatever lengths and contents, that document 01 refuses none of. The reference's run on them, `run_of`, leaves a state; and

@@ -6,7 +6,7 @@ use Rattle.std.proofs.Common.{◌∙◌, arith, eqb-true}
 use Rattle.std.proofs.lemmas.Bool.{eqb-false}
 use Rattle.domain.specs.Outline.{Outline}
 use Rattle.topology.specs.Sums.{front_sum, front_one}
-use Rattle.topology.specs.Links.{off, at, at_self, at_other, link_of}
+use Rattle.topology.specs.Links.{off, at, at_self, at_other}
 use Rattle.topology.specs.Front.{Loops, loops_same}
 use Rattle.topology.proofs.Front.{target, edge_next, edge_once}
 use Rattle.topology.specs.Follow as topology
@@ -14,7 +14,7 @@ use Rattle.topology.specs.Follow.{Follows}
 use Rattle.topology.proofs.Follow.{follows_links}
 use Rattle.topology.proofs.LongLoops.{walks_long}
 use Rattle.front.specs.State.{State, next_of}
-use Rattle.front.specs.Sampling.{loop_count, sampled_count}
+use Rattle.front.specs.Sampling.{loop_count}
 use Rattle.front.specs.Sound.{Sound}
 use Rattle.paving.specs.Loops.{front_loops}
 use Rattle.books.specs.Book.{Edge, Book, loop_edges, follow}

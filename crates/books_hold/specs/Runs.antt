@@ -1,12 +1,15 @@
 -- A run that no refusal stops: its start, that each of its quads turns left, and what holds of the state it leaves: `run_facts`.
 use Rattle.std.specs.Prelude.{◌≡◌, ℕ, ◌≤◌, Float}
+use Rattle.domain.specs.declared.Settings.{Settings}
 use Rattle.domain.specs.Outline.{Outline, outline_refusal}
-use Rattle.domain.specs.Accepted.{OutlineFits}
-use Rattle.direction.specs.Record.{FieldRecord}
+use Rattle.domain.specs.Accepted.{OutlineFits, first_zero}
+use Rattle.direction.specs.Record.{FieldLists, FieldRecord}
+use Rattle.crossfield.specs.Field.{field_refusal}
 use Rattle.front.specs.State.{State, cleared}
 use Rattle.front.specs.Sampling.{front_refusal, from_boundary}
 use Rattle.front.specs.Sound.{Frame}
 use Rattle.paving.specs.Advance.{EndedPaving, most_quads}
+use Rattle.whole_run.specs.Run.{run_refusal}
 use Rattle.bounded.specs.Point.{Bounded}
 use Rattle.bounded.specs.Nodes.{AllNodes}
 use Rattle.books_hold.specs.Ends.{Ended}
@@ -28,3 +31,12 @@ pub record RunFacts (o : Outline) (size : Float) (field : FieldRecord) (passes :
   pub nodes : AllNodes Bounded run.state
   -- places past the counts keep the contents that were lent
   pub past : Frame (cleared lent) run.state
+
+-- ---- the run
+
+module _ (o : Outline) (set : Settings) (f : FieldLists) (lent : State) (doubles : OutlineFits o) (none : run_refusal o set f lent ≡ 0) where
+  pub accepted_run_lem : AcceptedRun o set.size lent
+  unfolding run_refusal field_refusal
+  accepted_run_lem =
+      let both = first_zero _ _ none in
+      record { doubles = doubles; outline = (first_zero _ _ both.0).0; front = both.1 }

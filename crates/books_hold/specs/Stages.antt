@@ -1,6 +1,6 @@
 -- The stages of a run: the state after k of its quads, the loops of its front, and the book fed these quads as the run answers them in
 -- the end. By induction over how the run's states are reached.
-use Rattle.std.specs.Prelude.{ℕ, ◌+◌, ◌<◌, List, ◌≡◌, refl, ℤ, ◌+ℤ◌, length, Float}
+use Rattle.std.specs.Prelude.{ℕ, ◌<◌, List, ◌≡◌, refl, ℤ, ◌+ℤ◌, length, Float}
 use Rattle.std.proofs.Common.{◌∙◌}
 use Rattle.std.proofs.Math.Option.{some}
 use Rattle.domain.specs.Outline.{Outline}

@@ -8,7 +8,7 @@ use Rattle.front.specs.State.{State}
 use Rattle.front.specs.Sampling.{from_boundary}
 use Rattle.whole_run.specs.Run.{run_refusal, run_of}
 use Rattle.books_hold.specs.Runs.{AcceptedRun}
-use Rattle.books_hold.proofs.Runs.{accepted_run_lem}
+use Rattle.books_hold.specs.Runs.{accepted_run_lem}
 use Rattle.books_hold.proofs.Theorem.{books_hold}
 use Rattle.hand_books.specs.Moves.{Move, moves_on}
 use Rattle.hand_books.proofs.Sequences.{sequence_holds}

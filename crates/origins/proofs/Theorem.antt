@@ -19,7 +19,7 @@ use Rattle.books.specs.Net.{count_edge}
 use Rattle.books.specs.Holds.{BooksHold}
 use Rattle.books.specs.BookLaws.{count_sum, has_edge_lem, Gives}
 use Rattle.sampled.specs.Outlines.{outline_three}
-use Rattle.books_hold.proofs.Runs.{accepted_run_lem}
+use Rattle.books_hold.specs.Runs.{accepted_run_lem}
 use Rattle.books_hold.proofs.Theorem.{books_hold}
 use Rattle.origins.specs.Origins.{origins_after, SameOrigin, SameAlong, SameInLoop, OneOrigin}
 use Rattle.origins.specs.Steps.{NumberedAfter, same_self, same_join, along_has, numbered_after}

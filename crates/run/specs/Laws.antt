@@ -36,7 +36,7 @@ use Rattle.loops.specs.ListedLaws.{listed_front}
 use Rattle.books.specs.Book.{Book, quad_at, new_node, side, book_quad, book_after, quads_area}
 use Rattle.books.specs.Net.{quads_edges}
 use Rattle.books.specs.Holds.{BooksHold, Closes, LoopsAnswered}
-use Rattle.books_hold.proofs.Runs.{accepted_run_lem}
+use Rattle.books_hold.specs.Runs.{accepted_run_lem}
 use Rattle.books_hold.proofs.Theorem.{books_hold}
 use Rattle.origins.specs.Origins.{origins_after}
 use Rattle.origins.proofs.Writing.{booked_answered}

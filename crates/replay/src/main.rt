@@ -126,29 +126,30 @@ fn say_counts(rt: &impl Print, files: usize, differences: usize) -> io::Result<(
 
 // ---- the list
 
-// Runs one file, and answers how many differences there are: 0, or 1 and a line is printed. A file that is missing is one.
-fn replay(rt: &(impl Files + Print + Eprint), outline: &[u8], listing: &[u8]) -> io::Result<usize>
-    ensures { IfOk result (λ n. n ≤ 1) }
+// Runs one file, and answers how many differences there are: 0, or 1 and a line is printed. A file that is missing is one. That a line can't be
+// written changes no count.
+fn replay(rt: &(impl Files + Print + Eprint), outline: &[u8], listing: &[u8]) -> usize
+    ensures { result ≤ 1 }
 {
     let mut file = [0u8; 65536];
     let read = read_file(rt, outline, &mut file);
     if !read.found {
-        say_missing(rt, outline)?;
-        return Ok(1);
+        let _ = say_missing(rt, outline);
+        return 1;
     }
     let mut stored = [0u8; 120000];
     let kept = read_file(rt, listing, &mut stored);
     if !kept.found {
-        say_missing(rt, listing)?;
-        return Ok(1);
+        let _ = say_missing(rt, listing);
+        return 1;
     }
     let n = read.length;
     let m = kept.length;
     let Compared::DiffersAt(at) = check(&file[..n], &stored[..m]) else {
-        return Ok(0);
+        return 0;
     };
-    say_difference(rt, listing, at)?;
-    Ok(1)
+    let _ = say_difference(rt, listing, at);
+    1
 }
 
 // The place after a line that ends at `end`.
@@ -167,7 +168,7 @@ fn replay_all(rt: &(impl Files + Print + Eprint), list: &[u8]) -> io::Result<()>
         let end = line_end(list, at);
         let from = after(end, list.len());
         let last = line_end(list, from);
-        differences += replay(rt, &list[at..end], &list[from..last])?;
+        differences += replay(rt, &list[at..end], &list[from..last]);
         files += 1;
         at = after(last, list.len());
     }

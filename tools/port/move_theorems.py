@@ -506,8 +506,10 @@ def edit_lib(path, name, add):
 
 
 def shown(path, commit):
+    """A file of the commit, in the spelling that respell_rest.py gave the last names."""
     ran = subprocess.run(["git", "show", f"{commit}:{path}"], capture_output=True, text=True)
-    return ran.stdout if not ran.returncode else ""
+    snake = lambda m: re.sub(r"(?<=[a-z0-9])[A-Z]", lambda n: "_" + n[0].lower(), m[0]).replace("books_hold_lem", "books_hold")
+    return re.sub(r"\b[a-z0-9]+[A-Z]\w*_\w+|\bbooks_hold_lem\b", snake, ran.stdout) if not ran.returncode else ""
 
 
 def signature(it):
@@ -549,10 +551,10 @@ def theorems(crate, commit):
 def listed(commit, refusals):
     out = ["# Theorems that moved from specs/ to proofs/", ""]
     out += ["`rt must-fail` takes an edit of a definition for one that cannot be read where the check then leaves a theorem of specs/ out, since one that it"]
-    out += ["rests on broke. So these theorems moved to the file of the same name in proofs/, each with the statement that it had, word for word; the edits"]
-    out += ["are where they were. `python3 tools/port/move_theorems.py list` writes this page. Under a line `module _ (..) where` each statement is about its"]
-    out += ["parameters too.", ""]
-    count = 0
+    out += ["rests on broke. So these theorems moved to the file of the same name in proofs/, each with the statement that it had, word for word. The edits"]
+    out += ["stayed; where one changes the statement of a theorem that moved, its line `file:` names proofs/. `python3 tools/port/move_theorems.py list` writes"]
+    out += ["this page. Under a line `module _ (..) where` each statement is about its parameters too.", ""]
+    count, here = 0, len(out)
     for crate in sorted(os.listdir("crates")):
         parts = list(theorems(crate, commit))
         if parts:
@@ -576,7 +578,7 @@ def listed(commit, refusals):
             helpers = [it.names[0] for it in gone if not it.is_plain()]
             if helpers:
                 out += [f"With them, definitions that only they name: {', '.join(f'`{it}`' for it in helpers)}.", ""]
-    out[7:7] = [f"{count} theorems and lemmas moved.", ""] if count else []
+    out[here:here] = [f"{count} theorems and lemmas moved.", ""] if count else []
     out += ["# What refuses each edit", "", "The first error that the check gives with the edit.", "", "| crate | edit | refused by | in |", "|---|---|---|---|"]
     told = {}
     for line in read(refusals).split("\n"):

@@ -26,8 +26,9 @@ FACTS = [
     r"`simp`: no equation of the list ",
     r"`(?:rw|simp)` has no last argument, so what it leaves must be a path whose two ends are equal",
     r"the two types (?:are|differ|first differ)\b",
-    r"expected type `[^`]*`,? but this has type ",
-    r"` ≟ `.*` does not hold ",
+    r"give a proof of that as the last argument, `rw L t`",
+    r"expected type `[^`]*(?:`,? but this has type |$)",  # `rt` cuts a long line
+    r"` ≟ `",
 ]
 
 # What shows nothing: a name or a field that can't be found, a form that isn't covered, a text that can't be read, a value of another type than is

@@ -27,7 +27,7 @@ FACTS = [
     r"`(?:rw|simp)` has no last argument, so what it leaves must be a path whose two ends are equal",
     r"the two types (?:are|differ|first differ)\b",
     r"give a proof of that as the last argument, `rw L t`",
-    r"expected type `[^`]*(?:`,? but this has type |$)",  # `rt` cuts a long line
+    r"expected type `",
     r"` ≟ `",
 ]
 

@@ -3,7 +3,7 @@
 
 usage, at the top of the repository:
   python3 tools/port/move_theorems.py dry|move CRATE=THEOREM,THEOREM..   THEOREM: M.NAME or NAME, a theorem that an edit breaks
-  python3 tools/port/move_theorems.py list COMMIT REFUSALS               writes docs/PORT-THEOREMS.md: each theorem that stood in specs/
+  python3 tools/port/move_theorems.py list COMMIT REFUSALS               writes docs/PORT-THEOREMS.md, whose text docs/PORT.md has: each theorem that stood in specs/
       at COMMIT and stands in proofs/ now, and what refuses each edit, by the lines that rt must-fail wrote to the file REFUSALS
 
 rt must-fail takes an edit whose check leaves a theorem of specs/ out, since one that it rests on broke, for one that cannot be read. So each

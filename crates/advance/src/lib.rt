@@ -2,12 +2,13 @@
 #![tactic(auto)]
 
 ghost use Rattle.std.specs.Prelude.{◌≡◌, []};
-ghost use Rattle.domain.specs.Outline.{outline};
+ghost use Rattle.domain.specs.Outline.{outline_of};
 ghost use Rattle.direction.specs.Record.{field_record};
 ghost use Rattle.front.specs.State.{state_of};
 ghost use Rattle.paving.specs.Advance.{paved, advance};
 ghost use Rattle.settling.specs.Paveable.{Paveable};
 
+use domain::Domain;
 use direction::Grid;
 use ends::Swept;
 use front::Counts;
@@ -22,11 +23,8 @@ pub struct Advanced {
 
 // The pools and `tried` are scratch of any length: nothing is said of what they hold, before or after.
 // Pass after pass, until one places nothing, the cap is reached, the places lent are full, or as many are done as asked for, at most 600.
-pub fn advance<'a>(
-    outer: &'a [f64],
-    holes: &'a [f64],
-    lens: &[usize],
-    blocks: &[u32],
+pub fn advance(
+    domain: Domain<'_>, blocks: &[u32],
     size: f64,
     grid: Grid,
     values: &[f64],
@@ -43,12 +41,12 @@ pub fn advance<'a>(
     k: Counts,
     passes: usize,
 ) -> Advanced
-    requires { Paveable (outline outer.now holes.now lens.now) blocks.now grid values.now
+    requires { Paveable (outline_of domain) blocks.now grid values.now
         (state_of xs.old ys.old next.old prev.old snapshot.old quads.old edges.old k) }
     ensures { paved
         (state_of xs.new ys.new next.new prev.new snapshot.new quads.new edges.new
         result.counts) result.end
-        ≡ advance (outline outer.now holes.now lens.now) size (field_record grid values.now []) passes
+        ≡ advance (outline_of domain.entry) size (field_record grid values.now []) passes
         (state_of xs.old ys.old next.old prev.old snapshot.old quads.old
         edges.old k) }
 {
@@ -59,7 +57,7 @@ pub fn advance<'a>(
     while i < most {
         i += 1;
         let p = passes::pass(
-            outer, holes, lens, blocks, size, grid, values, xs, ys, next, prev, snapshot, quads,
+            domain, blocks, size, grid, values, xs, ys, next, prev, snapshot, quads,
             edges, node_pool, edge_pool, tried, counts,
         );
         match p {

@@ -5,7 +5,7 @@
 
 ghost use Rattle.std.specs.Prelude.{◌≡◌, [], ◌+◌, ◌≤◌, length};
 ghost use Rattle.topology.specs.Links.{link_of};
-ghost use Rattle.domain.specs.Outline.{outline};
+ghost use Rattle.domain.specs.Outline.{outline_of};
 ghost use Rattle.pools.specs.Pool.{Indexed};
 ghost use Rattle.direction.specs.Record.{field_record};
 ghost use Rattle.front.specs.State.{node_in};
@@ -19,7 +19,7 @@ ghost use Rattle.attempts.specs.Seen.{NodesLent, EdgesIndexed, EdgesLent, LinksL
 ghost use Rattle.attempts.specs.FarCorners.{far_corners};
 
 use direction::Grid;
-use domain::{Point, Settings};
+use domain::{Domain, Point, Settings};
 use front::{Corner, Counts, Neighbour, OFF};
 use geometry::Corners;
 use paving::Attempt;
@@ -73,11 +73,8 @@ fn too_close(size: f64, xs: &[f64], ys: &[f64], node_pool: &[u32], counts: Count
 
 // Whether a new corner is finite, not too close to a node, and inside; nothing is asked of a reused one. The nodes are asked before the outline:
 // that is the cheaper test.
-fn corner_free<'a>(
-    outer: &'a [f64],
-    holes: &'a [f64],
-    lens: &[usize],
-    blocks: &[u32],
+fn corner_free(
+    domain: Domain<'_>, blocks: &[u32],
     size: f64,
     xs: &[f64],
     ys: &[f64],
@@ -85,8 +82,8 @@ fn corner_free<'a>(
     counts: Counts,
     c: Corner,
 ) -> bool
-    requires { NodesLent (outline outer.now holes.now lens.now) blocks.now size xs.now ys.now node_pool.now counts }
-    ensures { result ≡ corner_free (outline outer.now holes.now lens.now) size
+    requires { NodesLent (outline_of domain) blocks.now size xs.now ys.now node_pool.now counts }
+    ensures { result ≡ corner_free (outline_of domain.entry) size
         (seen_nodes xs.now ys.now counts) c }
 {
     let Corner::Fresh(x, y) = c else {
@@ -102,7 +99,7 @@ fn corner_free<'a>(
     if too_close(size, xs, ys, node_pool, counts, p) {
         return false;
     }
-    blocks::contains_point(outer, holes, lens, blocks, p)
+    blocks::contains_point(domain, blocks, p)
 }
 
 // Whether two new corners are more than 0.45 × size apart.
@@ -329,11 +326,8 @@ fn far_corners(
 // ---- an attempt
 
 // The quad on the front edge a to b with the directions da at a and db at b, if its far corners pass every check; the first that fails refuses it.
-fn attempt_quad<'a>(
-    outer: &'a [f64],
-    holes: &'a [f64],
-    lens: &[usize],
-    blocks: &[u32],
+fn attempt_quad(
+    domain: Domain<'_>, blocks: &[u32],
     size: f64,
     xs: &[f64],
     ys: &[f64],
@@ -348,9 +342,9 @@ fn attempt_quad<'a>(
     da: Point,
     db: Point,
 ) -> Attempt
-    requires { AttemptLent (outline outer.now holes.now lens.now) blocks.now size xs.now ys.now next.now prev.now
+    requires { AttemptLent (outline_of domain) blocks.now size xs.now ys.now next.now prev.now
         edges.now node_pool.now edge_pool.now counts }
-    ensures { result ≡ attempt_quad (outline outer.now holes.now lens.now) size
+    ensures { result ≡ attempt_quad (outline_of domain.entry) size
         (seen_state xs.now ys.now next.now prev.now edges.now counts) a b da db }
 {
     let chosen = far_corners(size, xs, ys, next, prev, counts.nodes, a, b, da, db);
@@ -358,12 +352,12 @@ fn attempt_quad<'a>(
         return Attempt::Nothing;
     };
     if !corner_free(
-        outer, holes, lens, blocks, size, xs, ys, node_pool, counts, c,
+        domain, blocks, size, xs, ys, node_pool, counts, c,
     ) {
         return Attempt::Nothing;
     }
     if !corner_free(
-        outer, holes, lens, blocks, size, xs, ys, node_pool, counts, d,
+        domain, blocks, size, xs, ys, node_pool, counts, d,
     ) {
         return Attempt::Nothing;
     }
@@ -371,7 +365,7 @@ fn attempt_quad<'a>(
     if !geometry::convex_ccw(p) {
         return Attempt::Nothing;
     }
-    if !blocks::contains_point(outer, holes, lens, blocks, geometry::centroid(p)) {
+    if !blocks::contains_point(domain, blocks, geometry::centroid(p)) {
         return Attempt::Nothing;
     }
     let id_c = c.id(counts.nodes);
@@ -398,11 +392,8 @@ fn normal_of(bx: f64, by: f64, length: f64) -> Point
 
 // The quad on the front edge a to b, if an attempt answers one: directions come from the field, then from the edge's normal. None on an edge no
 // longer than 1e-12.
-pub fn try_edge<'a>(
-    outer: &'a [f64],
-    holes: &'a [f64],
-    lens: &[usize],
-    blocks: &[u32],
+pub fn try_edge(
+    domain: Domain<'_>, blocks: &[u32],
     size: f64,
     grid: Grid,
     values: &[f64],
@@ -417,9 +408,9 @@ pub fn try_edge<'a>(
     a: u32,
     b: u32,
 ) -> Attempt
-    requires { TryLent (outline outer.now holes.now lens.now) blocks.now grid values.now size xs.now ys.now next.now prev.now
+    requires { TryLent (outline_of domain) blocks.now grid values.now size xs.now ys.now next.now prev.now
         edges.now node_pool.now edge_pool.now counts }
-    ensures { result ≡ try_edge (outline outer.now holes.now lens.now) size
+    ensures { result ≡ try_edge (outline_of domain.entry) size
         (field_record grid values.now [])
         (seen_state xs.now ys.now next.now prev.now edges.now counts) a b }
 {
@@ -435,12 +426,12 @@ pub fn try_edge<'a>(
     let da = direction::nearest_direction(grid, values, p, normal);
     let db = direction::nearest_direction(grid, values, q, normal);
     let first = attempt_quad(
-        outer, holes, lens, blocks, size, xs, ys, next, prev, edges, node_pool, edge_pool, counts,
+        domain, blocks, size, xs, ys, next, prev, edges, node_pool, edge_pool, counts,
         a, b, da, db,
     );
     let Attempt::Quad(c, d) = first else {
         return attempt_quad(
-            outer, holes, lens, blocks, size, xs, ys, next, prev, edges, node_pool, edge_pool,
+            domain, blocks, size, xs, ys, next, prev, edges, node_pool, edge_pool,
             counts, a, b, normal, normal,
         );
     };

@@ -4,12 +4,12 @@
 
 ghost use Rattle.std.specs.Prelude.{◌≡◌, ◌+◌, ◌*◌, ◌≤◌, ◌<◌, length};
 ghost use Rattle.laws.specs.Loop.{any_up};
-ghost use Rattle.domain.specs.Outline.{outline, points, most_points, outline_refusal};
+ghost use Rattle.domain.specs.Outline.{outline_of, points, most_points, outline_refusal};
 ghost use Rattle.domain.specs.Queries.{polygon_turn, point_in_polygon, in_hole, contains};
 ghost use Rattle.blocks.specs.Blocks.{for_between, coordinate, lower_of, higher_of, reach, is_farther, Farthest, block_end, is_listed, BlockThere, BlockFiles, LoopFiles};
 ghost use Rattle.blocks.specs.Blocks.{LoopDrawn, first_block_at, Drawn, block_extent, ray_misses};
 
-use domain::Point;
+use domain::{Domain, Point};
 
 // A box round segments.
 #[derive(Clone, Copy)]
@@ -145,21 +145,21 @@ fn file_loop(s: &[f64], first: usize, blocks: &mut [u32])
 }
 
 // The blocks of an outline that isn't refused.
-pub fn file<'a>(outer: &'a [f64], holes: &'a [f64], lens: &[usize], blocks: &mut [u32])
-    requires { outline_refusal (outline outer.now holes.now lens.now) ≡ 0 }
-    ensures { Drawn (outline outer.now holes.now lens.now) blocks.new }
+pub fn file(domain: Domain<'_>, blocks: &mut [u32])
+    requires { outline_refusal (outline_of domain) ≡ 0 }
+    ensures { Drawn (outline_of domain.entry) blocks.new }
 {
-    file_loop(outlines::loop_points(outer, holes, lens, 0, 0), 0, blocks);
+    file_loop(outlines::loop_points(domain, 0, 0), 0, blocks);
     let mut k = 0;
     let mut start = 0;
-    while k < lens.len() {
-        let first = first_block(outer, k + 1, start);
+    while k < domain.lens.len() {
+        let first = first_block(domain.outer, k + 1, start);
         file_loop(
-            outlines::loop_points(outer, holes, lens, k + 1, start),
+            outlines::loop_points(domain, k + 1, start),
             first,
             blocks,
         );
-        start += lens[k];
+        start += domain.lens[k];
         k += 1;
     }
 }
@@ -214,52 +214,46 @@ fn point_in_polygon(p: Point, s: &[f64], blocks: &[u32], first: usize) -> bool
     inside
 }
 
-fn in_some_hole<'a>(
-    outer: &'a [f64],
-    holes: &'a [f64],
-    lens: &[usize],
-    blocks: &[u32],
+fn in_some_hole(
+    domain: Domain<'_>, blocks: &[u32],
     p: Point,
 ) -> bool
-    requires { Drawn (outline outer.now holes.now lens.now) blocks.now }
-    ensures { result ≡ any_up (length lens.now) (in_hole (outline outer.now holes.now lens.now) p) }
+    requires { Drawn (outline_of domain) blocks.now }
+    ensures { result ≡ any_up (length domain.entry.lens.now) (in_hole (outline_of domain.entry) p) }
 {
     let mut k = 0;
     let mut start = 0;
-    while k < lens.len() {
-        let first = first_block(outer, k + 1, start);
+    while k < domain.lens.len() {
+        let first = first_block(domain.outer, k + 1, start);
         if point_in_polygon(
             p,
-            outlines::loop_points(outer, holes, lens, k + 1, start),
+            outlines::loop_points(domain, k + 1, start),
             blocks,
             first,
         ) {
             return true;
         }
-        start += lens[k];
+        start += domain.lens[k];
         k += 1;
     }
     false
 }
 
 // `contains` of the outline.
-pub fn contains_point<'a>(
-    outer: &'a [f64],
-    holes: &'a [f64],
-    lens: &[usize],
-    blocks: &[u32],
+pub fn contains_point(
+    domain: Domain<'_>, blocks: &[u32],
     p: Point,
 ) -> bool
-    requires { Drawn (outline outer.now holes.now lens.now) blocks.now }
-    ensures { result ≡ contains (outline outer.now holes.now lens.now) p }
+    requires { Drawn (outline_of domain) blocks.now }
+    ensures { result ≡ contains (outline_of domain.entry) p }
 {
     if point_in_polygon(
         p,
-        outlines::loop_points(outer, holes, lens, 0, 0),
+        outlines::loop_points(domain, 0, 0),
         blocks,
         0,
     ) {
-        !in_some_hole(outer, holes, lens, blocks, p)
+        !in_some_hole(domain, blocks, p)
     } else {
         false
     }

@@ -2,7 +2,7 @@
 #![tactic(auto)]
 
 ghost use Rattle.std.specs.Prelude.{◌≡◌, false, List, ℕ, ◌+◌, ◌*◌, ◌<◌, ◌≤◌, min, Float, length};
-ghost use Rattle.domain.specs.Outline.{outline, misshapen, loop_start};
+ghost use Rattle.domain.specs.Outline.{outline_of, misshapen, loop_start};
 ghost use Rattle.front.specs.declared.Counts.{Counts};
 ghost use Rattle.front.specs.State.{State, state_of, most_nodes, push_node};
 ghost use Rattle.front.specs.Sampling.{parts_of, loop_parts, sampled_count, sampled_refusal, front_refusal, cut, sample_segment, sample_loop, from_boundary};
@@ -11,7 +11,7 @@ ghost use Rattle.sampled.specs.Joins.{with_link};
 ghost use Rattle.boundary.specs.Counting.{most, even_up};
 ghost use Rattle.boundary.specs.Laying.{with_nodes, with_front_edges, between_loops, NodeRoom, NodesFrom, RingFits, LoopRoom, CanSample, link_ring, lay_loop};
 
-use domain::{Point, Settings};
+use domain::{Domain, Point, Settings};
 use front::{Counts, OFF, Ring};
 
 // ---- how many
@@ -62,36 +62,33 @@ pub fn next_start(lens: &[usize], k: usize, start: usize) -> usize
 }
 
 // The points sampled.
-pub fn sampled_count<'a>(outer: &'a [f64], holes: &'a [f64], lens: &[usize], size: f64) -> u64
-    requires { misshapen (outline outer.now holes.now lens.now) ≡ false }
-    ensures { result ≡ min (sampled_count (outline outer.now holes.now lens.now) size) most }
+pub fn sampled_count(domain: Domain<'_>, size: f64) -> u64
+    requires { misshapen (outline_of domain) ≡ false }
+    ensures { result ≡ min (sampled_count (outline_of domain.entry) size) most }
 {
     let mut sum: u64 = 0;
     let mut start = 0;
     let mut k = 0;
-    while k <= lens.len() {
-        let parts = loop_parts(outlines::loop_points(outer, holes, lens, k, start), size);
+    while k <= domain.lens.len() {
+        let parts = loop_parts(outlines::loop_points(domain, k, start), size);
         sum = add_counts(sum, parts + parts % 2);
-        start = next_start(lens, k, start);
+        start = next_start(domain.lens, k, start);
         k += 1;
     }
     sum
 }
 
 // Refusal 10, where so many node places and edge places are lent; node places past 4,294,967,294 count as not lent.
-pub fn front_refusal<'a>(
-    outer: &'a [f64],
-    holes: &'a [f64],
-    lens: &[usize],
-    size: f64,
+pub fn front_refusal(
+    domain: Domain<'_>, size: f64,
     node_places: usize,
     edge_places: usize,
 ) -> u32
-    requires { misshapen (outline outer.now holes.now lens.now) ≡ false }
-    ensures { result ≡ sampled_refusal (outline outer.now holes.now lens.now) size (min node_places most_nodes)
+    requires { misshapen (outline_of domain) ≡ false }
+    ensures { result ≡ sampled_refusal (outline_of domain.entry) size (min node_places most_nodes)
         edge_places }
 {
-    let count = sampled_count(outer, holes, lens, size) as usize;
+    let count = sampled_count(domain, size) as usize;
     if count > 4294967294 {
         return 10;
     }
@@ -384,32 +381,29 @@ fn lay_loop(
 }
 
 // `from_boundary`, in the lists lent.
-pub fn from_boundary<'a>(
-    outer: &'a [f64],
-    holes: &'a [f64],
-    lens: &[usize],
-    size: f64,
+pub fn from_boundary(
+    domain: Domain<'_>, size: f64,
     xs: &mut [f64],
     ys: &mut [f64],
     next: &mut [u32],
     prev: &mut [u32],
     edges: &mut [u32],
 ) -> Counts
-    requires { CanSample (outline outer.now holes.now lens.now) size xs.old ys.old next.old prev.old edges.old }
+    requires { CanSample (outline_of domain) size xs.old ys.old next.old prev.old edges.old }
     ensures { (snapshot quads : List ℕ) (counts : Counts)
-        → front_refusal (outline outer.now holes.now lens.now) size
+        → front_refusal (outline_of domain.entry) size
         (state_of xs.old ys.old next.old prev.old snapshot quads edges.old counts) ≡ 0
         → state_of xs.new ys.new next.new prev.new snapshot quads edges.new result
-        ≡ from_boundary (outline outer.now holes.now lens.now) size
+        ≡ from_boundary (outline_of domain.entry) size
         (state_of xs.old ys.old next.old prev.old snapshot quads edges.old counts) }
 {
     let mut nodes = 0;
     let mut start = 0;
     let mut k = 0;
-    while k <= lens.len() {
-        let s = outlines::loop_points(outer, holes, lens, k, start);
+    while k <= domain.lens.len() {
+        let s = outlines::loop_points(domain, k, start);
         nodes = lay_loop(k, s, size, xs, ys, next, prev, edges, nodes);
-        start = next_start(lens, k, start);
+        start = next_start(domain.lens, k, start);
         k += 1;
     }
     Counts {

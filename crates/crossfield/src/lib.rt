@@ -4,7 +4,7 @@
 ghost use Rattle.std.specs.Prelude.{◌≡◌, false, ◌+◌, ◌≤◌, ◌<◌, length};
 ghost use Rattle.numbers.specs.Float.{◌⊘◌};
 ghost use Rattle.numbers.specs.Whole.{ceil_count};
-ghost use Rattle.domain.specs.Outline.{outline, misshapen};
+ghost use Rattle.domain.specs.Outline.{outline_of, misshapen};
 ghost use Rattle.domain.specs.Queries.{nearest_segment};
 ghost use Rattle.blocks.specs.Blocks.{Drawn};
 ghost use Rattle.direction.specs.Record.{most_field_nodes, grid_nodes, field_lists, field_record};
@@ -15,7 +15,7 @@ ghost use Rattle.crossfield.specs.Seeds.{grid_point, seed, is_fixed, mark_of, se
 ghost use Rattle.crossfield.specs.Field.{places_refusal, refusal_for, field_refusal, field_of, field_result, field_answer, FieldDraws};
 
 use direction::Grid;
-use domain::{Near, Point, Settings};
+use domain::{Domain, Near, Point, Settings};
 
 // `(xmin, xmax, ymin, ymax)`
 #[derive(Clone, Copy)]
@@ -69,19 +69,19 @@ fn loop_bounds(s: &[f64], b: Bounds) -> Bounds
     wide
 }
 
-pub fn bounds_of<'a>(outer: &'a [f64], holes: &'a [f64], lens: &[usize]) -> Bounds
-    requires { misshapen (outline outer.now holes.now lens.now) ≡ false }
-    ensures { result ≡ bounds (outline outer.now holes.now lens.now) }
+pub fn bounds_of(domain: Domain<'_>) -> Bounds
+    requires { misshapen (outline_of domain) ≡ false }
+    ensures { result ≡ bounds (outline_of domain.entry) }
 {
-    let mut wide = loop_bounds(outlines::loop_points(outer, holes, lens, 0, 0), no_bounds());
+    let mut wide = loop_bounds(outlines::loop_points(domain, 0, 0), no_bounds());
     let mut k = 0;
     let mut start = 0;
-    while k < lens.len() {
+    while k < domain.lens.len() {
         wide = loop_bounds(
-            outlines::loop_points(outer, holes, lens, k + 1, start),
+            outlines::loop_points(domain, k + 1, start),
             wide,
         );
-        start += lens[k];
+        start += domain.lens[k];
         k += 1;
     }
     wide
@@ -213,20 +213,17 @@ fn seed(t: Point) -> Point
 }
 
 // Whether a node at p is fixed: inside, and its nearest segment within 1.5 spacings. The distance is known, so it is asked first.
-fn is_fixed<'a>(
-    outer: &'a [f64],
-    holes: &'a [f64],
-    lens: &[usize],
-    blocks: &[u32],
+fn is_fixed(
+    domain: Domain<'_>, blocks: &[u32],
     h: f64,
     p: Point,
     found: Near,
 ) -> bool
-    requires { Drawn (outline outer.now holes.now lens.now) blocks.now }
-    ensures { result ≡ is_fixed (outline outer.now holes.now lens.now) h p found }
+    requires { Drawn (outline_of domain) blocks.now }
+    ensures { result ≡ is_fixed (outline_of domain.entry) h p found }
 {
     if found.distance <= Settings::BAND * h {
-        blocks::contains_point(outer, holes, lens, blocks, p)
+        blocks::contains_point(domain, blocks, p)
     } else {
         false
     }
@@ -239,11 +236,8 @@ fn mark_of(fixed: bool) -> u8
 }
 
 // Node (i, j), whose number is id: one search serves its value and its mark. The answer is the nearest segment, which is a guess of the next node's.
-fn seed_node<'a>(
-    outer: &'a [f64],
-    holes: &'a [f64],
-    lens: &[usize],
-    blocks: &[u32],
+fn seed_node(
+    domain: Domain<'_>, blocks: &[u32],
     g: Grid,
     values: &mut [f64],
     marks: &mut [u8],
@@ -252,18 +246,18 @@ fn seed_node<'a>(
     id: usize,
     guess: Near,
 ) -> Near
-    requires drawn { Drawn (outline outer.now holes.now lens.now) blocks.now }
+    requires drawn { Drawn (outline_of domain) blocks.now }
     requires node { Node g.nx g.ny j i id (length values.old) }
     requires node_mark { NodeMark g.nx g.ny id (length marks.old) }
     ensures marks_after { field_lists values.new marks.new
-        ≡ seed_node (outline outer.now holes.now lens.now) g j i
+        ≡ seed_node (outline_of domain.entry) g j i
         (field_lists values.old marks.old) }
-    ensures value { result ≡ nearest_segment (outline outer.now holes.now lens.now) (grid_point g i j) }
+    ensures value { result ≡ nearest_segment (outline_of domain.entry) (grid_point g i j) }
 {
     let p = grid_point(g, i, j);
-    let found = nearest::nearest_segment(outer, holes, lens, blocks, p, guess);
+    let found = nearest::nearest_segment(domain, blocks, p, guess);
     let v = seed(geometry::tangent(found.a, found.b));
-    let mark = mark_of(is_fixed(outer, holes, lens, blocks, g.h, p, found));
+    let mark = mark_of(is_fixed(domain, blocks, g.h, p, found));
     let k = 2 * id;
     values[k] = v.x;
     values[k + 1] = v.y;
@@ -272,28 +266,25 @@ fn seed_node<'a>(
 }
 
 // Row j, whose first node's number is base. The first node's guess is the outer loop's first segment, for want of a better.
-fn seed_row<'a>(
-    outer: &'a [f64],
-    holes: &'a [f64],
-    lens: &[usize],
-    blocks: &[u32],
+fn seed_row(
+    domain: Domain<'_>, blocks: &[u32],
     g: Grid,
     values: &mut [f64],
     marks: &mut [u8],
     j: usize,
     base: usize,
 )
-    requires drawn { Drawn (outline outer.now holes.now lens.now) blocks.now }
+    requires drawn { Drawn (outline_of domain) blocks.now }
     requires row { Row g.nx g.ny j base (length values.old) }
     requires row_marks { RowMarks g.nx g.ny base (length marks.old) }
     ensures { field_lists values.new marks.new
-        ≡ seed_row (outline outer.now holes.now lens.now) g j
+        ≡ seed_row (outline_of domain.entry) g j
         (field_lists values.old marks.old) }
 {
     let nx = g.nx;
     let mut near = Near {
-        a: outlines::point_at(outer, 0),
-        b: outlines::point_at(outer, 1),
+        a: outlines::point_at(domain.outer, 0),
+        b: outlines::point_at(domain.outer, 1),
         distance: 0.0,
         loop_index: 0,
         segment_index: 0,
@@ -301,9 +292,7 @@ fn seed_row<'a>(
     let mut i = 0;
     while i < nx {
         near = seed_node(
-            outer,
-            holes,
-            lens,
+            domain,
             blocks,
             g,
             values,
@@ -318,20 +307,17 @@ fn seed_row<'a>(
 }
 
 // Every node's value and mark.
-fn seed_all<'a>(
-    outer: &'a [f64],
-    holes: &'a [f64],
-    lens: &[usize],
-    blocks: &[u32],
+fn seed_all(
+    domain: Domain<'_>, blocks: &[u32],
     g: Grid,
     values: &mut [f64],
     marks: &mut [u8],
 )
-    requires drawn { Drawn (outline outer.now holes.now lens.now) blocks.now }
+    requires drawn { Drawn (outline_of domain) blocks.now }
     requires field_room { FieldRoom g.nx g.ny (length values.old) (length marks.old) }
     requires nx_le_most_field_nodes { (g.nx ≤ most_field_nodes) × (g.ny ≤ most_field_nodes) }
     ensures { field_lists values.new marks.new
-        ≡ seeded (outline outer.now holes.now lens.now) g
+        ≡ seeded (outline_of domain.entry) g
         (field_lists values.old marks.old) }
 {
     let nx = g.nx;
@@ -339,7 +325,7 @@ fn seed_all<'a>(
     let mut base = 0;
     let mut j = 0;
     while j < ny {
-        seed_row(outer, holes, lens, blocks, g, values, marks, j, base);
+        seed_row(domain, blocks, g, values, marks, j, base);
         base += nx;
         j += 1;
     }
@@ -348,17 +334,14 @@ fn seed_all<'a>(
 // ---- the field
 
 // Refusals 1 to 9.
-pub fn field_refusal<'a>(
-    outer: &'a [f64],
-    holes: &'a [f64],
-    lens: &[usize],
-    size: f64,
+pub fn field_refusal(
+    domain: Domain<'_>, size: f64,
     sweeps: usize,
     places: usize,
 ) -> u32
-    ensures { result ≡ refusal_for (outline outer.now holes.now lens.now) size sweeps places }
+    ensures { result ≡ refusal_for (outline_of domain.entry) size sweeps places }
 {
-    let outline = outlines::outline_refusal(outer, holes, lens);
+    let outline = outlines::outline_refusal(domain);
     if outline != 0 {
         return outline;
     }
@@ -366,7 +349,7 @@ pub fn field_refusal<'a>(
     if sizes != 0 {
         return sizes;
     }
-    let b = bounds_of(outer, holes, lens);
+    let b = bounds_of(domain);
     let boxed = bounds_refusal(b);
     if boxed != 0 {
         return boxed;
@@ -379,49 +362,43 @@ pub fn field_refusal<'a>(
 }
 
 // The field where none of 1 to 9 refuses it, in the lists lent; and the outline's blocks.
-pub fn make_field<'a>(
-    outer: &'a [f64],
-    holes: &'a [f64],
-    lens: &[usize],
-    size: f64,
+pub fn make_field(
+    domain: Domain<'_>, size: f64,
     limit: usize,
     values: &mut [f64],
     marks: &mut [u8],
     blocks: &mut [u32],
 ) -> Grid
-    requires { field_refusal (outline outer.now holes.now lens.now) size limit (field_lists values.old marks.old) ≡ 0 }
+    requires { field_refusal (outline_of domain) size limit (field_lists values.old marks.old) ≡ 0 }
     ensures { field_record result values.new marks.new
-        ≡ field_of (outline outer.now holes.now lens.now) size limit
+        ≡ field_of (outline_of domain.entry) size limit
         (field_lists values.old marks.old)
-        × Drawn (outline outer.now holes.now lens.now) blocks.new }
+        × Drawn (outline_of domain.entry) blocks.new }
 {
-    let g = grid_of(bounds_of(outer, holes, lens), size);
-    blocks::file(outer, holes, lens, blocks);
-    seed_all(outer, holes, lens, blocks, g, values, marks);
+    let g = grid_of(bounds_of(domain), size);
+    blocks::file(domain, blocks);
+    seed_all(domain, blocks, g, values, marks);
     sweeps::sweeps(limit, g, marks, values);
     g
 }
 
 // The field of an outline, in the lists lent; on a refusal nothing is written. The list of blocks may have any length, and has the outline's blocks after.
-pub fn field<'a>(
-    outer: &'a [f64],
-    holes: &'a [f64],
-    lens: &[usize],
-    size: f64,
+pub fn field(
+    domain: Domain<'_>, size: f64,
     limit: usize,
     values: &mut [f64],
     marks: &mut [u8],
     blocks: &mut [u32],
 ) -> FieldAnswer
     ensures marks_after { field_result result values.new marks.new
-        ≡ field_answer (outline outer.now holes.now lens.now) size limit
+        ≡ field_answer (outline_of domain.entry) size limit
         (field_lists values.old marks.old) }
-    ensures field_draws { FieldDraws (outline outer.now holes.now lens.now) result blocks.old blocks.new }
+    ensures field_draws { FieldDraws (outline_of domain.entry) result blocks.old blocks.new }
 {
     let places = numbers::min_usize(values.len() / 2, marks.len());
-    let refusal = field_refusal(outer, holes, lens, size, limit, places);
+    let refusal = field_refusal(domain, size, limit, places);
     if refusal != 0 {
         return FieldAnswer::Refused(refusal);
     }
-    FieldAnswer::Made(make_field(outer, holes, lens, size, limit, values, marks, blocks))
+    FieldAnswer::Made(make_field(domain, size, limit, values, marks, blocks))
 }

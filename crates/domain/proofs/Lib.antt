@@ -2,3 +2,4 @@ pub mod Accepted
 pub mod Inside
 pub mod OutlineLaws
 pub mod SearchLaws
+pub mod Refused

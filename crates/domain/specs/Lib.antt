@@ -6,6 +6,7 @@ pub mod OutlineLaws
 pub mod Parity
 pub mod Queries
 pub mod RefusalLaws
+pub mod Refusals
 pub mod Search
 pub mod SearchLaws
 pub mod Table

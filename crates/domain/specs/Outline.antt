@@ -4,6 +4,7 @@ use Rattle.std.specs.Float.{nan}
 use Rattle.std.specs.Float.Ieee.{lt}
 use Rattle.laws.specs.Loop.{for_up, any_up, sum_up}
 use Rattle.numbers.specs.Float.{bits, is_finite, abs_f}
+use Rattle.domain.specs.declared.Domain.{Domain}
 use Rattle.domain.specs.declared.Point.{Point}
 
 -- The coordinates of the outer loop, x then y; those of all holes; and each hole's length in points.
@@ -14,6 +15,10 @@ pub record Outline : Type 0 where
 
 abbrev pub outline : List Float → List Float → List ℕ → Outline
 outline outer holes lens = record { outer = outer; holes = holes; lens = lens }
+
+-- the outline that is lent
+abbrev pub outline_of : Domain → Outline
+outline_of d = outline d.outer.now d.holes.now d.lens.now
 
 -- ---- loops and their points
 

@@ -2,11 +2,22 @@
 // `nearest` have the code.
 #![tactic(auto)]
 
+ghost use Rattle.std.specs.Prelude.{◌≡◌};
+ghost use Rattle.domain.specs.Refusals.{refusal_number, refused};
+
 // `[f64; 2]`
 #[derive(Clone, Copy)]
 pub struct Point {
     pub x: f64,
     pub y: f64,
+}
+
+// An outline as it is lent: the coordinates of the outer loop, x then y; those of all holes; and each hole's length in points.
+#[derive(Clone, Copy)]
+pub struct Domain<'a> {
+    pub outer: &'a [f64],
+    pub holes: &'a [f64],
+    pub lens: &'a [usize],
 }
 
 // A segment's ends and its distance; its loop, 0 for the outer one and k + 1 for hole k; and its place there, 0 for the segment from the loop's first point.
@@ -67,4 +78,107 @@ impl Settings {
     pub const MOST_QUADS: usize = 250000;
 
     pub const MOST_PASSES: usize = 600;
+}
+
+// Why a call is refused.
+#[derive(Clone, Copy, Debug, PartialEq, Eq)]
+pub enum Refusal {
+    // A coordinate list of odd length, hole lengths that don't add up to the hole points, or more than 4,096 points.
+    Lists,
+    // A loop of fewer than three points.
+    ShortLoop,
+    // A coordinate not finite, in the outline or in a query's point.
+    NotFinite,
+    // A coordinate beyond 1,000 either way, in the outline or in a query's point.
+    TooFar,
+    // A size not finite, or not above 0.
+    NoSize,
+    // A size below 0.01 or above 100.
+    SizeOutOfRange,
+    // An outline whose bounding box has no width or no height.
+    Flat,
+    // More than 1,000 sweeps.
+    TooManySweeps,
+    // The field has more nodes than were lent.
+    FieldNeedsSpace,
+    // The sampled outline has more nodes than the lent node places or edge places, or more loops than there are places for their lengths.
+    FrontNeedsSpace,
+    // A field record that isn't one.
+    NoFieldRecord,
+    // A file's block has a wrong check.
+    WrongCheck,
+    // A file with a wrong length, count or fill.
+    WrongFile,
+    // A list for answers that is too short, or lists of points and targets that differ in length or end in half a point.
+    AnswerLists,
+    // A node id that isn't in the mesh, or is past the lent list of thresholds.
+    NoNode,
+    // A threshold above 500.
+    ThresholdTooHigh,
+    // A withdrawal where no threshold stands.
+    NoThreshold,
+    // A quad that isn't in the mesh, or lacks a threshold where its estimate is asked for.
+    NoQuad,
+    // A weight above 256.
+    WeightTooHigh,
+    // An unknown role, or an operation that its role lacks.
+    NotAllowed,
+    // A presentation order in which some quad is absent, repeated or unknown.
+    NotEachOnce,
+    // A presentation order in which a quad stands before one that laid a front edge which it used up.
+    TooEarly,
+    // A lent mesh that isn't sound, or a list lent beside it that is too short.
+    UnsoundMesh,
+    // An edge that isn't on the front.
+    NotOnFront,
+    // A quad that doesn't turn left at all four corners in steps of the bowl.
+    NotShown,
+    // The lent list is too short for every small quad.
+    FoursNeedSpace,
+}
+
+// Its number: up to 13 document 01's, above the papers'.
+impl From<Refusal> for u32 {
+    ghost from_gives = { λ refusal number. number ≡ refusal_number refusal };
+
+    fn from(refusal: Refusal) -> u32 {
+        match refusal {
+            Refusal::Lists => 1,
+            Refusal::ShortLoop => 2,
+            Refusal::NotFinite => 3,
+            Refusal::TooFar => 4,
+            Refusal::NoSize => 5,
+            Refusal::SizeOutOfRange => 6,
+            Refusal::Flat => 7,
+            Refusal::TooManySweeps => 8,
+            Refusal::FieldNeedsSpace => 9,
+            Refusal::FrontNeedsSpace => 10,
+            Refusal::NoFieldRecord => 11,
+            Refusal::WrongCheck => 12,
+            Refusal::WrongFile => 13,
+            Refusal::AnswerLists => 14,
+            Refusal::NoNode => 15,
+            Refusal::ThresholdTooHigh => 16,
+            Refusal::NoThreshold => 17,
+            Refusal::NoQuad => 18,
+            Refusal::WeightTooHigh => 19,
+            Refusal::NotAllowed => 20,
+            Refusal::NotEachOnce => 21,
+            Refusal::TooEarly => 22,
+            Refusal::UnsoundMesh => 23,
+            Refusal::NotOnFront => 24,
+            Refusal::NotShown => 25,
+            Refusal::FoursNeedSpace => 26,
+        }
+    }
+}
+
+// The number as an answer has it: 0 where nothing is refused.
+pub fn number_of(checked: Result<(), Refusal>) -> u32
+    ensures { result ≡ refused checked }
+{
+    match checked {
+        Ok(()) => 0,
+        Err(refusal) => u32::from(refusal),
+    }
 }

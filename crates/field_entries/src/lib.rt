@@ -11,7 +11,7 @@ ghost use Rattle.field_entries.specs.Answers.{grid_lent, field_exit, field_numbe
 
 use crossfield::FieldAnswer;
 use direction::{Direction, Grid};
-use domain::Point;
+use domain::{Domain, Point};
 
 // A field record's floats and counts; its values and marks are in the lists lent. `refusal` is document 01's number, 0 where nothing is refused; on a
 // refusal all else is 0.
@@ -52,7 +52,8 @@ pub extern "C" fn sitjorbe_field<'a>(
         (field_lists values.old marks.old))
         × ((result.refusal ≡ 0 → ⊥) → blocks.new ≡ blocks.old) }
 {
-    let answer = crossfield::field(outer, holes, lens, size, sweeps, values, marks, blocks);
+    let domain = Domain { outer, holes, lens };
+    let answer = crossfield::field(domain, size, sweeps, values, marks, blocks);
     match answer {
         FieldAnswer::Refused(refusal) => FieldRecordAnswer {
             refusal,

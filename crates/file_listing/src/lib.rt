@@ -2,11 +2,11 @@
 #![tactic(auto)]
 
 ghost use Rattle.std.specs.Prelude.{◌≡◌};
-ghost use Rattle.domain.specs.Outline.{outline};
+ghost use Rattle.domain.specs.Outline.{outline_of};
 ghost use Rattle.file_listing.specs.Program.{heading_of, outline_listing, program_listing, ListingGiven};
 ghost use Rattle.file_listing.specs.Laws.{RequestHeld, held_outline};
 
-use domain::Settings;
+use domain::{Domain, Settings};
 use listing::Heading;
 use outline_file::{FileAnswer, Head};
 use run::Paved;
@@ -29,14 +29,11 @@ fn heading(r: Paved) -> Heading
 // The listing of an outline. The lists that the program lends are all here: 1,600 field nodes, 800 nodes, 800 quads, 2,400 edges, 8 loops.
 // The pools have room for each node, and for each edge six times; the list of blocks has four numbers for each of 23: one for 16 of up to 248
 // points, and one more for each of up to eight loops. The list of tries has three numbers for each node.
-fn list_outline<'a>(
-    outer: &'a [f64],
-    holes: &'a [f64],
-    lens: &[usize],
-    settings: Settings,
+fn list_outline(
+    domain: Domain<'_>, settings: Settings,
     out: &mut [u8],
 ) -> usize
-    ensures { ListingGiven (outline_listing (outline outer.now holes.now lens.now) settings)
+    ensures { ListingGiven (outline_listing (outline_of domain.entry) settings)
         out.old out.new result }
 {
     let mut values = [0.0; 3200];
@@ -56,9 +53,7 @@ fn list_outline<'a>(
     let mut blocks = [0u32; 92];
     let mut tried = [0u32; 2400];
     let paved = run::pave(
-        outer,
-        holes,
-        lens,
+        domain,
         settings.size,
         settings.sweeps,
         settings.passes,

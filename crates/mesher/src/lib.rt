@@ -7,6 +7,7 @@ ghost use Rattle.domain.specs.Outline.{outline};
 ghost use Rattle.run.specs.Run.{settings, lent, scratch, Spares};
 ghost use Rattle.mesher.specs.Answers.{HostPaves};
 
+use domain::Domain;
 use pave_answer::PaveAnswer;
 
 // The run whole, from the field to the loops of the front, in the lists lent. `origins` gets for each node the number of the outline's loop that it came from.
@@ -46,8 +47,9 @@ pub extern "C" fn sitjorbe_pave<'a>(
         × Spares result.refusal (scratch node_pool.old edge_pool.old blocks.old tried.old)
         (scratch node_pool.new edge_pool.new blocks.new tried.new) }
 {
+    let domain = Domain { outer, holes, lens };
     let paved = run::pave(
-        outer, holes, lens, size, sweeps, passes, values, marks, xs, ys, next, prev, snapshot,
+        domain, size, sweeps, passes, values, marks, xs, ys, next, prev, snapshot,
         origins, quads, edges, loops, lengths, node_pool, edge_pool, blocks, tried,
     );
     pave_answer::pave_numbers(paved)

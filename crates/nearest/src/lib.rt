@@ -4,14 +4,14 @@
 
 ghost use Rattle.std.specs.Prelude.{◌≡◌, true, ◌+◌, ◌*◌, ◌≤◌, ◌<◌, length};
 ghost use Rattle.exact.specs.Units.{Within};
-ghost use Rattle.domain.specs.Outline.{outline, points, most_points};
+ghost use Rattle.domain.specs.Outline.{outline_of, points, most_points};
 ghost use Rattle.domain.specs.Queries.{nearest_segment};
 ghost use Rattle.domain.specs.Search.{search_turn, search_loop, search_from};
 ghost use Rattle.blocks.specs.Blocks.{for_between, reach, side_at, BlockThere, LoopDrawn, Drawn, block_extent};
 ghost use Rattle.nearest.specs.Far.{moderate_bound, ModeratePoint, span_gap, is_far, is_passed};
 
 use blocks::{BLOCK, Extent};
-use domain::{Near, Point, Search, Settings};
+use domain::{Domain, Near, Point, Search, Settings};
 
 // A coordinate beyond this either way is too far out for the search by blocks.
 const MODERATE: f64 = 1048576.0;
@@ -114,20 +114,17 @@ fn search_loop(
     found
 }
 
-fn search_all<'a>(
-    outer: &'a [f64],
-    holes: &'a [f64],
-    lens: &[usize],
-    blocks: &[u32],
+fn search_all(
+    domain: Domain<'_>, blocks: &[u32],
     p: Point,
     best: Search,
 ) -> Search
-    requires { Drawn (outline outer.now holes.now lens.now) blocks.now × (0 < length blocks.now → ModeratePoint p) }
-    ensures { result ≡ search_from (outline outer.now holes.now lens.now) p best }
+    requires { Drawn (outline_of domain) blocks.now × (0 < length blocks.now → ModeratePoint p) }
+    ensures { result ≡ search_from (outline_of domain.entry) p best }
 {
     let mut found = search_loop(
         p,
-        outlines::loop_points(outer, holes, lens, 0, 0),
+        outlines::loop_points(domain, 0, 0),
         0,
         blocks,
         0,
@@ -135,29 +132,26 @@ fn search_all<'a>(
     );
     let mut k = 0;
     let mut start = 0;
-    while k < lens.len() {
+    while k < domain.lens.len() {
         let loop_index = k + 1;
-        let first = blocks::first_block(outer, loop_index, start);
-        let s = outlines::loop_points(outer, holes, lens, loop_index, start);
+        let first = blocks::first_block(domain.outer, loop_index, start);
+        let s = outlines::loop_points(domain, loop_index, start);
         found = search_loop(p, s, loop_index, blocks, first, found);
-        start += lens[k];
+        start += domain.lens[k];
         k += 1;
     }
     found
 }
 
 // `nearest_segment` of the outline, with no guess. Without blocks every segment is asked, and p may be anywhere.
-pub fn search_outline<'a>(
-    outer: &'a [f64],
-    holes: &'a [f64],
-    lens: &[usize],
-    blocks: &[u32],
+pub fn search_outline(
+    domain: Domain<'_>, blocks: &[u32],
     p: Point,
 ) -> Near
-    requires { Drawn (outline outer.now holes.now lens.now) blocks.now × (0 < length blocks.now → ModeratePoint p) }
-    ensures { result ≡ nearest_segment (outline outer.now holes.now lens.now) p }
+    requires { Drawn (outline_of domain) blocks.now × (0 < length blocks.now → ModeratePoint p) }
+    ensures { result ≡ nearest_segment (outline_of domain.entry) p }
 {
-    let found = search_all(outer, holes, lens, blocks, p, outlines::search_start());
+    let found = search_all(domain, blocks, p, outlines::search_start());
     found.near
 }
 
@@ -188,19 +182,16 @@ fn limit(p: Point, guess: Near) -> f64 {
 
 // `nearest_segment` of the outline. With a guess of a segment near p the search begins at its distance, so that most blocks are passed over. The guess may
 // be anything: where nothing nearer than a little beyond it is found, the search begins anew without it.
-pub fn nearest_segment<'a>(
-    outer: &'a [f64],
-    holes: &'a [f64],
-    lens: &[usize],
-    blocks: &[u32],
+pub fn nearest_segment(
+    domain: Domain<'_>, blocks: &[u32],
     p: Point,
     guess: Near,
 ) -> Near
-    requires { Drawn (outline outer.now holes.now lens.now) blocks.now }
-    ensures { result ≡ nearest_segment (outline outer.now holes.now lens.now) p }
+    requires { Drawn (outline_of domain) blocks.now }
+    ensures { result ≡ nearest_segment (outline_of domain.entry) p }
 {
     if !is_near(p) {
-        return search_outline(outer, holes, lens, &blocks[0..0], p);
+        return search_outline(domain, &blocks[0..0], p);
     }
     let start = outlines::search_start();
     let nowhere = start.near;
@@ -209,10 +200,10 @@ pub fn nearest_segment<'a>(
         near: nowhere,
         squared,
     };
-    let first = search_all(outer, holes, lens, blocks, p, guessed);
+    let first = search_all(domain, blocks, p, guessed);
     let near = first.near;
     if near.distance < numbers::sqrt_f64(squared) {
         return near;
     }
-    search_outline(outer, holes, lens, blocks, p)
+    search_outline(domain, blocks, p)
 }

@@ -3,11 +3,13 @@
 
 ghost use Rattle.std.specs.Prelude.{◌≡◌, ◌+◌, ◌<◌, ◌≤◌, length, replicate};
 ghost use Rattle.std.proofs.lemmas.List.Edits.{sets};
-ghost use Rattle.domain.specs.Outline.{outline};
+ghost use Rattle.domain.specs.Outline.{outline_of};
 ghost use Rattle.front.specs.Sampling.{sampled_count};
 ghost use Rattle.laws.specs.Overlay.{overlay};
 ghost use Rattle.origins.specs.Origins.{sampled_origins, origins_after};
 ghost use Rattle.origins.specs.Writing.{push_count, push_at, Numberable, Sampleable};
+
+use domain::Domain;
 
 // Writes `number` on `count` places from `from` on.
 fn fill_number(origins: &mut [u16], from: usize, count: usize, number: u16)
@@ -22,30 +24,27 @@ fn fill_number(origins: &mut [u16], from: usize, count: usize, number: u16)
 }
 
 // The numbers of the samples. The answer is how many there are.
-fn number_samples<'a>(
-    outer: &'a [f64],
-    holes: &'a [f64],
-    lens: &[usize],
-    size: f64,
+fn number_samples(
+    domain: Domain<'_>, size: f64,
     origins: &mut [u16],
 ) -> usize
-    requires { Sampleable (outline outer.now holes.now lens.now) size (length origins.old) }
-    ensures { (result ≡ sampled_count (outline outer.now holes.now lens.now) size)
+    requires { Sampleable (outline_of domain) size (length origins.old) }
+    ensures { (result ≡ sampled_count (outline_of domain.entry) size)
         × (origins.new
-        ≡ overlay (sampled_origins (outline outer.now holes.now lens.now) size) origins.old) }
+        ≡ overlay (sampled_origins (outline_of domain.entry) size) origins.old) }
 {
     let mut n = 0;
     let mut start = 0;
     let mut k = 0;
-    while k <= lens.len() {
+    while k <= domain.lens.len() {
         let parts = boundary::loop_parts(
-            outlines::loop_points(outer, holes, lens, k, start),
+            outlines::loop_points(domain, k, start),
             size,
         ) as usize;
         let count = parts + parts % 2;
         fill_number(origins, n, count, k as u16);
         n += count;
-        start = boundary::next_start(lens, k, start);
+        start = boundary::next_start(domain.lens, k, start);
         k += 1;
     }
     n
@@ -64,21 +63,18 @@ fn push_origin(origins: &mut [u16], n: usize, a: u32, id: u32) -> usize
 }
 
 // The numbers of a run's nodes, from the outline, the size and the first `count` of the quads answered. Places past the nodes aren't written.
-pub fn number_nodes<'a>(
-    outer: &'a [f64],
-    holes: &'a [f64],
-    lens: &[usize],
-    size: f64,
+pub fn number_nodes(
+    domain: Domain<'_>, size: f64,
     quads: &[u32],
     count: usize,
     origins: &mut [u16],
 )
-    requires { Numberable (outline outer.now holes.now lens.now) size quads.now count (length origins.old) }
+    requires { Numberable (outline_of domain) size quads.now count (length origins.old) }
     ensures { origins.new
-        ≡ overlay (origins_after (outline outer.now holes.now lens.now) size quads.now count)
+        ≡ overlay (origins_after (outline_of domain.entry) size quads.now count)
         origins.old }
 {
-    let mut n = number_samples(outer, holes, lens, size, origins);
+    let mut n = number_samples(domain, size, origins);
     let mut k = 0;
     while k < count {
         let q = lent_mesh::quad_at(quads, k);

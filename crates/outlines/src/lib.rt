@@ -2,12 +2,13 @@
 #![tactic(auto)]
 
 ghost use Rattle.std.specs.Prelude.{◌≡◌, false, ◌+◌, ◌*◌, ◌<◌, eqb, length};
-ghost use Rattle.domain.specs.Outline.{outline, hole_start, loop_at, point_at, after, point_after, any_float, not_finite, beyond, misshapen, LoopPlace};
+ghost use Rattle.domain.specs.Outline.{outline_of, hole_start, loop_at, point_at, after, point_after, any_float, not_finite, beyond, misshapen, LoopPlace};
 ghost use Rattle.domain.specs.Outline.{loop_refusal, loops_refusal, outline_refusal, point_refusal};
+ghost use Rattle.domain.specs.Refusals.{refused};
 ghost use Rattle.domain.specs.Queries.{ray_crosses, squared_distance, foot_of};
 ghost use Rattle.domain.specs.Search.{search_start, searched};
 
-use domain::{Near, Point, Search, Settings};
+use domain::{Domain, Near, Point, Refusal, Search, Settings};
 
 // ---- the refusals
 
@@ -26,27 +27,13 @@ fn is_beyond(x: f64) -> bool
 fn any_not_finite(s: &[f64]) -> bool
     ensures { result ≡ any_float not_finite s.now }
 {
-    let mut i = 0;
-    while i < s.len() {
-        if is_not_finite(s[i]) {
-            return true;
-        }
-        i += 1;
-    }
-    false
+    s.iter().any(|&x| is_not_finite(x))
 }
 
 fn any_beyond(s: &[f64]) -> bool
     ensures { result ≡ any_float beyond s.now }
 {
-    let mut i = 0;
-    while i < s.len() {
-        if is_beyond(s[i]) {
-            return true;
-        }
-        i += 1;
-    }
-    false
+    s.iter().any(|&x| is_beyond(x))
 }
 
 // Whether the lengths add up to the total. They are taken off it one by one, so that no sum overflows.
@@ -67,105 +54,86 @@ fn add_up(lens: &[usize], total: usize) -> bool
 }
 
 // Refusal 1.
-fn is_misshapen(outer: &[f64], holes: &[f64], lens: &[usize]) -> bool
-    ensures { result ≡ misshapen (outline outer.now holes.now lens.now) }
+fn is_misshapen(domain: Domain<'_>) -> bool
+    ensures { result ≡ misshapen (outline_of domain.entry) }
 {
-    if outer.len() % 2 == 1 {
+    if domain.outer.len() % 2 == 1 {
         return true;
     }
-    if holes.len() % 2 == 1 {
+    if domain.holes.len() % 2 == 1 {
         return true;
     }
-    if !add_up(lens, holes.len() / 2) {
+    if !add_up(domain.lens, domain.holes.len() / 2) {
         return true;
     }
-    Settings::MOST_POINTS < outer.len() / 2 + holes.len() / 2
+    Settings::MOST_POINTS < domain.outer.len() / 2 + domain.holes.len() / 2
 }
 
 // Refusals 2 and 3 of one loop.
-fn loop_refusal(s: &[f64]) -> u32
-    ensures { result ≡ loop_refusal s.now }
+fn check_loop(s: &[f64]) -> Result<(), Refusal>
+    ensures { refused result ≡ loop_refusal s.now }
 {
-    let few = s.len() / 2 < 3;
-    let infinite = any_not_finite(s);
-    if few {
-        return 2;
+    if s.len() / 2 < 3 {
+        return Err(Refusal::ShortLoop);
     }
-    if infinite { 3 } else { 0 }
+    if any_not_finite(s) {
+        return Err(Refusal::NotFinite);
+    }
+    Ok(())
 }
 
 // The points of loop k, a part of one of the two slices: loop 0 is the outer one, and `start` hole points stand before loop k.
-pub fn loop_points<'a>(
-    outer: &'a [f64],
-    holes: &'a [f64],
-    lens: &[usize],
-    k: usize,
-    start: usize,
-) -> &'a [f64]
-    requires { LoopPlace (outline outer.now holes.now lens.now) k start }
-    ensures { result.now ≡ loop_at (outline outer.now holes.now lens.now) k }
+pub fn loop_points<'a>(domain: Domain<'a>, k: usize, start: usize) -> &'a [f64]
+    requires { LoopPlace (outline_of domain) k start }
+    ensures { result.now ≡ loop_at (outline_of domain.entry) k }
 {
     if k == 0 {
-        return outer;
+        return domain.outer;
     }
     let from = 2 * start;
-    let to = from + 2 * lens[k - 1];
-    &holes[from..to]
+    let to = from + 2 * domain.lens[k - 1];
+    &domain.holes[from..to]
 }
 
 // Refusals 2 and 3, loop by loop.
-fn loops_refusal<'a>(outer: &'a [f64], holes: &'a [f64], lens: &[usize]) -> u32
-    requires { misshapen (outline outer.now holes.now lens.now) ≡ false }
-    ensures { result ≡ loops_refusal (outline outer.now holes.now lens.now) }
+fn check_loops(domain: Domain<'_>) -> Result<(), Refusal>
+    requires { misshapen (outline_of domain) ≡ false }
+    ensures { refused result ≡ loops_refusal (outline_of domain.entry) }
 {
-    let first = loop_refusal(loop_points(outer, holes, lens, 0, 0));
-    if first != 0 {
-        return first;
-    }
-    let mut k = 0;
+    check_loop(domain.outer)?;
     let mut start = 0;
-    while k < lens.len() {
-        let refusal = loop_refusal(loop_points(outer, holes, lens, k + 1, start));
-        if refusal != 0 {
-            return refusal;
-        }
-        start += lens[k];
-        k += 1;
+    for k in 0..domain.lens.len() {
+        check_loop(loop_points(domain, k + 1, start))?;
+        start += domain.lens[k];
     }
-    0
+    Ok(())
 }
 
 // Refusals 1 to 4.
-pub fn outline_refusal<'a>(outer: &'a [f64], holes: &'a [f64], lens: &[usize]) -> u32
-    ensures { result ≡ outline_refusal (outline outer.now holes.now lens.now) }
+pub fn check_outline(domain: Domain<'_>) -> Result<(), Refusal>
+    ensures { refused result ≡ outline_refusal (outline_of domain.entry) }
 {
-    if is_misshapen(outer, holes, lens) {
-        return 1;
+    if is_misshapen(domain) {
+        return Err(Refusal::Lists);
     }
-    let refusal = loops_refusal(outer, holes, lens);
-    if refusal != 0 {
-        return refusal;
+    check_loops(domain)?;
+    if any_beyond(domain.outer) || any_beyond(domain.holes) {
+        return Err(Refusal::TooFar);
     }
-    if any_beyond(outer) {
-        return 4;
-    }
-    if any_beyond(holes) { 4 } else { 0 }
+    Ok(())
 }
 
 // Refusals 3 and 4 of a query's point.
-pub fn point_refusal(p: Point) -> u32
-    ensures { result ≡ point_refusal p }
+pub fn check_point(p: Point) -> Result<(), Refusal>
+    ensures { refused result ≡ point_refusal p }
 {
-    if is_not_finite(p.x) {
-        return 3;
+    if is_not_finite(p.x) || is_not_finite(p.y) {
+        return Err(Refusal::NotFinite);
     }
-    if is_not_finite(p.y) {
-        return 3;
+    if is_beyond(p.x) || is_beyond(p.y) {
+        return Err(Refusal::TooFar);
     }
-    if is_beyond(p.x) {
-        return 4;
-    }
-    if is_beyond(p.y) { 4 } else { 0 }
+    Ok(())
 }
 
 // ---- points, and `contains` at one segment

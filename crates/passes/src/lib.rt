@@ -3,7 +3,7 @@
 #![tactic(auto)]
 
 ghost use Rattle.std.specs.Prelude.{◌≡◌, []};
-ghost use Rattle.domain.specs.Outline.{outline};
+ghost use Rattle.domain.specs.Outline.{outline_of};
 ghost use Rattle.direction.specs.Record.{field_record};
 ghost use Rattle.front.specs.State.{state_of};
 ghost use Rattle.paving.specs.Advance.{pass};
@@ -11,16 +11,14 @@ ghost use Rattle.ends.specs.Answers.{passed, passed_counts};
 ghost use Rattle.settling.specs.Paveable.{Paveable};
 ghost use Rattle.settling.specs.Searchable.{Helped};
 
+use domain::Domain;
 use direction::Grid;
 use ends::{Settled, Swept};
 use front::Counts;
 
 // A pass: the snapshot is taken, and its edges are tried in the order of their first nodes.
-pub fn pass<'a>(
-    outer: &'a [f64],
-    holes: &'a [f64],
-    lens: &[usize],
-    blocks: &[u32],
+pub fn pass(
+    domain: Domain<'_>, blocks: &[u32],
     size: f64,
     grid: Grid,
     values: &[f64],
@@ -36,17 +34,17 @@ pub fn pass<'a>(
     tried: &mut [u32],
     k: Counts,
 ) -> Swept
-    requires { Paveable (outline outer.now holes.now lens.now) blocks.now grid values.now
+    requires { Paveable (outline_of domain) blocks.now grid values.now
         (state_of xs.old ys.old next.old prev.old snapshot.old quads.old edges.old k)
-        × Helped (outline outer.now holes.now lens.now) size (field_record grid values.now []) xs.old ys.old next.old snapshot.old
+        × Helped (outline_of domain) size (field_record grid values.now []) xs.old ys.old next.old snapshot.old
         edges.old k node_pool.old edge_pool.old tried.old }
     ensures { (passed result
         (state_of xs.new ys.new next.new prev.new snapshot.new quads.new edges.new
         (passed_counts result))
-        ≡ pass (outline outer.now holes.now lens.now) size (field_record grid values.now [])
+        ≡ pass (outline_of domain.entry) size (field_record grid values.now [])
         (state_of xs.old ys.old next.old prev.old snapshot.old quads.old
         edges.old k))
-        × Helped (outline outer.now holes.now lens.now) size (field_record grid values.now [])
+        × Helped (outline_of domain.entry) size (field_record grid values.now [])
         xs.new ys.new next.new snapshot.new edges.new (passed_counts result) node_pool.new edge_pool.new tried.new }
 {
     snapshots::copy_links(next, snapshot, tried, k.nodes);
@@ -58,7 +56,7 @@ pub fn pass<'a>(
         let i = a;
         a = snapshots::node_after(tried, i, n);
         let t = settling::settle(
-            outer, holes, lens, blocks, size, grid, values, xs, ys, next, prev, snapshot, quads,
+            domain, blocks, size, grid, values, xs, ys, next, prev, snapshot, quads,
             edges, node_pool, edge_pool, tried, j, i,
         );
         match t {

@@ -2,11 +2,11 @@
 #![tactic(auto)]
 
 ghost use Rattle.std.specs.Prelude.{◌≡◌};
-ghost use Rattle.domain.specs.Outline.{outline};
+ghost use Rattle.domain.specs.Outline.{outline, outline_of};
 ghost use Rattle.crossfield.specs.Field.{drawn_refusal};
 ghost use Rattle.places.specs.Needed.{places_answer, PlacesGiven};
 
-use domain::Settings;
+use domain::{Domain, Settings};
 
 // `refusal` is document 01's number, 0 where nothing is refused; on a refusal both counts are 0.
 #[repr(C)]
@@ -18,12 +18,12 @@ pub struct PlacesAnswer {
 }
 
 // Of an outline and a size that 1 to 7 let pass.
-fn count_places<'a>(outer: &'a [f64], holes: &'a [f64], lens: &[usize], size: f64) -> PlacesAnswer
-    requires { drawn_refusal (outline outer.now holes.now lens.now) size ≡ 0 }
-    ensures { result ≡ places_answer (outline outer.now holes.now lens.now) size }
+fn count_places(domain: Domain<'_>, size: f64) -> PlacesAnswer
+    requires { drawn_refusal (outline_of domain) size ≡ 0 }
+    ensures { result ≡ places_answer (outline_of domain.entry) size }
 {
-    let grid = crossfield::grid_of(crossfield::bounds_of(outer, holes, lens), size);
-    let sampled = boundary::sampled_count(outer, holes, lens, size);
+    let grid = crossfield::grid_of(crossfield::bounds_of(domain), size);
+    let sampled = boundary::sampled_count(domain, size);
     PlacesAnswer {
         refusal: 0,
         field_nodes: grid.nx * grid.ny,
@@ -41,11 +41,10 @@ pub extern "C" fn sitjorbe_places<'a>(
 ) -> PlacesAnswer
     ensures { PlacesGiven (outline outer.now holes.now lens.now) size result }
 {
+    let domain = Domain { outer, holes, lens };
     // Neither 8 nor 9: no sweeps are asked for, and no field has more nodes.
     let refusal = crossfield::field_refusal(
-        outer,
-        holes,
-        lens,
+        domain,
         size,
         0,
         Settings::MOST_FIELD_NODES,
@@ -57,5 +56,5 @@ pub extern "C" fn sitjorbe_places<'a>(
             sampled_nodes: 0,
         };
     }
-    count_places(outer, holes, lens, size)
+    count_places(domain, size)
 }

@@ -4,7 +4,7 @@
 ghost use Rattle.std.specs.Prelude.{◌≡◌, List, cond, ℕ, ◌*◌, ◌/◌, ◌≤◌, eqb, length};
 ghost use Rattle.laws.specs.Loop.{sum_up};
 ghost use Rattle.topology.specs.Links.{off, link_of};
-ghost use Rattle.domain.specs.Outline.{outline};
+ghost use Rattle.domain.specs.Outline.{outline_of};
 ghost use Rattle.direction.specs.Record.{field_record};
 ghost use Rattle.mesh_check.specs.Check.{lent_state};
 ghost use Rattle.mesh_check.specs.Passed.{MeshRoom};
@@ -13,7 +13,7 @@ ghost use Rattle.previews.specs.Preview.{remove_link, take_link, put_link, bare_
 ghost use Rattle.previews.specs.Preview.{foreseen, foreseen_on, preview_refusal, PreviewTaken};
 
 use direction::Grid;
-use domain::Settings;
+use domain::{Domain, Settings};
 use front::{Corner, Counts, OFF};
 use hand_steps::StepOutcome;
 use paving::Attempt;
@@ -240,11 +240,8 @@ fn foresee(
 }
 
 // What a placing on the front edge a to b would do.
-fn foresee_on<'a>(
-    outer: &'a [f64],
-    holes: &'a [f64],
-    lens: &[usize],
-    size: f64,
+fn foresee_on(
+    domain: Domain<'_>, size: f64,
     grid: Grid,
     values: &[f64],
     xs: &[f64],
@@ -258,9 +255,9 @@ fn foresee_on<'a>(
     a: u32,
     b: u32,
 ) -> Foreseen
-    requires { Around (outline outer.now holes.now lens.now) grid values.now
+    requires { Around (outline_of domain) grid values.now
         × OnFront (lent_state xs.now ys.now next.now prev.now origins.now quads.now edges.now k) a b }
-    ensures { (marks : List ℕ) → result ≡ foreseen_on (outline outer.now holes.now lens.now) size
+    ensures { (marks : List ℕ) → result ≡ foreseen_on (outline_of domain.entry) size
         (field_record grid values.now marks) a b
         (lent_state xs.now ys.now next.now prev.now origins.now quads.now
         edges.now k) }
@@ -272,7 +269,7 @@ fn foresee_on<'a>(
         };
     }
     let attempt = stepping::attempt_on(
-        outer, holes, lens, size, grid, values, xs, ys, next, prev, edges, k, a, b,
+        domain, size, grid, values, xs, ys, next, prev, edges, k, a, b,
     );
     foresee(xs, ys, next, prev, origins, quads, edges, k, a, b, attempt)
 }
@@ -309,11 +306,8 @@ fn preview_refusal(
 }
 
 // A preview of the step on the edge a to b: the mesh is only read, and the list gets the front edges that the step would leave, by their first node.
-pub fn preview<'a>(
-    outer: &'a [f64],
-    holes: &'a [f64],
-    lens: &[usize],
-    size: f64,
+pub fn preview(
+    domain: Domain<'_>, size: f64,
     grid: Grid,
     values: &[f64],
     xs: &[f64],
@@ -328,8 +322,8 @@ pub fn preview<'a>(
     b: u32,
     list: &mut [u32],
 ) -> Sight
-    requires { Around (outline outer.now holes.now lens.now) grid values.now }
-    ensures { (marks : List ℕ) → PreviewTaken (outline outer.now holes.now lens.now) size
+    requires { Around (outline_of domain) grid values.now }
+    ensures { (marks : List ℕ) → PreviewTaken (outline_of domain.entry) size
         (field_record grid values.now marks) a b
         (lent_state xs.now ys.now next.now prev.now origins.now quads.now
         edges.now k) list.old result list.new }
@@ -340,7 +334,7 @@ pub fn preview<'a>(
         return Sight::Refused(r);
     }
     let foreseen = foresee_on(
-        outer, holes, lens, size, grid, values, xs, ys, next, prev, origins, quads, edges, k, a, b,
+        domain, size, grid, values, xs, ys, next, prev, origins, quads, edges, k, a, b,
     );
     let outcome = foreseen.outcome;
     let quad = foreseen.quad;

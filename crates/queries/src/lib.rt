@@ -3,10 +3,10 @@
 #![tactic(auto)]
 
 ghost use Rattle.std.specs.Prelude.{◌≡◌};
-ghost use Rattle.domain.specs.Outline.{outline, point, query_refusal};
+ghost use Rattle.domain.specs.Outline.{outline, outline_of, point, query_refusal};
 ghost use Rattle.queries.specs.Answers.{contains_answer, nearest_answer, distance_answer, contains_numbers, NearestGiven, distance_numbers};
 
-use domain::{Near, Point};
+use domain::{Domain, Near, Point};
 
 #[derive(Clone, Copy)]
 pub enum Contains {
@@ -56,47 +56,47 @@ pub struct DistanceAnswer {
 
 // ---- the queries, refusals first
 
-fn query_refusal<'a>(outer: &'a [f64], holes: &'a [f64], lens: &[usize], p: Point) -> u32
-    ensures { result ≡ query_refusal (outline outer.now holes.now lens.now) p }
+fn query_refusal(domain: Domain<'_>, p: Point) -> u32
+    ensures { result ≡ query_refusal (outline_of domain.entry) p }
 {
-    let refusal = outlines::outline_refusal(outer, holes, lens);
+    let refusal = outlines::outline_refusal(domain);
     if refusal != 0 {
         return refusal;
     }
     outlines::point_refusal(p)
 }
 
-pub fn query_contains<'a>(outer: &'a [f64], holes: &'a [f64], lens: &[usize], p: Point) -> Contains
-    ensures { result ≡ contains_answer (outline outer.now holes.now lens.now) p }
+pub fn query_contains(domain: Domain<'_>, p: Point) -> Contains
+    ensures { result ≡ contains_answer (outline_of domain.entry) p }
 {
-    let refusal = query_refusal(outer, holes, lens, p);
+    let refusal = query_refusal(domain, p);
     if refusal != 0 {
         return Contains::Refused(refusal);
     }
     let none: [u32; 0] = [];
-    Contains::Inside(blocks::contains_point(outer, holes, lens, &none, p))
+    Contains::Inside(blocks::contains_point(domain, &none, p))
 }
 
-pub fn query_nearest<'a>(outer: &'a [f64], holes: &'a [f64], lens: &[usize], p: Point) -> Nearest
-    ensures { result ≡ nearest_answer (outline outer.now holes.now lens.now) p }
+pub fn query_nearest(domain: Domain<'_>, p: Point) -> Nearest
+    ensures { result ≡ nearest_answer (outline_of domain.entry) p }
 {
-    let refusal = query_refusal(outer, holes, lens, p);
+    let refusal = query_refusal(domain, p);
     if refusal != 0 {
         return Nearest::Refused(refusal);
     }
     let none: [u32; 0] = [];
-    Nearest::Segment(nearest::search_outline(outer, holes, lens, &none, p))
+    Nearest::Segment(nearest::search_outline(domain, &none, p))
 }
 
-pub fn query_distance<'a>(outer: &'a [f64], holes: &'a [f64], lens: &[usize], p: Point) -> Distance
-    ensures { result ≡ distance_answer (outline outer.now holes.now lens.now) p }
+pub fn query_distance(domain: Domain<'_>, p: Point) -> Distance
+    ensures { result ≡ distance_answer (outline_of domain.entry) p }
 {
-    let refusal = query_refusal(outer, holes, lens, p);
+    let refusal = query_refusal(domain, p);
     if refusal != 0 {
         return Distance::Refused(refusal);
     }
     let none: [u32; 0] = [];
-    let found = nearest::search_outline(outer, holes, lens, &none, p);
+    let found = nearest::search_outline(domain, &none, p);
     Distance::Of(found.distance)
 }
 
@@ -113,7 +113,8 @@ pub extern "C" fn sitjorbe_contains<'a>(
 ) -> ContainsAnswer
     ensures { result ≡ contains_numbers (contains_answer (outline outer.now holes.now lens.now) (point x y)) }
 {
-    let answer = query_contains(outer, holes, lens, Point { x, y });
+    let domain = Domain { outer, holes, lens };
+    let answer = query_contains(domain, Point { x, y });
     match answer {
         Contains::Refused(refusal) => ContainsAnswer {
             refusal,
@@ -134,7 +135,8 @@ pub extern "C" fn sitjorbe_nearest_segment<'a>(
 ) -> NearestAnswer
     ensures { NearestGiven (outline outer.now holes.now lens.now) (point x y) result }
 {
-    let answer = query_nearest(outer, holes, lens, Point { x, y });
+    let domain = Domain { outer, holes, lens };
+    let answer = query_nearest(domain, Point { x, y });
     match answer {
         Nearest::Refused(refusal) => NearestAnswer {
             refusal,
@@ -170,7 +172,8 @@ pub extern "C" fn sitjorbe_distance_to_boundary<'a>(
 ) -> DistanceAnswer
     ensures { result ≡ distance_numbers (distance_answer (outline outer.now holes.now lens.now) (point x y)) }
 {
-    let answer = query_distance(outer, holes, lens, Point { x, y });
+    let domain = Domain { outer, holes, lens };
+    let answer = query_distance(domain, Point { x, y });
     match answer {
         Distance::Refused(refusal) => DistanceAnswer {
             refusal,

@@ -4,13 +4,14 @@
 
 ghost use Rattle.std.specs.Prelude.{◌≡◌, [], ◌≤◌, length};
 ghost use Rattle.topology.specs.Links.{link_of};
-ghost use Rattle.domain.specs.Outline.{outline};
+ghost use Rattle.domain.specs.Outline.{outline_of};
 ghost use Rattle.direction.specs.Record.{field_record};
 ghost use Rattle.paving.specs.Attempt.{try_edge};
 ghost use Rattle.attempts.specs.Seen.{seen_state, seen_edges, TryLent};
 ghost use Rattle.retries.specs.Vain.{is_vain, noted, tried_after, forgotten, Remembers};
 ghost use Rattle.retries.specs.Untried.{Untried};
 
+use domain::Domain;
 use direction::Grid;
 use front::{Counts, OFF};
 use paving::Attempt;
@@ -73,11 +74,8 @@ fn link_id(links: &[u32], nodes: u32, u: u32) -> u32
 
 // What `attempts::try_edge` answers on the front edge a to b. It isn't asked where the edge was tried in vain between the same neighbours, and what it
 // answers in vain is noted.
-pub fn try_untried<'a>(
-    outer: &'a [f64],
-    holes: &'a [f64],
-    lens: &[usize],
-    blocks: &[u32],
+pub fn try_untried(
+    domain: Domain<'_>, blocks: &[u32],
     size: f64,
     grid: Grid,
     values: &[f64],
@@ -93,14 +91,14 @@ pub fn try_untried<'a>(
     a: u32,
     b: u32,
 ) -> Attempt
-    requires { TryLent (outline outer.now holes.now lens.now) blocks.now grid values.now size xs.now ys.now next.now prev.now
+    requires { TryLent (outline_of domain) blocks.now grid values.now size xs.now ys.now next.now prev.now
         edges.now node_pool.now edge_pool.now counts
-        × Untried (outline outer.now holes.now lens.now) size (field_record grid values.now [])
+        × Untried (outline_of domain) size (field_record grid values.now [])
         (seen_state xs.now ys.now next.now prev.now edges.now counts) tried.old a b }
-    ensures { (result ≡ try_edge (outline outer.now holes.now lens.now) size
+    ensures { (result ≡ try_edge (outline_of domain.entry) size
         (field_record grid values.now [])
         (seen_state xs.now ys.now next.now prev.now edges.now counts) a b)
-        × Remembers (outline outer.now holes.now lens.now) size (field_record grid values.now [])
+        × Remembers (outline_of domain.entry) size (field_record grid values.now [])
         tried.new (seen_edges xs.now ys.now edges.now counts)
         × (tried.new ≡ tried_after result tried.old a b (link_of counts.nodes prev.now a)
         (link_of counts.nodes next.now b)) }
@@ -111,7 +109,7 @@ pub fn try_untried<'a>(
         return Attempt::Nothing;
     }
     let attempt = attempts::try_edge(
-        outer, holes, lens, blocks, size, grid, values, xs, ys, next, prev, edges, node_pool,
+        domain, blocks, size, grid, values, xs, ys, next, prev, edges, node_pool,
         edge_pool, counts, a, b,
     );
     let Attempt::Quad(c, d) = attempt else {

@@ -2,10 +2,11 @@
 #![tactic(auto)]
 
 ghost use Rattle.std.specs.Prelude.{◌≡◌};
-ghost use Rattle.domain.specs.Outline.{outline};
+ghost use Rattle.domain.specs.Outline.{outline_of};
 ghost use Rattle.run.specs.Run.{settings, lent, scratch, ran, end_number, refused_answer, paved_answer, accepted_in, Paves, Spares};
 ghost use Rattle.run.specs.Asked.{CanRun};
 
+use domain::Domain;
 use advance::Advanced;
 use direction::Grid;
 use front::Counts;
@@ -79,11 +80,8 @@ fn answer(grid: Grid, a: Advanced, listed: Listed, whole: bool) -> Paved
 // ---- the stages
 
 // A run that isn't refused, where `snapshot` is no longer than `loops` and `origins`.
-fn pave_in<'a>(
-    outer: &'a [f64],
-    holes: &'a [f64],
-    lens: &[usize],
-    size: f64,
+fn pave_in(
+    domain: Domain<'_>, size: f64,
     sweeps: usize,
     passes: usize,
     values: &mut [f64],
@@ -103,24 +101,24 @@ fn pave_in<'a>(
     blocks: &mut [u32],
     tried: &mut [u32],
 ) -> Paved
-    requires { CanRun (outline outer.now holes.now lens.now) (settings size sweeps passes)
+    requires { CanRun (outline_of domain) (settings size sweeps passes)
         (lent values.old marks.old xs.old ys.old next.old prev.old snapshot.old origins.old quads.old edges.old loops.old
         lengths.old) }
     ensures { ran result
         (lent values.new marks.new xs.new ys.new next.new prev.new snapshot.new
         origins.new quads.new edges.new loops.new lengths.new)
-        ≡ accepted_in (outline outer.now holes.now lens.now) (settings size sweeps passes)
+        ≡ accepted_in (outline_of domain.entry) (settings size sweeps passes)
         (lent values.old marks.old xs.old ys.old next.old prev.old
         snapshot.old origins.old quads.old edges.old loops.old lengths.old) }
 {
-    let grid = crossfield::make_field(outer, holes, lens, size, sweeps, values, marks, blocks);
+    let grid = crossfield::make_field(domain, size, sweeps, values, marks, blocks);
     let a = sampled_advance::sample_and_advance(
-        outer, holes, lens, blocks, size, grid, values, xs, ys, next, prev, snapshot, quads, edges,
+        domain, blocks, size, grid, values, xs, ys, next, prev, snapshot, quads, edges,
         node_pool, edge_pool, tried, passes,
     );
-    origins::number_nodes(outer, holes, lens, size, quads, a.counts.quads, origins);
+    origins::number_nodes(domain, size, quads, a.counts.quads, origins);
     let listed = loops::front_loops(a.counts, next, snapshot, loops, lengths);
-    let whole = soundness::is_whole(outer, holes, lens, listed.count);
+    let whole = soundness::is_whole(domain, listed.count);
     answer(grid, a, listed, whole)
 }
 
@@ -130,11 +128,8 @@ fn pave_in<'a>(
 // `origins` among them: so the run gets no more of `snapshot` than they have places. `lengths` holds a number for each loop. The pools, the list of blocks
 // and `tried` are scratch of any length: searches go by the first three as far as they have room, and the last has three numbers for a node from which an
 // edge was tried in vain. The answer doesn't depend on what they hold, and what a run leaves in them is free.
-pub fn pave<'a>(
-    outer: &'a [f64],
-    holes: &'a [f64],
-    lens: &[usize],
-    size: f64,
+pub fn pave(
+    domain: Domain<'_>, size: f64,
     sweeps: usize,
     passes: usize,
     values: &mut [f64],
@@ -154,7 +149,7 @@ pub fn pave<'a>(
     blocks: &mut [u32],
     tried: &mut [u32],
 ) -> Paved
-    ensures { Paves (outline outer.now holes.now lens.now) (settings size sweeps passes)
+    ensures { Paves (outline_of domain.entry) (settings size sweeps passes)
         (lent values.old marks.old xs.old ys.old next.old prev.old
         snapshot.old origins.old quads.old edges.old loops.old lengths.old)
         result
@@ -167,9 +162,7 @@ pub fn pave<'a>(
     let field = numbers::min_usize(values.len() / 2, marks.len());
     let nodes = run_refusal::node_places(xs.len(), ys.len(), next.len(), prev.len(), m);
     let number = run_refusal::refusal(
-        outer,
-        holes,
-        lens,
+        domain,
         size,
         sweeps,
         field,
@@ -181,9 +174,7 @@ pub fn pave<'a>(
         return refused(number);
     }
     pave_in(
-        outer,
-        holes,
-        lens,
+        domain,
         size,
         sweeps,
         passes,

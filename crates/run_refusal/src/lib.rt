@@ -2,11 +2,13 @@
 #![tactic(auto)]
 
 ghost use Rattle.std.specs.Prelude.{◌≡◌, min};
-ghost use Rattle.domain.specs.Outline.{outline, first_of};
+ghost use Rattle.domain.specs.Outline.{outline_of, first_of};
 ghost use Rattle.crossfield.specs.Field.{refusal_for};
 ghost use Rattle.front.specs.State.{fewest, most_nodes};
 ghost use Rattle.front.specs.Sampling.{sampled_refusal};
 ghost use Rattle.run_refusal.specs.Lengths.{lengths_refusal};
+
+use domain::Domain;
 
 // So many places of the snapshot count.
 pub fn snapshot_places(snapshot: usize, loops: usize, origins: usize) -> usize
@@ -25,11 +27,8 @@ pub fn node_places(xs: usize, ys: usize, next: usize, prev: usize, snapshot: usi
 }
 
 // Where there are so many places for field nodes, nodes, edges and lengths of loops.
-pub fn refusal<'a>(
-    outer: &'a [f64],
-    holes: &'a [f64],
-    lens: &[usize],
-    size: f64,
+pub fn refusal(
+    domain: Domain<'_>, size: f64,
     sweeps: usize,
     field: usize,
     nodes: usize,
@@ -38,17 +37,17 @@ pub fn refusal<'a>(
 ) -> u32
     ensures { result
         ≡ first_of
-        (first_of (refusal_for (outline outer.now holes.now lens.now) size sweeps field)
-        (sampled_refusal (outline outer.now holes.now lens.now) size (min nodes most_nodes) edges))
-        (lengths_refusal (outline outer.now holes.now lens.now) lengths) }
+        (first_of (refusal_for (outline_of domain.entry) size sweeps field)
+        (sampled_refusal (outline_of domain.entry) size (min nodes most_nodes) edges))
+        (lengths_refusal (outline_of domain.entry) lengths) }
 {
-    let number = crossfield::field_refusal(outer, holes, lens, size, sweeps, field);
+    let number = crossfield::field_refusal(domain, size, sweeps, field);
     if number != 0 {
         return number;
     }
-    let few = boundary::front_refusal(outer, holes, lens, size, nodes, edges);
+    let few = boundary::front_refusal(domain, size, nodes, edges);
     if few != 0 {
         return few;
     }
-    if lens.len() < lengths { 0 } else { 10 }
+    if domain.lens.len() < lengths { 0 } else { 10 }
 }

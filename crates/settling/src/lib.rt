@@ -4,7 +4,7 @@
 #![tactic(auto)]
 
 ghost use Rattle.std.specs.Prelude.{◌≡◌, [], ◌*◌, ◌≤◌, ◌<◌, length};
-ghost use Rattle.domain.specs.Outline.{outline};
+ghost use Rattle.domain.specs.Outline.{outline_of};
 ghost use Rattle.direction.specs.Record.{field_record};
 ghost use Rattle.front.specs.State.{state_of};
 ghost use Rattle.indexed.specs.Rects.{NodesFiled, EdgesFiled};
@@ -13,6 +13,7 @@ ghost use Rattle.ends.specs.Answers.{Settles, settled_counts};
 ghost use Rattle.settling.specs.Paveable.{Paveable};
 ghost use Rattle.settling.specs.Searchable.{Searchable, Helped};
 
+use domain::Domain;
 use direction::Grid;
 use ends::Settled;
 use front::{Counts, Neighbour, Placed};
@@ -41,11 +42,8 @@ fn file_added(
 }
 
 // Tries the snapshot's edge from node a, and places and files the quad that is answered.
-pub fn settle<'a>(
-    outer: &'a [f64],
-    holes: &'a [f64],
-    lens: &[usize],
-    blocks: &[u32],
+pub fn settle(
+    domain: Domain<'_>, blocks: &[u32],
     size: f64,
     grid: Grid,
     values: &[f64],
@@ -62,17 +60,17 @@ pub fn settle<'a>(
     k: Counts,
     a: u32,
 ) -> Settled
-    requires { Paveable (outline outer.now holes.now lens.now) blocks.now grid values.now
+    requires { Paveable (outline_of domain) blocks.now grid values.now
         (state_of xs.old ys.old next.old prev.old snapshot.now quads.old edges.old k) × (a < k.nodes)
-        × Helped (outline outer.now holes.now lens.now) size (field_record grid values.now []) xs.old ys.old next.old snapshot.now
+        × Helped (outline_of domain) size (field_record grid values.now []) xs.old ys.old next.old snapshot.now
         edges.old k
         node_pool.old edge_pool.old tried.old }
-    ensures { Settles (outline outer.now holes.now lens.now) size (field_record grid values.now [])
+    ensures { Settles (outline_of domain.entry) size (field_record grid values.now [])
         (state_of xs.old ys.old next.old prev.old snapshot.now quads.old
         edges.old k) a result
         (state_of xs.new ys.new next.new prev.new snapshot.now quads.new edges.new
         (settled_counts k result))
-        × Helped (outline outer.now holes.now lens.now) size (field_record grid values.now [])
+        × Helped (outline_of domain.entry) size (field_record grid values.now [])
         xs.new ys.new next.new snapshot.now edges.new (settled_counts k result) node_pool.new edge_pool.new tried.new }
 {
     let edge = ends::snapshot_edge(next, snapshot, a);
@@ -80,7 +78,7 @@ pub fn settle<'a>(
         return Settled::Same;
     };
     let attempt = retries::try_untried(
-        outer, holes, lens, blocks, size, grid, values, xs, ys, next, prev, edges, node_pool,
+        domain, blocks, size, grid, values, xs, ys, next, prev, edges, node_pool,
         edge_pool, tried, k, a, b,
     );
     let Attempt::Quad(c, d) = attempt else {

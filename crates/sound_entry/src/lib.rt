@@ -5,6 +5,8 @@ ghost use Rattle.std.specs.Prelude.{◌≡◌};
 ghost use Rattle.domain.specs.Outline.{outline};
 ghost use Rattle.sound_entry.specs.Answer.{sound_answer};
 
+use domain::Domain;
+
 #[repr(C)]
 #[derive(Clone, Copy)]
 pub struct SoundAnswer {
@@ -21,13 +23,14 @@ pub extern "C" fn sitjorbe_sound<'a>(
 ) -> SoundAnswer
     ensures { result ≡ sound_answer (outline outer.now holes.now lens.now) }
 {
-    let refusal = outlines::outline_refusal(outer, holes, lens);
+    let domain = Domain { outer, holes, lens };
+    let refusal = outlines::outline_refusal(domain);
     if refusal != 0 {
         return SoundAnswer {
             refusal,
             sound: false,
         };
     }
-    let sound = soundness::is_sound(outer, holes, lens);
+    let sound = soundness::is_sound(domain);
     SoundAnswer { refusal: 0, sound }
 }

@@ -5,7 +5,7 @@
 ghost use Rattle.std.specs.Prelude.{not, ◌≡◌, ◌+◌, ◌*◌, ◌≤◌, ◌<◌, length};
 ghost use Rattle.laws.specs.Loop.{any_up};
 ghost use Rattle.exact.specs.Units.{units, Within};
-ghost use Rattle.domain.specs.Outline.{outline, points, hole_at, outline_refusal};
+ghost use Rattle.domain.specs.Outline.{outline_of, points, hole_at, outline_refusal};
 ghost use Rattle.domain.specs.Accepted.{PointWithin, LoopWithin};
 ghost use Rattle.orientation.specs.Orient.{in_units};
 ghost use Rattle.sound_outlines.specs.Sound.{segment_start, segment_end, overlap, parted, meets, folds_back, folds_at, clash, crosses_itself, touch};
@@ -15,7 +15,7 @@ ghost use Rattle.sound_outlines.specs.FoldsLaws.{is_extreme};
 ghost use Rattle.soundness.specs.SegmentLaws.{lesser_f, greater_f};
 ghost use Rattle.soundness.specs.WalkLaws.{any_point, holes_clash, hole_unsound, Judged};
 
-use domain::Point;
+use domain::{Domain, Point};
 
 // ---- two segments, a to b and c to d
 
@@ -261,67 +261,61 @@ fn holes_clash(s: &[f64], t: &[f64]) -> bool
 }
 
 // Whether the loop s clashes with one of the first k holes.
-fn clashes_before<'a>(
-    outer: &'a [f64],
-    holes: &'a [f64],
-    lens: &[usize],
-    s: &[f64],
+fn clashes_before(
+    domain: Domain<'_>, s: &[f64],
     k: usize,
 ) -> bool
-    requires { Judged (outline outer.now holes.now lens.now) × LoopWithin s.now × (k ≤ length lens.now) }
-    ensures { result ≡ any_up k (λ l. holes_clash s.now (hole_at (outline outer.now holes.now lens.now) l)) }
+    requires { Judged (outline_of domain) × LoopWithin s.now × (k ≤ length domain.lens.now) }
+    ensures { result ≡ any_up k (λ l. holes_clash s.now (hole_at (outline_of domain.entry) l)) }
 {
     let mut l = 0;
     let mut start = 0;
     while l < k {
-        if holes_clash(s, outlines::loop_points(outer, holes, lens, l + 1, start)) {
+        if holes_clash(s, outlines::loop_points(domain, l + 1, start)) {
             return true;
         }
-        start += lens[l];
+        start += domain.lens[l];
         l += 1;
     }
     false
 }
 
 // What is asked of hole k, whose points are s: whether it crosses itself, touches or strays out of the outer loop, or clashes with a hole before it.
-fn is_hole_unsound<'a>(
-    outer: &'a [f64],
-    holes: &'a [f64],
-    lens: &[usize],
-    s: &[f64],
+fn is_hole_unsound(
+    domain: Domain<'_>, s: &[f64],
     k: usize,
 ) -> bool
-    requires { Judged (outline outer.now holes.now lens.now) × LoopWithin s.now × (k ≤ length lens.now) }
-    ensures { result ≡ hole_unsound (outline outer.now holes.now lens.now) s.now k }
+    requires { Judged (outline_of domain) × LoopWithin s.now × (k ≤ length domain.lens.now) }
+    ensures { result ≡ hole_unsound (outline_of domain.entry) s.now k }
 {
     if crosses_itself(s) {
         return true;
     }
-    if touches(s, outer) {
+    if touches(s, domain.outer) {
         return true;
     }
-    if any_point(s, outer, false) {
+    if any_point(s, domain.outer, false) {
         return true;
     }
-    clashes_before(outer, holes, lens, s, k)
+    clashes_before(domain, s, k)
 }
 
 // Whether the outline, which refusals 1 to 4 let pass, is sound.
-pub fn is_sound<'a>(outer: &'a [f64], holes: &'a [f64], lens: &[usize]) -> bool
-    requires { outline_refusal (outline outer.now holes.now lens.now) ≡ 0 }
-    ensures { result ≡ outline_sound (outline outer.now holes.now lens.now) }
+pub fn is_sound(domain: Domain<'_>) -> bool
+    requires { outline_refusal (outline_of domain) ≡ 0 }
+    ensures { result ≡ outline_sound (outline_of domain.entry) }
 {
-    if crosses_itself(outer) {
+    if crosses_itself(domain.outer) {
         return false;
     }
     let mut k = 0;
     let mut start = 0;
-    while k < lens.len() {
-        let s = outlines::loop_points(outer, holes, lens, k + 1, start);
-        if is_hole_unsound(outer, holes, lens, s, k) {
+    while k < domain.lens.len() {
+        let s = outlines::loop_points(domain, k + 1, start);
+        if is_hole_unsound(domain, s, k) {
             return false;
         }
-        start += lens[k];
+        start += domain.lens[k];
         k += 1;
     }
     true
@@ -329,12 +323,12 @@ pub fn is_sound<'a>(outer: &'a [f64], holes: &'a [f64], lens: &[usize]) -> bool
 
 // Whether a run is whole: so many loops of its front are listed, that is none, and the outline, which refusals 1 to 4 let pass, is sound. It is judged
 // only where nothing is listed.
-pub fn is_whole<'a>(outer: &'a [f64], holes: &'a [f64], lens: &[usize], listed: usize) -> bool
-    requires { outline_refusal (outline outer.now holes.now lens.now) ≡ 0 }
-    ensures { result ≡ is_whole (outline outer.now holes.now lens.now) listed }
+pub fn is_whole(domain: Domain<'_>, listed: usize) -> bool
+    requires { outline_refusal (outline_of domain) ≡ 0 }
+    ensures { result ≡ is_whole (outline_of domain.entry) listed }
 {
     if listed != 0 {
         return false;
     }
-    is_sound(outer, holes, lens)
+    is_sound(domain)
 }

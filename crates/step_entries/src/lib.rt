@@ -3,7 +3,7 @@
 #![tactic(auto)]
 
 ghost use Rattle.std.specs.Prelude.{◌≡◌};
-ghost use Rattle.domain.specs.Outline.{outline};
+ghost use Rattle.domain.specs.Outline.{outline, outline_of};
 ghost use Rattle.direction.specs.Record.{field_record};
 ghost use Rattle.crossfield.specs.Field.{drawn_refusal};
 ghost use Rattle.front.specs.State.{counted};
@@ -11,7 +11,7 @@ ghost use Rattle.mesh_check.specs.Check.{lent_state};
 ghost use Rattle.step_entries.specs.Entries.{grid_given, given_refusal, counts_given, HostSteps, HostPreviews};
 
 use direction::Grid;
-use domain::Settings;
+use domain::{Domain, Settings};
 use front::Counts;
 use previews::Sight;
 use step_answers::{PreviewAnswer, StepAnswer};
@@ -19,25 +19,22 @@ use step_answers::{PreviewAnswer, StepAnswer};
 // ---- refusals 1 to 7 and 11
 
 // 1 to 7: those of a run with no sweeps and room for every field.
-fn drawn_refusal<'a>(outer: &'a [f64], holes: &'a [f64], lens: &[usize], size: f64) -> u32
-    ensures { result ≡ drawn_refusal (outline outer.now holes.now lens.now) size }
+fn drawn_refusal(domain: Domain<'_>, size: f64) -> u32
+    ensures { result ≡ drawn_refusal (outline_of domain.entry) size }
 {
-    crossfield::field_refusal(outer, holes, lens, size, 0, Settings::MOST_FIELD_NODES)
+    crossfield::field_refusal(domain, size, 0, Settings::MOST_FIELD_NODES)
 }
 
-fn given_refusal<'a>(
-    outer: &'a [f64],
-    holes: &'a [f64],
-    lens: &[usize],
-    size: f64,
+fn given_refusal(
+    domain: Domain<'_>, size: f64,
     grid: Grid,
     values: &[f64],
     marks: &[u8],
 ) -> u32
-    ensures { result ≡ given_refusal (outline outer.now holes.now lens.now) size
+    ensures { result ≡ given_refusal (outline_of domain.entry) size
         (field_record grid values.now marks.now) }
 {
-    let r = drawn_refusal(outer, holes, lens, size);
+    let r = drawn_refusal(domain, size);
     if r != 0 {
         return r;
     }
@@ -82,6 +79,7 @@ pub extern "C" fn sitjorbe_step<'a>(
         (lent_state xs.new ys.new next.new prev.new origins.new quads.new
         edges.new (counts_given (counted node_count quad_count edge_count front_count) result)) origins.new }
 {
+    let domain = Domain { outer, holes, lens };
     let grid = Grid {
         xmin,
         ymin,
@@ -89,7 +87,7 @@ pub extern "C" fn sitjorbe_step<'a>(
         nx,
         ny,
     };
-    let number = given_refusal(outer, holes, lens, size, grid, values, marks);
+    let number = given_refusal(domain, size, grid, values, marks);
     if number != 0 {
         return step_answers::refused_step(number);
     }
@@ -100,7 +98,7 @@ pub extern "C" fn sitjorbe_step<'a>(
         front: front_count,
     };
     let step = stepping::step(
-        outer, holes, lens, size, grid, values, xs, ys, next, prev, origins, quads, edges, k, a, b,
+        domain, size, grid, values, xs, ys, next, prev, origins, quads, edges, k, a, b,
     );
     step_answers::step_numbers(step)
 }
@@ -140,6 +138,7 @@ pub extern "C" fn sitjorbe_preview<'a>(
         (lent_state xs.now ys.now next.now prev.now origins.now quads.now
         edges.now (counted node_count quad_count edge_count front_count)) list.old result list.new }
 {
+    let domain = Domain { outer, holes, lens };
     let grid = Grid {
         xmin,
         ymin,
@@ -147,7 +146,7 @@ pub extern "C" fn sitjorbe_preview<'a>(
         nx,
         ny,
     };
-    let number = given_refusal(outer, holes, lens, size, grid, values, marks);
+    let number = given_refusal(domain, size, grid, values, marks);
     if number != 0 {
         return step_answers::refused_preview(number);
     }
@@ -158,7 +157,7 @@ pub extern "C" fn sitjorbe_preview<'a>(
         front: front_count,
     };
     let sight = previews::preview(
-        outer, holes, lens, size, grid, values, xs, ys, next, prev, origins, quads, edges, k, a, b,
+        domain, size, grid, values, xs, ys, next, prev, origins, quads, edges, k, a, b,
         list,
     );
     match sight {

@@ -2,7 +2,7 @@
 #![tactic(auto)]
 
 ghost use Rattle.std.specs.Prelude.{◌≡◌, List, [], ℕ, ◌<◌, ◌≤◌, length};
-ghost use Rattle.domain.specs.Outline.{outline};
+ghost use Rattle.domain.specs.Outline.{outline_of};
 ghost use Rattle.direction.specs.Record.{field_record};
 ghost use Rattle.front.specs.State.{state_of};
 ghost use Rattle.paving.specs.Attempt.{try_edge};
@@ -12,7 +12,7 @@ ghost use Rattle.hand_steps.specs.Hand.{hand_refusal, handled, settled_on, place
 ghost use Rattle.hand_steps.specs.Lent.{Around, OnFront, Settleable};
 
 use direction::Grid;
-use domain::Settings;
+use domain::{Domain, Settings};
 use front::Counts;
 use hand_steps::{HandStep, StepOutcome};
 use paving::Attempt;
@@ -49,11 +49,8 @@ pub fn hand_refusal(
 }
 
 // The two attempts on the edge a to b. Nothing is filed, since a step reads the whole mesh in any case.
-pub fn attempt_on<'a>(
-    outer: &'a [f64],
-    holes: &'a [f64],
-    lens: &[usize],
-    size: f64,
+pub fn attempt_on(
+    domain: Domain<'_>, size: f64,
     grid: Grid,
     values: &[f64],
     xs: &[f64],
@@ -65,13 +62,13 @@ pub fn attempt_on<'a>(
     a: u32,
     b: u32,
 ) -> Attempt
-    requires { TryLent (outline outer.now holes.now lens.now) [] grid values.now size xs.now ys.now next.now prev.now edges.now [] [] k }
-    ensures { result ≡ try_edge (outline outer.now holes.now lens.now) size (field_record grid values.now [])
+    requires { TryLent (outline_of domain) [] grid values.now size xs.now ys.now next.now prev.now edges.now [] [] k }
+    ensures { result ≡ try_edge (outline_of domain.entry) size (field_record grid values.now [])
         (seen_state xs.now ys.now next.now prev.now edges.now k) a b }
 {
     let none = &next[0..0];
     attempts::try_edge(
-        outer, holes, lens, none, size, grid, values, xs, ys, next, prev, edges, none, none, k, a,
+        domain, none, size, grid, values, xs, ys, next, prev, edges, none, none, k, a,
         b,
     )
 }
@@ -117,11 +114,8 @@ fn settle(
 }
 
 // One placing on the front edge a to b; none at all where 250,000 quads stand.
-fn place_on<'a>(
-    outer: &'a [f64],
-    holes: &'a [f64],
-    lens: &[usize],
-    size: f64,
+fn place_on(
+    domain: Domain<'_>, size: f64,
     grid: Grid,
     values: &[f64],
     xs: &mut [f64],
@@ -135,12 +129,12 @@ fn place_on<'a>(
     a: u32,
     b: u32,
 ) -> HandPlacing
-    requires { Around (outline outer.now holes.now lens.now) grid values.now
+    requires { Around (outline_of domain) grid values.now
         × OnFront (lent_state xs.old ys.old next.old prev.old origins.now quads.old edges.old k) a b }
     ensures { (marks : List ℕ) → handled
         (state_of xs.new ys.new next.new prev.new (all_off origins.now) quads.new
         edges.new result.counts) result.outcome
-        ≡ place_on (outline outer.now holes.now lens.now) size (field_record grid values.now marks) a b
+        ≡ place_on (outline_of domain.entry) size (field_record grid values.now marks) a b
         (lent_state xs.old ys.old next.old prev.old origins.now quads.old
         edges.old k) }
 {
@@ -151,7 +145,7 @@ fn place_on<'a>(
         };
     }
     let attempt = attempt_on(
-        outer, holes, lens, size, grid, values, xs, ys, next, prev, edges, k, a, b,
+        domain, size, grid, values, xs, ys, next, prev, edges, k, a, b,
     );
     settle(xs, ys, next, prev, origins, quads, edges, k, a, b, attempt)
 }
@@ -172,11 +166,8 @@ fn number_new(origins: &mut [u16], a: u32, n: u32, m: u32)
 }
 
 // A step of the front by hand: 23, 24, or one placing on the named edge. New nodes take the number of node a's loop.
-pub fn step<'a>(
-    outer: &'a [f64],
-    holes: &'a [f64],
-    lens: &[usize],
-    size: f64,
+pub fn step(
+    domain: Domain<'_>, size: f64,
     grid: Grid,
     values: &[f64],
     xs: &mut [f64],
@@ -190,8 +181,8 @@ pub fn step<'a>(
     a: u32,
     b: u32,
 ) -> HandStep
-    requires { Around (outline outer.now holes.now lens.now) grid values.now }
-    ensures { (marks : List ℕ) → StepTaken (outline outer.now holes.now lens.now) size
+    requires { Around (outline_of domain) grid values.now }
+    ensures { (marks : List ℕ) → StepTaken (outline_of domain.entry) size
         (field_record grid values.now marks) a b
         (lent_state xs.old ys.old next.old prev.old origins.old quads.old
         edges.old k) origins.old result
@@ -203,7 +194,7 @@ pub fn step<'a>(
         return HandStep::Refused(r);
     }
     let h = place_on(
-        outer, holes, lens, size, grid, values, xs, ys, next, prev, origins, quads, edges, k, a, b,
+        domain, size, grid, values, xs, ys, next, prev, origins, quads, edges, k, a, b,
     );
     let outcome = h.outcome;
     let m = h.counts;

@@ -3,7 +3,7 @@ use mathlib.Core.List.{[]}
 use mathlib.Core.Path.{◌∙◌, ap, refl}
 use Prim.Native.Nat.{ℕ}
 use Rattle.laws.specs.Loop.{Run, run_start, run_go, run_out, run_end}
-use Rattle.domain.specs.Outline.{Outline, outline}
+use Rattle.domain.specs.Outline.{Outline, outline_of}
 use Rattle.direction.specs.Record.{FieldRecord, field_record}
 use Rattle.front.specs.State.{State, state_of}
 use Rattle.paving.specs.Advance.{passes_turn, all_used}
@@ -17,7 +17,7 @@ use Rattle.advance.proofs.advance.Goals.{Start}
 
 -- the outline, the field and the state as they are lent
 abbrev around : Start → Outline
-around s = outline s.args.outer.now s.args.holes.now s.args.lens.now
+around s = outline_of s.args.domain
 
 abbrev field : Start → FieldRecord
 field s = field_record s.args.grid s.args.values.now []

@@ -12,7 +12,7 @@ use Rattle.attempts.proofs.attempt_quad.Goals.{Start}
 
 -- the outline and the state as they are lent
 abbrev around : Start → Outline
-around s = outline s.args.outer.now s.args.holes.now s.args.lens.now
+around s = outline_of s.args.domain
 
 abbrev lent : Start → State
 lent s = seen_state s.args.xs.now s.args.ys.now s.args.next.now s.args.prev.now s.args.edges.now s.args.counts

@@ -2,14 +2,14 @@
 use Prim.Native.Nat.{◌-◌}
 use lib.ListN.{length}
 use Rattle.laws.specs.Loop.{Scan}
-use Rattle.domain.specs.Outline.{outline}
+use Rattle.domain.specs.Outline.{outline_of}
 use Rattle.domain.specs.OutlineLaws.{HolesPassed}
 use Rattle.domain.specs.Queries.{in_hole}
 use Rattle.blocks.proofs.in_some_hole.Given as goal
 
 abbrev pub invariant-loop-k : goal.invariant-loop-k
 invariant-loop-k l =
-    HolesPassed (outline l.outer l.holes l.lens) l.k l.start × Scan (in_hole (outline l.outer l.holes l.lens) l.p) (length l.lens) l.k
+    HolesPassed (outline_of l.domain) l.k l.start × Scan (in_hole (outline_of l.domain) l.p) (length l.domain.lens.now) l.k
 
 abbrev pub decreases-loop-k : goal.decreases-loop-k
-decreases-loop-k l = length l.lens - l.k
+decreases-loop-k l = length l.domain.lens.now - l.k

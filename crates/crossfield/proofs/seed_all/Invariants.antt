@@ -3,14 +3,14 @@ use mathlib.Core.Path.{◌≡◌}
 use Prim.Native.Nat.{◌-◌, ◌*◌}
 use lib.ListN.{length}
 use Rattle.laws.specs.Loop.{Loop}
-use Rattle.domain.specs.Outline.{outline}
+use Rattle.domain.specs.Outline.{outline_of}
 use Rattle.direction.specs.Record.{field_lists}
 use Rattle.crossfield.specs.Seeds.{seed_row}
 use Rattle.crossfield.proofs.seed_all.Given as goal
 
 abbrev pub invariant-loop-j : goal.invariant-loop-j
 invariant-loop-j l =
-    (length l.values ≡ length l.initial.values) × (length l.marks ≡ length l.initial.marks) × (l.base ≡ l.j * l.nx) × Loop (seed_row (outline l.outer l.holes l.lens) l.g)
+    (length l.values ≡ length l.initial.values) × (length l.marks ≡ length l.initial.marks) × (l.base ≡ l.j * l.nx) × Loop (seed_row (outline_of l.domain) l.g)
     (field_lists l.initial.values l.initial.marks) l.ny l.j (field_lists l.values l.marks)
 
 abbrev pub decreases-loop-j : goal.decreases-loop-j

@@ -9,7 +9,7 @@ use Rattle.ends.specs.declared.Settled.{Settled}
 use Rattle.paving.specs.Advance.{after_pass}
 use Rattle.front.specs.State.{State, state_of}
 use Rattle.direction.specs.Record.{FieldRecord, field_record}
-use Rattle.domain.specs.Outline.{Outline, outline}
+use Rattle.domain.specs.Outline.{Outline, outline_of}
 use Rattle.laws.specs.Loop.{run_start, run_out}
 use native.Mathlib.Omega.{arith}
 use mathlib.Core.Path.{◌∙◌, ap, refl, sym}
@@ -18,7 +18,7 @@ use Rattle.passes.proofs.pass.Goals.{Start}
 
 -- the outline, the field and the state as they are lent
 abbrev around : Start → Outline
-around s = outline s.args.outer.now s.args.holes.now s.args.lens.now
+around s = outline_of s.args.domain
 
 abbrev field : Start → FieldRecord
 field s = field_record s.args.grid s.args.values.now []

@@ -9,7 +9,7 @@ use Rattle.retries.proofs.try_untried.Goals.{Start}
 
 -- the outline and what an attempt reads, as they are lent
 abbrev around : Start → Outline
-around s = outline s.args.outer.now s.args.holes.now s.args.lens.now
+around s = outline_of s.args.domain
 
 abbrev lent : Start → State
 lent s = seen_state s.args.xs.now s.args.ys.now s.args.next.now s.args.prev.now s.args.edges.now s.args.counts

@@ -2,7 +2,7 @@
 use mathlib.Core.Path.{◌≡◌, ◌∙◌, refl, sym}
 use native.Mathlib.Omega.{arith}
 use lib.Seq.{length-take-le}
-use Rattle.domain.specs.Outline.{Outline, outline}
+use Rattle.domain.specs.Outline.{Outline, outline_of}
 use Rattle.domain.specs.Accepted.{OutlineFits}
 use Rattle.domain.specs.declared.Settings.{Settings}
 use Rattle.run.specs.Run.{settings, Lent, lent, refusal_of}
@@ -12,7 +12,7 @@ use Rattle.run.proofs.pave.Goals.{After-refusal-number}
 
 -- the outline, the settings and the lists as they are lent
 abbrev around : After-refusal-number → Outline
-around s = outline s.args.outer.now s.args.holes.now s.args.lens.now
+around s = outline_of s.args.domain
 
 abbrev set : After-refusal-number → Settings
 set s = settings s.args.size s.args.sweeps s.args.passes

@@ -1,7 +1,7 @@
 -- `run::pave_in` meets its contract: each stage gives what the next one asks, and together they are the run. Assumes nothing.
 use mathlib.Core.Path.{◌∙◌, sym, subst}
 use lib.Dec.{T}
-use Rattle.domain.specs.Outline.{Outline, outline}
+use Rattle.domain.specs.Outline.{Outline, outline_of}
 use Rattle.domain.specs.declared.Settings.{Settings}
 use Rattle.sampled_advance.specs.Asked.{CanPave}
 use Rattle.sampled_advance.specs.Laws.{can_number, can_list}
@@ -12,7 +12,7 @@ use Rattle.run.proofs.pave_in.Goals.{After-make_field-grid}
 
 -- the outline, the settings and the lists as they are lent
 abbrev around : After-make_field-grid → Outline
-around s = outline s.args.outer.now s.args.holes.now s.args.lens.now
+around s = outline_of s.args.domain
 
 abbrev set : After-make_field-grid → Settings
 set s = settings s.args.size s.args.sweeps s.args.passes

@@ -6,7 +6,7 @@ use Rattle.settling.specs.Paveable.{held, state_try_lent}
 use Rattle.settling.specs.Laws.{settle_gone, settle_untried, settle_same, settle_node, settle_ready, settle_full, settle_done}
 use Rattle.front.specs.State.{State, state_of}
 use Rattle.direction.specs.Record.{FieldRecord, field_record}
-use Rattle.domain.specs.Outline.{Outline, outline}
+use Rattle.domain.specs.Outline.{Outline, outline_of}
 use native.Mathlib.Omega.{arith}
 use mathlib.Core.Path.{◌∙◌, sym}
 use Rattle.settling.proofs.settle.Goals as goal
@@ -14,7 +14,7 @@ use Rattle.settling.proofs.settle.Goals.{Start}
 
 -- the outline, the field and the state as they are lent
 abbrev around : Start → Outline
-around s = outline s.args.outer.now s.args.holes.now s.args.lens.now
+around s = outline_of s.args.domain
 
 abbrev field : Start → FieldRecord
 field s = field_record s.args.grid s.args.values.now []

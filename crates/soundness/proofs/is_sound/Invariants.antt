@@ -3,12 +3,12 @@ use Prim.Native.Nat.{◌-◌}
 use lib.ListN.{length}
 use Rattle.soundness.specs.WalkLaws.{unsound_at}
 use Rattle.domain.specs.OutlineLaws.{HolesPassed}
-use Rattle.domain.specs.Outline.{outline}
+use Rattle.domain.specs.Outline.{outline_of}
 use Rattle.laws.specs.Loop.{Scan}
 use Rattle.soundness.proofs.is_sound.Given as goal
 
 abbrev pub invariant-loop-k : goal.invariant-loop-k
-invariant-loop-k l = HolesPassed (outline l.outer l.holes l.lens) l.k l.start × Scan (unsound_at (outline l.outer l.holes l.lens)) (length l.lens) l.k
+invariant-loop-k l = HolesPassed (outline_of l.domain) l.k l.start × Scan (unsound_at (outline_of l.domain)) (length l.domain.lens.now) l.k
 
 abbrev pub decreases-loop-k : goal.decreases-loop-k
-decreases-loop-k l = length l.lens - l.k
+decreases-loop-k l = length l.domain.lens.now - l.k

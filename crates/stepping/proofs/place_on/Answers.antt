@@ -11,7 +11,7 @@ use Rattle.stepping.proofs.place_on.Goals.{Start}
 
 -- the outline and the state as they are lent
 abbrev around : Start → Outline
-around s = outline s.args.outer.now s.args.holes.now s.args.lens.now
+around s = outline_of s.args.domain
 
 abbrev lent : Start → State
 lent s =

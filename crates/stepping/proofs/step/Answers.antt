@@ -3,7 +3,7 @@ use mathlib.Core.Path.{sym, ◌∙◌, ap}
 use mathlib.Core.List.{List, []}
 use Prim.Native.Nat.{ℕ}
 use native.Mathlib.Omega.{arith}
-use Rattle.domain.specs.Outline.{Outline, outline}
+use Rattle.domain.specs.Outline.{Outline, outline_of}
 use Rattle.direction.specs.Record.{FieldRecord, field_record}
 use Rattle.front.specs.State.{State, node_places}
 use Rattle.mesh_check.specs.Check.{lent_state}
@@ -17,7 +17,7 @@ use Rattle.stepping.proofs.step.Goals.{Start}
 
 -- the outline, the field and the state as they are lent
 abbrev around : Start → Outline
-around s = outline s.args.outer.now s.args.holes.now s.args.lens.now
+around s = outline_of s.args.domain
 
 abbrev field : Start → List ℕ → FieldRecord
 field s marks = field_record s.args.grid s.args.values.now marks

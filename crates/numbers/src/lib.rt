@@ -2,6 +2,8 @@
 #![tactic(auto)]
 
 ghost use Rattle.std.specs.Prelude.{◌≡◌, ◌+◌, ◌*◌, ◌/◌, ◌%◌, ◌^◌, ◌<◌, ◌≤◌, min, max, T};
+ghost use Rattle.std.specs.Float.Ieee.{to_bits};
+ghost use Rattle.std.specs.Float.{binary64};
 ghost use Rattle.numbers.specs.Root.{NearRoot, RootBits, root_units, root};
 ghost use Rattle.numbers.specs.Float.{to_float, is_finite, abs_f, min_f, max_f, clamp_f};
 ghost use Rattle.numbers.specs.Whole.{ceil_div, size_of_bits, floor_int, floor_quotient, ceil_count};
@@ -233,6 +235,16 @@ pub extern "C" fn ceil_count(x: f64) -> u64
         return 0xffff_ffff_ffff_ffff;
     }
     0
+}
+
+// `x.to_bits()`, where every NaN gives one pattern.
+pub fn bits_of(x: f64) -> u64
+    ensures { result ≡ to_bits binary64 x }
+{
+    if x != x {
+        return 0x7ff8_0000_0000_0000;
+    }
+    f64::to_bits(x)
 }
 
 // A finite f64: its sign, and its size as significand * 2^exponent times the smallest f64 above 0.

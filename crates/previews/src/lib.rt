@@ -5,6 +5,7 @@ ghost use Rattle.std.specs.Prelude.{◌≡◌, List, cond, ℕ, ◌*◌, ◌/◌
 ghost use Rattle.laws.specs.Loop.{sum_up};
 ghost use Rattle.topology.specs.Links.{off, link_of};
 ghost use Rattle.domain.specs.Outline.{outline_of};
+ghost use Rattle.domain.specs.Refusals.{refused};
 ghost use Rattle.direction.specs.Record.{field_record};
 ghost use Rattle.mesh_check.specs.Check.{lent_state};
 ghost use Rattle.mesh_check.specs.Passed.{MeshRoom};
@@ -13,7 +14,7 @@ ghost use Rattle.previews.specs.Preview.{remove_link, take_link, put_link, bare_
 ghost use Rattle.previews.specs.Preview.{foreseen, foreseen_on, preview_refusal, PreviewTaken};
 
 use direction::Grid;
-use domain::{Domain, Settings};
+use domain::{Domain, Refusal, Settings};
 use front::{Corner, Counts, OFF};
 use hand_steps::StepOutcome;
 use paving::Attempt;
@@ -241,7 +242,8 @@ fn foresee(
 
 // What a placing on the front edge a to b would do.
 fn foresee_on(
-    domain: Domain<'_>, size: f64,
+    domain: Domain<'_>,
+    size: f64,
     grid: Grid,
     values: &[f64],
     xs: &[f64],
@@ -276,8 +278,8 @@ fn foresee_on(
 
 // ---- the preview
 
-// 23 of the mesh and of a list with so many places, then 24.
-fn preview_refusal(
+// Refusal 23 of the mesh and of a list with so many places, then 24.
+fn check_preview(
     xs: &[f64],
     ys: &[f64],
     next: &[u32],
@@ -289,25 +291,23 @@ fn preview_refusal(
     places: usize,
     a: u32,
     b: u32,
-) -> u32
-    ensures { result ≡ preview_refusal
+) -> Result<(), Refusal>
+    ensures { refused result ≡ preview_refusal
         (lent_state xs.now ys.now next.now prev.now origins.now quads.now
         edges.now k)
         places a b }
 {
-    let r = mesh_check::mesh_refusal(xs, ys, next, prev, origins, quads, edges, k);
-    if r != 0 {
-        return r;
-    }
+    mesh_check::check_mesh(xs, ys, next, prev, origins, quads, edges, k)?;
     if places < k.front + 2 {
-        return 23;
+        return Err(Refusal::UnsoundMesh);
     }
-    mesh_check::edge_refusal(next, k.nodes, a, b)
+    mesh_check::check_edge(next, k.nodes, a, b)
 }
 
 // A preview of the step on the edge a to b: the mesh is only read, and the list gets the front edges that the step would leave, by their first node.
 pub fn preview(
-    domain: Domain<'_>, size: f64,
+    domain: Domain<'_>,
+    size: f64,
     grid: Grid,
     values: &[f64],
     xs: &[f64],
@@ -329,9 +329,10 @@ pub fn preview(
         edges.now k) list.old result list.new }
 {
     let places = list.len() / 2;
-    let r = preview_refusal(xs, ys, next, prev, origins, quads, edges, k, places, a, b);
-    if r != 0 {
-        return Sight::Refused(r);
+    if let Err(refusal) = check_preview(
+        xs, ys, next, prev, origins, quads, edges, k, places, a, b,
+    ) {
+        return Sight::Refused(u32::from(refusal));
     }
     let foreseen = foresee_on(
         domain, size, grid, values, xs, ys, next, prev, origins, quads, edges, k, a, b,

@@ -3,6 +3,7 @@
 
 ghost use Rattle.std.specs.Prelude.{◌≡◌, List, [], ℕ, ◌<◌, ◌≤◌, length};
 ghost use Rattle.domain.specs.Outline.{outline_of};
+ghost use Rattle.domain.specs.Refusals.{refused};
 ghost use Rattle.direction.specs.Record.{field_record};
 ghost use Rattle.front.specs.State.{state_of};
 ghost use Rattle.paving.specs.Attempt.{try_edge};
@@ -12,7 +13,7 @@ ghost use Rattle.hand_steps.specs.Hand.{hand_refusal, handled, settled_on, place
 ghost use Rattle.hand_steps.specs.Lent.{Around, OnFront, Settleable};
 
 use direction::Grid;
-use domain::{Domain, Settings};
+use domain::{Domain, Refusal, Settings};
 use front::Counts;
 use hand_steps::{HandStep, StepOutcome};
 use paving::Attempt;
@@ -24,8 +25,8 @@ pub struct HandPlacing {
     pub counts: Counts,
 }
 
-// 23, then 24: on every input.
-pub fn hand_refusal(
+// Refusal 23, then 24: on every input.
+pub fn check_hand(
     xs: &[f64],
     ys: &[f64],
     next: &[u32],
@@ -36,21 +37,19 @@ pub fn hand_refusal(
     k: Counts,
     a: u32,
     b: u32,
-) -> u32
-    ensures { result ≡ hand_refusal
+) -> Result<(), Refusal>
+    ensures { refused result ≡ hand_refusal
         (lent_state xs.now ys.now next.now prev.now origins.now quads.now
         edges.now k) a b }
 {
-    let r = mesh_check::mesh_refusal(xs, ys, next, prev, origins, quads, edges, k);
-    if r != 0 {
-        return r;
-    }
-    mesh_check::edge_refusal(next, k.nodes, a, b)
+    mesh_check::check_mesh(xs, ys, next, prev, origins, quads, edges, k)?;
+    mesh_check::check_edge(next, k.nodes, a, b)
 }
 
 // The two attempts on the edge a to b. Nothing is filed, since a step reads the whole mesh in any case.
 pub fn attempt_on(
-    domain: Domain<'_>, size: f64,
+    domain: Domain<'_>,
+    size: f64,
     grid: Grid,
     values: &[f64],
     xs: &[f64],
@@ -68,8 +67,7 @@ pub fn attempt_on(
 {
     let none = &next[0..0];
     attempts::try_edge(
-        domain, none, size, grid, values, xs, ys, next, prev, edges, none, none, k, a,
-        b,
+        domain, none, size, grid, values, xs, ys, next, prev, edges, none, none, k, a, b,
     )
 }
 
@@ -115,7 +113,8 @@ fn settle(
 
 // One placing on the front edge a to b; none at all where 250,000 quads stand.
 fn place_on(
-    domain: Domain<'_>, size: f64,
+    domain: Domain<'_>,
+    size: f64,
     grid: Grid,
     values: &[f64],
     xs: &mut [f64],
@@ -156,18 +155,13 @@ fn number_new(origins: &mut [u16], a: u32, n: u32, m: u32)
     ensures { origins.new ≡ new_origins a n m origins.old }
 {
     let number = origins[a as usize];
-    let from = n as usize;
-    let more = (m as usize) - from;
-    let mut i = 0;
-    while i < more {
-        origins[from + i] = number;
-        i += 1;
-    }
+    origins[n as usize..m as usize].fill(number);
 }
 
 // A step of the front by hand: 23, 24, or one placing on the named edge. New nodes take the number of node a's loop.
 pub fn step(
-    domain: Domain<'_>, size: f64,
+    domain: Domain<'_>,
+    size: f64,
     grid: Grid,
     values: &[f64],
     xs: &mut [f64],
@@ -189,9 +183,8 @@ pub fn step(
         (lent_state xs.new ys.new next.new prev.new origins.new quads.new
         edges.new (counts_left k result)) origins.new }
 {
-    let r = hand_refusal(xs, ys, next, prev, origins, quads, edges, k, a, b);
-    if r != 0 {
-        return HandStep::Refused(r);
+    if let Err(refusal) = check_hand(xs, ys, next, prev, origins, quads, edges, k, a, b) {
+        return HandStep::Refused(u32::from(refusal));
     }
     let h = place_on(
         domain, size, grid, values, xs, ys, next, prev, origins, quads, edges, k, a, b,

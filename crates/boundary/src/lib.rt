@@ -3,6 +3,7 @@
 
 ghost use Rattle.std.specs.Prelude.{◌≡◌, false, List, ℕ, ◌+◌, ◌*◌, ◌<◌, ◌≤◌, min, Float, length};
 ghost use Rattle.domain.specs.Outline.{outline_of, misshapen, loop_start};
+ghost use Rattle.domain.specs.Refusals.{refused};
 ghost use Rattle.front.specs.declared.Counts.{Counts};
 ghost use Rattle.front.specs.State.{State, state_of, most_nodes, push_node};
 ghost use Rattle.front.specs.Sampling.{parts_of, loop_parts, sampled_count, sampled_refusal, front_refusal, cut, sample_segment, sample_loop, from_boundary};
@@ -11,7 +12,7 @@ ghost use Rattle.sampled.specs.Joins.{with_link};
 ghost use Rattle.boundary.specs.Counting.{most, even_up};
 ghost use Rattle.boundary.specs.Laying.{with_nodes, with_front_edges, between_loops, NodeRoom, NodesFrom, RingFits, LoopRoom, CanSample, link_ring, lay_loop};
 
-use domain::{Domain, Point, Settings};
+use domain::{Domain, Point, Refusal, Settings};
 use front::{Counts, OFF, Ring};
 
 // ---- how many
@@ -79,23 +80,21 @@ pub fn sampled_count(domain: Domain<'_>, size: f64) -> u64
 }
 
 // Refusal 10, where so many node places and edge places are lent; node places past 4,294,967,294 count as not lent.
-pub fn front_refusal(
-    domain: Domain<'_>, size: f64,
+pub fn check_places(
+    domain: Domain<'_>,
+    size: f64,
     node_places: usize,
     edge_places: usize,
-) -> u32
+) -> Result<(), Refusal>
     requires { misshapen (outline_of domain) ≡ false }
-    ensures { result ≡ sampled_refusal (outline_of domain.entry) size (min node_places most_nodes)
-        edge_places }
+    ensures { refused result
+        ≡ sampled_refusal (outline_of domain.entry) size (min node_places most_nodes) edge_places }
 {
     let count = sampled_count(domain, size) as usize;
-    if count > 4294967294 {
-        return 10;
+    if count > 4294967294 || node_places < count || edge_places < count {
+        return Err(Refusal::FrontNeedsSpace);
     }
-    if node_places < count {
-        return 10;
-    }
-    if edge_places < count { 10 } else { 0 }
+    Ok(())
 }
 
 // ---- the nodes of a loop
@@ -382,7 +381,8 @@ fn lay_loop(
 
 // `from_boundary`, in the lists lent.
 pub fn from_boundary(
-    domain: Domain<'_>, size: f64,
+    domain: Domain<'_>,
+    size: f64,
     xs: &mut [f64],
     ys: &mut [f64],
     next: &mut [u32],

@@ -1,13 +1,11 @@
 -- The field of an outline, a size and a number of sweeps, in the lists lent, with the refusals 1 to 9. Definitions only.
-use Rattle.std.specs.Prelude.{cond, List, ◌≡◌, ℕ, ◌/◌, min, ltb, length, Float}
+use Rattle.std.specs.Prelude.{cond, List, Result, Ok, Err, ◌≡◌, ℕ, ◌/◌, min, ltb, length, Float}
 use Rattle.domain.specs.Outline.{Outline, first_of, outline_refusal}
 use Rattle.domain.specs.Queries.{answer_by}
 use Rattle.blocks.specs.Blocks.{Drawn}
 use Rattle.direction.specs.declared.Grid.{Grid}
 use Rattle.direction.specs.Record.{grid_nodes, FieldLists, field_lists, FieldRecord, field_record}
 use Rattle.sweeps.specs.Sweeps.{sweeps}
-use Rattle.crossfield.specs.declared.FieldAnswer.{FieldAnswer}
-use Rattle.crossfield.specs.declared.FieldAnswer.TheVariants as answer-is
 use Rattle.crossfield.specs.Grid.{bounds, grid_of, size_refusal, bounds_refusal, sweeps_refusal}
 use Rattle.crossfield.specs.Seeds.{seeded}
 
@@ -41,21 +39,21 @@ field_of o size n f =
 
 -- what `field` answers, and the lists as it leaves them
 pub record FieldResult : Type 0 where
-  pub answer : FieldAnswer
+  pub answer : Result Grid ℕ
   pub lists : FieldLists
 
-abbrev pub field_result : FieldAnswer → List Float → List ℕ → FieldResult
+abbrev pub field_result : Result Grid ℕ → List Float → List ℕ → FieldResult
 field_result answer values marks = record { answer = answer; lists = field_lists values marks }
 
 abbrev pub made_of : FieldRecord → FieldResult
-made_of r = record { answer = answer-is.Made r.grid; lists = r.lists }
+made_of r = record { answer = Ok r.grid; lists = r.lists }
 
 -- refused, with nothing written; or made
 unfoldable pub field_answer : Outline → Float → ℕ → FieldLists → FieldResult
 field_answer o size n f =
-    answer_by (λ r. record { answer = answer-is.Refused r; lists = f }) (made_of (field_of o size n f)) (field_refusal o size n f)
+    answer_by (λ r. record { answer = Err r; lists = f }) (made_of (field_of o size n f)) (field_refusal o size n f)
 
 -- of the list of blocks, before and after: a refusal leaves it as it was, and where a field is made it has the outline's blocks
-abbrev pub FieldDraws : Outline → FieldAnswer → List ℕ → List ℕ → Type 0
-FieldDraws o (answer-is.Refused number) before after = after ≡ before
-FieldDraws o (answer-is.Made grid) before after = Drawn o after
+abbrev pub FieldDraws : Outline → Result Grid ℕ → List ℕ → List ℕ → Type 0
+FieldDraws o (Err number) before after = after ≡ before
+FieldDraws o (Ok grid) before after = Drawn o after

@@ -6,6 +6,7 @@ ghost use Rattle.numbers.specs.Float.{◌⊘◌};
 ghost use Rattle.numbers.specs.Whole.{ceil_count};
 ghost use Rattle.domain.specs.Outline.{outline_of, misshapen};
 ghost use Rattle.domain.specs.Queries.{nearest_segment};
+ghost use Rattle.domain.specs.Refusals.{refused, numbered};
 ghost use Rattle.blocks.specs.Blocks.{Drawn};
 ghost use Rattle.direction.specs.Record.{most_field_nodes, grid_nodes, field_lists, field_record};
 ghost use Rattle.averages.specs.Places.{Node, Row, NodeMark, RowMarks, FieldRoom};
@@ -15,7 +16,7 @@ ghost use Rattle.crossfield.specs.Seeds.{grid_point, seed, is_fixed, mark_of, se
 ghost use Rattle.crossfield.specs.Field.{places_refusal, refusal_for, field_refusal, field_of, field_result, field_answer, FieldDraws};
 
 use direction::Grid;
-use domain::{Domain, Near, Point, Settings};
+use domain::{Domain, Near, Point, Refusal, Settings};
 
 // `(xmin, xmax, ymin, ymax)`
 #[derive(Clone, Copy)]
@@ -24,12 +25,6 @@ pub struct Bounds {
     pub xmax: f64,
     pub ymin: f64,
     pub ymax: f64,
-}
-
-#[derive(Clone, Copy)]
-pub enum FieldAnswer {
-    Refused(u32),
-    Made(Grid),
 }
 
 // ---- the bounding box, over all loops
@@ -77,10 +72,7 @@ pub fn bounds_of(domain: Domain<'_>) -> Bounds
     let mut k = 0;
     let mut start = 0;
     while k < domain.lens.len() {
-        wide = loop_bounds(
-            outlines::loop_points(domain, k + 1, start),
-            wide,
-        );
+        wide = loop_bounds(outlines::loop_points(domain, k + 1, start), wide);
         start += domain.lens[k];
         k += 1;
     }
@@ -148,43 +140,48 @@ pub fn grid_of(b: Bounds, size: f64) -> Grid
 
 // ---- refusals 5 to 9
 
-fn size_refusal(size: f64) -> u32
-    ensures { result ≡ size_refusal size }
+// 5 and 6.
+fn check_size(size: f64) -> Result<(), Refusal>
+    ensures { refused result ≡ size_refusal size }
 {
-    if !numbers::is_finite_f64(size) {
-        return 5;
+    if !numbers::is_finite_f64(size) || size <= 0.0 {
+        return Err(Refusal::NoSize);
     }
-    if size <= 0.0 {
-        return 5;
+    if size < Settings::LEAST_SIZE || Settings::MOST_SIZE < size {
+        return Err(Refusal::SizeOutOfRange);
     }
-    if size < Settings::LEAST_SIZE {
-        return 6;
-    }
-    if Settings::MOST_SIZE < size { 6 } else { 0 }
+    Ok(())
 }
 
-fn bounds_refusal(b: Bounds) -> u32
-    ensures { result ≡ bounds_refusal b }
+// 7.
+fn check_bounds(b: Bounds) -> Result<(), Refusal>
+    ensures { refused result ≡ bounds_refusal b }
 {
-    if b.xmax <= b.xmin {
-        return 7;
+    if b.xmax <= b.xmin || b.ymax <= b.ymin {
+        return Err(Refusal::Flat);
     }
-    if b.ymax <= b.ymin { 7 } else { 0 }
+    Ok(())
 }
 
-fn sweeps_refusal(sweeps: usize) -> u32
-    ensures { result ≡ sweeps_refusal sweeps }
+// 8.
+fn check_sweeps(sweeps: usize) -> Result<(), Refusal>
+    ensures { refused result ≡ sweeps_refusal sweeps }
 {
-    if Settings::MOST_SWEEPS < sweeps { 8 } else { 0 }
+    if Settings::MOST_SWEEPS < sweeps {
+        return Err(Refusal::TooManySweeps);
+    }
+    Ok(())
 }
 
-fn places_refusal(g: Grid, places: usize) -> u32
+// 9.
+fn check_places(g: Grid, places: usize) -> Result<(), Refusal>
     requires { grid_nodes g ≤ most_field_nodes }
-    ensures { result ≡ places_refusal g places }
+    ensures { refused result ≡ places_refusal g places }
 {
-    let nx = g.nx;
-    let ny = g.ny;
-    if places < nx * ny { 9 } else { 0 }
+    if places < g.nx * g.ny {
+        return Err(Refusal::FieldNeedsSpace);
+    }
+    Ok(())
 }
 
 // ---- seeds and marks
@@ -213,12 +210,7 @@ fn seed(t: Point) -> Point
 }
 
 // Whether a node at p is fixed: inside, and its nearest segment within 1.5 spacings. The distance is known, so it is asked first.
-fn is_fixed(
-    domain: Domain<'_>, blocks: &[u32],
-    h: f64,
-    p: Point,
-    found: Near,
-) -> bool
+fn is_fixed(domain: Domain<'_>, blocks: &[u32], h: f64, p: Point, found: Near) -> bool
     requires { Drawn (outline_of domain) blocks.now }
     ensures { result ≡ is_fixed (outline_of domain.entry) h p found }
 {
@@ -237,7 +229,8 @@ fn mark_of(fixed: bool) -> u8
 
 // Node (i, j), whose number is id: one search serves its value and its mark. The answer is the nearest segment, which is a guess of the next node's.
 fn seed_node(
-    domain: Domain<'_>, blocks: &[u32],
+    domain: Domain<'_>,
+    blocks: &[u32],
     g: Grid,
     values: &mut [f64],
     marks: &mut [u8],
@@ -267,7 +260,8 @@ fn seed_node(
 
 // Row j, whose first node's number is base. The first node's guess is the outer loop's first segment, for want of a better.
 fn seed_row(
-    domain: Domain<'_>, blocks: &[u32],
+    domain: Domain<'_>,
+    blocks: &[u32],
     g: Grid,
     values: &mut [f64],
     marks: &mut [u8],
@@ -291,28 +285,13 @@ fn seed_row(
     };
     let mut i = 0;
     while i < nx {
-        near = seed_node(
-            domain,
-            blocks,
-            g,
-            values,
-            marks,
-            j,
-            i,
-            base + i,
-            near,
-        );
+        near = seed_node(domain, blocks, g, values, marks, j, i, base + i, near);
         i += 1;
     }
 }
 
 // Every node's value and mark.
-fn seed_all(
-    domain: Domain<'_>, blocks: &[u32],
-    g: Grid,
-    values: &mut [f64],
-    marks: &mut [u8],
-)
+fn seed_all(domain: Domain<'_>, blocks: &[u32], g: Grid, values: &mut [f64], marks: &mut [u8])
     requires drawn { Drawn (outline_of domain) blocks.now }
     requires field_room { FieldRoom g.nx g.ny (length values.old) (length marks.old) }
     requires nx_le_most_field_nodes { (g.nx ≤ most_field_nodes) × (g.ny ≤ most_field_nodes) }
@@ -334,36 +313,26 @@ fn seed_all(
 // ---- the field
 
 // Refusals 1 to 9.
-pub fn field_refusal(
-    domain: Domain<'_>, size: f64,
+pub fn check_field(
+    domain: Domain<'_>,
+    size: f64,
     sweeps: usize,
     places: usize,
-) -> u32
-    ensures { result ≡ refusal_for (outline_of domain.entry) size sweeps places }
+) -> Result<(), Refusal>
+    ensures { refused result ≡ refusal_for (outline_of domain.entry) size sweeps places }
 {
-    let outline = outlines::outline_refusal(domain);
-    if outline != 0 {
-        return outline;
-    }
-    let sizes = size_refusal(size);
-    if sizes != 0 {
-        return sizes;
-    }
+    outlines::check_outline(domain)?;
+    check_size(size)?;
     let b = bounds_of(domain);
-    let boxed = bounds_refusal(b);
-    if boxed != 0 {
-        return boxed;
-    }
-    let swept = sweeps_refusal(sweeps);
-    if swept != 0 {
-        return swept;
-    }
-    places_refusal(grid_of(b, size), places)
+    check_bounds(b)?;
+    check_sweeps(sweeps)?;
+    check_places(grid_of(b, size), places)
 }
 
 // The field where none of 1 to 9 refuses it, in the lists lent; and the outline's blocks.
 pub fn make_field(
-    domain: Domain<'_>, size: f64,
+    domain: Domain<'_>,
+    size: f64,
     limit: usize,
     values: &mut [f64],
     marks: &mut [u8],
@@ -384,21 +353,19 @@ pub fn make_field(
 
 // The field of an outline, in the lists lent; on a refusal nothing is written. The list of blocks may have any length, and has the outline's blocks after.
 pub fn field(
-    domain: Domain<'_>, size: f64,
+    domain: Domain<'_>,
+    size: f64,
     limit: usize,
     values: &mut [f64],
     marks: &mut [u8],
     blocks: &mut [u32],
-) -> FieldAnswer
-    ensures marks_after { field_result result values.new marks.new
+) -> Result<Grid, Refusal>
+    ensures marks_after { field_result (numbered result) values.new marks.new
         ≡ field_answer (outline_of domain.entry) size limit
         (field_lists values.old marks.old) }
-    ensures field_draws { FieldDraws (outline_of domain.entry) result blocks.old blocks.new }
+    ensures field_draws { FieldDraws (outline_of domain.entry) (numbered result) blocks.old blocks.new }
 {
-    let places = numbers::min_usize(values.len() / 2, marks.len());
-    let refusal = field_refusal(domain, size, limit, places);
-    if refusal != 0 {
-        return FieldAnswer::Refused(refusal);
-    }
-    FieldAnswer::Made(make_field(domain, size, limit, values, marks, blocks))
+    let places = (values.len() / 2).min(marks.len());
+    check_field(domain, size, limit, places)?;
+    Ok(make_field(domain, size, limit, values, marks, blocks))
 }

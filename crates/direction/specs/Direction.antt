@@ -1,5 +1,5 @@
 -- Refusal 11, and the direction query. Definitions only.
-use Rattle.std.specs.Prelude.{Bool, not, ◌&&◌, cond, List, ℕ, ◌+◌, ◌-◌, ◌*◌, min, ℤ, pos, negsuc, leb, eqb, length, Float}
+use Rattle.std.specs.Prelude.{Bool, not, ◌&&◌, cond, List, Result, Ok, Err, ℕ, ◌+◌, ◌-◌, ◌*◌, min, ℤ, pos, negsuc, leb, eqb, length, Float}
 use Rattle.std.specs.Float.Ieee.{neg, lt, le}
 use Rattle.numbers.specs.Float.{◌⊕◌, ◌⊖◌, ◌⊗◌, ◌⊘◌, bits, zero_f, one_f, four_f, tolerance, is_finite, abs_f, clamp_f, to_float}
 use Rattle.numbers.specs.Whole.{floor_int}
@@ -8,8 +8,6 @@ use Rattle.domain.specs.Outline.{point, point_at, any_float, first_of, point_ref
 use Rattle.domain.specs.Queries.{answer_by}
 use Rattle.exact.specs.Corner.{norm}
 use Rattle.direction.specs.declared.Grid.{Grid}
-use Rattle.direction.specs.declared.Direction.{Direction}
-use Rattle.direction.specs.declared.Direction.TheVariants as direction-is
 use Rattle.direction.specs.Record.{most_field_nodes, grid_nodes, node_at, FieldRecord}
 
 -- ---- 11: a field record that isn't one
@@ -117,6 +115,5 @@ nearest_direction r p target = direction_at r.grid r.lists.values p target
 unfoldable pub direction_refusal : FieldRecord → Point → ℕ
 direction_refusal r p = first_of (record_refusal r) (point_refusal p)
 
-unfoldable pub direction_answer : FieldRecord → Point → Point → Direction
-direction_answer r p target =
-    answer_by direction-is.Refused (direction-is.Toward (nearest_direction r p target)) (direction_refusal r p)
+unfoldable pub direction_answer : FieldRecord → Point → Point → Result Point ℕ
+direction_answer r p target = answer_by Err (Ok (nearest_direction r p target)) (direction_refusal r p)

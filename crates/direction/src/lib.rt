@@ -8,9 +8,10 @@ ghost use Rattle.direction.specs.Record.{field_record};
 ghost use Rattle.direction.specs.Direction.{within, value_unsound, counts_sound, grid_sound, record_refusal, grid_cell, weighed, raw_at};
 ghost use Rattle.direction.specs.Direction.{scaled, half, direction_of, dot, closer_of, nearest_of, direction_at, direction_refusal};
 ghost use Rattle.direction.specs.Direction.{direction_answer};
+ghost use Rattle.domain.specs.Refusals.{refused, numbered};
 ghost use Rattle.direction.specs.Cells.{FieldLent};
 
-use domain::{Point, Settings};
+use domain::{Point, Refusal, Settings};
 
 // A field record's three floats and two counts; its values and marks are lent beside it.
 #[derive(Clone, Copy)]
@@ -20,12 +21,6 @@ pub struct Grid {
     pub h: f64,
     pub nx: usize,
     pub ny: usize,
-}
-
-#[derive(Clone, Copy)]
-pub enum Direction {
-    Refused(u32),
-    Toward(Point),
 }
 
 // The limits of refusal 11.
@@ -55,14 +50,7 @@ fn is_within(m: f64, x: f64) -> bool
 fn any_unsound(values: &[f64]) -> bool
     ensures { result ≡ any_float value_unsound values.now }
 {
-    let mut i = 0;
-    while i < values.len() {
-        if !is_within(Grid::MOST_VALUE, values[i]) {
-            return true;
-        }
-        i += 1;
-    }
-    false
+    values.iter().any(|&v| !is_within(Grid::MOST_VALUE, v))
 }
 
 // The counts' part of 11. A count above the most nodes is one too many by itself, so that no product overflows.
@@ -112,17 +100,14 @@ fn grid_sound(g: Grid) -> bool
     is_within(Grid::MOST_ORIGIN, g.ymin)
 }
 
-// Refusal 11, or 0.
-pub fn record_refusal(g: Grid, values: &[f64], marks: &[u8]) -> u32
-    ensures { result ≡ record_refusal (field_record g values.now marks.now) }
+// Refusal 11.
+pub fn check_record(g: Grid, values: &[f64], marks: &[u8]) -> Result<(), Refusal>
+    ensures { refused result ≡ record_refusal (field_record g values.now marks.now) }
 {
-    if !counts_sound(g, values, marks) {
-        return 11;
+    if !counts_sound(g, values, marks) || !grid_sound(g) || any_unsound(values) {
+        return Err(Refusal::NoFieldRecord);
     }
-    if !grid_sound(g) {
-        return 11;
-    }
-    if any_unsound(values) { 11 } else { 0 }
+    Ok(())
 }
 
 // ---- the direction
@@ -137,7 +122,7 @@ fn cell_of(d: f64, h: f64, n: usize) -> usize
     if z < 0 {
         return 0;
     }
-    numbers::min_usize(z as usize, n - 2)
+    (z as usize).min(n - 2)
 }
 
 fn weighed(tx: f64, ty: f64, v00: f64, v10: f64, v01: f64, v11: f64) -> f64
@@ -236,23 +221,23 @@ pub fn nearest_direction(g: Grid, values: &[f64], p: Point, target: Point) -> Po
     nearest_of(target, direction_of(raw_at(g, values, p)))
 }
 
-fn direction_refusal(g: Grid, values: &[f64], marks: &[u8], p: Point) -> u32
-    ensures { result ≡ direction_refusal (field_record g values.now marks.now) p }
+fn check_query(g: Grid, values: &[f64], marks: &[u8], p: Point) -> Result<(), Refusal>
+    ensures { refused result ≡ direction_refusal (field_record g values.now marks.now) p }
 {
-    let refusal = record_refusal(g, values, marks);
-    if refusal != 0 {
-        return refusal;
-    }
-    outlines::point_refusal(p)
+    check_record(g, values, marks)?;
+    outlines::check_point(p)
 }
 
 // The direction query, refusals first.
-pub fn query_direction(g: Grid, values: &[f64], marks: &[u8], p: Point, target: Point) -> Direction
-    ensures { result ≡ direction_answer (field_record g values.now marks.now) p target }
+pub fn query_direction(
+    g: Grid,
+    values: &[f64],
+    marks: &[u8],
+    p: Point,
+    target: Point,
+) -> Result<Point, Refusal>
+    ensures { numbered result ≡ direction_answer (field_record g values.now marks.now) p target }
 {
-    let refusal = direction_refusal(g, values, marks, p);
-    if refusal != 0 {
-        return Direction::Refused(refusal);
-    }
-    Direction::Toward(nearest_direction(g, values, p, target))
+    check_query(g, values, marks, p)?;
+    Ok(nearest_direction(g, values, p, target))
 }

@@ -30,10 +30,10 @@ pub fn rect_of(k: Key, l: Key) -> Rect
     let kj = shifted(k.j);
     let lj = shifted(l.j);
     Rect {
-        left: numbers::min_u32(ki, li),
-        right: numbers::max_u32(ki, li),
-        low: numbers::min_u32(kj, lj),
-        high: numbers::max_u32(kj, lj),
+        left: ki.min(li),
+        right: ki.max(li),
+        low: kj.min(lj),
+        high: kj.max(lj),
     }
 }
 

@@ -1,8 +1,11 @@
 -- The orientation of three points, exactly, in squares of a unit; and how the two sums tell its sign. Definitions, then laws. Assumes nothing.
 use mathlib.Core.Bool.{Bool, true, false}
-use Rattle.std.specs.Prelude.{List, [], ◌∷◌, ◌↔◌, ◌≡◌, refl, ℕ, zero, suc, ◌-◌, ◌<◌, ltb, ℤ, pos, negsuc, neg_ℤ, nat_abs, ◌+ℤ◌, ◌*ℤ◌, ◌-ℤ◌, ◌<ℤ◌, replicate}
+use Rattle.std.specs.Prelude.{List, [], ◌∷◌, ◌↔◌, ◌≡◌, refl, ℕ, zero, suc, ◌-◌, ◌<◌, ltb, eqb, ◌==◌, ℤ, pos, negsuc, neg_ℤ, nat_abs, ◌+ℤ◌, ◌*ℤ◌, ◌-ℤ◌, ◌<ℤ◌, replicate}
 use Rattle.std.proofs.Common.{sym, ap, ap₂, ◌∙◌, arith, ltb-true, ltb-false, ltb→lt, lt→ltb}
 use Rattle.std.proofs.Math.IntN.{pos-ne-negsuc}
+use Rattle.std.specs.declared.cmp.Ordering.{Ordering}
+use Rattle.std.specs.declared.cmp.Ordering.TheVariants.{Less, Equal, Greater}
+use Rattle.std.specs.Ordering.{is_eq, is_lt, is_gt, ordering_index}
 use Rattle.laws.specs.Ring.{var, num, ◌+ᵉ◌, ◌*ᵉ◌, ◌-ᵉ◌, neg}
 use Rattle.laws.proofs.Ring.{ring}
 use Rattle.laws.specs.Certificate.{sub_pos}
@@ -10,7 +13,7 @@ use Rattle.exact.specs.Units.{units}
 use Rattle.exact.specs.Corner.{Vector, cross}
 use Rattle.domain.specs.declared.Point.{Point}
 use Rattle.orientation.specs.declared.Coordinates.{Coordinates}
-use Rattle.orientation.specs.Limbs.{order, value, Small}
+use Rattle.orientation.specs.Limbs.{order, order_number, value, Small}
 use Rattle.orientation.specs.Sums.{IsCoordinates, DifferenceGrown, crossed, integer_is}
 
 -- a point in units
@@ -41,6 +44,25 @@ orient_is a b c =
     ring (units a.x ∷ units a.y ∷ units b.x ∷ units b.y ∷ units c.x ∷ units c.y ∷ [])
     ((var 0 *ᵉ var 3 -ᵉ var 1 *ᵉ var 2) +ᵉ (var 2 *ᵉ var 5 -ᵉ var 3 *ᵉ var 4) +ᵉ (var 4 *ᵉ var 1 -ᵉ var 5 *ᵉ var 0))
     ((var 2 -ᵉ var 0) *ᵉ (var 5 -ᵉ var 1) -ᵉ (var 3 -ᵉ var 1) *ᵉ (var 4 -ᵉ var 0)) tt
+
+-- how an orientation compares with 0
+module _ (o : Ordering) where
+  pub is_level : is_eq o ≡ eqb (order_number o) 0
+  is_level = elim o as (λ x. is_eq x ≡ eqb (order_number x) 0) [ Less ↦ refl | Equal ↦ refl | Greater ↦ refl ]
+
+  pub is_left : is_gt o ≡ eqb (order_number o) 1
+  is_left = elim o as (λ x. is_gt x ≡ eqb (order_number x) 1) [ Less ↦ refl | Equal ↦ refl | Greater ↦ refl ]
+
+  pub is_right : is_lt o ≡ eqb (order_number o) 2
+  is_right = elim o as (λ x. is_lt x ≡ eqb (order_number x) 2) [ Less ↦ refl | Equal ↦ refl | Greater ↦ refl ]
+
+  -- what `==` tests at orderings
+  pub is_same : (p : Ordering) → (ordering_index o == ordering_index p) ≡ eqb (order_number o) (order_number p)
+  is_same p = elim o as (λ x. (ordering_index x == ordering_index p) ≡ eqb (order_number x) (order_number p)) [
+    | Less ↦ elim p as (λ y. (0 == ordering_index y) ≡ eqb 2 (order_number y)) [ Less ↦ refl | Equal ↦ refl | Greater ↦ refl ]
+    | Equal ↦ elim p as (λ y. (1 == ordering_index y) ≡ eqb 0 (order_number y)) [ Less ↦ refl | Equal ↦ refl | Greater ↦ refl ]
+    | Greater ↦ elim p as (λ y. (2 == ordering_index y) ≡ eqb 1 (order_number y)) [ Less ↦ refl | Equal ↦ refl | Greater ↦ refl ]
+  ]
 
 -- what each answer says
 pub on_line_lem : (z : ℤ) → (side_number z ≡ 0) ↔ (z ≡ pos 0)

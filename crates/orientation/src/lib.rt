@@ -7,11 +7,18 @@
 ghost use Rattle.std.specs.Prelude.{◌≡◌, ◌+◌, ◌*◌, ◌^◌, ◌≤◌, ◌<◌, length, get_or};
 ghost use Rattle.exact.specs.Units.{Within, signed};
 ghost use Rattle.domain.specs.Accepted.{PointWithin};
-ghost use Rattle.orientation.specs.Limbs.{B, value, Small, order, decided};
+ghost use Rattle.orientation.specs.Limbs.{B, value, Small, order, order_number};
 ghost use Rattle.orientation.specs.Sums.{Grown, DifferenceGrown, Digital, three, amount, crossed, IsDigits, IsCoordinates};
 ghost use Rattle.orientation.specs.Orient.{in_units, orient, side_number};
 
 use domain::Point;
+use std::cmp::Ordering;
+
+// The weight of a limb.
+const LIMB: u64 = 1 << 28;
+
+// So many limbs hold a sum.
+const LIMBS: usize = 77;
 
 // A coordinate: its sign, and its size as d0 + d1·2^28 + d2·2^56, moved up by `place` limbs, of the smallest f64 above 0.
 #[derive(Clone, Copy)]
@@ -37,13 +44,13 @@ fn digits_of(x: f64) -> Digits
 {
     let p = numbers::parts_of(x);
     let k = p.exponent;
-    let low = (p.significand % 268435456) << (k % 28);
-    let high = (p.significand / 268435456) << (k % 28);
-    let t = low / 268435456 + high;
+    let low = (p.significand % LIMB) << (k % 28);
+    let high = (p.significand / LIMB) << (k % 28);
+    let t = low / LIMB + high;
     Digits {
-        d0: low % 268435456,
-        d1: t % 268435456,
-        d2: t / 268435456,
+        d0: low % LIMB,
+        d1: t % LIMB,
+        d2: t / LIMB,
         place: (k / 28) as usize,
         negative: p.negative,
     }
@@ -63,7 +70,7 @@ fn add_at(acc: &mut [u64], i: usize, d: u64)
     requires { (i < length acc.old) × (get_or acc.old i 0 + d < 18446744073709551616) }
     ensures { Grown acc.old acc.new (d * B ^ i) d }
 {
-    acc[i] = acc[i] + d;
+    acc[i] += d;
 }
 
 // The product of a digit and y's digits is added.
@@ -116,46 +123,35 @@ fn add_cross(plus: &mut [u64], minus: &mut [u64], p: Coordinates, q: Coordinates
     add_signed(plus, minus, py, qx, py.negative == qx.negative);
 }
 
-// The higher digit decides; where it is the same on both sides, what is below.
-fn compare_digits(p: u64, n: u64, below: u32) -> u32
-    ensures { result ≡ decided p n below }
-{
-    if n < p {
-        return 1;
-    }
-    if p < n { 2 } else { below }
-}
-
-// 0 where the two numbers are the same, 1 where the first is greater, 2 where the second is.
-fn compare(p: &[u64], n: &[u64]) -> u32
+// From the lowest limb up, what is carried goes to the next, and a higher digit decides before a lower one.
+fn compare(p: &[u64], n: &[u64]) -> Ordering
     requires { (length n.now ≡ length p.now) × Small (64 * (B * B)) p.now × Small (64 * (B * B)) n.now }
-    ensures { result ≡ order (value p.now) (value n.now) }
+    ensures { order_number result ≡ order (value p.now) (value n.now) }
 {
-    let mut state: u32 = 0;
+    let mut below = Ordering::Equal;
     let mut cp: u64 = 0;
     let mut cn: u64 = 0;
-    let mut i = 0;
-    while i < p.len() {
-        let tp = p[i] + cp;
-        let tn = n[i] + cn;
-        state = compare_digits(tp % 268435456, tn % 268435456, state);
-        cp = tp / 268435456;
-        cn = tn / 268435456;
-        i += 1;
+    for (&limb_p, &limb_n) in p.iter().zip(n) {
+        let tp = limb_p + cp;
+        let tn = limb_n + cn;
+        below = (tp % LIMB).cmp(&(tn % LIMB)).then(below);
+        cp = tp / LIMB;
+        cn = tn / LIMB;
     }
-    compare_digits(cp, cn, state)
+    cp.cmp(&cn).then(below)
 }
 
-// 0 where a, b and c lie on one line, 1 where c lies to the left of the way from a to b, 2 where it lies to the right.
-pub fn side(a: Point, b: Point, c: Point) -> u32
+// How the area of the triangle a, b, c compares with 0: `Equal` where they lie on one line, `Greater` where c lies to the left of the way from a to b,
+// `Less` where it lies to the right.
+pub fn side(a: Point, b: Point, c: Point) -> Ordering
     requires { PointWithin 1000 1000 a × PointWithin 1000 1000 b × PointWithin 1000 1000 c }
-    ensures { result ≡ side_number (orient (in_units a) (in_units b) (in_units c)) }
+    ensures { order_number result ≡ side_number (orient (in_units a) (in_units b) (in_units c)) }
 {
     let p = coordinates_of(a);
     let q = coordinates_of(b);
     let r = coordinates_of(c);
-    let mut plus: [u64; 77] = [0; 77];
-    let mut minus: [u64; 77] = [0; 77];
+    let mut plus = [0; LIMBS];
+    let mut minus = [0; LIMBS];
     add_cross(&mut plus, &mut minus, p, q);
     add_cross(&mut plus, &mut minus, q, r);
     add_cross(&mut plus, &mut minus, r, p);

@@ -12,10 +12,10 @@ returns c =
     let third = rw (back_of args.k.j c.struct_told-3-1.given.1.0.1) at c.shifted-kj.ensures in
     let fourth = rw (back_of args.l.j c.struct_told-4-1.given.1.0.1) at c.shifted-lj.ensures in
     rw (
-      c.min_u32.ensures,
-      c.max_u32.ensures,
-      c.min_u32-2.ensures,
-      c.max_u32-2.ensures,
+      c.min.ensures,
+      c.max.ensures,
+      c.min-2.ensures,
+      c.max-2.ensures,
       first,
       second,
       third,

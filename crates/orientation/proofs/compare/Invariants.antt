@@ -1,12 +1,7 @@
 -- `orientation::compare` meets its contract: the loop's invariant is `LimbsCompared`. Assumes nothing.
-use Prim.Native.Nat.{◌-◌, ◌≤◌}
-use lib.ListN.{length}
-use Rattle.orientation.specs.Limbs.{LimbsCompared}
-use Rattle.orientation.proofs.compare_digits.Reads as compare-digits-reads
+use Rattle.std.proofs.Common.{length}
+use Rattle.orientation.specs.Limbs.{LimbsCompared, order_number}
 use Rattle.orientation.proofs.compare.Given as goal
 
-abbrev pub invariant-loop-i : goal.invariant-loop-i
-invariant-loop-i l = LimbsCompared l.p l.n l.i l.state l.cp l.cn × (l.i ≤ length l.p)
-
-abbrev pub decreases-loop-i : goal.decreases-loop-i
-decreases-loop-i l = length l.p - l.i
+abbrev pub invariant-loop-limb_p : goal.invariant-loop-limb_p
+invariant-loop-limb_p l = LimbsCompared l.p l.n (length l.yielded) (order_number l.below) l.cp l.cn

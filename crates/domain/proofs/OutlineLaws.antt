@@ -1,7 +1,10 @@
 -- What holds of the definitions of specs/OutlineLaws.antt.
-use Rattle.std.specs.Prelude.{false, ◌≡◌, refl, ℕ, zero, suc, ◌+◌, ◌-◌, ◌*◌, ◌≤◌, ◌<◌, length}
+use Rattle.std.specs.Prelude.{Bool, false, List, ◌≡◌, refl, ℕ, zero, suc, ◌+◌, ◌-◌, ◌*◌, ◌≤◌, ◌<◌, length, Float}
+use Rattle.std.specs.Float.{nan}
+use Rattle.std.specs.List.{list_any}
 use Rattle.std.proofs.Common.{sym, ap, add-one, arith}
-use Rattle.domain.specs.Outline.{Outline, hole_length, hole_at, loop_at, most_points, misshapen, LoopPlace}
+use Rattle.laws.proofs.Lists.{any_list}
+use Rattle.domain.specs.Outline.{Outline, hole_length, hole_at, loop_at, any_float, most_points, misshapen, LoopPlace}
 use Rattle.domain.specs.OutlineLaws.{start_first, start_next, start_over, shaped, HolePart, HolesPassed}
 
 -- ---- a loop's place
@@ -40,3 +43,9 @@ module _ {o : Outline} where
     passed_few =
         let s = shaped o p.shape in
         omega (arith, p.at, start_over o.lens k (length o.lens) h)
+
+-- ---- the floats of a list
+
+pub list_any_float : (test : Float → Bool) (s : List Float) → list_any test s ≡ any_float test s
+unfolding any_float
+list_any_float test s = any_list test nan s

@@ -1,3 +1,4 @@
 pub mod Certificate
 pub mod Examples
+pub mod Lists
 pub mod Ring

@@ -24,59 +24,40 @@ fn is_beyond(x: f64) -> bool
     numbers::abs_f64(x) > Settings::FARTHEST
 }
 
-fn any_not_finite(s: &[f64]) -> bool
-    ensures { result ≡ any_float not_finite s.now }
-{
-    s.iter().any(|&x| is_not_finite(x))
-}
-
-fn any_beyond(s: &[f64]) -> bool
-    ensures { result ≡ any_float beyond s.now }
-{
-    s.iter().any(|&x| is_beyond(x))
-}
-
 // Whether the lengths add up to the total. They are taken off it one by one, so that no sum overflows.
 fn add_up(lens: &[usize], total: usize) -> bool
     ensures { result ≡ eqb (hole_start lens.now (length lens.now)) total }
 {
     let mut left = total;
-    let mut k = 0;
-    while k < lens.len() {
-        let n = lens[k];
+    for &n in lens {
         if left < n {
             return false;
         }
         left -= n;
-        k += 1;
     }
     left == 0
 }
 
 // Refusal 1.
+#[tactic(auto, unfolding(domain::specs::Outline::misshapen))]
 fn is_misshapen(domain: Domain<'_>) -> bool
     ensures { result ≡ misshapen (outline_of domain.entry) }
 {
-    if domain.outer.len() % 2 == 1 {
-        return true;
-    }
-    if domain.holes.len() % 2 == 1 {
-        return true;
-    }
-    if !add_up(domain.lens, domain.holes.len() / 2) {
-        return true;
-    }
-    Settings::MOST_POINTS < domain.outer.len() / 2 + domain.holes.len() / 2
+    domain.outer.len() % 2 == 1
+        || domain.holes.len() % 2 == 1
+        || !add_up(domain.lens, domain.holes.len() / 2)
+        || domain.outer.len() / 2 + domain.holes.len() / 2 > Settings::MOST_POINTS
 }
 
 // Refusals 2 and 3 of one loop.
+#[tactic(auto, unfolding(domain::specs::Outline::loop_refusal, domain::specs::Outline::any_float), using(laws::proofs::Lists::any_list))]
 fn check_loop(s: &[f64]) -> Result<(), Refusal>
     ensures { refused result ≡ loop_refusal s.now }
 {
     if s.len() / 2 < 3 {
         return Err(Refusal::ShortLoop);
     }
-    if any_not_finite(s) {
+    if s.iter().any(|&x| is_not_finite(x)) {
         return Err(Refusal::NotFinite);
     }
     Ok(())
@@ -110,6 +91,7 @@ fn check_loops(domain: Domain<'_>) -> Result<(), Refusal>
 }
 
 // Refusals 1 to 4.
+#[tactic(auto, unfolding(domain::specs::Outline::outline_refusal, domain::specs::Outline::far_refusal), using(domain::proofs::Refused::first_refused))]
 pub fn check_outline(domain: Domain<'_>) -> Result<(), Refusal>
     ensures { refused result ≡ outline_refusal (outline_of domain.entry) }
 {
@@ -117,13 +99,14 @@ pub fn check_outline(domain: Domain<'_>) -> Result<(), Refusal>
         return Err(Refusal::Lists);
     }
     check_loops(domain)?;
-    if any_beyond(domain.outer) || any_beyond(domain.holes) {
+    if domain.outer.iter().any(|&x| is_beyond(x)) || domain.holes.iter().any(|&x| is_beyond(x)) {
         return Err(Refusal::TooFar);
     }
     Ok(())
 }
 
 // Refusals 3 and 4 of a query's point.
+#[tactic(auto, unfolding(domain::specs::Outline::point_refusal))]
 pub fn check_point(p: Point) -> Result<(), Refusal>
     ensures { refused result ≡ point_refusal p }
 {
@@ -138,6 +121,7 @@ pub fn check_point(p: Point) -> Result<(), Refusal>
 
 // ---- points, and `contains` at one segment
 
+#[tactic(auto, unfolding(domain::specs::Outline::point_at))]
 pub fn point_at(s: &[f64], i: usize) -> Point
     requires { 2 * i + 1 < length s.now }
     ensures { result ≡ point_at s.now i }
@@ -156,31 +140,24 @@ pub fn after(n: usize, i: usize) -> usize
     if i + 1 < n { i + 1 } else { 0 }
 }
 
+#[tactic(auto, unfolding(domain::specs::Outline::point_after))]
 pub fn point_after(s: &[f64], i: usize) -> Point
     requires { 2 * i + 1 < length s.now }
     ensures { result ≡ point_after s.now i }
 {
-    let k = i + 1;
-    if k < s.len() / 2 {
-        point_at(s, k)
-    } else {
-        point_at(s, 0)
-    }
+    point_at(s, after(s.len() / 2, i))
 }
 
+#[tactic(auto, unfolding(domain::specs::Queries::ray_crosses))]
 pub fn ray_crosses(p: Point, a: Point, b: Point) -> bool
     ensures { result ≡ ray_crosses p a b }
 {
-    if (a.y > p.y) != (b.y > p.y) {
-        let t = (p.y - a.y) / (b.y - a.y);
-        p.x < a.x + t * (b.x - a.x)
-    } else {
-        false
-    }
+    (a.y > p.y) != (b.y > p.y) && p.x < a.x + (p.y - a.y) / (b.y - a.y) * (b.x - a.x)
 }
 
 // ---- `nearest_segment` at one segment
 
+#[tactic(auto, unfolding(domain::specs::Queries::squared_distance))]
 pub fn squared_distance(p: Point, q: Point) -> f64
     ensures { result ≡ squared_distance p q }
 {
@@ -190,6 +167,7 @@ pub fn squared_distance(p: Point, q: Point) -> f64
 }
 
 // The point of the segment a to b that is next to p.
+#[tactic(auto, unfolding(domain::specs::Queries::foot_of))]
 pub fn foot_of(p: Point, a: Point, b: Point) -> Point
     ensures { result ≡ foot_of p a b }
 {
@@ -207,6 +185,7 @@ pub fn foot_of(p: Point, a: Point, b: Point) -> Point
 }
 
 // One segment of the search: the root is taken only where the square beats the best one's.
+#[tactic(auto, unfolding(domain::specs::Search::searched))]
 pub fn search_segment(
     p: Point,
     a: Point,
@@ -220,8 +199,7 @@ pub fn search_segment(
     let squared = squared_distance(p, foot_of(p, a, b));
     if squared < best.squared {
         let distance = numbers::sqrt_f64(squared);
-        let found = best.near;
-        if distance < found.distance {
+        if distance < best.near.distance {
             let near = Near {
                 a,
                 b,
@@ -239,16 +217,15 @@ pub fn search_start() -> Search
     ensures { result ≡ search_start }
 {
     let origin = Point { x: 0.0, y: 0.0 };
-    let infinity = 1.0 / 0.0;
     let near = Near {
         a: origin,
         b: origin,
-        distance: infinity,
+        distance: f64::INFINITY,
         loop_index: 0,
         segment_index: 0,
     };
     Search {
         near,
-        squared: infinity,
+        squared: f64::INFINITY,
     }
 }

@@ -18,8 +18,8 @@ overflow_mul-to c = let part = hole_part _ c.requires c.if-k-eq0.false in omega 
 pub overflow_add-to : goal.overflow_add-to
 overflow_add-to c = let part = hole_part _ c.requires c.if-k-eq0.false in omega arith
 
-pub offset_bounds-holes-from : goal.offset_bounds-holes-from
-offset_bounds-holes-from c = let part = hole_part _ c.requires c.if-k-eq0.false in omega arith
+pub offset_bounds-domain-from : goal.offset_bounds-domain-from
+offset_bounds-domain-from c = let part = hole_part _ c.requires c.if-k-eq0.false in omega arith
 
 pub slice_bounds-result-end : goal.slice_bounds-result-end
 slice_bounds-result-end c = let part = hole_part _ c.requires c.if-k-eq0.false in omega arith

@@ -1,8 +1,8 @@
--- `domain::search_start` meets its contract: 1 / 0 is the infinity.
-use mathlib.Core.Path.{refl}
-use lib.Ieee.{div, of_bits}
+-- `search_start` meets its contract: both infinities have the same bits.
+use Rattle.std.specs.Prelude.{refl}
+use Rattle.std.specs.Float.Ieee.{of_bits}
 use Rattle.outlines.proofs.search_start.Goals as goal
 
 pub returns : goal.returns
-unfolding div of_bits
+unfolding of_bits
 returns c = refl

@@ -14,8 +14,10 @@ ghost use Rattle.orientation.specs.Orient.{in_units, orient, side_number};
 use domain::Point;
 use std::cmp::Ordering;
 
-// The weight of a limb.
-const LIMB: u64 = 1 << 28;
+// So many bits from one limb to the next.
+const LIMB_BITS: u64 = 28;
+
+const LIMB: u64 = 1 << LIMB_BITS;
 
 // So many limbs hold a sum.
 const LIMBS: usize = 77;
@@ -44,14 +46,14 @@ fn digits_of(x: f64) -> Digits
 {
     let p = numbers::parts_of(x);
     let k = p.exponent;
-    let low = (p.significand % LIMB) << (k % 28);
-    let high = (p.significand / LIMB) << (k % 28);
+    let low = (p.significand % LIMB) << (k % LIMB_BITS);
+    let high = (p.significand / LIMB) << (k % LIMB_BITS);
     let t = low / LIMB + high;
     Digits {
         d0: low % LIMB,
         d1: t % LIMB,
         d2: t / LIMB,
-        place: (k / 28) as usize,
+        place: (k / LIMB_BITS) as usize,
         negative: p.negative,
     }
 }
@@ -60,9 +62,10 @@ fn coordinates_of(a: Point) -> Coordinates
     requires { PointWithin 1000 1000 a }
     ensures { IsCoordinates a result }
 {
-    let x = digits_of(a.x);
-    let y = digits_of(a.y);
-    Coordinates { x, y }
+    Coordinates {
+        x: digits_of(a.x),
+        y: digits_of(a.y),
+    }
 }
 
 // Limb i grows by d.
@@ -74,6 +77,7 @@ fn add_at(acc: &mut [u64], i: usize, d: u64)
 }
 
 // The product of a digit and y's digits is added.
+// Stays three calls: a loop over three digits is no plainer, and needs what each turn leaves of the bounds as an invariant.
 fn add_row(acc: &mut [u64], at: usize, d: u64, y: Digits)
     requires { (at + 2 < length acc.old) × (d < B) × Digital y × Small (60 * (B * B)) acc.old }
     ensures { Grown acc.old acc.new (d * three y * B ^ at) (3 * (B * B)) }
@@ -94,51 +98,52 @@ fn add_product(acc: &mut [u64], x: Digits, y: Digits)
     add_row(acc, at + 2, x.d2, y);
 }
 
-// The product of the sizes of x and y is added to one of two sums, by the sign that it has.
-fn add_signed(plus: &mut [u64], minus: &mut [u64], x: Digits, y: Digits, negative: bool)
-    requires { (length plus.old ≡ 77) × (length minus.old ≡ 77) × Digital x × Digital y
-        × Small (45 * (B * B)) plus.old × Small (45 * (B * B)) minus.old }
-    ensures { DifferenceGrown plus.old minus.old plus.new minus.new (signed negative (amount x * amount y)) (9 * (B * B)) }
-{
-    if negative {
-        add_product(minus, x, y);
-    } else {
-        add_product(plus, x, y);
-    }
+// Two sums: of what is added, and of what is taken off.
+#[derive(Drop)]
+struct Difference {
+    plus: [u64; LIMBS],
+    minus: [u64; LIMBS],
 }
 
-// p.x·q.y − p.y·q.x is added.
-fn add_cross(plus: &mut [u64], minus: &mut [u64], p: Coordinates, q: Coordinates)
-    requires { (length plus.old ≡ 77) × (length minus.old ≡ 77)
-        × Digital p.x × Digital p.y × Digital q.x × Digital q.y
-        × Small (36 * (B * B)) plus.old × Small (36 * (B * B)) minus.old }
-    ensures { DifferenceGrown plus.old minus.old plus.new minus.new
-        (crossed p q) (18 * (B * B)) }
-{
-    let px = p.x;
-    let py = p.y;
-    let qx = q.x;
-    let qy = q.y;
-    add_signed(plus, minus, px, qy, px.negative != qy.negative);
-    add_signed(plus, minus, py, qx, py.negative == qx.negative);
-}
-
-// From the lowest limb up, what is carried goes to the next, and a higher digit decides before a lower one.
-fn compare(p: &[u64], n: &[u64]) -> Ordering
-    requires { (length n.now ≡ length p.now) × Small (64 * (B * B)) p.now × Small (64 * (B * B)) n.now }
-    ensures { order_number result ≡ order (value p.now) (value n.now) }
-{
-    let mut below = Ordering::Equal;
-    let mut cp: u64 = 0;
-    let mut cn: u64 = 0;
-    for (&limb_p, &limb_n) in p.iter().zip(n) {
-        let tp = limb_p + cp;
-        let tn = limb_n + cn;
-        below = (tp % LIMB).cmp(&(tn % LIMB)).then(below);
-        cp = tp / LIMB;
-        cn = tn / LIMB;
+impl Difference {
+    // The product of the sizes of x and y is added or taken off.
+    fn add_signed(&mut self, x: Digits, y: Digits, negative: bool)
+        requires { Digital x × Digital y × Small (45 * (B * B)) self.old.plus × Small (45 * (B * B)) self.old.minus }
+        ensures { DifferenceGrown self.old.plus self.old.minus self.new.plus self.new.minus (signed negative (amount x * amount y)) (9 * (B * B)) }
+    {
+        if negative {
+            add_product(&mut self.minus, x, y);
+        } else {
+            add_product(&mut self.plus, x, y);
+        }
     }
-    cp.cmp(&cn).then(below)
+
+    // p.x·q.y − p.y·q.x is added.
+    fn add_cross(&mut self, p: Coordinates, q: Coordinates)
+        requires { Digital p.x × Digital p.y × Digital q.x × Digital q.y × Small (36 * (B * B)) self.old.plus × Small (36 * (B * B)) self.old.minus }
+        ensures { DifferenceGrown self.old.plus self.old.minus self.new.plus self.new.minus (crossed p q) (18 * (B * B)) }
+    {
+        self.add_signed(p.x, q.y, p.x.negative != q.y.negative);
+        self.add_signed(p.y, q.x, p.y.negative == q.x.negative);
+    }
+
+    // How the difference compares with 0. From the lowest limb up, what is carried goes to the next, and a higher digit decides before a lower one.
+    fn sign(&self) -> Ordering
+        requires { Small (64 * (B * B)) self.now.plus × Small (64 * (B * B)) self.now.minus }
+        ensures { order_number result ≡ order (value self.now.plus) (value self.now.minus) }
+    {
+        let mut below = Ordering::Equal;
+        let mut carried_p: u64 = 0;
+        let mut carried_n: u64 = 0;
+        for (&p, &n) in self.plus.iter().zip(&self.minus) {
+            let p = p + carried_p;
+            let n = n + carried_n;
+            below = (p % LIMB).cmp(&(n % LIMB)).then(below);
+            carried_p = p / LIMB;
+            carried_n = n / LIMB;
+        }
+        carried_p.cmp(&carried_n).then(below)
+    }
 }
 
 // How the area of the triangle a, b, c compares with 0: `Equal` where they lie on one line, `Greater` where c lies to the left of the way from a to b,
@@ -150,10 +155,12 @@ pub fn side(a: Point, b: Point, c: Point) -> Ordering
     let p = coordinates_of(a);
     let q = coordinates_of(b);
     let r = coordinates_of(c);
-    let mut plus = [0; LIMBS];
-    let mut minus = [0; LIMBS];
-    add_cross(&mut plus, &mut minus, p, q);
-    add_cross(&mut plus, &mut minus, q, r);
-    add_cross(&mut plus, &mut minus, r, p);
-    compare(&plus, &minus)
+    let mut area = Difference {
+        plus: [0; LIMBS],
+        minus: [0; LIMBS],
+    };
+    area.add_cross(p, q);
+    area.add_cross(q, r);
+    area.add_cross(r, p);
+    area.sign()
 }

@@ -1,7 +1,6 @@
 -- `orientation::add_product` meets its contract: `grown_product`. Assumes nothing.
 use native.Mathlib.Omega.{arith}
 use Rattle.orientation.specs.Sums.{grown_product}
-use Rattle.orientation.proofs.add_row.Reads as add-row-reads
 use Rattle.orientation.proofs.add_product.Goals as goal
 
 pub add_row-requires : goal.add_row-requires

@@ -2,7 +2,6 @@
 use Prim.Native.Nat.{◌+◌}
 use native.Mathlib.Omega.{arith}
 use Rattle.orientation.specs.Sums.{products, grown_row}
-use Rattle.orientation.proofs.add_at.Reads as add-at-reads
 use Rattle.orientation.proofs.add_row.Goals as goal
 
 pub overflow_mul-d : goal.overflow_mul-d

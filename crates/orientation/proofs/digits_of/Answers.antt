@@ -2,7 +2,6 @@
 use native.Mathlib.Omega.{arith}
 use Rattle.exact.specs.Units.{finite_val}
 use Rattle.orientation.proofs.Split.{sum_fits, digits_are}
-use Rattle.numbers.proofs.parts_of.Reads as parts-of-reads
 use Rattle.orientation.proofs.digits_of.Goals as goal
 
 pub parts_of-p-requires : goal.parts_of-p-requires

@@ -1,7 +1,6 @@
--- `orientation::add_signed` meets its contract. Assumes nothing.
+-- `orientation::Difference::add_signed` meets its contract. Assumes nothing.
 use Rattle.orientation.specs.Sums.{added_plus, added_minus}
-use Rattle.orientation.proofs.add_product.Reads as add-product-reads
-use Rattle.orientation.proofs.add_signed.Goals as goal
+use Rattle.orientation.proofs.Difference.add_signed.Goals as goal
 
 pub returns-then-negative : goal.returns-then-negative
 returns-then-negative c = rw c.if-negative.true (added_minus c.add_product.ensures)

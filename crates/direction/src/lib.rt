@@ -37,14 +37,11 @@ impl Grid {
 // ---- refusal 11
 
 // Finite, and at most m either way.
+#[tactic(auto, unfolding(crate::specs::Direction::within))]
 fn is_within(m: f64, x: f64) -> bool
     ensures { result ≡ within m x }
 {
-    if numbers::is_finite_f64(x) {
-        numbers::abs_f64(x) <= m
-    } else {
-        false
-    }
+    numbers::is_finite_f64(x) && numbers::abs_f64(x) <= m
 }
 
 fn any_unsound(values: &[f64]) -> bool
@@ -53,54 +50,35 @@ fn any_unsound(values: &[f64]) -> bool
     values.iter().any(|&v| !is_within(Grid::MOST_VALUE, v))
 }
 
-// The counts' part of 11. A count above the most nodes is one too many by itself, so that no product overflows.
+// The counts' part of 11.
+#[tactic(auto, unfolding(crate::specs::Direction::counts_sound))]
 fn counts_sound(g: Grid, values: &[f64], marks: &[u8]) -> bool
     ensures { result ≡ counts_sound (field_record g values.now marks.now) }
 {
-    let nx = g.nx;
-    let ny = g.ny;
-    if nx < 2 {
+    let Some(nodes) = g.nx.checked_mul(g.ny) else {
         return false;
-    }
-    if ny < 2 {
-        return false;
-    }
-    if Settings::MOST_FIELD_NODES < nx {
-        return false;
-    }
-    if Settings::MOST_FIELD_NODES < ny {
-        return false;
-    }
-    let nodes = nx * ny;
-    if Settings::MOST_FIELD_NODES < nodes {
-        return false;
-    }
-    if nodes != marks.len() {
-        return false;
-    }
-    2 * nodes == values.len()
+    };
+    2 <= g.nx
+        && 2 <= g.ny
+        && nodes <= Settings::MOST_FIELD_NODES
+        && nodes == marks.len()
+        && 2 * nodes == values.len()
 }
 
 // The floats' part of 11, but for the values.
+#[tactic(auto, unfolding(crate::specs::Direction::grid_sound))]
 fn grid_sound(g: Grid) -> bool
     ensures { result ≡ grid_sound g }
 {
-    if !numbers::is_finite_f64(g.h) {
-        return false;
-    }
-    if !(Grid::LEAST_SPACING <= g.h) {
-        return false;
-    }
-    if !(g.h <= Grid::MOST_SPACING) {
-        return false;
-    }
-    if !is_within(Grid::MOST_ORIGIN, g.xmin) {
-        return false;
-    }
-    is_within(Grid::MOST_ORIGIN, g.ymin)
+    numbers::is_finite_f64(g.h)
+        && Grid::LEAST_SPACING <= g.h
+        && g.h <= Grid::MOST_SPACING
+        && is_within(Grid::MOST_ORIGIN, g.xmin)
+        && is_within(Grid::MOST_ORIGIN, g.ymin)
 }
 
 // Refusal 11.
+#[tactic(auto, unfolding(crate::specs::Direction::record_refusal))]
 pub fn check_record(g: Grid, values: &[f64], marks: &[u8]) -> Result<(), Refusal>
     ensures { refused result ≡ record_refusal (field_record g values.now marks.now) }
 {
@@ -125,6 +103,7 @@ fn cell_of(d: f64, h: f64, n: usize) -> usize
     (z as usize).min(n - 2)
 }
 
+#[tactic(auto, unfolding(crate::specs::Direction::weighed))]
 fn weighed(tx: f64, ty: f64, v00: f64, v10: f64, v01: f64, v11: f64) -> f64
     ensures { result ≡ weighed tx ty v00 v10 v01 v11 }
 {
@@ -155,6 +134,7 @@ fn raw_at(g: Grid, values: &[f64], p: Point) -> Point
 }
 
 // Both divided by the norm of the pair.
+#[tactic(auto, unfolding(crate::specs::Direction::scaled))]
 fn scaled(a: f64, b: f64) -> Point
     ensures { result ≡ scaled a b }
 {
@@ -163,6 +143,7 @@ fn scaled(a: f64, b: f64) -> Point
 }
 
 // Half the angle of v.
+#[tactic(auto, unfolding(crate::specs::Direction::half))]
 fn half(v: Point) -> Point
     ensures { result ≡ half v }
 {
@@ -178,6 +159,7 @@ fn half(v: Point) -> Point
     scaled(side, up)
 }
 
+#[tactic(auto, unfolding(crate::specs::Direction::direction_of))]
 fn direction_of(v: Point) -> Point
     ensures { result ≡ direction_of v }
 {
@@ -188,6 +170,7 @@ fn direction_of(v: Point) -> Point
     }
 }
 
+#[tactic(auto, unfolding(crate::specs::Direction::dot))]
 fn dot(u: Point, v: Point) -> f64
     ensures { result ≡ dot u v }
 {
@@ -195,6 +178,7 @@ fn dot(u: Point, v: Point) -> f64
 }
 
 // The other one where its dot product with the target is greater.
+#[tactic(auto, unfolding(crate::specs::Direction::closer_of))]
 fn closer_of(target: Point, best: Point, other: Point) -> Point
     ensures { result ≡ closer_of target best other }
 {
@@ -206,6 +190,7 @@ fn closer_of(target: Point, best: Point, other: Point) -> Point
 }
 
 // Of the four directions of d the one closest to the target, the first of equals.
+#[tactic(auto, unfolding(crate::specs::Direction::nearest_of))]
 fn nearest_of(target: Point, d: Point) -> Point
     ensures { result ≡ nearest_of target d }
 {
@@ -221,6 +206,7 @@ pub fn nearest_direction(g: Grid, values: &[f64], p: Point, target: Point) -> Po
     nearest_of(target, direction_of(raw_at(g, values, p)))
 }
 
+#[tactic(auto, unfolding(crate::specs::Direction::direction_refusal), using(domain::proofs::Refused::first_refused))]
 fn check_query(g: Grid, values: &[f64], marks: &[u8], p: Point) -> Result<(), Refusal>
     ensures { refused result ≡ direction_refusal (field_record g values.now marks.now) p }
 {

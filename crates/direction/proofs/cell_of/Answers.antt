@@ -56,8 +56,8 @@ overflow_cast-z c = (
 
 pub returns : goal.returns
 returns c = record {
-  value = c.min_usize.ensures ∙ high (read c.floor_quotient-z.result) c.args.n c.if-z-lt0.false
+  value = c.min.ensures ∙ high (read c.floor_quotient-z.result) c.args.n c.if-z-lt0.false
       ∙ ap (λ (z : ℤ). grid_cell z c.args.n)
       (same _ _ (record { sfits = c.floor_quotient-z.type_inv }) c.floor_quotient-z.ensures);
-  result_bound = omega (arith, c.min_usize.ensures);
+  result_bound = omega arith;
 }

@@ -76,11 +76,11 @@ module _ (xs ys : List Float) (n i : ℕ) where
 
 -- ---- rows: the first of those left, and the others
 
-rows_first : (letter n : ℕ) (ns ids : List ℕ) → row_lines letter (n ∷ ns) ids ≡ row letter (take n ids) ++ row_lines letter ns (drop n ids)
+pub rows_first : (letter n : ℕ) (ns ids : List ℕ) → row_lines letter (n ∷ ns) ids ≡ row letter (take n ids) ++ row_lines letter ns (drop n ids)
 unfolding row_lines
 rows_first letter n ns ids = refl
 
-rows_end : (letter : ℕ) (ns ids : List ℕ) → ns ≡ [] → row_lines letter ns ids ≡ []
+pub rows_end : (letter : ℕ) (ns ids : List ℕ) → ns ≡ [] → row_lines letter ns ids ≡ []
 unfolding row_lines
 rows_end letter ns ids e = ap (λ (l : List ℕ). row_lines letter l ids) e
 
@@ -105,12 +105,12 @@ quads_next quads count k h =
     rw (left, four, after) (rows_first (code "q") 4 _ _ ∙ rw drop-drop refl)
 
 -- as many as there are
-take_min : (n : ℕ) (l : List ℕ) → take (min n (length l)) l ≡ take n l
+pub take_min : (n : ℕ) (l : List ℕ) → take (min n (length l)) l ≡ take n l
 take_min zero l = let e : min 0 (length l) ≡ 0 = omega arith in rw e
 take_min (suc n) [] = take-nil (min (suc n) 0)
 take_min (suc n) (x ∷ l) = rw suc-min-suc (ap (λ (m : List ℕ). x ∷ m) (take_min n l))
 
-drop_min : (n : ℕ) (l : List ℕ) → drop (min n (length l)) l ≡ drop n l
+pub drop_min : (n : ℕ) (l : List ℕ) → drop (min n (length l)) l ≡ drop n l
 drop_min zero l = let e : min 0 (length l) ≡ 0 = omega arith in rw e
 drop_min (suc n) [] = drop-nil (min (suc n) 0)
 drop_min (suc n) (x ∷ l) = rw suc-min-suc (drop_min n l)

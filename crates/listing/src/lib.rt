@@ -1,14 +1,12 @@
-// What the program prints, written into a lent buffer: document 01's listing. Each function writes from place `at` on, as far as the buffer
-// goes, and answers the place after.
+// What the program prints, written into a lent buffer: document 01's listing.
 #![tactic(auto)]
 
-ghost use Rattle.std.specs.Prelude.{◌≡◌, [], ◌∷◌, ◌++◌, ◌<◌, take};
-ghost use Rattle.std.specs.Float.{binary64};
-ghost use Rattle.std.specs.Float.Ieee.{to_bits};
+ghost use Rattle.std.specs.Prelude.{◌≡◌, [], ◌∷◌, ◌++◌, ◌<◌, ltb, length, take};
 ghost use Rattle.listing.specs.Text.{ascii};
-ghost use Rattle.listing.specs.Buffer.{buffer, Wrote, buffer_written};
+ghost use Rattle.listing.specs.Buffer.{buffer, buffer_written};
+ghost use Rattle.listing.specs.Output.{Started, Put};
 ghost use Rattle.listing.specs.Listing.{decimal, hex_digit, hex_of, spaced, row, node_line, node_lines, quad_lines, loop_lines};
-ghost use Rattle.listing.specs.Listing.{end_word, whole_word, head_line, refused_listing, mesh_listing, listing};
+ghost use Rattle.listing.specs.Listing.{end_word, head_line, refused_listing, mesh_listing, listing};
 
 // What the first line says of a mesh, `end` by the run's number; and `loops`, how many loops are listed.
 #[derive(Clone, Copy)]
@@ -16,45 +14,149 @@ pub struct Heading {
     pub nodes: u32,
     pub quads: usize,
     pub front: usize,
+    // Stays a number: the enum `End` is in `paving`, on which a listing needn't depend.
     pub end: u32,
     pub whole: bool,
     pub loops: usize,
 }
 
-// ---- bytes
+// ---- the buffer
 
-fn put(out: &mut [u8], at: usize, byte: u8) -> usize
-    ensures { Wrote (byte ∷ []) (buffer out.old at) (buffer out.new result) }
-{
-    if at < out.len() {
-        out[at] = byte;
-        return at + 1;
-    }
-    at
+// A lent buffer, written from its first place on. What it has no place for is left out.
+#[derive(Drop)]
+struct Output<'a> {
+    bytes: &'a mut [u8],
+    used: usize,
 }
 
-fn put_all(out: &mut [u8], at: usize, bytes: &[u8]) -> usize
-    ensures { Wrote bytes.now (buffer out.old at) (buffer out.new result) }
-{
-    let mut to = at;
-    let mut i = 0;
-    while i < bytes.len() {
-        to = put(out, to, bytes[i]);
-        i += 1;
+impl<'a> Output<'a> {
+    fn new(bytes: &'a mut [u8]) -> Output<'a>
+        ensures { Started bytes.entry result }
+    {
+        Output { bytes, used: 0 }
     }
-    to
-}
 
-// ---- numbers
-
-fn put_decimal(out: &mut [u8], at: usize, v: usize) -> usize
-    ensures { Wrote (decimal v) (buffer out.old at) (buffer out.new result) }
-{
-    if v < 10 {
-        return put(out, at, b'0' + v as u8);
+    fn has_room(&self) -> bool
+        ensures { result ≡ ltb self.now.used (length self.now.bytes.now) }
+    {
+        self.used < self.bytes.len()
     }
-    let next = put_decimal(out, at, v / 10);
-    put(out, next, b'0' + (v % 10) as u8)
+
+    fn put(&mut self, byte: u8)
+        ensures { Put (byte ∷ []) self.old self.new }
+    {
+        if self.has_room() {
+            self.bytes[self.used] = byte;
+            self.used += 1;
+        }
+    }
+
+    fn put_all(&mut self, bytes: &[u8])
+        ensures { Put bytes.now self.old self.new }
+    {
+        for &byte in bytes {
+            self.put(byte);
+        }
+    }
+
+    // ---- numbers
+
+    fn put_decimal(&mut self, v: usize)
+        ensures { Put (decimal v) self.old self.new }
+    {
+        if 10 <= v {
+            self.put_decimal(v / 10);
+        }
+        self.put(b'0' + (v % 10) as u8);
+    }
+
+    // The last `n` hexadecimal digits of `v`.
+    fn put_hex(&mut self, n: usize, v: u64)
+        ensures { Put (hex_of n v) self.old self.new }
+    {
+        if n != 0 {
+            self.put_hex(n - 1, v / 16);
+            self.put(hex_digit(v % 16));
+        }
+    }
+
+    // A space and a number.
+    fn put_number(&mut self, v: usize)
+        ensures { Put (ascii " " ++ decimal v) self.old self.new }
+    {
+        self.put(b' ');
+        self.put_decimal(v);
+    }
+
+    fn put_numbers(&mut self, ids: &[u32])
+        ensures { Put (spaced ids.now) self.old self.new }
+    {
+        for &id in ids {
+            self.put_number(id as usize);
+        }
+    }
+
+    // ---- lines
+
+    fn put_row(&mut self, letter: u8, ids: &[u32])
+        ensures { Put (row letter ids.now) self.old self.new }
+    {
+        self.put(letter);
+        self.put_numbers(ids);
+        self.put(b'\n');
+    }
+
+    fn put_node(&mut self, x: f64, y: f64)
+        ensures { Put (node_line x y) self.old self.new }
+    {
+        self.put_all(b"n ");
+        self.put_hex(16, numbers::bits_of(x));
+        self.put(b' ');
+        self.put_hex(16, numbers::bits_of(y));
+        self.put(b'\n');
+    }
+
+    // The first `n` nodes that both lists hold.
+    fn put_nodes(&mut self, n: usize, xs: &[f64], ys: &[f64])
+        ensures { Put (node_lines (take n xs.now) (take n ys.now)) self.old self.new }
+    {
+        for (&x, &y) in xs.iter().zip(ys.iter()).take(n) {
+            self.put_node(x, y);
+        }
+    }
+
+    fn put_quads(&mut self, n: usize, quads: &[u32])
+        ensures { Put (quad_lines n quads.now) self.old self.new }
+    {
+        for quad in quads.chunks_exact(4).take(n) {
+            self.put_row(b'q', quad);
+        }
+    }
+
+    // The first `n` loops that the lists hold.
+    fn put_loops(&mut self, n: usize, lengths: &[u32], loops: &[u32])
+        ensures { Put (loop_lines (take n lengths.now) loops.now) self.old self.new }
+    {
+        let mut rest = loops;
+        for &length in lengths.iter().take(n) {
+            let (ids, others) = rest.split_at((length as usize).min(rest.len()));
+            self.put_row(b'l', ids);
+            rest = others;
+        }
+    }
+
+    // The first line.
+    fn put_heading(&mut self, h: Heading)
+        ensures { Put (head_line h) self.old self.new }
+    {
+        self.put_all(b"mesh");
+        self.put_number(h.nodes as usize);
+        self.put_number(h.quads);
+        self.put_number(h.front);
+        self.put_all(end_word(h.end));
+        self.put_all(if h.whole { b" whole" } else { b" open" });
+        self.put(b'\n');
+    }
 }
 
 fn hex_digit(v: u64) -> u8
@@ -68,158 +170,15 @@ fn hex_digit(v: u64) -> u8
     }
 }
 
-// The last `n` hexadecimal digits of `v`.
-fn put_hex(out: &mut [u8], at: usize, n: usize, v: u64) -> usize
-    ensures { Wrote (hex_of n v) (buffer out.old at) (buffer out.new result) }
+fn end_word(end: u32) -> &'static [u8]
+    ensures { result.now ≡ end_word end }
 {
-    if n == 0 {
-        return at;
+    match end {
+        0 => b" still",
+        1 => b" passes",
+        2 => b" cap",
+        _ => b" full",
     }
-    let next = put_hex(out, at, n - 1, v / 16);
-    put(out, next, hex_digit(v % 16))
-}
-
-// The bits of `x`; of a NaN, which no node has, the pattern that the definition takes.
-fn bits_of(x: f64) -> u64
-    ensures { result ≡ to_bits binary64 x }
-{
-    if x != x {
-        return 0x7ff8_0000_0000_0000;
-    }
-    f64::to_bits(x)
-}
-
-// A space and a number.
-fn put_number(out: &mut [u8], at: usize, v: usize) -> usize
-    ensures { Wrote (ascii " " ++ decimal v) (buffer out.old at) (buffer out.new result) }
-{
-    let next = put(out, at, b' ');
-    put_decimal(out, next, v)
-}
-
-fn put_numbers(out: &mut [u8], at: usize, ids: &[u32]) -> usize
-    ensures { Wrote (spaced ids.now) (buffer out.old at) (buffer out.new result) }
-{
-    let mut to = at;
-    let mut i = 0;
-    while i < ids.len() {
-        to = put_number(out, to, ids[i] as usize);
-        i += 1;
-    }
-    to
-}
-
-// ---- lines
-
-fn put_row(out: &mut [u8], at: usize, letter: u8, ids: &[u32]) -> usize
-    ensures { Wrote (row letter ids.now) (buffer out.old at) (buffer out.new result) }
-{
-    let first = put(out, at, letter);
-    let last = put_numbers(out, first, ids);
-    put(out, last, b'\n')
-}
-
-fn put_node(out: &mut [u8], at: usize, x: f64, y: f64) -> usize
-    ensures { Wrote (node_line x y) (buffer out.old at) (buffer out.new result) }
-{
-    let first = put_all(out, at, b"n ");
-    let second = put_hex(out, first, 16, bits_of(x));
-    let third = put(out, second, b' ');
-    let last = put_hex(out, third, 16, bits_of(y));
-    put(out, last, b'\n')
-}
-
-// The first `n` nodes that both lists hold.
-fn put_nodes(out: &mut [u8], at: usize, n: usize, xs: &[f64], ys: &[f64]) -> usize
-    ensures { Wrote (node_lines (take n xs.now) (take n ys.now))
-        (buffer out.old at) (buffer out.new result) }
-{
-    let mut to = at;
-    let mut i = 0;
-    while i < n {
-        if xs.len() <= i {
-            return to;
-        }
-        if ys.len() <= i {
-            return to;
-        }
-        to = put_node(out, to, xs[i], ys[i]);
-        i += 1;
-    }
-    to
-}
-
-fn put_quads(out: &mut [u8], at: usize, n: usize, quads: &[u32]) -> usize
-    ensures { Wrote (quad_lines n quads.now) (buffer out.old at) (buffer out.new result) }
-{
-    let count = numbers::min_usize(n, quads.len() / 4);
-    let mut to = at;
-    let mut k = 0;
-    while k < count {
-        let a = 4 * k;
-        let e = a + 4;
-        to = put_row(out, to, b'q', &quads[a..e]);
-        k += 1;
-    }
-    to
-}
-
-// The first `n` loops that the lists hold.
-fn put_loops(out: &mut [u8], at: usize, n: usize, lengths: &[u32], loops: &[u32]) -> usize
-    ensures { Wrote (loop_lines (take n lengths.now) loops.now)
-        (buffer out.old at) (buffer out.new result) }
-{
-    let mut to = at;
-    let mut a = 0;
-    let mut k = 0;
-    while k < n {
-        if lengths.len() <= k {
-            return to;
-        }
-        let e = a + numbers::min_usize(lengths[k] as usize, loops.len() - a);
-        to = put_row(out, to, b'l', &loops[a..e]);
-        a = e;
-        k += 1;
-    }
-    to
-}
-
-// ---- the first line
-
-fn put_end(out: &mut [u8], at: usize, end: u32) -> usize
-    ensures { Wrote (end_word end) (buffer out.old at) (buffer out.new result) }
-{
-    if end == 0 {
-        return put_all(out, at, b" still");
-    }
-    if end == 1 {
-        return put_all(out, at, b" passes");
-    }
-    if end == 2 {
-        return put_all(out, at, b" cap");
-    }
-    put_all(out, at, b" full")
-}
-
-fn put_whole(out: &mut [u8], at: usize, whole: bool) -> usize
-    ensures { Wrote (whole_word whole) (buffer out.old at) (buffer out.new result) }
-{
-    if whole {
-        return put_all(out, at, b" whole");
-    }
-    put_all(out, at, b" open")
-}
-
-fn put_heading(out: &mut [u8], at: usize, h: Heading) -> usize
-    ensures { Wrote (head_line h) (buffer out.old at) (buffer out.new result) }
-{
-    let first = put_all(out, at, b"mesh");
-    let second = put_number(out, first, h.nodes as usize);
-    let third = put_number(out, second, h.quads);
-    let fourth = put_number(out, third, h.front);
-    let fifth = put_end(out, fourth, h.end);
-    let last = put_whole(out, fifth, h.whole);
-    put(out, last, b'\n')
 }
 
 // ---- the listing
@@ -228,9 +187,11 @@ fn put_heading(out: &mut [u8], at: usize, h: Heading) -> usize
 pub fn write_refused(out: &mut [u8], number: u32) -> usize
     ensures { buffer out.new result ≡ buffer_written (refused_listing number) out.old }
 {
-    let first = put_all(out, 0, b"refused");
-    let last = put_number(out, first, number as usize);
-    put(out, last, b'\n')
+    let mut output = Output::new(out);
+    output.put_all(b"refused");
+    output.put_number(number as usize);
+    output.put(b'\n');
+    output.used
 }
 
 // The listing of a mesh, in the lists as the run leaves them.
@@ -247,14 +208,16 @@ pub fn write_mesh(
         ≡ buffer_written (mesh_listing h xs.now ys.now quads.now loops.now lengths.now)
         out.old }
 {
-    let nodes = h.nodes as usize;
-    let first = put_heading(out, 0, h);
-    let second = put_nodes(out, first, nodes, xs, ys);
-    let third = put_quads(out, second, h.quads, quads);
-    put_loops(out, third, h.loops, lengths, loops)
+    let mut output = Output::new(out);
+    output.put_heading(h);
+    output.put_nodes(h.nodes as usize, xs, ys);
+    output.put_quads(h.quads, quads);
+    output.put_loops(h.loops, lengths, loops);
+    output.used
 }
 
 // The listing of what the run answers: `refusal` is 0 where nothing is refused.
+// Stays a number: the run's answer has it beside its counts, and a `Result` would only be made here to be taken apart.
 pub fn write_listing(
     out: &mut [u8],
     refusal: u32,

@@ -1,10 +1,12 @@
--- `listing::write_refused` meets its contract.
+use Rattle.std.proofs.Common.{◌∙◌, arith}
 use Rattle.listing.specs.Listing.{spaced, refused_listing}
-use Rattle.listing.specs.BufferLaws.{then, nothing, wrote_written}
+use Rattle.listing.proofs.Puts.{put_then, put_nothing, put_written}
 use Rattle.listing.proofs.write_refused.Goals as goal
 
 pub returns : goal.returns
 unfolding refused_listing spaced
 returns c =
-    let first = then c.put_all-first.ensures (then c.put_number-last.ensures (nothing _)) in
-    wrote_written (then first c.put.ensures)
+    let all = put_then (put_then c.put_all.ensures (put_then c.put_number.ensures (put_nothing _))) c.put.ensures in
+    let written = put_written c.new-output.ensures all in
+    let name = all.same_reference ∙ c.new-output.ensures.same_reference in
+    grind arith

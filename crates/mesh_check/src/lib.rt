@@ -17,6 +17,7 @@ pub const FARTHEST_NODE: f64 = 1001.0;
 // ---- counts beyond the buffers
 
 // Whether n nodes, q quads or e edges are beyond the places lent.
+#[tactic(auto, using(crate::specs::CheckLaws::length_off), unfolding(crate::specs::Check::beyond_places, front::specs::State::node_places, front::specs::State::quad_places, front::specs::State::edge_places))]
 pub fn beyond_places(
     xs: &[f64],
     ys: &[f64],
@@ -52,6 +53,7 @@ fn any_beyond(ids: &[u32], m: usize, n: u32) -> bool
     ids[..m].iter().any(|&id| id >= n)
 }
 
+#[tactic(auto, unfolding(crate::specs::Check::ids_beyond))]
 fn ids_beyond(n: u32, quads: &[u32], q: usize, edges: &[u32], e: usize) -> bool
     requires { (4 * q ≤ length quads.now) × (2 * e ≤ length edges.now) }
     ensures { result ≡ ids_beyond n quads.now q edges.now e }
@@ -62,6 +64,7 @@ fn ids_beyond(n: u32, quads: &[u32], q: usize, edges: &[u32], e: usize) -> bool
 // ---- the front's links
 
 // Whether the link of node u is out of range, or isn't answered by the link back.
+#[tactic(auto, unfolding(crate::specs::Check::link_unsound, topology::specs::Links::link_of))]
 fn link_unsound(n: u32, links: &[u32], back: &[u32], u: u32) -> bool
     requires { (u < n) × (n ≤ length links.now) × (n ≤ length back.now) }
     ensures { result ≡ link_unsound n links.now back.now u }
@@ -74,12 +77,7 @@ fn any_link_unsound(n: u32, links: &[u32], back: &[u32]) -> bool
     requires { (n ≤ length links.now) × (n ≤ length back.now) }
     ensures { result ≡ any_up n (link_unsound n links.now back.now) }
 {
-    for u in 0..n {
-        if link_unsound(n, links, back, u) {
-            return true;
-        }
-    }
-    false
+    (0..n).any(|u| link_unsound(n, links, back, u))
 }
 
 // How many of the first n nodes have a link.
@@ -90,6 +88,7 @@ fn count_links(n: u32, links: &[u32]) -> usize
     links[..n as usize].iter().filter(|&&v| v != OFF).count()
 }
 
+#[tactic(auto, unfolding(crate::specs::Check::front_unsound))]
 fn front_unsound(n: u32, next: &[u32], prev: &[u32], f: usize) -> bool
     requires { (n ≤ length next.now) × (n ≤ length prev.now) }
     ensures { result ≡ front_unsound n next.now prev.now f }
@@ -100,6 +99,7 @@ fn front_unsound(n: u32, next: &[u32], prev: &[u32], f: usize) -> bool
 // ---- coordinates
 
 // Whether a coordinate isn't finite, or is beyond 1,001 either way.
+#[tactic(auto, unfolding(crate::specs::Check::coordinate_unsound, direction::specs::Direction::within))]
 fn coordinate_unsound(x: f64) -> bool
     ensures { result ≡ coordinate_unsound x }
 {
@@ -110,17 +110,13 @@ fn any_node_unsound(xs: &[f64], ys: &[f64], n: u32) -> bool
     requires { (n ≤ length xs.now) × (n ≤ length ys.now) }
     ensures { result ≡ any_up n (node_unsound xs.now ys.now) }
 {
-    for i in 0..n as usize {
-        if coordinate_unsound(xs[i]) || coordinate_unsound(ys[i]) {
-            return true;
-        }
-    }
-    false
+    (0..n as usize).any(|i| coordinate_unsound(xs[i]) || coordinate_unsound(ys[i]))
 }
 
 // ---- 23 and 24
 
 // Refusal 23, on every input.
+#[tactic(auto, unfolding(crate::specs::Check::mesh_refusal, crate::specs::Check::mesh_unsound))]
 pub fn check_mesh(
     xs: &[f64],
     ys: &[f64],
@@ -148,6 +144,7 @@ pub fn check_mesh(
 }
 
 // Refusal 24.
+#[tactic(auto, unfolding(crate::specs::Check::edge_refusal, topology::specs::Links::link_of))]
 pub fn check_edge(next: &[u32], n: u32, a: u32, b: u32) -> Result<(), Refusal>
     requires { n ≤ length next.now }
     ensures { refused result ≡ edge_refusal (links_of next.now n) a b }

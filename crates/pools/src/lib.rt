@@ -4,7 +4,7 @@
 #![tactic(auto)]
 
 ghost use Rattle.std.specs.Prelude.{◌≡◌, ◌+◌, ◌*◌, ◌%◌, ◌≤◌, ◌<◌, leb, length};
-ghost use Rattle.pools.specs.Pool.{cells, capacity, used, filed, cell_of, span, cleared_pool, push, file_row, takes, file};
+ghost use Rattle.pools.specs.Pool.{cells, capacity, used, filed, cell_of, span, cleared_pool, push, file_row, key_count, takes, file};
 
 // A rectangle of shifted keys; with `right` below `left` or `high` below `low` it is empty.
 #[derive(Clone, Copy)]
@@ -15,8 +15,27 @@ pub struct Rect {
     pub high: u32,
 }
 
+impl Rect {
+    // How many columns it has.
+    fn width(self) -> usize
+        ensures { result ≡ span self.left self.right }
+    {
+        span(self.left, self.right)
+    }
+
+    // How many rows.
+    fn height(self) -> usize
+        ensures { result ≡ span self.low self.high }
+    {
+        span(self.low, self.high)
+    }
+}
+
 // No place.
-pub const NONE: u32 = 4294967295;
+pub const NONE: u32 = u32::MAX;
+
+// As many places as 32 bits number beside `NONE`.
+const MOST_PLACES: usize = 4294967294;
 
 // How far apart rows of cells lie: far from any round fraction of 2^32, so that rows of a region seldom fall on each other, whatever the number of cells.
 const STRIDE: usize = 2654435761;
@@ -33,12 +52,7 @@ pub fn capacity_of(n: usize) -> usize
     requires { 4 ≤ n }
     ensures { result ≡ capacity n }
 {
-    let places = (n - 2 - n / 4) / 2;
-    if places < 4294967294 {
-        places
-    } else {
-        4294967294
-    }
+    ((n - 2 - n / 4) / 2).min(MOST_PLACES)
 }
 
 // How many items are filed.
@@ -70,10 +84,7 @@ pub fn next_cell(m: usize, cell: usize) -> usize
 fn span(a: u32, b: u32) -> usize
     ensures { result ≡ span a b }
 {
-    if b < a {
-        return 0;
-    }
-    (b - a) as usize + 1
+    if b < a { 0 } else { (b - a) as usize + 1 }
 }
 
 // Empties the pool, where it has a cell.
@@ -87,11 +98,7 @@ pub fn clear(pool: &mut [u32])
     let m = n / 4;
     pool[0] = 0;
     pool[1] = 0;
-    let mut c = 0;
-    while c < m {
-        pool[2 + c] = NONE;
-        c += 1;
-    }
+    pool[2..2 + m].fill(NONE);
 }
 
 // Puts `own` at the head of a cell's chain.
@@ -116,11 +123,9 @@ fn file_row(pool: &mut [u32], left: u32, right: u32, j: usize, own: u32)
     let m = cells_of(pool.len());
     let w = span(left, right);
     let mut cell = cell_of(m, left as usize, j);
-    let mut k = 0;
-    while k < w {
+    for k in 0..w {
         push(pool, cell, own);
         cell = next_cell(m, cell);
-        k += 1;
     }
 }
 
@@ -128,29 +133,24 @@ fn file_row(pool: &mut [u32], left: u32, right: u32, j: usize, own: u32)
 fn is_room(w: usize, h: usize, places: usize) -> bool
     ensures { result ≡ leb (w * h) places }
 {
-    if h == 0 {
-        return true;
-    }
-    w <= places / h
+    h == 0 || w <= places / h
+}
+
+// Whether there are places for the keys of the rectangle.
+fn has_room(pool: &[u32], r: Rect) -> bool
+    requires { 4 ≤ length pool.now }
+    ensures { result ≡ leb (used pool.now + key_count r) (capacity (length pool.now)) }
+{
+    let limit = capacity_of(pool.len());
+    let u = pool[0] as usize;
+    u <= limit && is_room(r.width(), r.height(), limit - u)
 }
 
 // Whether `own` is the next item, and there are places for the keys of its rectangle.
 fn takes(pool: &[u32], r: Rect, own: u32) -> bool
     ensures { result ≡ takes r own pool.now }
 {
-    let n = pool.len();
-    if n < 4 {
-        return false;
-    }
-    if filed(pool) != own {
-        return false;
-    }
-    let limit = capacity_of(n);
-    let u = pool[0] as usize;
-    if limit < u {
-        return false;
-    }
-    is_room(span(r.left, r.right), span(r.low, r.high), limit - u)
+    pool.len() >= 4 && filed(pool) == own && has_room(pool, r)
 }
 
 // Files `own` under every key of the rectangle, where the pool takes it.
@@ -161,12 +161,10 @@ pub fn file(pool: &mut [u32], r: Rect, own: u32)
     if !takes(pool, r, own) {
         return;
     }
-    let h = span(r.low, r.high);
+    let h = r.height();
     let low = r.low as usize;
-    let mut k = 0;
-    while k < h {
+    for k in 0..h {
         file_row(pool, r.left, r.right, low + k, own);
-        k += 1;
     }
     pool[1] = own + 1;
 }

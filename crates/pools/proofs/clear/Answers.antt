@@ -1,31 +1,27 @@
--- `pools::clear` meets its contract: the heads are emptied one after the other.
-use mathlib.Core.Path.{refl}
-use native.Mathlib.Omega.{arith}
+-- `pools::clear` meets its contract: the heads are filled at once.
+use Rattle.std.proofs.Common.{sym, ap, ◌∙◌, length, length-set, replicate, arith}
+use Rattle.std.proofs.lemmas.List.{length-replicate}
+use Rattle.std.proofs.lemmas.Slice.{put_mid-paste}
+use Rattle.std.proofs.Math.ListN.{set}
+use borrow.Rule.Slice.PartMut.{mid_len}
 use borrow.Author.Tests.{le-leb, lt-leb}
-use lib.ListN.{length-set}
-use Rattle.laws.specs.Loop.{loop_start_lem, loop_next, loop_end}
-use Rattle.pools.specs.Pool.{cells, cleared_pool}
+use Prim.Native.Nat.{ℕ, ◌+◌, ◌/◌, ◌≤◌}
+use Rattle.pools.specs.Pool.{none, cells, cleared_pool}
+use Rattle.pools.proofs.Clearing.{heads_filled}
 use Rattle.pools.proofs.clear.Goals as goal
 
 pub returns-then-n-lt4 : goal.returns-then-n-lt4
 unfolding cleared_pool cells
 returns-then-n-lt4 c = rw (lt-leb 4 _ c.if-n-lt4.true)
 
-pub bounds-pool-1 : goal.bounds-pool-1
-bounds-pool-1 c = simp length-set (omega arith)
-
-pub loop-c-init : goal.loop-c-init
-loop-c-init c = (loop_start_lem _ _ _, refl)
-
-pub bounds-pool-c : goal.bounds-pool-c
-bounds-pool-c c = omega (arith, simp length-set at c.loop-c.invariant.1)
-
-pub loop-c-preserved : goal.loop-c-preserved
-loop-c-preserved c = (loop_next _ _ c.loop-c.invariant.0 c.loop-c-test.true, rw length-set c.loop-c.invariant.1)
-
-pub shape_of-pool : goal.shape_of-pool
-shape_of-pool c = simp length-set at c.loop-c.invariant.1
-
 pub returns : goal.returns
 unfolding cleared_pool cells
-returns c = rw (le-leb 4 _ c.if-n-lt4.false) (loop_end _ _ c.loop-c.invariant.0 c.loop-c-test.false)
+returns c =
+    let m = length c.args.pool.now / 4 in
+    let start = set (set c.args.pool.now 0 0) 1 0 in
+    let fits : 2 + m ≤ length start = simp length-set (omega arith) in
+    let filled = c.fill.ensures.after (λ y h. h) in
+    rw (le-leb 4 _ c.if-n-lt4.false)
+    (put_mid-paste 2 _ start _ (replicate m none) m
+    (filled ∙ ap (λ (k : ℕ). replicate k none) (mid_len 2 (2 + m) start fits ∙ omega arith)) (omega arith) (sym (length-replicate m none))
+    ∙ sym (heads_filled m start fits))

@@ -21,7 +21,7 @@ taken c = sym c.takes.ensures ∙ not-false _ c.if-not-takes.false-raw
 row_small : (c : After-file_row-arg-1)
     → c.args.r.low + c.loop-k.k < 4294967296
 row_small c =
-    omega (arith, c.struct_known-1.given, c.span-h.ensures, c.loop-k-test.true)
+    omega (arith, c.struct_known-1.given, c.height-h.ensures, c.loop-k-test.true)
 
 pub returns-then-not-takes : goal.returns-then-not-takes
 unfolding file
@@ -38,7 +38,7 @@ file_row-requires c =
     let t = takes_some _ _ _ (taken (goal.at.file_row-requires c).At-loop-k) in (
       omega (arith, c.loop-k.invariant.size, t.0),
       row_small (goal.at.file_row-requires c).After-file_row-arg-1,
-      rect_room c.loop-k.invariant c.loop-k-test.true (rw c.span-h.ensures t.2),
+      rect_room c.loop-k.invariant c.loop-k-test.true (rw c.height-h.ensures t.2),
     )
 
 pub loop-k-preserved : goal.loop-k-preserved
@@ -58,4 +58,4 @@ returns c =
     rw (taken (goal.at.returns c).At-loop-k)
     (ap (λ (p : List ℕ). set p 1 (args.own + 1))
     (loop_end (file_line args.r args.own) args.pool.now c.loop-k.invariant.loop c.loop-k-test.false
-    ∙ ap (λ (h : ℕ). for_up h (file_line args.r args.own) args.pool.now) c.span-h.ensures))
+    ∙ ap (λ (h : ℕ). for_up h (file_line args.r args.own) args.pool.now) c.height-h.ensures))

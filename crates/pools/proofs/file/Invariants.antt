@@ -5,6 +5,3 @@ use Rattle.pools.proofs.file.Given as goal
 
 abbrev pub invariant-loop-k : goal.invariant-loop-k
 invariant-loop-k l = RectFiling l.r l.own l.initial.pool l.h l.pool l.k
-
-abbrev pub decreases-loop-k : goal.decreases-loop-k
-decreases-loop-k l = l.h - l.k

@@ -5,6 +5,3 @@ use Rattle.pools.proofs.file_row.Given as goal
 
 abbrev pub invariant-loop-k : goal.invariant-loop-k
 invariant-loop-k l = RowFiling l.left l.j l.own l.initial.pool l.w l.pool l.cell l.k
-
-abbrev pub decreases-loop-k : goal.decreases-loop-k
-decreases-loop-k l = l.w - l.k

@@ -1,25 +1,22 @@
 -- `pools::takes` meets its contract, test by test.
-use mathlib.Core.Path.{sym, ◌∙◌}
-use native.Mathlib.Omega.{arith}
-use Rattle.pools.specs.FileLaws.{takes_short, takes_other, takes_over, takes_room}
+use Rattle.std.proofs.Common.{sym, ◌∙◌, arith}
+use borrow.Author.Tests.{eqb-true, eqb-false, leb-true}
+use Rattle.pools.specs.FileLaws.{takes_short, takes_other, takes_next}
 use Rattle.pools.proofs.takes.Goals as goal
-
-pub returns-then-n-lt4 : goal.returns-then-n-lt4
-returns-then-n-lt4 c = sym (takes_short _ _ _ c.if-n-lt4.true)
+use Rattle.pools.proofs.takes.Goals.{then-pool-ge4, else-pool-ge4}
 
 pub returns-then-filed-own : goal.returns-then-filed-own
-returns-then-filed-own c = sym (takes_other _ _ _ c.if-n-lt4.false (λ e. c.if-filed-own.true (c.filed.ensures ∙ e)))
+returns-then-filed-own c =
+    elim c.if-pool-ge4.branch [
+      | then-pool-ge4 w ↦ c.has_room.ensures
+          ∙ sym (takes_next _ _ _ w.if-pool-ge4.true (sym w.filed.ensures ∙ eqb-true _ _ (sym w.value-is ∙ c.if-filed-own.true)))
+      | else-pool-ge4 w ↦ absurd (omega (arith, leb-true 4 _ (sym w.value-is ∙ c.if-filed-own.true)))
+    ]
 
-pub overflow_cast-u : goal.overflow_cast-u
-overflow_cast-u c = omega (arith, c.shared_slice_known-2-1.given 0)
-
-pub returns-then-limit-u : goal.returns-then-limit-u
-returns-then-limit-u c =
-    sym (takes_over _ _ _ c.if-n-lt4.false (sym c.filed.ensures ∙ c.if-filed-own.false) c.capacity_of-limit.ensures
-    c.if-limit-u.true)
-
-pub returns : goal.returns
-returns c =
-    c.is_room.ensures
-    ∙ sym (takes_room _ _ _ c.if-n-lt4.false (sym c.filed.ensures ∙ c.if-filed-own.false)
-    c.capacity_of-limit.ensures c.if-limit-u.false c.span.ensures c.span-2.ensures)
+pub returns-else-filed-own : goal.returns-else-filed-own
+returns-else-filed-own c =
+    c.if-filed-own.false ∙ elim c.if-pool-ge4.branch [
+      | then-pool-ge4 w ↦ sym (takes_other _ _ _ w.if-pool-ge4.true
+          (λ e. eqb-false _ _ (sym w.value-is ∙ c.if-filed-own.false) (w.filed.ensures ∙ e)))
+      | else-pool-ge4 w ↦ sym (takes_short _ _ _ w.if-pool-ge4.false)
+    ]

@@ -1,5 +1,5 @@
 -- A walk along the chains of a rectangle's cells, row by row: what a cursor has still to visit. Definitions only.
-use Rattle.std.specs.Prelude.{Bool, true, false, cond, List, [], ◌∷◌, ◌++◌, ◌≡◌, ℕ, zero, suc, ◌+◌, ◌-◌, ◌<◌, ◌≤◌, eqb, length}
+use Rattle.std.specs.Prelude.{Bool, true, false, cond, List, [], ◌∷◌, ◌++◌, ◌≡◌, ℕ, zero, suc, ◌+◌, ◌-◌, ◌<◌, ◌≤◌, eqb, length, Option, Some, None}
 use Rattle.pools.specs.Pool.{none, cells, capacity, own_at, chain, any_of, cell_of, chain_at, span}
 use Rattle.pools.specs.declared.Rect.{Rect}
 use Rattle.index.specs.declared.Cursor.{Cursor}
@@ -24,6 +24,11 @@ visited pool r = rows pool r (span r.low r.high) r.low
 -- the cursor is at no place
 unfoldable pub over : Cursor → Bool
 over c = eqb c.t none
+
+-- the cursor that an answer gives: of none, one at no place
+abbrev pub cursor_of : Option Cursor → Cursor
+cursor_of None = record { i = 0; j = 0; cell = 0; t = none }
+cursor_of (Some c) = c
 
 -- what is left of its row, from its place on
 unfoldable pub row_ahead : List ℕ → ℕ → Cursor → List ℕ
@@ -54,3 +59,7 @@ pub record Stands (pool : List ℕ) (r : Rect) (rest : List ℕ) (c : Cursor) : 
 pub record NextCursor (pool : List ℕ) (r : Rect) (c d : Cursor) : Type 0 where
   pub at : over d ≡ false → At pool d
   pub rest : ahead pool r c ≡ own_at (length pool) pool c.t ∷ ahead pool r d
+
+-- a call of a test on an item answers what `tests` says of it
+abbrev pub Decides : (ℕ → Bool → Type 0) → (ℕ → Bool) → Type 0
+Decides post tests = (id : ℕ) (b : Bool) → id < 4294967296 → post id b → b ≡ tests id

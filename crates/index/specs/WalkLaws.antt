@@ -1,7 +1,8 @@
 -- Laws of walks: a walk by a cursor answers what a scan of all items answers.
 use Rattle.std.specs.Prelude.{Bool, cond, ◌||◌, ◌⊎◌, ◌≡◌, ℕ, zero, suc, ◌+◌, ◌-◌, ◌*◌, ◌%◌, ◌<◌, ◌≤◌, eqb, get_or}
 use Rattle.std.proofs.Math.Bool.{true, false}
-use Rattle.std.proofs.Common.{true≢false, inl, inr, ◌∙◌, subst, add-one, arith}
+use Rattle.std.specs.Option.{IfSome, MatchOption}
+use Rattle.std.proofs.Common.{Option, Some, None, true≢false, inl, inr, ◌∙◌, subst, add-one, arith}
 use mathlib.Core.List.{List, [], ◌∷◌, ◌++◌, append_assoc}
 use Rattle.std.proofs.Math.Logic.{⊎_elim}
 use Rattle.std.proofs.Math.Path.{refl, sym, ap, ap₂}
@@ -13,7 +14,7 @@ use Rattle.index.specs.declared.Cursor.{Cursor}
 use Rattle.pools.specs.Pool.{none, cells, capacity, own_at, link_at, head_at, used, falling, chain, any_of, cell_of, chain_at, span, filed}
 use Rattle.pools.specs.Pool.{Filed, Indexed}
 use Rattle.key_rects.specs.Rects.{Meets}
-use Rattle.index.specs.Walk.{across, columns, rows, visited, over, row_ahead, ahead, At, InRow, Stands, NextCursor}
+use Rattle.index.specs.Walk.{cursor_of, across, columns, rows, visited, over, row_ahead, ahead, At, InRow, Stands, NextCursor}
 use Rattle.pools.specs.ChainLaws.{any_has, any_left, falling_high, falling_step, falling_on, falling_last, falling_keeps}
 use Rattle.pools.specs.ChainLaws.{below_or_not}
 use Rattle.index.specs.AcrossLaws.{across_from, across_more, across_end, across_empty, across_none, across_some}
@@ -68,6 +69,14 @@ visited_short pool r short =
     across_empty (λ j. columns pool j (span r.left r.right) r.left)
     (λ j. across_empty (λ i. chain_at (length pool) pool i j) (λ i. falling_high _ _ (capacity (length pool)) _ (omega arith)) _ _) _ _
 
+-- where every item filed that passes the test has a rectangle that meets r, the visited owners answer for all that are filed
+pub visited_filed : {pool : List ℕ} {r : Rect} {test : ℕ → Bool} {rects : ℕ → Rect} {count : ℕ} → Indexed pool rects count
+    → ((id : ℕ) → test id ≡ true → Meets (rects id) r) → any_of test (visited pool r) ≡ any_up (filed pool) test
+unfolding any_up for_up any_of
+visited_filed {pool} {r} {test} {rects} I hits =
+    ⊎_elim (λ short. ap (any_of test) (visited_short pool r short) ∙ sym (ap (λ (k : ℕ). any_up k test) (filed_short pool short)))
+    (λ some. visited_answers pool rects (filed pool) r test some (I.first some) (λ id less. hits id)) (below_or_not (length pool) 4)
+
 -- ---- the invariant of a search: what is left of the walk answers
 
 pub record Walk (pool : List ℕ) (r : Rect) (test : ℕ → Bool) (answer : Bool) (c : Cursor) : Type 0 where
@@ -78,14 +87,7 @@ module _ {pool : List ℕ} {r : Rect} {test : ℕ → Bool} where
   -- `first`: every item filed that passes the test has a rectangle that meets r
   pub walk_start : {rects : ℕ → Rect} {count : ℕ} {c : Cursor} → Indexed pool rects count
       → ((id : ℕ) → test id ≡ true → Meets (rects id) r) → Stands pool r (visited pool r) c → Walk pool r test (any_up (filed pool) test) c
-  unfolding any_up for_up any_of
-  walk_start {rects} I hits s =
-      record {
-        at = s.at;
-        same = ap (any_of test) s.all ∙ ⊎_elim (λ short. ap (any_of test) (visited_short pool r short)
-            ∙ sym (ap (λ (k : ℕ). any_up k test) (filed_short pool short)))
-            (λ some. visited_answers pool rects (filed pool) r test some (I.first some) (λ id less. hits id)) (below_or_not (length pool) 4);
-      }
+  walk_start I hits s = record { at = s.at; same = ap (any_of test) s.all ∙ visited_filed I hits }
 
   module _ {answer : Bool} {c : Cursor} (w : Walk pool r test answer c) where
     -- the walk is over: no item passes
@@ -119,6 +121,16 @@ pub walk_less : {pool : List ℕ} {r : Rect} {c d : Cursor} → NextCursor pool 
 walk_less a = omega (arith, ap length a.rest)
 
 -- ---- how the code finds its places
+
+-- none is at no place
+pub none_over : over (cursor_of None) ≡ true
+unfolding over
+none_over = refl
+
+-- a place of the pool isn't none
+pub on_place : (n : ℕ) (c : Cursor) → c.t < capacity n → over c ≡ false
+unfolding over
+on_place n c small = ne_eqb c.t none (λ is_none. omega (arith, place_small n c.t small))
 
 module _ (pool : List ℕ) (right i j cell : ℕ) (some : 4 ≤ length pool) (e : cell ≡ cell_of (cells (length pool)) i j) where
   abbrev n : ℕ
@@ -206,13 +218,22 @@ pub stands_none : {pool : List ℕ} {r : Rect} {rest : List ℕ} {c : Cursor} �
 unfolding ahead
 stands_none {pool} {r} {rest} {c} e f = record { at = λ on. absurd (true≢false (sym e ∙ on)); all = rw e (sym f) }
 
+-- a place in row j, or else one under the later rows
+pub or_stands : {P : Type 0} (pool : List ℕ) (r : Rect) (j : ℕ) (rest : List ℕ) (found result : Option Cursor)
+    → InRow pool r.right j rest (cursor_of found) → IfSome found (λ c. over c ≡ false) → MatchOption found P (λ c. result ≡ Some c)
+    → (P → Stands pool r (rows pool r (r.high - j) (j + 1)) (cursor_of result) × IfSome result (λ c. over c ≡ false))
+    → Stands pool r (rest ++ rows pool r (r.high - j) (j + 1)) (cursor_of result) × IfSome result (λ c. over c ≡ false)
+or_stands pool r j rest None result row on was later =
+    let s = later was in
+    (stands_same (sym (ap (λ (l : List ℕ). l ++ rows pool r (r.high - j) (j + 1)) (row_walked row none_over))) s.0, s.1)
+or_stands pool r j rest (Some c) result row on was later = rw was (row_stands r row on, on)
+
 module _ {pool : List ℕ} (r : Rect) {c : Cursor} (at : At pool c) where
   abbrev m : ℕ
   m = length pool
 
   stays : over c ≡ false
-  unfolding over
-  stays = ne_eqb c.t none (λ is_none. omega (arith, place_small m c.t at.place))
+  stays = on_place m c at.place
 
   -- the next place of the chain
   pub after_link : link_at m pool c.t < c.t

@@ -2,42 +2,23 @@
 // answer: `visited_answers` and the laws of `Walk` in specs/WalkLaws.antt.
 #![tactic(auto)]
 
-ghost use Rattle.std.specs.Prelude.{◌≡◌, true, ◌+◌, ◌-◌, ◌≤◌, ◌<◌, length};
-ghost use Rattle.pools.specs.Pool.{cells, own_at, cell_of, span};
-ghost use Rattle.index.specs.Walk.{columns, rows, visited, over, At, InRow, Stands, NextCursor};
+ghost use Rattle.std.specs.Prelude.{◌≡◌, ℕ, Bool, false, ◌+◌, ◌-◌, ◌≤◌, ◌<◌, IfSome, length};
+ghost use Rattle.pools.specs.Pool.{cells, own_at, cell_of, span, any_of};
+ghost use Rattle.index.specs.Walk.{columns, rows, visited, over, cursor_of, At, InRow, Stands, NextCursor, Decides};
 
-use pools::{NONE, Rect};
+use pools::Rect;
 
 // A place `t` in the chain of the cell of the key (i, j).
 #[derive(Clone, Copy)]
-pub struct Cursor {
+struct Cursor {
     i: usize,
     j: usize,
     cell: usize,
     t: u32,
 }
 
-// The cursor of a walk that is over.
-fn nowhere() -> Cursor
-    ensures { over result ≡ true }
-{
-    Cursor {
-        i: 0,
-        j: 0,
-        cell: 0,
-        t: NONE,
-    }
-}
-
-// Whether a walk is over.
-pub fn is_over(c: Cursor) -> bool
-    ensures { result ≡ over c }
-{
-    c.t == NONE
-}
-
 // The item that the cursor is at.
-pub fn own_at(pool: &[u32], c: Cursor) -> u32
+fn own_at(pool: &[u32], c: Cursor) -> u32
     requires { At pool.now c }
     ensures { result ≡ own_at (length pool.now) pool.now c.t }
 {
@@ -46,101 +27,100 @@ pub fn own_at(pool: &[u32], c: Cursor) -> u32
 }
 
 // The first place under the columns of row j after column i, whose cell is `cell`.
-fn later_columns(pool: &[u32], right: u32, i: usize, j: usize, cell: usize) -> Cursor
+fn later_columns(pool: &[u32], right: u32, i: usize, j: usize, cell: usize) -> Option<Cursor>
     requires { (4 ≤ length pool.now) × (cell ≡ cell_of (cells (length pool.now)) i j) }
-    ensures { InRow pool.now right j (columns pool.now j (right - i) (i + 1)) result }
+    ensures rest { InRow pool.now right j (columns pool.now j (right - i) (i + 1)) (cursor_of result) }
+    ensures place { IfSome result (λ c. over c ≡ false) }
 {
     let n = pool.len();
     let m = pools::cells_of(n);
     let limit = pools::capacity_of(n);
-    let last = right as usize;
-    let mut i = i;
     let mut cell = cell;
-    while i < last {
-        i += 1;
+    for k in i..right as usize {
         cell = pools::next_cell(m, cell);
         let t = pool[2 + cell];
         if (t as usize) < limit {
-            return Cursor { i, j, cell, t };
+            return Some(Cursor {
+                i: k + 1,
+                j,
+                cell,
+                t,
+            });
         }
     }
-    nowhere()
+    None
 }
 
 // The first place under the columns `left` to `right` of row j.
-fn in_row(pool: &[u32], left: u32, right: u32, j: usize) -> Cursor
+fn in_row(pool: &[u32], left: u32, right: u32, j: usize) -> Option<Cursor>
     requires { (4 ≤ length pool.now) × (j < 4294967296) }
-    ensures { InRow pool.now right j (columns pool.now j (span left right) left) result }
+    ensures rest { InRow pool.now right j (columns pool.now j (span left right) left) (cursor_of result) }
+    ensures place { IfSome result (λ c. over c ≡ false) }
 {
     if right < left {
-        return nowhere();
+        return None;
     }
     let n = pool.len();
     let i = left as usize;
     let cell = pools::cell_of(pools::cells_of(n), i, j);
     let t = pool[2 + cell];
     if (t as usize) < pools::capacity_of(n) {
-        return Cursor { i, j, cell, t };
+        return Some(Cursor { i, j, cell, t });
     }
     later_columns(pool, right, i, j, cell)
 }
 
 // The first place under the rows after row j.
-fn later_rows(pool: &[u32], r: Rect, j: usize) -> Cursor
+fn later_rows(pool: &[u32], r: Rect, j: usize) -> Option<Cursor>
     requires { 4 ≤ length pool.now }
-    ensures { Stands pool.now r (rows pool.now r (r.high - j) (j + 1)) result }
+    ensures rest { Stands pool.now r (rows pool.now r (r.high - j) (j + 1)) (cursor_of result) }
+    ensures place { IfSome result (λ c. over c ≡ false) }
 {
-    let last = r.high as usize;
-    let mut j = j;
-    while j < last {
-        j += 1;
-        let c = in_row(pool, r.left, r.right, j);
-        if !is_over(c) {
-            return c;
+    for k in j..r.high as usize {
+        if let Some(c) = in_row(pool, r.left, r.right, k + 1) {
+            return Some(c);
         }
     }
-    nowhere()
+    None
 }
 
 // The first place under the rectangle's keys.
-pub fn first(pool: &[u32], r: Rect) -> Cursor
-    ensures { Stands pool.now r (visited pool.now r) result }
+fn first(pool: &[u32], r: Rect) -> Option<Cursor>
+    ensures rest { Stands pool.now r (visited pool.now r) (cursor_of result) }
+    ensures place { IfSome result (λ c. over c ≡ false) }
 {
-    if pool.len() < 4 {
-        return nowhere();
-    }
-    if r.high < r.low {
-        return nowhere();
+    if pool.len() < 4 || r.high < r.low {
+        return None;
     }
     let low = r.low as usize;
-    let c = in_row(pool, r.left, r.right, low);
-    if !is_over(c) {
-        return c;
-    }
-    later_rows(pool, r, low)
+    in_row(pool, r.left, r.right, low).or_else(|| later_rows(pool, r, low))
 }
 
 // The place after the cursor's.
-pub fn after(pool: &[u32], r: Rect, c: Cursor) -> Cursor
+fn after(pool: &[u32], r: Rect, c: Cursor) -> Option<Cursor>
     requires { At pool.now c }
-    ensures { NextCursor pool.now r c result }
+    ensures rest { NextCursor pool.now r c (cursor_of result) }
+    ensures place { IfSome result (λ c. over c ≡ false) }
 {
-    let t = c.t;
-    let at = 2 + pools::cells_of(pool.len()) + 2 * (t as usize);
+    let at = 2 + pools::cells_of(pool.len()) + 2 * (c.t as usize);
     let link = pool[at + 1];
-    if link < t {
-        return Cursor {
-            i: c.i,
-            j: c.j,
-            cell: c.cell,
-            t: link,
-        };
+    if link < c.t {
+        return Some(Cursor { t: link, ..c });
     }
-    let d = later_columns(pool, r.right, c.i, c.j, c.cell);
-    if !is_over(d) {
-        return d;
-    }
-    later_rows(pool, r, c.j)
+    later_columns(pool, r.right, c.i, c.j, c.cell).or_else(|| later_rows(pool, r, c.j))
 }
 
-// ---- keys
+// Whether the test holds for an item visited.
+pub fn any_visited<F: Fn(u32) -> bool>(pool: &[u32], r: Rect, test: F) -> bool
+    requires { (id : ℕ) → id < 4294967296 → F.pre test id }
+    ensures { (tests : ℕ → Bool) → Decides (F.post test) tests → result ≡ any_of tests (visited pool.now r) }
+{
+    let mut next = first(pool, r);
+    while let Some(c) = next {
+        if test(own_at(pool, c)) {
+            return true;
+        }
+        next = after(pool, r, c);
+    }
+    false
+}

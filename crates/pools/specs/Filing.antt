@@ -1,10 +1,14 @@
 -- The loops that file items one after the other, with `Filing` as their invariant; and what a walk that finds nothing leaves to a scan.
-use Rattle.std.specs.Prelude.{Bool, false, List, ◌≡◌, refl, ℕ, ◌≤◌, length}
+use Rattle.std.specs.Prelude.{Bool, false, List, ◌≡◌, refl, ℕ, ◌<◌, ◌≤◌, length}
 use Rattle.std.proofs.Common.{sym, ap, ◌∙◌, subst, arith}
 use Rattle.laws.specs.Loop.{any_up, Unfound}
 use Rattle.pools.specs.declared.Rect.{Rect}
 use Rattle.pools.specs.Pool.{filed, cleared_pool, Indexed}
 use Rattle.pools.specs.FileLaws.{indexed_none}
+
+-- what a call gives for each of the first `count` items is the item's rectangle
+abbrev pub Gives : (ℕ → Rect → Type 0) → ℕ → (ℕ → Rect) → Type 0
+Gives post count rects = (k : ℕ) (r : Rect) → k < count → post k r → r ≡ rects k
 
 -- those before id are filed, of the pool's own length
 pub record Filing (rects : ℕ → Rect) (to : ℕ) (pool₀ pool : List ℕ) (id : ℕ) : Type 0 where

@@ -3,8 +3,9 @@
 // after that are left to a scan.
 #![tactic(auto)]
 
-ghost use Rattle.std.specs.Prelude.{◌≡◌, ◌+◌, ◌*◌, ◌%◌, ◌≤◌, ◌<◌, leb, length};
-ghost use Rattle.pools.specs.Pool.{cells, capacity, used, filed, cell_of, span, cleared_pool, push, file_row, key_count, takes, file};
+ghost use Rattle.std.specs.Prelude.{◌≡◌, ℕ, ◌+◌, ◌*◌, ◌%◌, ◌≤◌, ◌<◌, min, leb, length};
+ghost use Rattle.pools.specs.Pool.{cells, capacity, used, filed, cell_of, span, cleared_pool, push, file_row, key_count, takes, file, Indexed};
+ghost use Rattle.pools.specs.Filing.{Gives};
 
 // A rectangle of shifted keys; with `right` below `left` or `high` below `low` it is empty.
 #[derive(Clone, Copy)]
@@ -36,6 +37,9 @@ pub const NONE: u32 = u32::MAX;
 
 // As many places as 32 bits number beside `NONE`.
 const MOST_PLACES: usize = 4294967294;
+
+// As many items as it numbers.
+const MOST_ITEMS: usize = 4294967295;
 
 // How far apart rows of cells lie: far from any round fraction of 2^32, so that rows of a region seldom fall on each other, whatever the number of cells.
 const STRIDE: usize = 2654435761;
@@ -167,4 +171,17 @@ pub fn file(pool: &mut [u32], r: Rect, own: u32)
         file_row(pool, r.left, r.right, low + k, own);
     }
     pool[1] = own + 1;
+}
+
+// Files the items `from` to `to` - 1, where those before are filed: all that find places, up to the first that doesn't, and none that 32 bits can't
+// number. `rect` gives the rectangle of an item.
+pub fn file_items<F: Fn(u32) -> Rect>(pool: &mut [u32], from: usize, to: usize, rect: F)
+    requires { (k : ℕ) → k < min to 4294967295 → F.pre rect k }
+    ensures { (rects : ℕ → Rect) → Gives (F.post rect) (min to 4294967295) rects → from ≤ to → Indexed pool.old rects from
+        → Indexed pool.new rects to }
+{
+    for k in from..to.min(MOST_ITEMS) {
+        let own = k as u32;
+        file(pool, rect(own), own);
+    }
 }

@@ -8,7 +8,8 @@ use lib.ListN.{length}
 use Rattle.pools.specs.Pool.{link_place}
 use Rattle.index.specs.Walk.{rows}
 use Rattle.pools.specs.FileLaws.{place_fits}
-use Rattle.index.specs.WalkLaws.{row_stands, row_walked, stands_same, after_link, after_chain}
+use borrow.Author.Rules.{rules}
+use Rattle.index.specs.WalkLaws.{or_stands, after_link, after_chain, on_place}
 use Rattle.index.proofs.after.Goals as goal
 use Rattle.index.proofs.after.Goals.{After-cells_of}
 
@@ -30,20 +31,19 @@ offset_bounds-pool-at c = omega (arith, room (goal.at.offset_bounds-pool-at c).A
 pub bounds-pool-at : goal.bounds-pool-at
 bounds-pool-at c = omega (arith, room (goal.at.bounds-pool-at c).After-cells_of, c.cells_of.ensures)
 
-pub returns-then-link-t : goal.returns-then-link-t
-returns-then-link-t c =
-    rw c.cells_of.ensures (after_link c.args.r c.requires (rw c.cells_of.ensures at c.if-link-t.true))
-
-pub returns-then-not-is_over : goal.returns-then-not-is_over
-returns-then-not-is_over c =
-    after_chain c.args.r c.requires (rw c.cells_of.ensures at c.if-link-t.false)
-    (row_stands c.args.r c.later_columns-d.ensures (sym c.is_over.ensures ∙ not-true _ c.if-not-is_over.true-raw))
+pub returns-then-link-c : goal.returns-then-link-c
+returns-then-link-c c =
+    record {
+      rest = rw c.cells_of.ensures (after_link c.args.r c.requires (rw c.cells_of.ensures at c.if-link-c.true));
+      place = on_place (length c.args.pool.now) _ (omega (arith, c.requires.place, c.if-link-c.true));
+    }
 
 pub returns : goal.returns
 returns c =
     let args = c.args in
-    after_chain args.r c.requires (rw c.cells_of.ensures at c.if-link-t.false)
-    (stands_same
-    (sym (ap (λ (l : List ℕ). l ++ rows args.pool.now args.r (args.r.high - args.c.j) (args.c.j + 1))
-    (row_walked c.later_columns-d.ensures (sym c.is_over.ensures ∙ not-false _ c.if-not-is_over.false-raw))))
-    c.later_rows.ensures)
+    let found = c.later_columns.ensures in
+    let s = or_stands args.pool.now args.r args.c.j _ c.later_columns.result c.or_else.result found.rest found.place c.or_else.ensures (λ m. search rules) in
+    record {
+      rest = after_chain args.r c.requires (rw c.cells_of.ensures at c.if-link-c.false) s.0;
+      place = s.1;
+    }

@@ -7,7 +7,7 @@ use Rattle.pools.specs.Pool.{cells, cell_of, chain_at}
 use Rattle.index.specs.Walk.{columns}
 use Rattle.index.specs.AcrossLaws.{across_from, across_end}
 use Rattle.pools.specs.FileLaws.{some_cell, cell_in, cells_fit}
-use Rattle.index.specs.WalkLaws.{row_hit, row_miss, row_none, row_same}
+use Rattle.index.specs.WalkLaws.{row_hit, row_miss, row_none, row_same, on_place, none_over}
 use Rattle.index.proofs.in_row.Goals as goal
 use Rattle.index.proofs.in_row.Goals.{After-cell_of-cell}
 
@@ -23,8 +23,8 @@ inside c =
     let n = length c.args.pool.now in
     omega (arith, here c, cell_in n c.args.left c.args.j c.requires.0, cells_fit n c.requires.0)
 
-pub returns-then-right-left : goal.returns-then-right-left
-returns-then-right-left c = row_none c.nowhere.ensures (across_end _ _ _ (omega (arith, c.if-right-left.true)))
+pub returns-then-right-left-clause-rest : goal.returns-then-right-left-clause-rest
+returns-then-right-left-clause-rest c = row_none none_over (across_end _ _ _ (omega (arith, c.if-right-left.true)))
 
 pub cell_of-cell-requires : goal.cell_of-cell-requires
 cell_of-cell-requires c =
@@ -45,9 +45,13 @@ overflow_cast-t c = omega (arith, c.shared_slice_known-2-1.given (2 + c.cell_of-
 pub returns-then-t-capacity_of : goal.returns-then-t-capacity_of
 returns-then-t-capacity_of c =
     let n = length c.args.pool.now in
-    row_hit c.args.pool.now c.args.right c.args.left c.args.j c.cell_of-cell.result c.requires.0 (here (goal.at.returns-then-t-capacity_of c).After-cell_of-cell)
-    _ _ refl (rw c.capacity_of.ensures at c.if-t-capacity_of.true)
-    (across_from (λ i. chain_at n c.args.pool.now i c.args.j) c.args.left c.args.right c.if-right-left.false)
+    let small = rw c.capacity_of.ensures at c.if-t-capacity_of.true in
+    record {
+      rest =
+          row_hit c.args.pool.now c.args.right c.args.left c.args.j c.cell_of-cell.result c.requires.0 (here (goal.at.returns-then-t-capacity_of c).After-cell_of-cell)
+          _ _ refl small (across_from (λ i. chain_at n c.args.pool.now i c.args.j) c.args.left c.args.right c.if-right-left.false);
+      place = on_place n _ small;
+    }
 
 pub later_columns-requires : goal.later_columns-requires
 later_columns-requires c =
@@ -58,8 +62,12 @@ returns c =
     let args = c.args in
     let pool = args.pool.now in
     let n = length pool in
-    row_same
-    (sym (across_from (λ i. chain_at n pool i args.j) args.left args.right c.if-right-left.false
-    ∙ row_miss pool args.right args.left args.j c.cell_of-cell.result c.requires.0 (here (goal.at.returns c).After-cell_of-cell)
-    (columns pool args.j (args.right - args.left) (args.left + 1)) (rw c.capacity_of.ensures at c.if-t-capacity_of.false)))
-    c.later_columns.ensures
+    record {
+      rest =
+          row_same
+          (sym (across_from (λ i. chain_at n pool i args.j) args.left args.right c.if-right-left.false
+          ∙ row_miss pool args.right args.left args.j c.cell_of-cell.result c.requires.0 (here (goal.at.returns c).After-cell_of-cell)
+          (columns pool args.j (args.right - args.left) (args.left + 1)) (rw c.capacity_of.ensures at c.if-t-capacity_of.false)))
+          c.later_columns.ensures.rest;
+      place = c.later_columns.ensures.place;
+    }

@@ -1,10 +1,6 @@
 -- `index::later_columns` meets its contract: the columns passed have no place under them.
-use Prim.Native.Nat.{◌-◌}
 use Rattle.index.specs.WalkLaws.{Seeking}
 use Rattle.index.proofs.later_columns.Given as goal
 
-abbrev pub invariant-loop-i : goal.invariant-loop-i
-invariant-loop-i l = Seeking l.pool l.right l.i-2 l.j l.i l.cell
-
-abbrev pub decreases-loop-i : goal.decreases-loop-i
-decreases-loop-i l = l.last - l.i
+abbrev pub invariant-loop-k : goal.invariant-loop-k
+invariant-loop-k l = Seeking l.pool l.right l.i l.j l.k l.cell

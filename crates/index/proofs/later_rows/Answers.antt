@@ -7,36 +7,39 @@ use borrow.Author.Tests.{not-true, not-false}
 use Rattle.pools.specs.Pool.{span}
 use Rattle.index.specs.Walk.{columns, rows}
 use Rattle.index.specs.AcrossLaws.{across_more, across_end}
-use Rattle.index.specs.WalkLaws.{row_stands, row_walked, stands_none, stands_same}
+use Rattle.index.specs.WalkLaws.{row_stands, row_walked, stands_none, stands_same, none_over}
 use Rattle.index.proofs.later_rows.Goals as goal
-use Rattle.index.proofs.later_rows.Goals.{In-loop-j}
+use Rattle.index.proofs.later_rows.Goals.{In-loop-k}
 
 -- the next row, and then the later ones
-more : (c : In-loop-j)
-    → let pool = c.args.pool.now in let r = c.args.r in let j = c.loop-j.j in
+more : (c : In-loop-k)
+    → let pool = c.args.pool.now in let r = c.args.r in let j = c.loop-k.k in
     rows pool r (r.high - c.args.j) (c.args.j + 1)
     ≡ columns pool (j + 1) (span r.left r.right) r.left ++ rows pool r (r.high - (j + 1)) (j + 1 + 1)
 more c =
     let args = c.args in
-    c.loop-j.invariant
-    ∙ across_more (λ j. columns args.pool.now j (span args.r.left args.r.right) args.r.left) c.loop-j.j args.r.high
-    c.loop-j-test.true
+    c.loop-k.invariant
+    ∙ across_more (λ j. columns args.pool.now j (span args.r.left args.r.right) args.r.left) c.loop-k.k args.r.high
+    c.loop-k-test.true
 
-pub in_row-c-requires : goal.in_row-c-requires
-in_row-c-requires c = (c.requires, omega arith)
+pub in_row-requires : goal.in_row-requires
+in_row-requires c = (c.requires, omega arith)
 
-pub returns-then-not-is_over : goal.returns-then-not-is_over
-returns-then-not-is_over c =
-    stands_same (sym (more (goal.at.returns-then-not-is_over c).In-loop-j))
-    (row_stands c.args.r c.in_row-c.ensures (sym c.is_over.ensures ∙ not-true _ c.if-not-is_over.true-raw))
+pub returns-in-Some : goal.returns-in-Some
+returns-in-Some c =
+    let found = c.in-Some.ensures in
+    record {
+      rest = stands_same (sym (more (goal.at.returns-in-Some c).In-loop-k)) (row_stands c.args.r found.rest found.place);
+      place = found.place;
+    }
 
-pub loop-j-preserved : goal.loop-j-preserved
-loop-j-preserved c =
+pub loop-k-preserved : goal.loop-k-preserved
+loop-k-preserved c =
     let args = c.args in
-    let j = c.loop-j.j in
-    more (goal.at.loop-j-preserved c).In-loop-j
+    let j = c.loop-k.k in
+    more (goal.at.loop-k-preserved c).In-loop-k
     ∙ ap (λ (l : List ℕ). l ++ rows args.pool.now args.r (args.r.high - (j + 1)) (j + 1 + 1))
-    (row_walked c.in_row-c.ensures (sym c.is_over.ensures ∙ not-false _ c.if-not-is_over.false-raw))
+    (row_walked c.in_default.ensures.rest none_over)
 
-pub returns : goal.returns
-returns c = stands_none c.nowhere.ensures (c.loop-j.invariant ∙ across_end _ _ _ (omega (arith, c.loop-j-test.false)))
+pub returns-clause-rest : goal.returns-clause-rest
+returns-clause-rest c = stands_none none_over (c.loop-k.invariant ∙ across_end _ _ _ (omega (arith, c.loop-k-test.false)))

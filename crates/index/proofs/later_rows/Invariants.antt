@@ -4,8 +4,5 @@ use Prim.Native.Nat.{◌+◌, ◌-◌}
 use Rattle.index.specs.Walk.{rows}
 use Rattle.index.proofs.later_rows.Given as goal
 
-abbrev pub invariant-loop-j : goal.invariant-loop-j
-invariant-loop-j l = rows l.pool l.r (l.r.high - l.j-2) (l.j-2 + 1) ≡ rows l.pool l.r (l.r.high - l.j) (l.j + 1)
-
-abbrev pub decreases-loop-j : goal.decreases-loop-j
-decreases-loop-j l = l.last - l.j
+abbrev pub invariant-loop-k : goal.invariant-loop-k
+invariant-loop-k l = rows l.pool l.r (l.r.high - l.j) (l.j + 1) ≡ rows l.pool l.r (l.r.high - l.k) (l.k + 1)

@@ -1,51 +1,27 @@
 -- An attempt by its parts in the code's order, and by what the code has at hand: the far corners, and then the other checks. Assumes nothing.
 use Rattle.std.proofs.Math.Path.{◌≡◌, refl}
-use Rattle.std.proofs.Common.{ap, ◌∙◌, arith, eq-eqb, ne_eqb}
-use Rattle.std.specs.Prelude.{Bool, not, ◌&&◌, ◌≢◌, ℕ, eqb, Float}
+use Rattle.std.proofs.Common.{◌∙◌, arith}
+use Rattle.std.specs.Prelude.{Bool, not, ◌&&◌, ℕ, eqb, Float}
 use Rattle.std.proofs.Math.Bool.{true, false}
-use Rattle.laws.specs.Chain.{passes, second_fails, exchange}
-use Rattle.numbers.specs.Float.{is_finite}
+use Rattle.laws.specs.Chain.{exchange}
 use Rattle.domain.specs.declared.Point.{Point}
-use Rattle.domain.specs.Outline.{Outline, point}
+use Rattle.domain.specs.Outline.{Outline}
 use Rattle.domain.specs.Queries.{contains}
 use Rattle.geometry.specs.declared.Corners.{Corners}
 use Rattle.geometry.specs.Plane.{convex_ccw, centroid}
 use Rattle.front.specs.declared.Corner.{Corner}
-use Rattle.front.specs.declared.Neighbour.{Neighbour}
-use Rattle.front.specs.declared.Neighbour.TheVariants.{At, Off}
 use Rattle.front.specs.State.{State, node}
 use Rattle.front.specs.Neighbours.{next_at, prev_at, is_at}
 use Rattle.front.specs.Place.{id_c, id_d}
 use Rattle.paving.specs.declared.Attempt.{Attempt}
 use Rattle.paving.specs.declared.Attempt.TheVariants.{Nothing, Quad}
-use Rattle.paving.specs.Checks.{too_close, node_ok, corner_free, corners_apart, node_inside, edges_free, corners_of, quad_ok, quad_fits}
-use Rattle.paving.specs.Attempt.{corner_at, ideal, corner_c, corner_d, quad_if, attempt_quad}
+use Rattle.paving.specs.Checks.{corner_free, corners_apart, node_inside, edges_free, corners_of, quad_ok, quad_fits}
+use Rattle.paving.specs.Attempt.{ideal, corner_c, corner_d, quad_if, attempt_quad}
 use Rattle.attempts.specs.Seen.{seen_nodes, seen_points, seen_edges, seen_links}
 use Rattle.attempts.specs.FarCorners.{pair_fits, far_corners}
-use Rattle.attempts.specs.SeenLaws.{corners_seen, corner_free_seen, node_inside_seen, edges_free_seen, corner_at_seen, corner_same}
-
--- ---- a new corner
-
--- too close to a node: refused, inside or not
-pub close_refused : (o : Outline) (size : Float) (s : State) (x y : Float) → is_finite x ≡ true → is_finite y ≡ true
-    → too_close size s (point x y) ≡ true → false ≡ node_ok o size s (point x y)
-unfolding node_ok
-close_refused o size s x y at_x at_y close = passes at_x (passes at_y (second_fails (contains o (point x y)) (ap not close)))
+use Rattle.attempts.specs.SeenLaws.{corners_seen, corner_free_seen, node_inside_seen, edges_free_seen, corner_same}
 
 -- ---- the far corners
-
-module _ (s : State) (size : Float) (a b : ℕ) (da db : Point) where
-  -- chosen as c and d, whose numbers are u and v, and tested
-  pub far_is : (fit : Bool) {c d : Corner} {u v : ℕ}
-      → c ≡ corner_at size (seen_points s.xs s.ys) b (prev_at s a) (ideal size (node s a) da)
-      → d ≡ corner_at size (seen_points s.xs s.ys) a (next_at s b) (ideal size (node s b) db)
-      → u ≡ id_c s c → v ≡ id_d s c d → fit ≡ not (eqb u v) && (corners_apart size c d && not (is_at (next_at s u) v))
-      → quad_if fit c d ≡ far_corners size s a b da db
-  unfolding far_corners corner_c corner_d
-  far_is fit {c} {d} ec ed eu ev e =
-      let at_c = ec ∙ corner_at_seen s size b (prev_at s a) (ideal size (node s a) da) in
-      let at_d = ed ∙ corner_at_seen s size a (next_at s b) (ideal size (node s b) db) in
-      rw (e, eu, ev, at_c, at_d)
 
 -- they depend on no more of a state than points and links
 far_seen : (s : State) (size : Float) (a b : ℕ) (da db : Point)
@@ -132,14 +108,3 @@ module _ (s : State) (o : Outline) (size : Float) (a b : ℕ) (da db : Point) wh
           let q : d ≡ y = cc in
           rw (← p, ← q, r) refl
       by false x y h r = absurd (let z : ◌≡◌ {A = ℕ} 0 1 = cc in omega arith)
-
--- ---- a neighbour n that was taken apart, and the node v
-
-pub none_follows : {n : Neighbour} (v : ℕ) → n ≡ Off → true ≡ not (is_at n v)
-none_follows v e = rw e refl
-
-pub that_follows : {n : Neighbour} {w : ℕ} (v : ℕ) → n ≡ At w → w ≡ v → false ≡ not (is_at n v)
-that_follows {w = w} v e q = rw (e, eq-eqb w v q) refl
-
-pub other_follows : {n : Neighbour} {w : ℕ} (v : ℕ) → n ≡ At w → w ≢ v → true ≡ not (is_at n v)
-other_follows {w = w} v e q = rw (e, ne_eqb w v q) refl

@@ -6,13 +6,11 @@
 ghost use Rattle.std.specs.Prelude.{◌≡◌, [], ◌+◌, ◌≤◌, length};
 ghost use Rattle.topology.specs.Links.{link_of};
 ghost use Rattle.domain.specs.Outline.{outline_of};
-ghost use Rattle.pools.specs.Pool.{Indexed};
 ghost use Rattle.direction.specs.Record.{field_record};
 ghost use Rattle.front.specs.State.{node_in};
 ghost use Rattle.front.specs.Neighbours.{neighbour_of};
 ghost use Rattle.front.specs.Place.{added, corner_id, corner_point};
-ghost use Rattle.indexed.specs.Rects.{node_rects};
-ghost use Rattle.paving.specs.Checks.{too_close, corner_free, corners_apart, node_inside, edge_crosses, side_crosses, edges_free, corners_of};
+ghost use Rattle.paving.specs.Checks.{too_close, corner_free, corners_apart, edge_crosses, side_crosses, edges_free, corners_of};
 ghost use Rattle.paving.specs.Attempt.{is_reused, corner_at, ideal, attempt_quad, normal_of, try_edge};
 ghost use Rattle.attempts.specs.Seen.{seen_state, seen_nodes, seen_points, seen_edges, seen_links};
 ghost use Rattle.attempts.specs.Seen.{NodesLent, EdgesIndexed, EdgesLent, LinksLent, AttemptLent, TryLent};
@@ -27,6 +25,7 @@ use paving::Attempt;
 // ---- reading
 
 // The neighbour of node u by its link, where the first `nodes` places are in use: none for a node that isn't there.
+#[tactic(auto, using(topology::specs::Links::link_out, topology::specs::Links::link_read), unfolding(front::specs::Neighbours::neighbour_of))]
 pub fn link_at(links: &[u32], nodes: u32, u: u32) -> Neighbour
     requires { nodes ≤ length links.now }
     ensures { result ≡ neighbour_of (link_of nodes links.now u) }
@@ -34,11 +33,9 @@ pub fn link_at(links: &[u32], nodes: u32, u: u32) -> Neighbour
     if u >= nodes {
         return Neighbour::Off;
     }
-    let v = links[u as usize];
-    if v == OFF {
-        Neighbour::Off
-    } else {
-        Neighbour::At(v)
+    match links[u as usize] {
+        OFF => Neighbour::Off,
+        v => Neighbour::At(v),
     }
 }
 
@@ -63,18 +60,12 @@ fn corner_point(xs: &[f64], ys: &[f64], c: Corner) -> Point
 
 // ---- new nodes
 
-// Whether some node is too close to p.
-fn too_close(size: f64, xs: &[f64], ys: &[f64], node_pool: &[u32], counts: Counts, p: Point) -> bool
-    requires { Indexed node_pool.now (node_rects size xs.now ys.now) counts.nodes }
-    ensures { result ≡ too_close size (seen_nodes xs.now ys.now counts) p }
-{
-    indexed::any_close(node_pool, size, xs, ys, counts.nodes, p)
-}
-
 // Whether a new corner is finite, not too close to a node, and inside; nothing is asked of a reused one. The nodes are asked before the outline:
 // that is the cheaper test.
+#[tactic(auto, unfolding(paving::specs::Checks::corner_free, paving::specs::Checks::node_ok, paving::specs::Checks::too_close))]
 fn corner_free(
-    domain: Domain<'_>, blocks: &[u32],
+    domain: Domain<'_>,
+    blocks: &[u32],
     size: f64,
     xs: &[f64],
     ys: &[f64],
@@ -89,27 +80,19 @@ fn corner_free(
     let Corner::Fresh(x, y) = c else {
         return true;
     };
-    if !numbers::is_finite_f64(x) {
-        return false;
-    }
-    if !numbers::is_finite_f64(y) {
-        return false;
-    }
     let p = Point { x, y };
-    if too_close(size, xs, ys, node_pool, counts, p) {
-        return false;
-    }
-    blocks::contains_point(domain, blocks, p)
+    numbers::is_finite_f64(x)
+        && numbers::is_finite_f64(y)
+        && !indexed::any_close(node_pool, size, xs, ys, counts.nodes, p)
+        && blocks::contains_point(domain, blocks, p)
 }
 
 // Whether two new corners are more than 0.45 × size apart.
+#[tactic(auto, unfolding(paving::specs::Checks::corners_apart))]
 fn corners_apart(size: f64, c: Corner, d: Corner) -> bool
     ensures { result ≡ corners_apart size c d }
 {
-    let Corner::Fresh(x, y) = c else {
-        return true;
-    };
-    let Corner::Fresh(z, w) = d else {
+    let (Corner::Fresh(x, y), Corner::Fresh(z, w)) = (c, d) else {
         return true;
     };
     let p = Point { x, y };
@@ -117,49 +100,10 @@ fn corners_apart(size: f64, c: Corner, d: Corner) -> bool
     !(geometry::distance(p, q) <= Settings::CLEARANCE * size)
 }
 
-// ---- nodes inside the quad
-
-// Whether some node other than the corners a, b, d, c lies in the quad p.
-fn node_in_quad(
-    size: f64,
-    xs: &[f64],
-    ys: &[f64],
-    node_pool: &[u32],
-    counts: Counts,
-    p: Corners,
-    a: u32,
-    b: u32,
-    d: u32,
-    c: u32,
-) -> bool
-    requires { Indexed node_pool.now (node_rects size xs.now ys.now) counts.nodes }
-    ensures { result ≡ node_inside size (seen_nodes xs.now ys.now counts) p a b d c }
-{
-    indexed::any_inside(node_pool, size, xs, ys, counts.nodes, p, a, b, d, c)
-}
-
 // ---- edges
 
-// Whether some edge crosses the new edge a to b, whose ends are the nodes u and v.
-fn edge_crosses(
-    size: f64,
-    xs: &[f64],
-    ys: &[f64],
-    edges: &[u32],
-    edge_pool: &[u32],
-    counts: Counts,
-    a: Point,
-    b: Point,
-    u: u32,
-    v: u32,
-) -> bool
-    requires { EdgesIndexed size xs.now ys.now edges.now edge_pool.now counts.edges }
-    ensures { result ≡ edge_crosses size (seen_edges xs.now ys.now edges.now counts) a b u v }
-{
-    indexed::any_crossing(edge_pool, size, xs, ys, edges, counts.edges, a, b, u, v)
-}
-
 // Whether the edge from a new corner's node to its neighbour crosses another; that of a reused one is there already.
+#[tactic(auto, unfolding(paving::specs::Checks::edge_crosses))]
 fn side_crosses(
     size: f64,
     xs: &[f64],
@@ -178,13 +122,13 @@ fn side_crosses(
         return false;
     };
     let p = Point { x, y };
-    edge_crosses(
+    indexed::any_crossing(
+        edge_pool,
         size,
         xs,
         ys,
         edges,
-        edge_pool,
-        counts,
+        counts.edges,
         p,
         front::node_at(xs, ys, to),
         id,
@@ -193,6 +137,7 @@ fn side_crosses(
 }
 
 // Whether none of the new edges crosses another: c to a if c is new, c to d, d to b if d is new.
+#[tactic(auto, unfolding(paving::specs::Checks::edges_free, paving::specs::Checks::edge_crosses))]
 fn edges_free(
     size: f64,
     xs: &[f64],
@@ -210,15 +155,22 @@ fn edges_free(
 {
     let id_c = c.id(counts.nodes);
     let id_d = second_id(counts.nodes, c, d);
-    if side_crosses(size, xs, ys, edges, edge_pool, counts, c, id_c, a) {
-        return false;
-    }
     let p = corner_point(xs, ys, c);
     let q = corner_point(xs, ys, d);
-    if edge_crosses(size, xs, ys, edges, edge_pool, counts, p, q, id_c, id_d) {
-        return false;
-    }
-    !side_crosses(size, xs, ys, edges, edge_pool, counts, d, id_d, b)
+    !side_crosses(size, xs, ys, edges, edge_pool, counts, c, id_c, a)
+        && !indexed::any_crossing(
+            edge_pool,
+            size,
+            xs,
+            ys,
+            edges,
+            counts.edges,
+            p,
+            q,
+            id_c,
+            id_d,
+        )
+        && !side_crosses(size, xs, ys, edges, edge_pool, counts, d, id_d, b)
 }
 
 // ---- the quad
@@ -238,16 +190,15 @@ fn corners_of(xs: &[f64], ys: &[f64], a: u32, b: u32, c: Corner, d: Corner) -> C
 // ---- the choice of the far corners
 
 // Whether the front node v is reused for a corner wanted at p: it is not the edge's other end, and is within 0.35 × size.
+#[tactic(auto, unfolding(paving::specs::Attempt::is_reused))]
 fn is_reused(size: f64, xs: &[f64], ys: &[f64], other: u32, v: u32, p: Point) -> bool
     ensures { result ≡ is_reused size (seen_points xs.now ys.now) other v p }
 {
-    if v == other {
-        return false;
-    }
-    geometry::distance(front::node_at(xs, ys, v), p) <= Settings::REUSE * size
+    v != other && geometry::distance(front::node_at(xs, ys, v), p) <= Settings::REUSE * size
 }
 
 // One size from p in the direction d.
+#[tactic(auto, unfolding(paving::specs::Attempt::ideal))]
 fn ideal(size: f64, p: Point, d: Point) -> Point
     ensures { result ≡ ideal size p d }
 {
@@ -258,6 +209,7 @@ fn ideal(size: f64, p: Point, d: Point) -> Point
 }
 
 // The far corner at u, an end of the edge to `other`, in a direction: u's neighbour by `links`, if it is reused, or a new point.
+#[tactic(auto, unfolding(paving::specs::Attempt::corner_at))]
 fn corner_at(
     size: f64,
     xs: &[f64],
@@ -273,19 +225,15 @@ fn corner_at(
         (neighbour_of (link_of nodes links.now u)) (ideal size (node_in xs.now ys.now u) toward) }
 {
     let p = ideal(size, front::node_at(xs, ys, u), toward);
-    let neighbour = link_at(links, nodes, u);
-    let Neighbour::At(v) = neighbour else {
-        return Corner::Fresh(p.x, p.y);
-    };
-    if is_reused(size, xs, ys, other, v, p) {
-        Corner::Reused(v)
-    } else {
-        Corner::Fresh(p.x, p.y)
+    match link_at(links, nodes, u) {
+        Neighbour::At(v) if is_reused(size, xs, ys, other, v, p) => Corner::Reused(v),
+        _ => Corner::Fresh(p.x, p.y),
     }
 }
 
 // The far corners of a quad on the front edge a to b with the directions da at a and db at b; none where they are one node, two new ones
 // too close together, or joined by the front already.
+#[tactic(auto, using(crate::proofs::Chosen::far_chosen))]
 fn far_corners(
     size: f64,
     xs: &[f64],
@@ -306,17 +254,10 @@ fn far_corners(
     let d = corner_at(size, xs, ys, next, nodes, b, a, db);
     let id_c = c.id(nodes);
     let id_d = second_id(nodes, c, d);
-    if id_c == id_d {
-        return Attempt::Nothing;
-    }
-    if !corners_apart(size, c, d) {
-        return Attempt::Nothing;
-    }
-    let neighbour = link_at(next, nodes, id_c);
-    let Neighbour::At(v) = neighbour else {
-        return Attempt::Quad(c, d);
-    };
-    if v == id_d {
+    if id_c == id_d
+        || !corners_apart(size, c, d)
+        || matches!(link_at(next, nodes, id_c), Neighbour::At(v) if v == id_d)
+    {
         Attempt::Nothing
     } else {
         Attempt::Quad(c, d)
@@ -326,8 +267,10 @@ fn far_corners(
 // ---- an attempt
 
 // The quad on the front edge a to b with the directions da at a and db at b, if its far corners pass every check; the first that fails refuses it.
+#[tactic(auto, using(crate::proofs::Kept::attempt_kept))]
 fn attempt_quad(
-    domain: Domain<'_>, blocks: &[u32],
+    domain: Domain<'_>,
+    blocks: &[u32],
     size: f64,
     xs: &[f64],
     ys: &[f64],
@@ -351,29 +294,16 @@ fn attempt_quad(
     let Attempt::Quad(c, d) = chosen else {
         return Attempt::Nothing;
     };
-    if !corner_free(
-        domain, blocks, size, xs, ys, node_pool, counts, c,
-    ) {
-        return Attempt::Nothing;
-    }
-    if !corner_free(
-        domain, blocks, size, xs, ys, node_pool, counts, d,
-    ) {
-        return Attempt::Nothing;
-    }
     let p = corners_of(xs, ys, a, b, c, d);
-    if !geometry::convex_ccw(p) {
-        return Attempt::Nothing;
-    }
-    if !blocks::contains_point(domain, blocks, geometry::centroid(p)) {
-        return Attempt::Nothing;
-    }
     let id_c = c.id(counts.nodes);
     let id_d = second_id(counts.nodes, c, d);
-    if node_in_quad(size, xs, ys, node_pool, counts, p, a, b, id_d, id_c) {
-        return Attempt::Nothing;
-    }
-    if edges_free(size, xs, ys, edges, edge_pool, counts, a, b, c, d) {
+    if corner_free(domain, blocks, size, xs, ys, node_pool, counts, c)
+        && corner_free(domain, blocks, size, xs, ys, node_pool, counts, d)
+        && geometry::convex_ccw(p)
+        && blocks::contains_point(domain, blocks, geometry::centroid(p))
+        && !indexed::any_inside(node_pool, size, xs, ys, counts.nodes, p, a, b, id_d, id_c)
+        && edges_free(size, xs, ys, edges, edge_pool, counts, a, b, c, d)
+    {
         Attempt::Quad(c, d)
     } else {
         Attempt::Nothing
@@ -381,6 +311,7 @@ fn attempt_quad(
 }
 
 // Left of the edge with the steps bx and by, of length 1.
+#[tactic(auto, unfolding(paving::specs::Attempt::normal_of))]
 fn normal_of(bx: f64, by: f64, length: f64) -> Point
     ensures { result ≡ normal_of bx by length }
 {
@@ -392,8 +323,10 @@ fn normal_of(bx: f64, by: f64, length: f64) -> Point
 
 // The quad on the front edge a to b, if an attempt answers one: directions come from the field, then from the edge's normal. None on an edge no
 // longer than 1e-12.
+#[tactic(auto, unfolding(paving::specs::Attempt::try_edge, paving::specs::Attempt::try_toward, direction::specs::Direction::nearest_direction))]
 pub fn try_edge(
-    domain: Domain<'_>, blocks: &[u32],
+    domain: Domain<'_>,
+    blocks: &[u32],
     size: f64,
     grid: Grid,
     values: &[f64],
@@ -426,14 +359,13 @@ pub fn try_edge(
     let da = direction::nearest_direction(grid, values, p, normal);
     let db = direction::nearest_direction(grid, values, q, normal);
     let first = attempt_quad(
-        domain, blocks, size, xs, ys, next, prev, edges, node_pool, edge_pool, counts,
-        a, b, da, db,
+        domain, blocks, size, xs, ys, next, prev, edges, node_pool, edge_pool, counts, a, b, da, db,
     );
-    let Attempt::Quad(c, d) = first else {
-        return attempt_quad(
-            domain, blocks, size, xs, ys, next, prev, edges, node_pool, edge_pool,
-            counts, a, b, normal, normal,
-        );
-    };
-    Attempt::Quad(c, d)
+    match first {
+        Attempt::Nothing => attempt_quad(
+            domain, blocks, size, xs, ys, next, prev, edges, node_pool, edge_pool, counts, a, b,
+            normal, normal,
+        ),
+        quad => quad,
+    }
 }

@@ -8,8 +8,8 @@ ghost use Rattle.front.specs.State.{state_of};
 ghost use Rattle.paving.specs.Advance.{paved, advance};
 ghost use Rattle.settling.specs.Paveable.{Paveable};
 
-use domain::Domain;
 use direction::Grid;
+use domain::{Domain, Settings};
 use ends::Swept;
 use front::Counts;
 use paving::End;
@@ -24,7 +24,8 @@ pub struct Advanced {
 // The pools and `tried` are scratch of any length: nothing is said of what they hold, before or after.
 // Pass after pass, until one places nothing, the cap is reached, the places lent are full, or as many are done as asked for, at most 600.
 pub fn advance(
-    domain: Domain<'_>, blocks: &[u32],
+    domain: Domain<'_>,
+    blocks: &[u32],
     size: f64,
     grid: Grid,
     values: &[f64],
@@ -50,23 +51,15 @@ pub fn advance(
         (state_of xs.old ys.old next.old prev.old snapshot.old quads.old
         edges.old k) }
 {
-    let most = ends::most_passes(passes);
     settling::file_all(size, xs, ys, edges, node_pool, edge_pool, tried, k);
     let mut counts = k;
-    let mut i = 0;
-    while i < most {
-        i += 1;
-        let p = passes::pass(
-            domain, blocks, size, grid, values, xs, ys, next, prev, snapshot, quads,
-            edges, node_pool, edge_pool, tried, counts,
-        );
-        match p {
-            Swept::On(m) => {
-                counts = m;
-            }
-            Swept::Over(end, m) => {
-                return Advanced { end, counts: m };
-            }
+    for _ in 0..passes.min(Settings::MOST_PASSES) {
+        match passes::pass(
+            domain, blocks, size, grid, values, xs, ys, next, prev, snapshot, quads, edges,
+            node_pool, edge_pool, tried, counts,
+        ) {
+            Swept::On(m) => counts = m,
+            Swept::Over(end, m) => return Advanced { end, counts: m },
         }
     }
     Advanced {

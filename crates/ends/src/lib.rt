@@ -1,7 +1,7 @@
 // What is decided in a pass of the paving (src/alt_crossfield.rs) without trying an edge: which edges its snapshot has, and where the paving ends.
 #![tactic(auto)]
 
-ghost use Rattle.std.specs.Prelude.{◌≡◌, ◌<◌, min, length, get_or};
+ghost use Rattle.std.specs.Prelude.{◌≡◌, ◌<◌, length, get_or};
 ghost use Rattle.ends.specs.Answers.{snapshot_edge, quad_settled, pass_answer};
 
 use domain::Settings;
@@ -26,16 +26,13 @@ pub enum Swept {
 // ---- the snapshot
 
 // Where the snapshot's edge from node a leads; nowhere if it is on the front no more.
+#[tactic(auto, unfolding(crate::specs::Answers::snapshot_edge))]
 pub fn snapshot_edge(next: &[u32], snapshot: &[u32], a: u32) -> Neighbour
     requires { (a < length next.now) × (a < length snapshot.now) }
     ensures { result ≡ snapshot_edge (get_or next.now a 0) (get_or snapshot.now a 0) }
 {
-    let i = a as usize;
-    let b = snapshot[i];
-    if b == OFF {
-        return Neighbour::Off;
-    }
-    if next[i] == b {
+    let b = snapshot[a as usize];
+    if b != OFF && next[a as usize] == b {
         Neighbour::At(b)
     } else {
         Neighbour::Off
@@ -45,6 +42,7 @@ pub fn snapshot_edge(next: &[u32], snapshot: &[u32], a: u32) -> Neighbour
 // ---- the ends
 
 // After a quad: on, or the end at the cap.
+#[tactic(auto, unfolding(crate::specs::Answers::quad_settled))]
 pub fn after_quad(m: Counts) -> Settled
     ensures { result ≡ quad_settled m }
 {
@@ -63,16 +61,5 @@ pub fn after_pass(placed: bool, k: Counts) -> Swept
         Swept::On(k)
     } else {
         Swept::Over(End::Still, k)
-    }
-}
-
-// As many passes as asked for, at most 600.
-pub fn most_passes(passes: usize) -> usize
-    ensures { result ≡ min passes 600 }
-{
-    if passes < Settings::MOST_PASSES {
-        passes
-    } else {
-        Settings::MOST_PASSES
     }
 }

@@ -13,8 +13,8 @@ ghost use Rattle.ends.specs.Answers.{Settles, settled_counts};
 ghost use Rattle.settling.specs.Paveable.{Paveable};
 ghost use Rattle.settling.specs.Searchable.{Searchable, Helped};
 
-use domain::Domain;
 use direction::Grid;
+use domain::Domain;
 use ends::Settled;
 use front::{Counts, Neighbour, Placed};
 use paving::{Attempt, End};
@@ -43,7 +43,8 @@ fn file_added(
 
 // Tries the snapshot's edge from node a, and places and files the quad that is answered.
 pub fn settle(
-    domain: Domain<'_>, blocks: &[u32],
+    domain: Domain<'_>,
+    blocks: &[u32],
     size: f64,
     grid: Grid,
     values: &[f64],
@@ -73,22 +74,20 @@ pub fn settle(
         × Helped (outline_of domain.entry) size (field_record grid values.now [])
         xs.new ys.new next.new snapshot.now edges.new (settled_counts k result) node_pool.new edge_pool.new tried.new }
 {
-    let edge = ends::snapshot_edge(next, snapshot, a);
-    let Neighbour::At(b) = edge else {
+    let Neighbour::At(b) = ends::snapshot_edge(next, snapshot, a) else {
         return Settled::Same;
     };
     let attempt = retries::try_untried(
-        domain, blocks, size, grid, values, xs, ys, next, prev, edges, node_pool,
-        edge_pool, tried, k, a, b,
+        domain, blocks, size, grid, values, xs, ys, next, prev, edges, node_pool, edge_pool, tried,
+        k, a, b,
     );
     let Attempt::Quad(c, d) = attempt else {
         return Settled::Same;
     };
     let across = indexed::is_known_across(edge_pool, size, xs, ys, edges, k.edges, c, d);
-    let placed = front::place(
+    match front::place(
         xs, ys, next, prev, snapshot, quads, edges, k, a, b, c, d, across,
-    );
-    match placed {
+    ) {
         Placed::Full => Settled::Over(End::Full, k),
         Placed::Done(m) => {
             file_added(size, xs, ys, edges, node_pool, edge_pool, tried, k, m);

@@ -5,6 +5,8 @@ ghost use Rattle.std.specs.Prelude.{◌≡◌, false, ◌+◌, ◌*◌, ◌<◌,
 ghost use Rattle.domain.specs.Outline.{outline_of, hole_start, loop_at, point_at, after, point_after, any_float, not_finite, beyond, misshapen, LoopPlace};
 ghost use Rattle.domain.specs.Outline.{loop_refusal, loops_refusal, outline_refusal, point_refusal};
 ghost use Rattle.domain.specs.Refusals.{refused};
+ghost use Rattle.std.specs.Iterator.{YieldsFirstBy, item_count};
+ghost use Rattle.outlines.specs.Holes.{placed, cut, hole_list, Filled};
 ghost use Rattle.domain.specs.Queries.{ray_crosses, squared_distance, foot_of};
 ghost use Rattle.domain.specs.Search.{search_start, searched};
 
@@ -76,16 +78,69 @@ pub fn loop_points<'a>(domain: Domain<'a>, k: usize, start: usize) -> &'a [f64]
     &domain.holes[from..to]
 }
 
+// A hole of an outline: its index, how many hole points stand before it, and its coordinates.
+#[derive(Clone, Copy)]
+pub struct Hole<'a> {
+    pub index: usize,
+    pub start: usize,
+    pub points: &'a [f64],
+}
+
+// The holes of an outline, one after another.
+#[derive(Clone, Copy)]
+pub struct Holes<'a> {
+    index: usize,
+    start: usize,
+    points: &'a [f64],
+    lens: &'a [usize],
+    ghost filled: { Filled index start lens.now points.now },
+}
+
+impl<'a> Iterator for Holes<'a> {
+    type Item = Hole<'a>;
+
+    ghost next_gives = { YieldsFirstBy placed (λ s. cut s.index s.start s.lens.now s.points.now) };
+
+    ghost remaining = { item_count (λ s. cut s.index s.start s.lens.now s.points.now) };
+
+    fn next(&mut self) -> Option<Hole<'a>> {
+        let (n, lens) = self.lens.split_first()?;
+        let (points, others) = self.points.split_at(2 * *n);
+        let hole = Hole {
+            index: self.index,
+            start: self.start,
+            points,
+        };
+        *self = Holes {
+            index: self.index + 1,
+            start: self.start + *n,
+            points: others,
+            lens,
+        };
+        Some(hole)
+    }
+}
+
+pub fn holes_of<'a>(domain: Domain<'a>) -> Holes<'a>
+    requires { misshapen (outline_of domain) ≡ false }
+    ensures { cut result.index result.start result.lens.now result.points.now ≡ hole_list (outline_of domain.entry) }
+{
+    Holes {
+        index: 0,
+        start: 0,
+        points: domain.holes,
+        lens: domain.lens,
+    }
+}
+
 // Refusals 2 and 3, loop by loop.
 fn check_loops(domain: Domain<'_>) -> Result<(), Refusal>
     requires { misshapen (outline_of domain) ≡ false }
     ensures { refused result ≡ loops_refusal (outline_of domain.entry) }
 {
     check_loop(domain.outer)?;
-    let mut start = 0;
-    for k in 0..domain.lens.len() {
-        check_loop(loop_points(domain, k + 1, start))?;
-        start += domain.lens[k];
+    for hole in holes_of(domain) {
+        check_loop(hole.points)?;
     }
     Ok(())
 }

@@ -1,0 +1,88 @@
+-- The list of an outline's holes is as long as that of their lengths, and has hole k at place k.
+use Rattle.std.specs.Iterator.{Yields, YieldsFirstBy}
+use Rattle.std.specs.Prelude.{Option, Some, None, false, List, [], ◌∷◌, ◌≡◌, refl, ℕ, zero, suc, ◌+◌, ◌*◌, ◌<◌, ◌^◌, length, get_or, take, drop, sum, Float}
+use Rattle.std.proofs.Common.{sym, ap, ap₂, ◌∙◌, arith}
+use Rattle.std.proofs.lemmas.List.{drop-drop}
+use Rattle.std.proofs.lemmas.List.Sums.{sum_by-cons}
+use Rattle.std.proofs.lemmas.Iterator.Consumers.{YieldsList-from_first, YieldsList-turn, YieldsList-end}
+use Rattle.domain.specs.Outline.{Outline, hole_length, hole_start, hole_at, misshapen}
+use Rattle.domain.specs.OutlineLaws.{start_first, start_next, shaped}
+use Rattle.outlines.specs.declared.Hole.{Hole}
+use Rattle.outlines.specs.declared.Holes.{Holes}
+use Rattle.outlines.specs.Holes.{placed, cut, hole_list, Filled}
+
+-- the points before a hole, the first hole's apart
+start_front : (n : ℕ) (lens : List ℕ) (k : ℕ) → hole_start (n ∷ lens) (suc k) ≡ n + hole_start lens k
+start_front n lens zero = omega (arith, start_next (n ∷ lens) 0, start_first (n ∷ lens), start_first lens)
+start_front n lens (suc k) =
+    omega (arith, start_next (n ∷ lens) (suc k), start_next lens k, start_front n lens k, ap (hole_start (n ∷ lens)) (one (suc k)), ap (hole_start lens) (one k))
+  where
+    one : (k : ℕ) → k + 1 ≡ suc k
+    one k = omega arith
+
+start_sum : (lens : List ℕ) → hole_start lens (length lens) ≡ sum lens
+start_sum [] = start_first []
+start_sum (n ∷ lens) =
+    start_front n lens (length lens) ∙ ap (λ (m : ℕ). n + m) (start_sum lens) ∙ sym (sum_by-cons (λ (m : ℕ). m) n lens)
+
+pub filled : (o : Outline) → misshapen o ≡ false → length o.lens < 2 ^ 64 → Filled 0 0 o.lens o.holes
+filled o e h = let s = shaped o e in record { there = omega (arith, start_sum o.lens); few = omega arith; numbered = omega arith }
+
+cut_length : (k start : ℕ) (lens : List ℕ) (s : List Float) → length (cut k start lens s) ≡ length lens
+cut_length k start [] s = refl
+cut_length k start (n ∷ lens) s = ap suc (cut_length (k + 1) (start + n) lens (drop (2 * n) s))
+
+abbrev hole_cut : ℕ → ℕ → List ℕ → List Float → ℕ → ℕ × (ℕ × List Float)
+hole_cut k start lens s i = (k + i, (start + hole_start lens i, take (2 * hole_length lens i) (drop (2 * hole_start lens i) s)))
+
+cut_at : (k start : ℕ) (lens : List ℕ) (s : List Float) (d : ℕ × (ℕ × List Float)) (i : ℕ) → i < length lens
+    → get_or (cut k start lens s) i d ≡ hole_cut k start lens s i
+cut_at k start [] s d i h = absurd (omega arith)
+cut_at k start (n ∷ lens) s d zero h = rw (start_first (n ∷ lens)) (ap₂ (λ (a b : ℕ). (a, (b, take (2 * n) s))) (omega arith) (omega arith))
+cut_at k start (n ∷ lens) s d (suc i) h =
+    cut_at (k + 1) (start + n) lens (drop (2 * n) s) d i (omega arith)
+    ∙ ap₂ (λ (a b : ℕ). (a, (b, take (2 * hole_length lens i) (drop (2 * hole_start lens i) (drop (2 * n) s))))) (omega arith) (omega (arith, start_front n lens i))
+    ∙ ap (λ (t : List Float). (k + suc i, (start + hole_start (n ∷ lens) (suc i), take (2 * hole_length lens i) t)))
+    (drop-drop (2 * hole_start lens i) (2 * n) s ∙ ap (λ (m : ℕ). drop m s) (omega (arith, start_front n lens i)))
+
+hole_list_length : (o : Outline) → length (hole_list o) ≡ length o.lens
+unfolding hole_list
+hole_list_length o = cut_length 0 0 o.lens o.holes
+
+hole_list_at : (o : Outline) (d : ℕ × (ℕ × List Float)) (k : ℕ) → k < length o.lens → get_or (hole_list o) k d ≡ (k, (hole_start o.lens k, hole_at o k))
+unfolding hole_list hole_at
+hole_list_at o d k h = cut_at 0 0 o.lens o.holes d k h ∙ ap₂ (λ (a b : ℕ). (a, (b, hole_at o k))) (omega arith) (omega arith)
+
+-- ---- a loop `for hole in outlines::holes_of(..)`: what its iterator gave so far, and gives next
+
+abbrev left : Holes → List (ℕ × (ℕ × List Float))
+left h = cut h.index h.start h.lens.now h.points.now
+
+abbrev pub GivesHoles : Holes → Option Hole → Holes → Type 0
+GivesHoles = YieldsFirstBy placed left
+
+-- the hole is the outline's k-th
+pub record HolePlace (o : Outline) (k : ℕ) (h : Hole) : Type 0 where
+  pub within : k < length o.lens
+  pub index : h.index ≡ k
+  pub start : h.start ≡ hole_start o.lens k
+  pub points : h.points.now ≡ hole_at o k
+
+module _ (o : Outline) (first here next : Holes) (given : List Hole) (all : left first ≡ hole_list o) (so_far : Yields GivesHoles first given here) where
+  -- it gives the next hole
+  pub hole_given : {r : Option Hole} (h : Hole) → r ≡ Some h → GivesHoles here r next → HolePlace o (length given) h
+  hole_given h e step =
+      let turn = YieldsList-turn (YieldsList-from_first placed left (hole_list o) all) given here so_far _ next h e step in
+      let within : length given < length o.lens = omega (arith, turn.0, hole_list_length o) in
+      let same = turn.1 ∙ hole_list_at o (placed h) (length given) within in
+      record {
+        within = within;
+        index = ap (λ (p : ℕ × (ℕ × List Float)). p.0) same;
+        start = ap (λ (p : ℕ × (ℕ × List Float)). p.1.0) same;
+        points = ap (λ (p : ℕ × (ℕ × List Float)). p.1.1) same;
+      }
+
+  -- or all have been given
+  pub holes_given : {r : Option Hole} → r ≡ None → GivesHoles here r next → length given ≡ length o.lens
+  holes_given e step =
+      (YieldsList-end (YieldsList-from_first placed left (hole_list o) all) given here so_far _ next e step).1 ∙ hole_list_length o

@@ -2,7 +2,6 @@
 -- document 01's; laws that join the two, and computed examples.
 use Rattle.std.specs.Prelude.{◌≡◌, refl, Bool, true, false, cond, ◌≢◌, ℕ, eqb}
 use Rattle.std.proofs.Common.{sym, ap, ◌∙◌, eqb-true, eq-eqb, ne_eqb}
-use Rattle.std.proofs.lemmas.Bool.{eqb-false}
 use Rattle.topology.specs.Links.{off}
 use Rattle.front.specs.declared.Neighbour.{Neighbour}
 use Rattle.front.specs.declared.Neighbour.TheVariants.{At, Off}

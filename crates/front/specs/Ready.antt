@@ -1,7 +1,7 @@
 -- When a quad can be placed: the far corners are chosen as the reference chooses them, in a sound state whose mesh edges are known. And what it
 -- means that the quad fits the places lent.
 use Rattle.std.specs.Prelude.{ℕ, ◌+◌, ◌<◌, ◌≤◌, List, ◌≡◌, true, false, ◌≢◌, ltb}
-use Rattle.std.proofs.Common.{arith, ltb-false}
+use Rattle.std.proofs.Common.{ltb-false}
 use Rattle.laws.specs.Tests.{neither}
 use Rattle.topology.specs.Links.{off}
 use Rattle.front.specs.declared.Corner.{Corner}

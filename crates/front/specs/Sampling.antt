@@ -1,5 +1,5 @@
 -- `Paving::from_boundary` of src/alt_crossfield.rs: the outline sampled into a front, with refusal 10. Definitions only.
-use Rattle.std.specs.Prelude.{Bool, true, false, ◌&&◌, ◌||◌, cond, List, ℕ, suc, ◌+◌, ◌-◌, ◌%◌, max, ltb, eqb, length, Float}
+use Rattle.std.specs.Prelude.{Bool, ◌&&◌, ◌||◌, cond, List, ℕ, suc, ◌+◌, ◌-◌, ◌%◌, max, ltb, eqb, length, Float}
 use Rattle.std.specs.Float.Ieee.{lt, unlike}
 use Rattle.laws.specs.Loop.{for_up, sum_up}
 use Rattle.laws.specs.Tabulate.{tabulate}

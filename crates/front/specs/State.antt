@@ -1,6 +1,6 @@
 -- The state of a paving as it is lent, and its elementary changes: `push_node`, `add_front`, `remove_front`, `add_mesh_edge` of
 -- src/alt_crossfield.rs. Definitions only.
-use Rattle.std.specs.Prelude.{Bool, true, false, ◌&&◌, cond, List, ℕ, ◌+◌, ◌-◌, ◌*◌, ◌/◌, min, max, eqb, length, get_or, set, Float}
+use Rattle.std.specs.Prelude.{Bool, ◌&&◌, cond, List, ℕ, ◌+◌, ◌-◌, ◌*◌, ◌/◌, min, max, eqb, length, get_or, set, Float}
 use Rattle.std.specs.Float.{nan}
 use Rattle.laws.specs.Loop.{any_up}
 use Rattle.topology.specs.Links.{off, link_of}

@@ -311,7 +311,7 @@ quad_stored s a b c d R full =
 -- ---- the code: what it has found out before it stores anything, and what it stores
 
 -- the storing of the edges
-length_store : (known : Bool) (n u v : ℕ) (l : List ℕ) → length (store_edge known n u v l) ≡ length l
+pub length_store : (known : Bool) (n u v : ℕ) (l : List ℕ) → length (store_edge known n u v l) ≡ length l
 unfolding store_edge
 length_store true n u v l = refl
 length_store false n u v l = simp length-set

@@ -4,7 +4,7 @@
 ghost use Rattle.std.specs.Prelude.{◌≡◌, ◌+◌, ◌*◌, ◌^◌, ◌≤◌, ◌<◌, min, max, length, get_or, set};
 ghost use Rattle.std.specs.Float.{nan};
 ghost use Rattle.topology.specs.Links.{off};
-ghost use Rattle.front.specs.State.{state_of, node_in};
+ghost use Rattle.front.specs.State.{state_of, node_in, fewest, most_nodes};
 ghost use Rattle.front.specs.Place.{added, corner_id};
 ghost use Rattle.front.specs.Ready.{Ready};
 ghost use Rattle.front.specs.Stores.{PlacesQuad, counts_after, counts_with_quad, is_beyond, store_x, store_y, reuses_node, known_across, unless, new_edges};
@@ -13,7 +13,7 @@ ghost use Rattle.front.specs.Stores.{store_edge, store_edges, store_quad, store_
 use domain::Point;
 
 // How much of the lent lists is in use. `front` counts the front's edges.
-#[derive(Clone, Copy)]
+#[derive(Clone, Copy, Debug, Default, PartialEq, Eq)]
 pub struct Counts {
     pub nodes: u32,
     pub quads: usize,
@@ -56,6 +56,9 @@ pub enum Placed {
 // The link of a node off the front.
 pub const OFF: u32 = 4294967295;
 
+// Node places past this many count as not lent.
+const MOST_NODES: usize = 4294967294;
+
 impl Corner {
     // How many nodes the corner adds.
     pub fn added(self) -> u32
@@ -80,10 +83,7 @@ impl Corner {
     pub fn is_reused(self) -> bool
         ensures { result ≡ reuses_node self }
     {
-        match self {
-            Corner::Reused(_) => true,
-            Corner::Fresh(_, _) => false,
-        }
+        matches!(self, Corner::Reused(_))
     }
 }
 
@@ -109,10 +109,10 @@ impl Counts {
 fn coordinate(s: &[f64], id: u32) -> f64
     ensures { result ≡ get_or s.now id nan }
 {
-    let i = id as usize;
-    if i < s.len() { s[i] } else { 0.0 / 0.0 }
+    s.get(id as usize).copied().unwrap_or(f64::NAN)
 }
 
+#[tactic(auto, unfolding(crate::specs::State::node_in))]
 pub fn node_at(xs: &[f64], ys: &[f64], id: u32) -> Point
     ensures { result ≡ node_in xs.now ys.now id }
 {
@@ -148,34 +148,36 @@ fn put_corners(c: Corner, d: Corner, xs: &mut [f64], ys: &mut [f64], n: u32)
 
 // ---- the mesh edges
 
-fn unless(known: bool) -> usize
-    ensures { (result ≡ unless known) × (result ≤ 1) }
-{
-    if known { 0 } else { 1 }
-}
-
 // How many edges a quad adds: a to b is known, and so are the sides at reused corners.
+#[tactic(auto, unfolding(crate::specs::Stores::new_edges))]
 fn new_edges(across: bool, c: Corner, d: Corner) -> usize
     ensures { (result ≡ new_edges across c d) × (result ≤ 3) }
 {
-    unless(d.is_reused()) + unless(across) + unless(c.is_reused())
+    usize::from(!d.is_reused()) + usize::from(!across) + usize::from(!c.is_reused())
+}
+
+// Stores the edge between u and v as edge n, the smaller id first.
+pub fn write_edge(edges: &mut [u32], n: usize, u: u32, v: u32)
+    requires { 2 * n + 2 ≤ length edges.old }
+    ensures { edges.new ≡ set (set edges.old (2 * n) (min u v)) (2 * n + 1) (max u v) }
+{
+    edges[2 * n] = u.min(v);
+    edges[2 * n + 1] = u.max(v);
 }
 
 // Stores u to v as edge n, unless it is known.
+#[tactic(auto, unfolding(crate::specs::Stores::store_edge))]
 fn put_edge(edges: &mut [u32], known: bool, n: usize, u: u32, v: u32)
     requires { 2 * (n + unless known) ≤ length edges.old }
     ensures { edges.new ≡ store_edge known n u v edges.old }
 {
-    if known {
-        return;
+    if !known {
+        write_edge(edges, n, u, v);
     }
-    let lo = numbers::min_u32(u, v);
-    let hi = numbers::max_u32(u, v);
-    edges[2 * n] = lo;
-    edges[2 * n + 1] = hi;
 }
 
 // Stores the edges b to d, d to c and c to a, from place n on.
+#[tactic(auto, using(crate::specs::StoreLaws::length_store), unfolding(crate::specs::Stores::store_edges, crate::specs::Stores::new_edges))]
 fn put_edges(
     edges: &mut [u32],
     n: usize,
@@ -192,8 +194,8 @@ fn put_edges(
 {
     let at_d = d.is_reused();
     let at_c = c.is_reused();
-    let n1 = n + unless(at_d);
-    let n2 = n1 + unless(across);
+    let n1 = n + usize::from(!at_d);
+    let n2 = n1 + usize::from(!across);
     put_edge(edges, at_d, n, b, id_d);
     put_edge(edges, across, n1, id_d, id_c);
     put_edge(edges, at_c, n2, id_c, a);
@@ -201,20 +203,18 @@ fn put_edges(
 
 // ---- the quad
 
-fn put_quad(quads: &mut [u32], k: usize, a: u32, b: u32, d: u32, c: u32)
+// Stores the quad a, b, d, c as quad k.
+pub fn put_quad(quads: &mut [u32], k: usize, a: u32, b: u32, d: u32, c: u32)
     requires { 4 * (k + 1) ≤ length quads.old }
     ensures { quads.new ≡ store_quad k a b d c quads.old }
 {
-    quads[4 * k] = a;
-    quads[4 * k + 1] = b;
-    quads[4 * k + 2] = d;
-    quads[4 * k + 3] = c;
+    quads[4 * k..4 * k + 4].copy_from_slice(&[a, b, d, c]);
 }
 
 // ---- the front
 
 // Makes u to v a front edge.
-fn link(next: &mut [u32], prev: &mut [u32], u: u32, v: u32)
+pub fn link(next: &mut [u32], prev: &mut [u32], u: u32, v: u32)
     requires { (u < length next.old) × (v < length prev.old) }
     ensures { (next.new ≡ set next.old u v) × (prev.new ≡ set prev.old v u) }
 {
@@ -243,6 +243,7 @@ fn link_side(c: Corner, next: &mut [u32], prev: &mut [u32], x: u32, u: u32, v: u
 }
 
 // The sides of the quad that are on the front come off, and the others go on.
+#[tactic(auto, unfolding(crate::specs::Stores::store_next, crate::specs::Stores::store_prev))]
 fn move_front(
     c: Corner,
     d: Corner,
@@ -264,7 +265,20 @@ fn move_front(
 
 // ---- the placing
 
+// How many nodes the lists have places for; `others` is the length of one more list that holds a number a node.
+pub fn node_places(xs: &[f64], ys: &[f64], next: &[u32], prev: &[u32], others: usize) -> usize
+    ensures { result ≡ min (fewest (length xs.now) (length ys.now) (length next.now) (length prev.now) others) most_nodes }
+{
+    let links = next.len().min(prev.len());
+    xs.len()
+        .min(ys.len())
+        .min(links)
+        .min(others)
+        .min(MOST_NODES)
+}
+
 // Whether m nodes, a quad and e mesh edges more are beyond those lent.
+#[tactic(auto, unfolding(crate::specs::Stores::is_beyond, crate::specs::State::node_places, crate::specs::State::quad_places, crate::specs::State::edge_places))]
 fn is_beyond(
     xs: &[f64],
     ys: &[f64],
@@ -284,28 +298,9 @@ fn is_beyond(
         m e }
 {
     let n = (k.nodes as usize) + (m as usize);
-    if n > 4294967294 {
-        return true;
-    }
-    if n > xs.len() {
-        return true;
-    }
-    if n > ys.len() {
-        return true;
-    }
-    if n > next.len() {
-        return true;
-    }
-    if n > prev.len() {
-        return true;
-    }
-    if n > snapshot.len() {
-        return true;
-    }
-    if k.quads + 1 > quads.len() / 4 {
-        return true;
-    }
-    k.edges + e > edges.len() / 2
+    n > node_places(xs, ys, next, prev, snapshot.len())
+        || k.quads + 1 > quads.len() / 4
+        || k.edges + e > edges.len() / 2
 }
 
 // Places the quad a, b, d, c on the front edge a to b; or says that it is full, and writes nothing. `across` says whether c and d are joined already.

@@ -34,13 +34,9 @@ pub fn beyond_places(
         (lent_state xs.now ys.now next.now prev.now origins.now quads.now
         edges.now k) n q e }
 {
-    let nodes = xs
-        .len()
-        .min(ys.len())
-        .min(next.len())
-        .min(prev.len())
-        .min(origins.len());
-    n > nodes.min(4294967294) || q > quads.len() / 4 || e > edges.len() / 2
+    n > front::node_places(xs, ys, next, prev, origins.len())
+        || q > quads.len() / 4
+        || e > edges.len() / 2
 }
 
 // ---- ids out of range

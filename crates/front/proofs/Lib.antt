@@ -1,0 +1,2 @@
+-- What the code writes into a slice's part.
+pub mod Parts

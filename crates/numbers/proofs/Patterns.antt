@@ -1,5 +1,5 @@
 -- The bit patterns of f64: the value that a pattern stands for, and the pattern of what `units` makes. Assumes nothing.
-use Rattle.std.proofs.Common.{◌≡◌, ℕ, zero, suc, ◌+◌, ◌-◌, ◌*◌, ◌/◌, ◌%◌, ◌^◌, ◌<◌, ◌≤◌, Bool, true, false, cond, not, T, eqb, ltb, leb, ◌⊎◌, sym, refl, ap, ◌∙◌, subst, ap₂, inl, inr, true≢false, lt_of_lt_of_le, lt_irrefl, mod-eq_of_lt, add_comm, mul-pos, not-le_of_lt, arith, le→leb, eqb→eq, ltb→lt, lt→ltb, leb→le, nltb→le, pow_pos, pow_mono, shl_lt}
+use Rattle.std.proofs.Common.{◌≡◌, ℕ, zero, suc, ◌+◌, ◌-◌, ◌*◌, ◌/◌, ◌%◌, ◌^◌, ◌<◌, ◌≤◌, Bool, true, false, cond, not, T, eqb, ltb, leb, ◌⊎◌, sym, refl, ap, ◌∙◌, subst, ap₂, inl, inr, true≢false, lt_irrefl, mod-eq_of_lt, add_comm, mul-pos, not-le_of_lt, arith, le→leb, eqb→eq, ltb→lt, lt→ltb, leb→le, nltb→le, pow_pos}
 use lib.Dec.{not_T}
 use lib.Arith.{le→nltb}
 use lib.Count.{count_trailing_zeros, under}
@@ -20,6 +20,15 @@ unfolding is_nan
 not_nan nan h = absurd (true≢false (sym nan_differs ∙ h))
 not_nan (inf s) h = refl
 not_nan (fin s m e) h = refl
+
+-- what `x.is_nan()` told
+pub nan_told : (x : Float) {b t : Bool} → b ≡ is_nan x → b ≡ t → ne x x ≡ t
+unfolding is_nan
+nan_told x e f = by (ne x x) refl ∙ sym e ∙ f
+  where
+    by : (d : Bool) → ne x x ≡ d → d ≡ is_nan x
+    by true g = rw (is_nan_lem x g)
+    by false g = sym (not_nan x g)
 
 -- as a need of `f64::to_bits` has it
 pub no_nan : (x : Float) → ne x x ≡ false → T (not (is_nan x))

@@ -1,8 +1,10 @@
 -- A value without its fraction, and a value rounded up, from its bits: what `floor_bits` and `ceil_bits` cite. Assumes nothing.
-use Rattle.std.proofs.Common.{◌≡◌, ℕ, suc, ◌+◌, ◌-◌, ◌*◌, ◌/◌, ◌%◌, ◌^◌, ◌<◌, ◌≤◌, ◌⊎◌, sym, refl, ap, ◌∙◌, inl, inr, le_trans, le_of_eq, le_refl, lt_of_lt_of_le, le_of_suc-le-suc, le_of_lt, mul-le-mul_right, mul_assoc, div-lt_iff_lt-mul, le_antisymm, one-mul, lt_of_not-le, mul-one, mul_right_comm, not-le_of_lt, le_of_mul-le-mul_right, div-one, arith, lit<, pow_pos, pow_mono, pow-add, shl_lt, shl_exact}
-use native.Mathlib.Nat.{div-eq_of_lt}
+use Rattle.std.proofs.Common.{◌≡◌, ℕ, suc, ◌+◌, ◌-◌, ◌*◌, ◌/◌, ◌%◌, ◌^◌, ◌<◌, ◌≤◌, ◌⊎◌, sym, refl, ap, ◌∙◌, inl, inr, le_trans, le_of_eq, le_refl, lt_of_lt_of_le, le_of_suc-le-suc, le_of_lt, mul-le-mul_right, mul_assoc, div-lt_iff_lt-mul, le_antisymm, one-mul, lt_of_not-le, mul-one, mul_right_comm, not-le_of_lt, le_of_mul-le-mul_right, div-one, arith, pow_pos, pow_mono, pow-add, shl_lt, shl_exact}
+use Rattle.std.proofs.Common.{Bool, true, false, cond, not, nat_eq, mod-eq_of_lt, add-zero}
+use Rattle.std.proofs.lemmas.Bool.{eqb-true, eqb-false}
+use native.Mathlib.Nat.{div-eq_of_lt, div-le_self}
 use lib.Ieee.Nearest.{div_same}
-use Rattle.numbers.specs.Whole.{ceil_div, size_of_bits}
+use Rattle.numbers.specs.Whole.{IsWholePart, ceil_div, size_of_bits}
 use Rattle.numbers.proofs.Patterns.{below_or_not, size_low, size_high, size_pos}
 
 -- ---- rounding up
@@ -34,6 +36,17 @@ ceil_same a b c d B D e = le_antisymm (one_way a b c d B D e) (one_way c d a b D
 
 ceil_one : (a : ℕ) → ceil_div a 1 ≡ a
 ceil_one a = div-one (a + 0) ∙ omega arith
+
+-- by the quotient and whether it is exact
+ceil_split : (a c : ℕ) → 0 < c → (b : Bool) → nat_eq (a / c * c) a ≡ b → a / c + cond (not b) 1 0 ≡ ceil_div a c
+ceil_split a c C b e = go (a / c) b e (omega arith) (omega arith)
+  where
+    go : (q : ℕ) (b : Bool) → nat_eq (q * c) a ≡ b → q * c ≤ a → a < q * c + c → q + cond (not b) 1 0 ≡ ceil_div a c
+    go q true e h k = add-zero _ ∙ le_antisymm (le_of_mul-le-mul_right (le_trans h (le_ceil a c C)) C) (ceil_le a c q C (le_of_eq (sym (eqb-true _ _ e))))
+    go q false e h k =
+        let over = ceil_over a c q C (omega (arith, eqb-false _ _ e)) in
+        let most = ceil_le a c (q + 1) C (omega arith) in
+        omega arith
 
 -- ---- how large a value is, by its exponent field
 
@@ -73,16 +86,21 @@ size_under b k h = lt_of_lt_of_le (size-lt b (1022 + k) (omega arith) (omega ari
 below_one : (b : ℕ) → b / 2 ^ 52 < 1023 → size_of_bits b < 1 * 2 ^ 1074
 below_one b h = size_under b 0 h
 
-pub floor_none : (b : ℕ) → b / 2 ^ 52 < 1023 → 0 ≡ size_of_bits b / 2 ^ 1074
+floor_none : (b : ℕ) → b / 2 ^ 52 < 1023 → 0 ≡ size_of_bits b / 2 ^ 1074
 floor_none b h = sym (div-eq_of_lt (rw one-mul at (below_one b h)))
 
-pub ceil_zero : (b : ℕ) → b ≡ 0 → 0 ≡ ceil_div (size_of_bits b) (2 ^ 1074)
-ceil_zero b e = sym (ap (λ (y : ℕ). ceil_div (size_of_bits y) (2 ^ 1074)) e ∙ (unfold size_of_bits in refl))
+pub part_none : (b : ℕ) → b / 2 ^ 52 < 1023 → IsWholePart (size_of_bits b) 0 (not (nat_eq b 0))
+part_none b h = record { floor = floor_none b h; ceil = go (nat_eq b 0) refl; room = small (nat_eq b 0) }
+  where
+    go : (t : Bool) → nat_eq b 0 ≡ t → 0 + cond (not t) 1 0 ≡ ceil_div (size_of_bits b) (2 ^ 1074)
+    go true e = sym (ap (λ (y : ℕ). ceil_div (size_of_bits y) (2 ^ 1074)) (eqb-true b 0 e) ∙ (unfold size_of_bits in refl))
+    go false e =
+        le_antisymm (ceil_over (size_of_bits b) (2 ^ 1074) 0 (pow_pos 1074) (size_pos b (omega (arith, eqb-false b 0 e))))
+        (ceil_le (size_of_bits b) (2 ^ 1074) 1 (pow_pos 1074) (le_of_lt (below_one b h)))
 
-pub ceil_part : (b : ℕ) → (b ≡ 0 → ⊥) → b / 2 ^ 52 < 1023 → 1 ≡ ceil_div (size_of_bits b) (2 ^ 1074)
-ceil_part b n h =
-    le_antisymm (ceil_over (size_of_bits b) (2 ^ 1074) 0 (pow_pos 1074) (size_pos b (omega arith)))
-    (ceil_le (size_of_bits b) (2 ^ 1074) 1 (pow_pos 1074) (le_of_lt (below_one b h)))
+    small : (t : Bool) → 0 + cond (not t) 1 0 < 2 ^ 64
+    small true = omega arith
+    small false = omega arith
 
 -- ---- from 1 on, from the digits and the exponent field
 
@@ -103,18 +121,25 @@ module _ (b : ℕ) (lo : 1023 ≤ b / 2 ^ 52) (hi : b < 0x43f0_0000_0000_0000) w
   floor_down h =
       sym (div_same (size_of_bits b) (2 ^ 1074) (b % 2 ^ 52 + 2 ^ 52) (2 ^ (1075 - b / 2 ^ 52)) (pow_pos 1074) (pow_pos (1075 - b / 2 ^ 52)) (scaled h))
 
-  one_up : b / 2 ^ 52 < 1075 → 1 * 2 ^ (1075 - b / 2 ^ 52) % 2 ^ 64 ≡ 2 ^ (1075 - b / 2 ^ 52)
-  one_up h = shl_exact 1 (1075 - b / 2 ^ 52) 64 (lit< tt) (omega arith) ∙ one-mul (2 ^ (1075 - b / 2 ^ 52))
+  pub part_down : b / 2 ^ 52 < 1075
+      → let d = b % 2 ^ 52 + 2 ^ 52 in let c = 2 ^ (1075 - b / 2 ^ 52) in IsWholePart (size_of_bits b) (d / c) (not (nat_eq (d / c * c % 2 ^ 64) d))
+  part_down h = go (b % 2 ^ 52 + 2 ^ 52) (2 ^ (1075 - b / 2 ^ 52)) (omega arith) (pow_pos (1075 - b / 2 ^ 52)) (scaled h)
+    where
+      go : (d c : ℕ) → d < 2 ^ 53 → 0 < c → size_of_bits b * c ≡ d * 2 ^ 1074 → IsWholePart (size_of_bits b) (d / c) (not (nat_eq (d / c * c % 2 ^ 64) d))
+      go d c D C e =
+          let le : d / c * c ≤ d = omega arith in
+          record {
+            floor = sym (div_same (size_of_bits b) (2 ^ 1074) d c (pow_pos 1074) C e);
+            ceil = rw (exact_back le) (ceil_split d c C (nat_eq (d / c * c) d) refl ∙ sym (ceil_same (size_of_bits b) (2 ^ 1074) d c (pow_pos 1074) C e));
+            room = small (nat_eq (d / c * c % 2 ^ 64) d) (le_trans (div-le_self d c) (le_of_lt D));
+          }
+        where
+          exact_back : d / c * c ≤ d → d / c * c % 2 ^ 64 ≡ d / c * c
+          exact_back k = mod-eq_of_lt (omega arith)
 
-  pub ceil_down : b / 2 ^ 52 < 1075
-      → (b % 2 ^ 52 + 2 ^ 52 + (1 * 2 ^ (1075 - b / 2 ^ 52) % 2 ^ 64 - 1)) / 2 ^ (1075 - b / 2 ^ 52) ≡ ceil_div (size_of_bits b) (2 ^ 1074)
-  ceil_down h =
-      let d = b % 2 ^ 52 + 2 ^ 52 in
-      ap (λ (y : ℕ). (d + (y - 1)) / 2 ^ (1075 - b / 2 ^ 52)) (one_up h)
-      ∙ sym (ceil_same (size_of_bits b) (2 ^ 1074) d (2 ^ (1075 - b / 2 ^ 52)) (pow_pos 1074) (pow_pos (1075 - b / 2 ^ 52)) (scaled h))
-
-  pub one_fits : b / 2 ^ 52 < 1075 → (1 ≤ 1 * 2 ^ (1075 - b / 2 ^ 52) % 2 ^ 64) × (1 * 2 ^ (1075 - b / 2 ^ 52) % 2 ^ 64 ≤ 2 ^ 52)
-  one_fits h = (le_trans (pow_pos (1075 - b / 2 ^ 52)) (le_of_eq (sym (one_up h))), le_trans (le_of_eq (one_up h)) (pow_mono {j = 52} (omega arith)))
+          small : (t : Bool) → d / c ≤ 2 ^ 53 → d / c + cond (not t) 1 0 < 2 ^ 64
+          small true k = omega arith
+          small false k = omega arith
 
   -- from 2 ^ 52 on there is none
   whole : 1075 ≤ b / 2 ^ 52 → size_of_bits b * 1 ≡ (b % 2 ^ 52 + 2 ^ 52) * 2 ^ (b / 2 ^ 52 - 1075) * 2 ^ 1074
@@ -133,12 +158,11 @@ module _ (b : ℕ) (lo : 1023 ≤ b / 2 ^ 52) (hi : b < 0x43f0_0000_0000_0000) w
   exact : (b % 2 ^ 52 + 2 ^ 52) * 2 ^ (b / 2 ^ 52 - 1075) % 2 ^ 64 ≡ (b % 2 ^ 52 + 2 ^ 52) * 2 ^ (b / 2 ^ 52 - 1075)
   exact = shl_exact 53 (b / 2 ^ 52 - 1075) 64 (omega arith) (omega arith)
 
-  pub floor_up : 1075 ≤ b / 2 ^ 52 → (b % 2 ^ 52 + 2 ^ 52) * 2 ^ (b / 2 ^ 52 - 1075) % 2 ^ 64 ≡ size_of_bits b / 2 ^ 1074
-  floor_up h =
+  pub part_up : 1075 ≤ b / 2 ^ 52 → IsWholePart (size_of_bits b) ((b % 2 ^ 52 + 2 ^ 52) * 2 ^ (b / 2 ^ 52 - 1075) % 2 ^ 64) false
+  part_up h =
       let r = (b % 2 ^ 52 + 2 ^ 52) * 2 ^ (b / 2 ^ 52 - 1075) in
-      exact ∙ sym (div_same (size_of_bits b) (2 ^ 1074) r 1 (pow_pos 1074) (pow_pos 0) (whole h) ∙ div-one r)
-
-  pub ceil_up : 1075 ≤ b / 2 ^ 52 → (b % 2 ^ 52 + 2 ^ 52) * 2 ^ (b / 2 ^ 52 - 1075) % 2 ^ 64 ≡ ceil_div (size_of_bits b) (2 ^ 1074)
-  ceil_up h =
-      let r = (b % 2 ^ 52 + 2 ^ 52) * 2 ^ (b / 2 ^ 52 - 1075) in
-      exact ∙ sym (ceil_same (size_of_bits b) (2 ^ 1074) r 1 (pow_pos 1074) (pow_pos 0) (whole h) ∙ ceil_one r)
+      record {
+        floor = exact ∙ sym (div_same (size_of_bits b) (2 ^ 1074) r 1 (pow_pos 1074) (pow_pos 0) (whole h) ∙ div-one r);
+        ceil = add-zero _ ∙ exact ∙ sym (ceil_same (size_of_bits b) (2 ^ 1074) r 1 (pow_pos 1074) (pow_pos 0) (whole h) ∙ ceil_one r);
+        room = omega arith;
+      }

@@ -2,13 +2,12 @@
 -- smallest double above 0, 2 ^ -1074: if x is n units, its exact root is √(n * 2 ^ 1074) units, and everything is said in squares of
 -- whole numbers. Assumes nothing.
 use Rattle.std.specs.Prelude.{◌≡◌, ℕ, zero, suc, ◌+◌, ◌-◌, ◌*◌, ◌/◌, ◌%◌, ◌^◌, ◌<◌, ◌≤◌, Bool, true, false, not, ◌&&◌, T, leb, ◌⊎◌, ℤ, pos, negsuc, nat_eq, nat_le, nat_lt, refl, Float}
-use Rattle.std.proofs.Common.{sym, ap, ◌∙◌, subst, inl, inr, le_trans, le_of_eq, le_of_lt, le_of_suc-le-suc, lt_of_lt_of_le, lt_of_le_of_lt, lt_of_not-le, lt_irrefl, not-le_of_lt, eq-or-lt_of_le, zero-lt-suc, mul-one, zero-mul, mul_assoc, mul_right_comm, mul-pos, mul-le-mul, mul-le-mul_right, mul-lt-mul_of_pos_right, lt_of_mul-lt-mul_right, arith, lit≤, leb→le, ltb→lt, lt→ltb, pow_pos, pow_mono, pow-add, shl_lt}
+use Rattle.std.proofs.Common.{sym, ap, ◌∙◌, subst, inl, inr, le_trans, le_of_eq, le_of_lt, le_of_suc-le-suc, lt_of_lt_of_le, lt_of_le_of_lt, lt_of_not-le, lt_irrefl, not-le_of_lt, eq-or-lt_of_le, zero-lt-suc, mul-one, zero-mul, mul_assoc, mul_right_comm, mul-pos, mul-le-mul, mul-le-mul_right, mul-lt-mul_of_pos_right, lt_of_mul-lt-mul_right, arith, lit≤, leb→le, ltb→lt, pow_pos, pow_mono, pow-add, shl_lt}
 use Rattle.std.proofs.Math.Nat.{mul-mul-mul_comm, eq_of_mul-eq-mul_right}
 use Rattle.std.proofs.Math.Dec.{nleb→lt}
 use Rattle.std.proofs.Math.Pow.{pow-lt}
 use Rattle.std.specs.Float.{nan, inf, fin, binary64}
 use Rattle.std.specs.Float.Ieee.{up, down, size, units, fits}
-use Rattle.std.specs.Float.Ieee.Bits.{is_true}
 use Rattle.std.specs.Float.Ieee.Digits.{size-lt, size-le, size_reaches}
 use Rattle.std.specs.Float.Ieee.Exact.{HasValue, units_val}
 use Rattle.std.specs.Float.Ieee.Fits.{down_pos, up_pos, odd-fits, and_l, and_r}

@@ -1,5 +1,5 @@
 -- Whole numbers from floats, as Rust's `as` has them: cut to the integer type's range, and 0 for a NaN. Definitions only.
-use Rattle.std.specs.Prelude.{ℕ, ◌+◌, ◌-◌, ◌*◌, ◌/◌, ◌%◌, ◌^◌, min, cond, ℤ, pos, neg_ℤ, nat_lt, Float}
+use Rattle.std.specs.Prelude.{◌≡◌, ◌<◌, Bool, ℕ, ◌+◌, ◌-◌, ◌*◌, ◌/◌, ◌%◌, ◌^◌, min, cond, ℤ, pos, neg_ℤ, nat_lt, Float}
 use Rattle.std.specs.Float.{nan, inf, fin}
 use Rattle.std.specs.Float.Ieee.{up, down}
 use Rattle.numbers.specs.Float.{◌⊘◌}
@@ -27,3 +27,9 @@ ceil_count (fin s m e) = cond s 0 (min (ceil_div (m * up e) (down e)) (2 ^ 64 - 
 -- the size of the double whose bits are b, the sign clear, in units of 2 ^ -1074
 unfoldable pub size_of_bits : ℕ → ℕ
 size_of_bits b = cond (nat_lt b (2 ^ 52)) b ((b % 2 ^ 52 + 2 ^ 52) * 2 ^ (b / 2 ^ 52 - 1))
+
+-- of a size in such units, the whole part and whether a fraction is left
+pub record IsWholePart (size whole : ℕ) (fraction : Bool) : Type 0 where
+  pub floor : whole ≡ size / 2 ^ 1074
+  pub ceil : whole + cond fraction 1 0 ≡ ceil_div size (2 ^ 1074)
+  pub room : whole + cond fraction 1 0 < 2 ^ 64

@@ -6,7 +6,7 @@ ghost use Rattle.std.specs.Float.Ieee.{to_bits};
 ghost use Rattle.std.specs.Float.{binary64};
 ghost use Rattle.numbers.specs.Root.{NearRoot, RootBits, root_units, root};
 ghost use Rattle.numbers.specs.Float.{to_float, is_finite, abs_f, min_f, max_f, clamp_f};
-ghost use Rattle.numbers.specs.Whole.{ceil_div, size_of_bits, floor_int, floor_quotient, ceil_count};
+ghost use Rattle.numbers.specs.Whole.{IsWholePart, ceil_div, size_of_bits, floor_int, floor_quotient, ceil_count};
 ghost use Rattle.numbers.specs.TakenApart.{IsParts};
 
 // The whole number nearest to the root of s * 2^52, digit by digit.
@@ -17,8 +17,7 @@ fn root_by_digits(s: u64) -> u64
     let mut root: u64 = 0;
     let mut rem: u64 = 0;
     let mut rest: u64 = s;
-    let mut i: u64 = 0;
-    while i < 53 {
+    for turn in 0..53u64 {
         // the two leading binary digits of `rest` come down
         rem = rem * 4 + rest / 4503599627370496;
         rest = rest % 4503599627370496 * 4;
@@ -29,7 +28,6 @@ fn root_by_digits(s: u64) -> u64
         } else {
             root = root * 2;
         }
-        i += 1;
     }
     if root < rem { root + 1 } else { root }
 }
@@ -88,10 +86,8 @@ fn guess_root(x: f64, b: u64) -> f64
     requires { b < 2 ^ 63 }
 {
     let e = x - 1.0;
-    if -0.0078125 <= e {
-        if e <= 0.0078125 {
-            return guess_near_one(e);
-        }
+    if -0.0078125 <= e && e <= 0.0078125 {
+        return guess_near_one(e);
     }
     let h = x * 0.5;
     let y0 = f64::from_bits(0x5fe6_ed21_02dc_bfda - b / 2);
@@ -149,54 +145,44 @@ pub extern "C" fn sqrt_f64(x: f64) -> f64
     0.0 / 0.0
 }
 
-// The value of the bits b, whose sign is clear and which is below 2^64, without its fraction.
-fn floor_bits(b: u64) -> u64
+// The value of the bits b, whose sign is clear and which is below 2^64: its whole part, and whether a fraction is left.
+fn whole_part(b: u64) -> (u64, bool)
     requires { b < 0x43f0_0000_0000_0000 }
-    ensures { result ≡ size_of_bits b / 2 ^ 1074 }
+    ensures { IsWholePart (size_of_bits b) result.0 result.1 }
 {
     let e = b / 4503599627370496;
     if e < 1023 {
-        return 0;
+        return (0, b != 0);
     }
     let d = b % 4503599627370496 + 4503599627370496;
     if e < 1075 {
-        d >> (1075 - e)
+        let whole = d >> (1075 - e);
+        (whole, whole << (1075 - e) != d)
     } else {
-        d << (e - 1075)
+        (d << (e - 1075), false)
     }
 }
 
-// The value of the bits b, whose sign is clear and which is below 2^64, rounded up.
+// That value rounded up.
 fn ceil_bits(b: u64) -> u64
     requires { b < 0x43f0_0000_0000_0000 }
     ensures { result ≡ ceil_div (size_of_bits b) (2 ^ 1074) }
 {
-    let e = b / 4503599627370496;
-    if b == 0 {
-        return 0;
-    }
-    if e < 1023 {
-        return 1;
-    }
-    let d = b % 4503599627370496 + 4503599627370496;
-    if e < 1075 {
-        (d + ((1u64 << (1075 - e)) - 1)) >> (1075 - e)
-    } else {
-        d << (e - 1075)
-    }
+    let (whole, fraction) = whole_part(b);
+    whole + u64::from(fraction)
 }
 
 // `x.floor() as i64`
 fn floor_int(x: f64) -> i64
     ensures { result ≡ floor_int x }
 {
-    if x != x {
+    if x.is_nan() {
         return 0;
     }
     let b = f64::to_bits(x);
     if b < 0x8000_0000_0000_0000 {
         if b < 0x43e0_0000_0000_0000 {
-            return floor_bits(b) as i64;
+            return whole_part(b).0 as i64;
         }
         return 9223372036854775807;
     }
@@ -224,7 +210,7 @@ pub extern "C" fn floor_quotient(x: f64, b: f64) -> i64
 pub extern "C" fn ceil_count(x: f64) -> u64
     ensures { result ≡ ceil_count x }
 {
-    if x != x {
+    if x.is_nan() {
         return 0;
     }
     let b = f64::to_bits(x);
@@ -241,7 +227,7 @@ pub extern "C" fn ceil_count(x: f64) -> u64
 pub fn bits_of(x: f64) -> u64
     ensures { result ≡ to_bits binary64 x }
 {
-    if x != x {
+    if x.is_nan() {
         return 0x7ff8_0000_0000_0000;
     }
     f64::to_bits(x)
@@ -314,40 +300,33 @@ pub fn max_usize(a: usize, b: usize) -> usize
 }
 
 // `x.min(y)`; of equal zeros, which Rust leaves open, x.
+// Stays by hand: of two equal zeros the library's `min` may give either.
+#[tactic(auto, unfolding(crate::specs::Float::min_f))]
 #[unsafe(no_mangle)]
 pub extern "C" fn min_f64(x: f64, y: f64) -> f64
     ensures { result ≡ min_f x y }
 {
-    if x != x {
-        return y;
-    }
-    if y < x { y } else { x }
+    if x.is_nan() || y < x { y } else { x }
 }
 
 // `x.max(y)`; of equal zeros, which Rust leaves open, x.
+#[tactic(auto, unfolding(crate::specs::Float::max_f))]
 #[unsafe(no_mangle)]
 pub extern "C" fn max_f64(x: f64, y: f64) -> f64
     ensures { result ≡ max_f x y }
 {
-    if x != x {
-        return y;
-    }
-    if x < y { y } else { x }
+    if x.is_nan() || x < y { y } else { x }
 }
 
 // `x.clamp(lo, hi)`; where Rust panics, hi if lo > hi and x is a number, and a bound that is a NaN bounds nothing.
+// Stays by hand: the library's `clamp` requires lo <= hi.
+#[tactic(auto, unfolding(crate::specs::Float::clamp_f))]
 #[unsafe(no_mangle)]
 pub extern "C" fn clamp_f64(x: f64, lo: f64, hi: f64) -> f64
     ensures { result ≡ clamp_f x lo hi }
 {
-    let mut v = x;
-    if v < lo {
-        v = lo;
-    }
-    if hi < v {
-        v = hi;
-    }
-    v
+    let raised = if x < lo { lo } else { x };
+    if hi < raised { hi } else { raised }
 }
 
 // `x.is_finite()`
@@ -355,7 +334,7 @@ pub extern "C" fn clamp_f64(x: f64, lo: f64, hi: f64) -> f64
 pub extern "C" fn is_finite_f64(x: f64) -> bool
     ensures { result ≡ is_finite x }
 {
-    if x < 1.0 / 0.0 { x > -1.0 / 0.0 } else { false }
+    x.is_finite()
 }
 
 // `x.abs()`
@@ -363,12 +342,5 @@ pub extern "C" fn is_finite_f64(x: f64) -> bool
 pub extern "C" fn abs_f64(x: f64) -> f64
     ensures { result ≡ abs_f x }
 {
-    if x != x {
-        return x;
-    }
-    if f64::to_bits(x) < 0x8000_0000_0000_0000 {
-        x
-    } else {
-        -x
-    }
+    x.abs()
 }

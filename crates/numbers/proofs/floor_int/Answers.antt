@@ -4,28 +4,26 @@ use lib.Ieee.{binary64, fits, to_bits}
 use mir.ValLaws.{to_z_pos}
 use Rattle.std.proofs.num.Truncating.{one_less_fits, negated_fits, negated}
 use Rattle.numbers.specs.Whole.{floor_int}
-use Rattle.numbers.proofs.Patterns.{no_nan, plus, minus_sign}
+use Rattle.numbers.proofs.Patterns.{nan_told, plus, minus_sign}
 use Rattle.numbers.proofs.Casts.{floor_nan, floor_in, floor_over, floor_minus_zero, floor_minus_in, floor_under}
-use Rattle.numbers.proofs.ceil_bits.Reads as ceil-bits-reads
-use Rattle.numbers.proofs.floor_bits.Reads as floor-bits-reads
 use Rattle.numbers.proofs.floor_int.Goals as goal
-use Rattle.numbers.proofs.floor_int.Goals.{After-ceil_bits-c, After-floor_bits, Start}
+use Rattle.numbers.proofs.floor_int.Goals.{After-ceil_bits-c, After-whole_part, After-is_nan}
 
 -- what owning an `f64` tells: the format holds it
-held : (c : Start) → T (fits binary64 c.args.x)
+held : (c : After-is_nan) → T (fits binary64 c.args.x)
 held c = subst T (sym c.well_formed.0.1) tt
 
 -- the bits of x, and those of its size
-abbrev bits : Start → ℕ
+abbrev bits : After-is_nan → ℕ
 bits c = to_bits binary64 c.args.x
 
-abbrev low : Start → ℕ
+abbrev low : After-is_nan → ℕ
 low c = to_bits binary64 c.args.x - 2 ^ 63
 
-plus-in : (c : After-floor_bits)
-    → (c.floor_bits.result < 2 ^ 63) × (pos c.floor_bits.result ≡ floor_int c.args.x)
+plus-in : (c : After-whole_part)
+    → (c.whole_part.result.0 < 2 ^ 63) × (pos c.whole_part.result.0 ≡ floor_int c.args.x)
 plus-in c =
-    rw c.floor_bits.ensures (floor_in c.args.x (bits c.before.before.before.before) (plus c.args.x (held c.before.before.before.before) c.if-b-lt9223372036854775808.true) c.if-b-lt4890909195324358656.true)
+    rw c.whole_part.ensures.floor (floor_in c.args.x (bits c.before.before.before.before) (plus c.args.x (held c.before.before.before.before) c.if-b-lt9223372036854775808.true) c.if-b-lt4890909195324358656.true)
 
 minus-in : (c : After-ceil_bits-c)
     → (1 ≤ c.ceil_bits-c.result) × (c.ceil_bits-c.result ≤ 2 ^ 63)
@@ -35,25 +33,22 @@ minus-in c =
     (floor_minus_in c.args.x (low c.before.before.before.before.before) (minus_sign c.args.x (held c.before.before.before.before.before) c.if-b-lt9223372036854775808.false) c.if-m-eq0.false
     c.if-m-le4890909195324358656.true)
 
-pub returns-then-x : goal.returns-then-x
-returns-then-x c = floor_nan _ c.if-x.true
-
-pub float_to_bits-b : goal.float_to_bits-b
-float_to_bits-b c = no_nan _ c.if-x.false
+pub returns-then-is_nan : goal.returns-then-is_nan
+returns-then-is_nan c = floor_nan _ (nan_told c.args.x c.is_nan.ensures.value c.if-is_nan.true)
 
 pub overflow_cast-result : goal.overflow_cast-result
-overflow_cast-result c = record { sfits = (plus-in (goal.at.overflow_cast-result c).After-floor_bits).0 }
+overflow_cast-result c = record { sfits = (plus-in (goal.at.overflow_cast-result c).After-whole_part).0 }
 
 pub returns-then-b-lt4890909195324358656 : goal.returns-then-b-lt4890909195324358656
-returns-then-b-lt4890909195324358656 c = to_z_pos w64 c.floor_bits.result (plus-in (goal.at.returns-then-b-lt4890909195324358656 c).After-floor_bits).0 ∙ (plus-in (goal.at.returns-then-b-lt4890909195324358656 c).After-floor_bits).1
+returns-then-b-lt4890909195324358656 c = to_z_pos w64 c.whole_part.result.0 (plus-in (goal.at.returns-then-b-lt4890909195324358656 c).After-whole_part).0 ∙ (plus-in (goal.at.returns-then-b-lt4890909195324358656 c).After-whole_part).1
 
 pub returns-then-b-lt9223372036854775808 : goal.returns-then-b-lt9223372036854775808
 returns-then-b-lt9223372036854775808 c =
-    floor_over c.args.x (bits (goal.at.returns-then-b-lt9223372036854775808 c).Start) (plus c.args.x (held (goal.at.returns-then-b-lt9223372036854775808 c).Start) c.if-b-lt9223372036854775808.true) c.if-x.false c.if-b-lt4890909195324358656.false
+    floor_over c.args.x (bits (goal.at.returns-then-b-lt9223372036854775808 c).After-is_nan) (plus c.args.x (held (goal.at.returns-then-b-lt9223372036854775808 c).After-is_nan) c.if-b-lt9223372036854775808.true) (nan_told c.args.x c.is_nan.ensures.value c.if-is_nan.false) c.if-b-lt4890909195324358656.false
 
 pub returns-then-m-eq0 : goal.returns-then-m-eq0
 returns-then-m-eq0 c =
-    floor_minus_zero c.args.x (low (goal.at.returns-then-m-eq0 c).Start) (minus_sign c.args.x (held (goal.at.returns-then-m-eq0 c).Start) c.if-b-lt9223372036854775808.false) c.if-m-eq0.true
+    floor_minus_zero c.args.x (low (goal.at.returns-then-m-eq0 c).After-is_nan) (minus_sign c.args.x (held (goal.at.returns-then-m-eq0 c).After-is_nan) c.if-b-lt9223372036854775808.false) c.if-m-eq0.true
 
 pub overflow_sub-result : goal.overflow_sub-result
 overflow_sub-result c = (minus-in (goal.at.overflow_sub-result c).After-ceil_bits-c).0
@@ -69,5 +64,5 @@ returns-then-m-le4890909195324358656 c = negated c.ceil_bits-c.result (minus-in 
 
 pub returns : goal.returns
 returns c =
-    floor_under c.args.x (low (goal.at.returns c).Start) (minus_sign c.args.x (held (goal.at.returns c).Start) c.if-b-lt9223372036854775808.false)
-    c.if-x.false (le_of_lt c.if-m-le4890909195324358656.false)
+    floor_under c.args.x (low (goal.at.returns c).After-is_nan) (minus_sign c.args.x (held (goal.at.returns c).After-is_nan) c.if-b-lt9223372036854775808.false)
+    (nan_told c.args.x c.is_nan.ensures.value c.if-is_nan.false) (le_of_lt c.if-m-le4890909195324358656.false)

@@ -2,7 +2,6 @@
 use Rattle.std.proofs.Common.{◌∙◌, w64}
 use mir.ValLaws.{to_z-of_z}
 use Rattle.numbers.specs.Whole.{floor_quotient}
-use Rattle.numbers.proofs.floor_int.Reads as floor-int-reads
 use Rattle.numbers.proofs.floor_quotient.Goals as goal
 
 pub returns : goal.returns

@@ -2,7 +2,6 @@
 -- (`Square`), and otherwise `root_by_digits` answers. Assumes nothing.
 use Rattle.std.proofs.Common.{◌*◌, ◌^◌, inl, inr, arith}
 use Rattle.numbers.proofs.Square.{high_square, cross_product, low_square, lo_lt, moved, moved_is, Chosen, choose}
-use Rattle.numbers.proofs.root_by_digits.Reads as root-by-digits-reads
 use Rattle.numbers.proofs.nearest_root.Goals as goal
 use Rattle.numbers.proofs.nearest_root.Goals.{Joined-e-q-le216172782113783808, then-q-e, else-q-e, then-e-q-le216172782113783808, else-e-q-le216172782113783808}
 

@@ -3,7 +3,6 @@ use Rattle.std.proofs.Common.{◌+◌, ◌*◌, ◌/◌, ◌^◌, arith}
 use Rattle.numbers.specs.Root.{RootBits}
 use Rattle.numbers.specs.RootUnits.{Split, split_even, split_odd}
 use Rattle.numbers.proofs.Sqrt.{root_bits_lem}
-use Rattle.numbers.proofs.nearest_root.Reads as nearest-root-reads
 use Rattle.numbers.proofs.root_bits.Goals as goal
 use Rattle.numbers.proofs.root_bits.Goals.{After-nearest_root-r, Joined-p-eq0, then-p-eq0, else-p-eq0}
 

@@ -2,8 +2,6 @@
 use Rattle.std.proofs.Common.{T, sym, subst, inl, inr}
 use Rattle.numbers.proofs.Patterns.{no_nan_bits, above_no_nan}
 use Rattle.numbers.proofs.Sqrt.{guessed}
-use Rattle.numbers.proofs.guess_root.Reads as guess-root-reads
-use Rattle.numbers.proofs.root_bits.Reads as root-bits-reads
 use Rattle.numbers.proofs.root_of_normal.Goals as goal
 use Rattle.numbers.proofs.root_of_normal.Goals.{then-w, else-w}
 

@@ -4,8 +4,6 @@ use lib.Count.{count_leading_zeros, leading_le}
 use lib.Ieee.{binary64, fits, to_bits}
 use Rattle.numbers.proofs.Patterns.{no_nan, no_nan_bits, plus}
 use Rattle.numbers.proofs.Sqrt.{of_nan, of_zero, of_minus_zero, of_inf, of_normal, Moved, leading, of_subnormal, of_rest, quotient}
-use Rattle.numbers.proofs.root_bits.Reads as root-bits-reads
-use Rattle.numbers.proofs.root_of_normal.Reads as root-of-normal-reads
 use Rattle.numbers.proofs.sqrt_f64.Goals as goal
 use Rattle.numbers.proofs.sqrt_f64.Goals.{Else-b-eq0, Start}
 

@@ -5,6 +5,7 @@ ghost use Rattle.std.specs.Prelude.{◌≡◌, false, ◌+◌, ◌≤◌, ◌<�
 ghost use Rattle.numbers.specs.Float.{◌⊘◌};
 ghost use Rattle.numbers.specs.Whole.{ceil_count};
 ghost use Rattle.domain.specs.Outline.{outline_of, misshapen};
+ghost use Rattle.domain.specs.Accepted.{AllFit};
 ghost use Rattle.domain.specs.Queries.{nearest_segment};
 ghost use Rattle.domain.specs.Refusals.{refused, numbered};
 ghost use Rattle.blocks.specs.Blocks.{Drawn};
@@ -12,7 +13,7 @@ ghost use Rattle.direction.specs.Record.{most_field_nodes, grid_nodes, field_lis
 ghost use Rattle.averages.specs.Places.{Node, Row, NodeMark, RowMarks, FieldRoom};
 ghost use Rattle.crossfield.specs.Grid.{no_bounds, widened, loop_bounds, bounds, grid_count, too_many_nodes, spacing, grid_of, size_refusal};
 ghost use Rattle.crossfield.specs.Grid.{bounds_refusal, sweeps_refusal};
-ghost use Rattle.crossfield.specs.Seeds.{grid_point, seed, is_fixed, mark_of, seed_node, seed_row, seeded};
+ghost use Rattle.crossfield.specs.Seeds.{grid_point, seed, is_fixed, seed_node, seed_row, seeded};
 ghost use Rattle.crossfield.specs.Field.{places_refusal, refusal_for, field_refusal, field_of, field_result, field_answer, FieldDraws};
 
 use direction::Grid;
@@ -29,52 +30,50 @@ pub struct Bounds {
 
 // ---- the bounding box, over all loops
 
-fn no_bounds() -> Bounds
-    ensures { result ≡ no_bounds }
-{
-    Bounds {
-        xmin: 1.0 / 0.0,
-        xmax: -1.0 / 0.0,
-        ymin: 1.0 / 0.0,
-        ymax: -1.0 / 0.0,
+impl Bounds {
+    // Of no points.
+    fn none() -> Bounds
+        ensures { result ≡ no_bounds }
+    {
+        Bounds {
+            xmin: 1.0 / 0.0,
+            xmax: -1.0 / 0.0,
+            ymin: 1.0 / 0.0,
+            ymax: -1.0 / 0.0,
+        }
     }
-}
 
-fn widened(p: Point, b: Bounds) -> Bounds
-    ensures { result ≡ widened p b }
-{
-    Bounds {
-        xmin: numbers::min_f64(b.xmin, p.x),
-        xmax: numbers::max_f64(b.xmax, p.x),
-        ymin: numbers::min_f64(b.ymin, p.y),
-        ymax: numbers::max_f64(b.ymax, p.y),
+    #[tactic(auto, unfolding(crate::specs::Grid::widened))]
+    fn widened(self, p: Point) -> Bounds
+        ensures { result ≡ widened p self }
+    {
+        Bounds {
+            xmin: numbers::min_f64(self.xmin, p.x),
+            xmax: numbers::max_f64(self.xmax, p.x),
+            ymin: numbers::min_f64(self.ymin, p.y),
+            ymax: numbers::max_f64(self.ymax, p.y),
+        }
     }
-}
 
-fn loop_bounds(s: &[f64], b: Bounds) -> Bounds
-    ensures { result ≡ loop_bounds s.now b }
-{
-    let n = s.len() / 2;
-    let mut wide = b;
-    let mut i = 0;
-    while i < n {
-        wide = widened(outlines::point_at(s, i), wide);
-        i += 1;
+    // Widened by each point of a loop.
+    fn around(self, s: &[f64]) -> Bounds
+        ensures { result ≡ loop_bounds s.now self }
+    {
+        let mut wide = self;
+        for i in 0..s.len() / 2 {
+            wide = wide.widened(outlines::point_at(s, i));
+        }
+        wide
     }
-    wide
 }
 
 pub fn bounds_of(domain: Domain<'_>) -> Bounds
     requires { misshapen (outline_of domain) ≡ false }
     ensures { result ≡ bounds (outline_of domain.entry) }
 {
-    let mut wide = loop_bounds(outlines::loop_points(domain, 0, 0), no_bounds());
-    let mut k = 0;
-    let mut start = 0;
-    while k < domain.lens.len() {
-        wide = loop_bounds(outlines::loop_points(domain, k + 1, start), wide);
-        start += domain.lens[k];
-        k += 1;
+    let mut wide = Bounds::none().around(domain.outer);
+    for hole in outlines::holes_of(domain) {
+        wide = wide.around(hole.points);
     }
     wide
 }
@@ -82,26 +81,23 @@ pub fn bounds_of(domain: Domain<'_>) -> Bounds
 // ---- the grid
 
 // max(ceil(width / h), 2) + 3
+#[tactic(auto, unfolding(crate::specs::Grid::grid_count))]
 fn grid_count(width: f64, h: f64) -> usize
     requires { ceil_count (width ⊘ h) ≤ most_field_nodes }
     ensures value { result ≡ grid_count width h }
     ensures upper_bound { result ≤ most_field_nodes + 3 }
 {
     let cells = numbers::ceil_count(width / h) as usize;
-    numbers::max_usize(cells, 2) + 3
+    cells.max(2) + 3
 }
 
 // Whether a grid of this spacing has more than 250,000 nodes. A side of more than that has too many by itself, so that no product overflows.
 fn too_many_nodes(width: f64, height: f64, h: f64) -> bool
     ensures { result ≡ too_many_nodes width height h }
 {
-    if Settings::MOST_FIELD_NODES < numbers::ceil_count(width / h) as usize {
-        return true;
-    }
-    if Settings::MOST_FIELD_NODES < numbers::ceil_count(height / h) as usize {
-        return true;
-    }
-    Settings::MOST_FIELD_NODES < grid_count(width, h) * grid_count(height, h)
+    Settings::MOST_FIELD_NODES < numbers::ceil_count(width / h) as usize
+        || Settings::MOST_FIELD_NODES < numbers::ceil_count(height / h) as usize
+        || Settings::MOST_FIELD_NODES < grid_count(width, h) * grid_count(height, h)
 }
 
 // h, grown by 1.25 while the grid has more than 250,000 nodes.
@@ -109,13 +105,11 @@ fn spacing(width: f64, height: f64, h: f64) -> f64
     ensures { result ≡ spacing width height h }
 {
     let mut grown = h;
-    let mut k: usize = 0;
-    while k < 64 {
+    for _ in 0..64usize {
         if !too_many_nodes(width, height, grown) {
-            return grown;
+            break;
         }
         grown = grown * 1.25;
-        k += 1;
     }
     grown
 }
@@ -141,6 +135,7 @@ pub fn grid_of(b: Bounds, size: f64) -> Grid
 // ---- refusals 5 to 9
 
 // 5 and 6.
+#[tactic(auto, unfolding(crate::specs::Grid::size_refusal))]
 fn check_size(size: f64) -> Result<(), Refusal>
     ensures { refused result ≡ size_refusal size }
 {
@@ -154,6 +149,7 @@ fn check_size(size: f64) -> Result<(), Refusal>
 }
 
 // 7.
+#[tactic(auto, unfolding(crate::specs::Grid::bounds_refusal))]
 fn check_bounds(b: Bounds) -> Result<(), Refusal>
     ensures { refused result ≡ bounds_refusal b }
 {
@@ -164,6 +160,7 @@ fn check_bounds(b: Bounds) -> Result<(), Refusal>
 }
 
 // 8.
+#[tactic(auto, unfolding(crate::specs::Grid::sweeps_refusal))]
 fn check_sweeps(sweeps: usize) -> Result<(), Refusal>
     ensures { refused result ≡ sweeps_refusal sweeps }
 {
@@ -174,6 +171,7 @@ fn check_sweeps(sweeps: usize) -> Result<(), Refusal>
 }
 
 // 9.
+#[tactic(auto, unfolding(crate::specs::Field::places_refusal))]
 fn check_places(g: Grid, places: usize) -> Result<(), Refusal>
     requires { grid_nodes g ≤ most_field_nodes }
     ensures { refused result ≡ places_refusal g places }
@@ -187,6 +185,7 @@ fn check_places(g: Grid, places: usize) -> Result<(), Refusal>
 // ---- seeds and marks
 
 // Where node (i, j) stands.
+#[tactic(auto, unfolding(crate::specs::Seeds::grid_point))]
 fn grid_point(g: Grid, i: usize, j: usize) -> Point
     requires { (i < 4294967296) × (j < 4294967296) }
     ensures { result ≡ grid_point g i j }
@@ -198,6 +197,7 @@ fn grid_point(g: Grid, i: usize, j: usize) -> Point
 }
 
 // Four times the angle of a tangent.
+#[tactic(auto, unfolding(crate::specs::Seeds::seed))]
 fn seed(t: Point) -> Point
     ensures { result ≡ seed t }
 {
@@ -210,21 +210,12 @@ fn seed(t: Point) -> Point
 }
 
 // Whether a node at p is fixed: inside, and its nearest segment within 1.5 spacings. The distance is known, so it is asked first.
+#[tactic(auto, unfolding(crate::specs::Seeds::is_fixed))]
 fn is_fixed(domain: Domain<'_>, blocks: &[u32], h: f64, p: Point, found: Near) -> bool
     requires { Drawn (outline_of domain) blocks.now }
     ensures { result ≡ is_fixed (outline_of domain.entry) h p found }
 {
-    if found.distance <= Settings::BAND * h {
-        blocks::contains_point(domain, blocks, p)
-    } else {
-        false
-    }
-}
-
-fn mark_of(fixed: bool) -> u8
-    ensures { result ≡ mark_of fixed }
-{
-    if fixed { 1 } else { 0 }
+    found.distance <= Settings::BAND * h && blocks::contains_point(domain, blocks, p)
 }
 
 // Node (i, j), whose number is id: one search serves its value and its mark. The answer is the nearest segment, which is a guess of the next node's.
@@ -250,7 +241,7 @@ fn seed_node(
     let p = grid_point(g, i, j);
     let found = nearest::nearest_segment(domain, blocks, p, guess);
     let v = seed(geometry::tangent(found.a, found.b));
-    let mark = mark_of(is_fixed(domain, blocks, g.h, p, found));
+    let mark = u8::from(is_fixed(domain, blocks, g.h, p, found));
     let k = 2 * id;
     values[k] = v.x;
     values[k + 1] = v.y;
@@ -275,7 +266,6 @@ fn seed_row(
         ≡ seed_row (outline_of domain.entry) g j
         (field_lists values.old marks.old) }
 {
-    let nx = g.nx;
     let mut near = Near {
         a: outlines::point_at(domain.outer, 0),
         b: outlines::point_at(domain.outer, 1),
@@ -283,10 +273,8 @@ fn seed_row(
         loop_index: 0,
         segment_index: 0,
     };
-    let mut i = 0;
-    while i < nx {
+    for i in 0..g.nx {
         near = seed_node(domain, blocks, g, values, marks, j, i, base + i, near);
-        i += 1;
     }
 }
 
@@ -299,18 +287,17 @@ fn seed_all(domain: Domain<'_>, blocks: &[u32], g: Grid, values: &mut [f64], mar
         ≡ seeded (outline_of domain.entry) g
         (field_lists values.old marks.old) }
 {
-    let nx = g.nx;
-    let ny = g.ny;
-    let mut base = 0;
-    let mut j = 0;
-    while j < ny {
-        seed_row(domain, blocks, g, values, marks, j, base);
-        base += nx;
-        j += 1;
+    for j in 0..g.ny {
+        seed_row(domain, blocks, g, values, marks, j, j * g.nx);
     }
 }
 
 // ---- the field
+
+// What lent floats are. A proof is told it of a list that is a parameter, and not of one in a struct.
+fn are_doubles(outer: &[f64], holes: &[f64])
+    ensures { AllFit outer.now × AllFit holes.now }
+{}
 
 // Refusals 1 to 9.
 pub fn check_field(
@@ -323,6 +310,7 @@ pub fn check_field(
 {
     outlines::check_outline(domain)?;
     check_size(size)?;
+    are_doubles(domain.outer, domain.holes);
     let b = bounds_of(domain);
     check_bounds(b)?;
     check_sweeps(sweeps)?;
@@ -344,6 +332,7 @@ pub fn make_field(
         (field_lists values.old marks.old)
         × Drawn (outline_of domain.entry) blocks.new }
 {
+    are_doubles(domain.outer, domain.holes);
     let g = grid_of(bounds_of(domain), size);
     blocks::file(domain, blocks);
     seed_all(domain, blocks, g, values, marks);

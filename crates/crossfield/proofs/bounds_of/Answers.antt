@@ -1,33 +1,22 @@
 -- `crossfield::bounds_of` meets its contract. Assumes nothing.
-use native.Mathlib.Omega.{arith}
+use Rattle.std.proofs.Common.{sym, le_of_eq}
+use Rattle.std.proofs.lemmas.List.{length_push}
 use Rattle.laws.specs.Loop.{loop_start_lem, loop_next, loop_end}
-use Rattle.domain.specs.OutlineLaws.{outer_points, hole_points, outer_place}
-use Rattle.domain.proofs.OutlineLaws.{passed_none, passed_next, passed_place, passed_few}
-use Rattle.crossfield.specs.Grid.{no_bounds, bounds}
+use Rattle.domain.specs.Outline.{outline_of}
+use Rattle.outlines.proofs.HoleList.{hole_given, holes_given}
+use Rattle.crossfield.specs.Grid.{bounds}
 use Rattle.crossfield.proofs.bounds_of.Goals as goal
 
-pub loop_points-requires : goal.loop_points-requires
-loop_points-requires c = outer_place _ c.requires
+pub loop-hole-init : goal.loop-hole-init
+loop-hole-init c = rw (c.around-wide.ensures, c.none.ensures) (loop_start_lem _ _ _)
 
-pub loop-k-init : goal.loop-k-init
-loop-k-init c = let points = outer_points _ c.loop_points.ensures in (
-  passed_none c.requires,
-  rw (c.loop_bounds-wide.ensures, c.no_bounds.ensures, points) (loop_start_lem _ _ _),
-)
-
-pub loop_points-requires-in-loop-k : goal.loop_points-requires-in-loop-k
-loop_points-requires-in-loop-k c = passed_place c.loop-k.invariant.0 c.loop-k-test.true
-
-pub overflow_add-start : goal.overflow_add-start
-overflow_add-start c = let few = passed_few c.loop-k.invariant.0 c.loop-k-test.true in
-    omega arith
-
-pub loop-k-preserved : goal.loop-k-preserved
-loop-k-preserved c = let inv = c.loop-k.invariant in
-    let in_loop = c.loop-k-test.true in
-    let points = hole_points _ _ c.loop_points-in-loop-k.ensures in
-    (passed_next inv.0 in_loop, rw (c.loop_bounds-wide-in-loop-k.ensures, points) (loop_next _ _ inv.1 in_loop))
+pub loop-hole-preserved : goal.loop-hole-preserved
+loop-hole-preserved c =
+    let place = hole_given (outline_of c.args.domain) _ _ c.next.new.self _ (cc) c.loop-hole.yielded_by c.in-Some.hole c.in-Some.is c.next.ensures.steps in
+    rw (length_push c.loop-hole.yielded c.in-Some.hole, c.around-wide-in-loop-hole.ensures, place.points) (loop_next _ _ c.loop-hole.invariant place.within)
 
 pub returns : goal.returns
 unfolding bounds
-returns c = loop_end _ _ c.loop-k.invariant.1 c.loop-k-test.false
+returns c =
+    loop_end _ _ c.loop-hole.invariant
+    (le_of_eq (sym (holes_given (outline_of c.args.domain) _ _ c.next.new.self _ (cc) c.loop-hole.yielded_by c.in-None.is c.next.ensures.steps)))

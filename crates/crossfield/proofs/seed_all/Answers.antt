@@ -4,11 +4,14 @@ use native.Mathlib.Omega.{arith}
 use Rattle.laws.specs.Loop.{loop_start_lem, loop_next, loop_end}
 use Rattle.direction.specs.Cells.{row_in}
 use Rattle.averages.specs.Places.{row_of, row_marks}
-use Rattle.crossfield.specs.Seeds.{seed_row, seeded}
+use Rattle.crossfield.specs.Seeds.{seeded}
 use Rattle.crossfield.proofs.seed_all.Goals as goal
 
 pub loop-j-init : goal.loop-j-init
-loop-j-init c = (refl, refl, omega arith, loop_start_lem _ _ _)
+loop-j-init c = (refl, refl, loop_start_lem _ _ _)
+
+pub overflow_mul-j : goal.overflow_mul-j
+overflow_mul-j c = omega (arith, c.requires.field_room.marks, row_in c.loop-j.j c.args.g.ny c.args.g.nx c.loop-j-test.true)
 
 pub seed_row-requires : goal.seed_row-requires
 seed_row-requires c =
@@ -16,15 +19,9 @@ seed_row-requires c =
     let turn = c.loop-j in
     let less = c.loop-j-test.true in record {
       drawn = asked.drawn;
-      row = row_of turn.j turn.invariant.2 less asked.field_room.values turn.invariant.0;
-      row_marks = row_marks turn.j asked.field_room asked.nx_le_most_field_nodes.0 asked.nx_le_most_field_nodes.1 turn.invariant.2 less turn.invariant.1;
+      row = row_of turn.j refl less asked.field_room.values turn.invariant.0;
+      row_marks = row_marks turn.j asked.field_room asked.nx_le_most_field_nodes.0 asked.nx_le_most_field_nodes.1 refl less turn.invariant.1;
     }
-
-pub overflow_add-base : goal.overflow_add-base
-overflow_add-base c =
-    let turn = c.loop-j in
-    let less = c.loop-j-test.true in
-    omega (arith, turn.invariant.2, c.requires.field_room.marks, row_in turn.j c.args.g.ny c.args.g.nx less)
 
 pub loop-j-preserved : goal.loop-j-preserved
 loop-j-preserved c =
@@ -32,8 +29,7 @@ loop-j-preserved c =
     let turn = c.loop-j in (
       call.auto.values ∙ turn.invariant.0,
       call.auto.marks ∙ turn.invariant.1,
-      omega (arith, turn.invariant.2),
-      rw call.ensures (loop_next _ _ turn.invariant.3 c.loop-j-test.true),
+      rw call.ensures (loop_next _ _ turn.invariant.2 c.loop-j-test.true),
     )
 
 pub shape_of-values : goal.shape_of-values
@@ -44,4 +40,4 @@ shape_of-marks c = c.loop-j.invariant.1
 
 pub returns : goal.returns
 unfolding seeded
-returns c = loop_end _ _ c.loop-j.invariant.3 c.loop-j-test.false
+returns c = loop_end _ _ c.loop-j.invariant.2 c.loop-j-test.false

@@ -1,6 +1,5 @@
 -- `crossfield::seed_all` meets its contract. Assumes nothing.
 use mathlib.Core.Path.{◌≡◌}
-use Prim.Native.Nat.{◌-◌, ◌*◌}
 use lib.ListN.{length}
 use Rattle.laws.specs.Loop.{Loop}
 use Rattle.domain.specs.Outline.{outline_of}
@@ -10,8 +9,5 @@ use Rattle.crossfield.proofs.seed_all.Given as goal
 
 abbrev pub invariant-loop-j : goal.invariant-loop-j
 invariant-loop-j l =
-    (length l.values ≡ length l.initial.values) × (length l.marks ≡ length l.initial.marks) × (l.base ≡ l.j * l.nx) × Loop (seed_row (outline_of l.domain) l.g)
-    (field_lists l.initial.values l.initial.marks) l.ny l.j (field_lists l.values l.marks)
-
-abbrev pub decreases-loop-j : goal.decreases-loop-j
-decreases-loop-j l = l.ny - l.j
+    (length l.values ≡ length l.initial.values) × (length l.marks ≡ length l.initial.marks) × Loop (seed_row (outline_of l.domain) l.g)
+    (field_lists l.initial.values l.initial.marks) l.g.ny l.j (field_lists l.values l.marks)

@@ -3,6 +3,7 @@ use mathlib.Core.Path.{refl}
 use Prim.Native.Nat.{◌*◌}
 use native.Mathlib.Omega.{arith}
 use lib.ListN.{length-set}
+use Rattle.averages.proofs.Bits.{bool_number}
 use Rattle.averages.specs.Places.{here_in}
 use Rattle.sweeps.specs.Sweeps.{set_value}
 use Rattle.crossfield.specs.Seeds.{seed_node}
@@ -49,7 +50,8 @@ returns c = record {
     ← c.tangent.ensures,
     ← c.seed-v.ensures,
     ← c.is_fixed.ensures,
-    ← c.mark_of-mark.ensures,
+    c.from-mark.ensures,
+    bool_number c.is_fixed.result,
   ) refl;
   value = rw (← c.grid_point-p.ensures) c.nearest_segment-found.ensures;
 }

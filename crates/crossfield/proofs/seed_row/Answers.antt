@@ -32,10 +32,6 @@ seed_node-near-requires c =
       node_mark = mark_of turn.i c.requires.row_marks less turn.invariant.1;
     }
 
-pub overflow_add-i : goal.overflow_add-i
-overflow_add-i c =
-    omega (arith, c.loop-i-test.true, c.requires.row_marks.columns)
-
 pub loop-i-preserved : goal.loop-i-preserved
 loop-i-preserved c =
     let call = c.seed_node-near in

@@ -1,6 +1,5 @@
 -- `crossfield::seed_row` meets its contract. Assumes nothing.
 use mathlib.Core.Path.{◌≡◌}
-use Prim.Native.Nat.{◌-◌}
 use lib.ListN.{length}
 use Rattle.laws.specs.Loop.{Loop}
 use Rattle.domain.specs.Outline.{outline_of}
@@ -11,7 +10,4 @@ use Rattle.crossfield.proofs.seed_row.Given as goal
 abbrev pub invariant-loop-i : goal.invariant-loop-i
 invariant-loop-i l =
     (length l.values ≡ length l.initial.values) × (length l.marks ≡ length l.initial.marks) × Loop (seed_node (outline_of l.domain) l.g l.j)
-    (field_lists l.initial.values l.initial.marks) l.nx l.i (field_lists l.values l.marks)
-
-abbrev pub decreases-loop-i : goal.decreases-loop-i
-decreases-loop-i l = l.nx - l.i
+    (field_lists l.initial.values l.initial.marks) l.g.nx l.i (field_lists l.values l.marks)

@@ -1,7 +1,7 @@
--- `crossfield::loop_bounds` meets its contract. Assumes nothing.
+-- `crossfield::Bounds::around` meets its contract. Assumes nothing.
 use Rattle.laws.specs.Loop.{loop_start_lem, loop_next, loop_end}
 use Rattle.crossfield.specs.Grid.{loop_bounds}
-use Rattle.crossfield.proofs.loop_bounds.Goals as goal
+use Rattle.crossfield.proofs.Bounds.around.Goals as goal
 
 pub loop-i-init : goal.loop-i-init
 loop-i-init c = loop_start_lem _ _ _

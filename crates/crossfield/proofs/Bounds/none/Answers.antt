@@ -1,7 +1,7 @@
--- `crossfield::no_bounds` meets its contract. Assumes nothing.
+-- `crossfield::Bounds::none` meets its contract. Assumes nothing.
 use mathlib.Core.Path.{refl}
 use lib.Ieee.{of_bits, div, neg}
-use Rattle.crossfield.proofs.no_bounds.Goals as goal
+use Rattle.crossfield.proofs.Bounds.none.Goals as goal
 
 pub returns : goal.returns
 unfolding of_bits div neg

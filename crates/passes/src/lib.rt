@@ -11,14 +11,15 @@ ghost use Rattle.ends.specs.Answers.{passed, passed_counts};
 ghost use Rattle.settling.specs.Paveable.{Paveable};
 ghost use Rattle.settling.specs.Searchable.{Helped};
 
-use domain::Domain;
 use direction::Grid;
+use domain::Domain;
 use ends::{Settled, Swept};
 use front::Counts;
 
 // A pass: the snapshot is taken, and its edges are tried in the order of their first nodes.
 pub fn pass(
-    domain: Domain<'_>, blocks: &[u32],
+    domain: Domain<'_>,
+    blocks: &[u32],
     size: f64,
     grid: Grid,
     values: &[f64],
@@ -52,22 +53,20 @@ pub fn pass(
     let mut j = k;
     let mut some = false;
     let mut a: u32 = 0;
+    // Stays a `while`: the next node is where a stretch ends that an edge may have changed, so no range has it.
     while a < n {
         let i = a;
         a = snapshots::node_after(tried, i, n);
-        let t = settling::settle(
-            domain, blocks, size, grid, values, xs, ys, next, prev, snapshot, quads,
-            edges, node_pool, edge_pool, tried, j, i,
-        );
-        match t {
+        match settling::settle(
+            domain, blocks, size, grid, values, xs, ys, next, prev, snapshot, quads, edges,
+            node_pool, edge_pool, tried, j, i,
+        ) {
             Settled::Same => {}
             Settled::Put(m) => {
                 j = m;
                 some = true;
             }
-            Settled::Over(e, m) => {
-                return Swept::Over(e, m);
-            }
+            Settled::Over(e, m) => return Swept::Over(e, m),
         }
     }
     ends::after_pass(some, j)

@@ -47,9 +47,9 @@ loop-a-init c = (
 pub node_after-a-requires : goal.node_after-a-requires
 node_after-a-requires c = c.loop-a-test.true
 
-pub settle-t-requires : goal.settle-t-requires
-settle-t-requires c =
-    let L = in_begun (around (goal.at.settle-t-requires c).Start) _ c.args.size _ _ (field (goal.at.settle-t-requires c).Start) (lent (goal.at.settle-t-requires c).Start) c.requires.0 c.copy_links.ensures.0 c.loop-a.invariant.0 in
+pub settle-requires : goal.settle-requires
+settle-requires c =
+    let L = in_begun (around (goal.at.settle-requires c).Start) _ c.args.size _ _ (field (goal.at.settle-requires c).Start) (lent (goal.at.settle-requires c).Start) c.requires.0 c.copy_links.ensures.0 c.loop-a.invariant.0 in
     (L.paveable, omega (arith, L.frame.nodes, c.loop-a-test.true), c.loop-a.invariant.1.help)
 
 pub loop-a-smaller-in-Same : goal.loop-a-smaller-in-Same
@@ -60,12 +60,12 @@ loop-a-preserved-in-Same c =
     let L = in_begun (around (goal.at.loop-a-preserved-in-Same c).Start) _ c.args.size _ _ (field (goal.at.loop-a-preserved-in-Same c).Start) (lent (goal.at.loop-a-preserved-in-Same c).Start) c.requires.0 c.copy_links.ensures.0 c.loop-a.invariant.0 in
     let G = gone_over c.loop-a.tried c.loop-a.next _ c.node_after-a.ensures c.loop-a-test.true L.frame.nodes c.loop-a.invariant.1.help.stretches in (
       pass_goes (around (goal.at.loop-a-preserved-in-Same c).Start) c.args.size (field (goal.at.loop-a-preserved-in-Same c).Start) _ _ c.loop-a.invariant.0 c.loop-a-test.true
-          (went_same c.loop-a.j c.loop-a.some c.settle-t.result (c.settle-t.ensures.0 c.loop-a.some) c.in-Same.is) G,
+          (went_same c.loop-a.j c.loop-a.some c.settle.result (c.settle.ensures.0 c.loop-a.some) c.in-Same.is) G,
       record {
-        help = helped_at (ap (λ (t : Settled). settled_counts c.loop-a.j t) c.in-Same.is) c.settle-t.ensures.1;
-        node_long = c.settle-t.auto.node_pool ∙ c.loop-a.invariant.1.node_long;
-        edge_long = c.settle-t.auto.edge_pool ∙ c.loop-a.invariant.1.edge_long;
-        tried_long = c.settle-t.auto.tried ∙ c.loop-a.invariant.1.tried_long;
+        help = helped_at (ap (λ (t : Settled). settled_counts c.loop-a.j t) c.in-Same.is) c.settle.ensures.1;
+        node_long = c.settle.auto.node_pool ∙ c.loop-a.invariant.1.node_long;
+        edge_long = c.settle.auto.edge_pool ∙ c.loop-a.invariant.1.edge_long;
+        tried_long = c.settle.auto.tried ∙ c.loop-a.invariant.1.tried_long;
       },
     )
 
@@ -77,57 +77,57 @@ loop-a-preserved c =
     let L = in_begun (around (goal.at.loop-a-preserved c).Start) _ c.args.size _ _ (field (goal.at.loop-a-preserved c).Start) (lent (goal.at.loop-a-preserved c).Start) c.requires.0 c.copy_links.ensures.0 c.loop-a.invariant.0 in
     let G = gone_over c.loop-a.tried c.loop-a.next _ c.node_after-a.ensures c.loop-a-test.true L.frame.nodes c.loop-a.invariant.1.help.stretches in (
       pass_goes (around (goal.at.loop-a-preserved c).Start) c.args.size (field (goal.at.loop-a-preserved c).Start) _ _ c.loop-a.invariant.0 c.loop-a-test.true
-          (went_put c.loop-a.j c.loop-a.some c.settle-t.result (c.settle-t.ensures.0 c.loop-a.some) c.in-Put.is) G,
+          (went_put c.loop-a.j c.loop-a.some c.settle.result (c.settle.ensures.0 c.loop-a.some) c.in-Put.is) G,
       record {
-        help = helped_at (ap (λ (t : Settled). settled_counts c.loop-a.j t) c.in-Put.is) c.settle-t.ensures.1;
-        node_long = c.settle-t.auto.node_pool ∙ c.loop-a.invariant.1.node_long;
-        edge_long = c.settle-t.auto.edge_pool ∙ c.loop-a.invariant.1.edge_long;
-        tried_long = c.settle-t.auto.tried ∙ c.loop-a.invariant.1.tried_long;
+        help = helped_at (ap (λ (t : Settled). settled_counts c.loop-a.j t) c.in-Put.is) c.settle.ensures.1;
+        node_long = c.settle.auto.node_pool ∙ c.loop-a.invariant.1.node_long;
+        edge_long = c.settle.auto.edge_pool ∙ c.loop-a.invariant.1.edge_long;
+        tried_long = c.settle.auto.tried ∙ c.loop-a.invariant.1.tried_long;
       },
     )
 
 pub shape_of-xs-in-Over : goal.shape_of-xs-in-Over
 shape_of-xs-in-Over c =
-    c.settle-t.auto.xs ∙ (in_begun (around (goal.at.shape_of-xs-in-Over c).Start) _ c.args.size _ _ (field (goal.at.shape_of-xs-in-Over c).Start) (lent (goal.at.shape_of-xs-in-Over c).Start) c.requires.0 c.copy_links.ensures.0 c.loop-a.invariant.0).frame.xs.long
+    c.settle.auto.xs ∙ (in_begun (around (goal.at.shape_of-xs-in-Over c).Start) _ c.args.size _ _ (field (goal.at.shape_of-xs-in-Over c).Start) (lent (goal.at.shape_of-xs-in-Over c).Start) c.requires.0 c.copy_links.ensures.0 c.loop-a.invariant.0).frame.xs.long
 
 pub shape_of-ys-in-Over : goal.shape_of-ys-in-Over
 shape_of-ys-in-Over c =
-    c.settle-t.auto.ys ∙ (in_begun (around (goal.at.shape_of-ys-in-Over c).Start) _ c.args.size _ _ (field (goal.at.shape_of-ys-in-Over c).Start) (lent (goal.at.shape_of-ys-in-Over c).Start) c.requires.0 c.copy_links.ensures.0 c.loop-a.invariant.0).frame.ys.long
+    c.settle.auto.ys ∙ (in_begun (around (goal.at.shape_of-ys-in-Over c).Start) _ c.args.size _ _ (field (goal.at.shape_of-ys-in-Over c).Start) (lent (goal.at.shape_of-ys-in-Over c).Start) c.requires.0 c.copy_links.ensures.0 c.loop-a.invariant.0).frame.ys.long
 
 pub shape_of-next-in-Over : goal.shape_of-next-in-Over
 shape_of-next-in-Over c =
-    c.settle-t.auto.next ∙ (in_begun (around (goal.at.shape_of-next-in-Over c).Start) _ c.args.size _ _ (field (goal.at.shape_of-next-in-Over c).Start) (lent (goal.at.shape_of-next-in-Over c).Start) c.requires.0 c.copy_links.ensures.0 c.loop-a.invariant.0).frame.next.long
+    c.settle.auto.next ∙ (in_begun (around (goal.at.shape_of-next-in-Over c).Start) _ c.args.size _ _ (field (goal.at.shape_of-next-in-Over c).Start) (lent (goal.at.shape_of-next-in-Over c).Start) c.requires.0 c.copy_links.ensures.0 c.loop-a.invariant.0).frame.next.long
 
 pub shape_of-prev-in-Over : goal.shape_of-prev-in-Over
 shape_of-prev-in-Over c =
-    c.settle-t.auto.prev ∙ (in_begun (around (goal.at.shape_of-prev-in-Over c).Start) _ c.args.size _ _ (field (goal.at.shape_of-prev-in-Over c).Start) (lent (goal.at.shape_of-prev-in-Over c).Start) c.requires.0 c.copy_links.ensures.0 c.loop-a.invariant.0).frame.prev.long
+    c.settle.auto.prev ∙ (in_begun (around (goal.at.shape_of-prev-in-Over c).Start) _ c.args.size _ _ (field (goal.at.shape_of-prev-in-Over c).Start) (lent (goal.at.shape_of-prev-in-Over c).Start) c.requires.0 c.copy_links.ensures.0 c.loop-a.invariant.0).frame.prev.long
 
 pub shape_of-snapshot-in-Over : goal.shape_of-snapshot-in-Over
 shape_of-snapshot-in-Over c = c.copy_links.auto.snapshot
 
 pub shape_of-quads-in-Over : goal.shape_of-quads-in-Over
 shape_of-quads-in-Over c =
-    c.settle-t.auto.quads ∙ (in_begun (around (goal.at.shape_of-quads-in-Over c).Start) _ c.args.size _ _ (field (goal.at.shape_of-quads-in-Over c).Start) (lent (goal.at.shape_of-quads-in-Over c).Start) c.requires.0 c.copy_links.ensures.0 c.loop-a.invariant.0).frame.quad_list.long
+    c.settle.auto.quads ∙ (in_begun (around (goal.at.shape_of-quads-in-Over c).Start) _ c.args.size _ _ (field (goal.at.shape_of-quads-in-Over c).Start) (lent (goal.at.shape_of-quads-in-Over c).Start) c.requires.0 c.copy_links.ensures.0 c.loop-a.invariant.0).frame.quad_list.long
 
 pub shape_of-edges-in-Over : goal.shape_of-edges-in-Over
 shape_of-edges-in-Over c =
-    c.settle-t.auto.edges ∙ (in_begun (around (goal.at.shape_of-edges-in-Over c).Start) _ c.args.size _ _ (field (goal.at.shape_of-edges-in-Over c).Start) (lent (goal.at.shape_of-edges-in-Over c).Start) c.requires.0 c.copy_links.ensures.0 c.loop-a.invariant.0).frame.edge_list.long
+    c.settle.auto.edges ∙ (in_begun (around (goal.at.shape_of-edges-in-Over c).Start) _ c.args.size _ _ (field (goal.at.shape_of-edges-in-Over c).Start) (lent (goal.at.shape_of-edges-in-Over c).Start) c.requires.0 c.copy_links.ensures.0 c.loop-a.invariant.0).frame.edge_list.long
 
 pub shape_of-node_pool-in-Over : goal.shape_of-node_pool-in-Over
-shape_of-node_pool-in-Over c = c.settle-t.auto.node_pool ∙ c.loop-a.invariant.1.node_long
+shape_of-node_pool-in-Over c = c.settle.auto.node_pool ∙ c.loop-a.invariant.1.node_long
 
 pub shape_of-edge_pool-in-Over : goal.shape_of-edge_pool-in-Over
-shape_of-edge_pool-in-Over c = c.settle-t.auto.edge_pool ∙ c.loop-a.invariant.1.edge_long
+shape_of-edge_pool-in-Over c = c.settle.auto.edge_pool ∙ c.loop-a.invariant.1.edge_long
 
 pub shape_of-tried-in-Over : goal.shape_of-tried-in-Over
-shape_of-tried-in-Over c = c.settle-t.auto.tried ∙ (c.loop-a.invariant.1.tried_long ∙ c.copy_links.auto.tried)
+shape_of-tried-in-Over c = c.settle.auto.tried ∙ (c.loop-a.invariant.1.tried_long ∙ c.copy_links.auto.tried)
 
 pub returns-in-Over : goal.returns-in-Over
 returns-in-Over c = (
   pass_whole (around (goal.at.returns-in-Over c).Start) c.args.size (field (goal.at.returns-in-Over c).Start) (lent (goal.at.returns-in-Over c).Start) _ _ c.copy_links.ensures.0
       (run_out _ after_pass _ _ c.loop-a.invariant.0 c.loop-a-test.true
-      (went_over c.loop-a.j c.loop-a.some c.settle-t.result (c.settle-t.ensures.0 c.loop-a.some) c.in-Over.is)),
-  helped_at (ap (λ (t : Settled). settled_counts c.loop-a.j t) c.in-Over.is) c.settle-t.ensures.1,
+      (went_over c.loop-a.j c.loop-a.some c.settle.result (c.settle.ensures.0 c.loop-a.some) c.in-Over.is)),
+  helped_at (ap (λ (t : Settled). settled_counts c.loop-a.j t) c.in-Over.is) c.settle.ensures.1,
 )
 
 pub shape_of-xs : goal.shape_of-xs

@@ -1,2 +1,3 @@
--- What the code writes into a slice's part.
+-- What the code writes into a slice's part, and how it searches.
 pub mod Parts
+pub mod Searches

@@ -1,10 +1,10 @@
 -- What the code of a change stores is what the definitions leave, on any links and any edges. Assumes nothing.
-use Rattle.std.specs.Prelude.{◌≡◌, Bool, true, false, cond, List, ℕ, ◌+◌, ◌-◌, ◌*◌, ◌<◌, ◌≤◌, min, max, eqb, length, get_or, set}
+use Rattle.std.specs.Prelude.{◌≡◌, Bool, true, false, List, ℕ, ◌+◌, ◌-◌, ◌*◌, ◌<◌, ◌≤◌, min, max, length, get_or, set}
 use Rattle.std.proofs.Math.Path.{refl}
 use Rattle.std.proofs.Common.{sym, ◌∙◌, ap, eq-eqb, ne_eqb}
 use native.Mathlib.Omega.{arith}
 use Rattle.topology.specs.Links.{off, link_of, link_read}
-use Rattle.front.specs.State.{State, remove_front, add_front, edge_in, has_edge, push_edge, add_edge}
+use Rattle.front.specs.State.{remove_front, add_front, edge_in, has_edge, push_edge, add_edge}
 use Rattle.front.specs.Place.{missing, edges_added}
 use Rattle.mesh_changes.specs.Parts.{front_in, edges_in}
 

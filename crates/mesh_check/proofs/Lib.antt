@@ -1,2 +1,2 @@
--- Searches and counts over a list's first places, as the loops of specs/ have them.
+-- Counts over a list's first places, as specs/ have them.
 pub mod Listed

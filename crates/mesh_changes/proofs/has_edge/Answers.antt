@@ -1,25 +1,13 @@
--- `mesh_changes::has_edge` meets its contract: the loop is a scan.
-use borrow.Author.Tests.{eq-eqb, ne_eqb}
-use Rattle.laws.specs.Loop.{scan_start, scan_hit, scan_next, scan_none}
+-- `mesh_changes::has_edge` meets its contract.
+use Rattle.std.proofs.Common.{min, max, ◌∙◌, arith, rules, tests}
+use Rattle.std.proofs.lemmas.Iterator.{YieldsList-from_range}
+use Rattle.std.proofs.lemmas.Iterator.Search.{any_from_yields_List}
+use Rattle.front.specs.State.{edge_is}
+use Rattle.front.proofs.Searches.{any_ranged}
 use Rattle.mesh_changes.proofs.has_edge.Goals as goal
-use Rattle.mesh_changes.proofs.has_edge.Goals.{then-edges-k+else-edges-k-2, else-edges-k}
-
-pub loop-k-init : goal.loop-k-init
-loop-k-init c = scan_start _ _
-
-pub returns-then-edges-k-2 : goal.returns-then-edges-k-2
-returns-then-edges-k-2 c =
-    rw (← c.min_u32-lo.ensures, ← c.max_u32-hi.ensures)
-    (scan_hit _ c.loop-k.invariant c.loop-k-test.true (simp (eq-eqb _ _ c.if-edges-k.true, eq-eqb _ _ c.if-edges-k-2.true)))
-
-pub loop-k-preserved : goal.loop-k-preserved
-loop-k-preserved c =
-    scan_next _ c.loop-k.invariant c.loop-k-test.true
-    (elim c.if-edges-k.branch [
-      | then-edges-k+else-edges-k-2 w ↦ simp (eq-eqb _ _ w.if-edges-k.true, ne_eqb _ _ w.if-edges-k-2.false)
-      | else-edges-k w ↦ simp (ne_eqb _ _ w.if-edges-k.false)
-    ])
 
 pub returns : goal.returns
 returns c =
-    rw (← c.min_u32-lo.ensures, ← c.max_u32-hi.ensures) (scan_none _ c.loop-k.invariant c.loop-k-test.false)
+    let test = edge_is c.args.edges.now (min c.args.u c.args.v) (max c.args.u c.args.v) in
+    any_from_yields_List test _ _ _ c.any.ensures.ran (YieldsList-from_range 0 c.args.n c.args.n (cc) (omega arith)) (λ x b q k. search (rules, tests))
+    ∙ any_ranged test c.args.n

@@ -2,7 +2,7 @@
 use Rattle.std.proofs.Common.{leb, take, ◌∙◌, rules, tests}
 use Rattle.std.proofs.lemmas.Iterator.{YieldsList-from_slice}
 use Rattle.std.proofs.lemmas.Iterator.Search.{any_from_yields_List}
-use Rattle.mesh_check.proofs.Listed.{any_listed}
+use Rattle.front.proofs.Searches.{any_listed}
 use Rattle.mesh_check.proofs.any_beyond.Goals as goal
 
 pub returns : goal.returns

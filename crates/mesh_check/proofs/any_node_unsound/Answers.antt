@@ -3,7 +3,7 @@ use Rattle.std.proofs.Common.{◌∙◌, arith, rules, tests}
 use Rattle.std.proofs.lemmas.Iterator.{YieldsList-from_range}
 use Rattle.std.proofs.lemmas.Iterator.Search.{any_from_yields_List}
 use Rattle.mesh_check.specs.Check.{node_unsound}
-use Rattle.mesh_check.proofs.Listed.{any_ranged}
+use Rattle.front.proofs.Searches.{any_ranged}
 use Rattle.mesh_check.proofs.any_node_unsound.Goals as goal
 
 pub returns : goal.returns

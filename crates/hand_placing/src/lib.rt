@@ -16,6 +16,7 @@ use front::{Corner, Counts};
 // ---- the mesh edges
 
 // Two edges of a quad, u to v and v to w: the count after them.
+#[tactic(auto, using(crate::specs::PlaceLaws::first_edge_fits, crate::specs::PlaceLaws::second_edge_fits))]
 fn add_two(edges: &mut [u32], n: usize, u: u32, v: u32, w: u32) -> usize
     requires { 2 * (add_edge v w (add_edge u v (edges_in edges.old n))).counts.edges ≤ length edges.old }
     ensures { edges_in edges.new result ≡ add_edge v w (add_edge u v (edges_in edges.old n)) }
@@ -25,6 +26,7 @@ fn add_two(edges: &mut [u32], n: usize, u: u32, v: u32, w: u32) -> usize
 }
 
 // The mesh edges of the quad a, b, d, c.
+#[tactic(auto, using(crate::specs::PlaceLaws::first_pair, crate::specs::PlaceLaws::second_pair), unfolding(front::specs::Place::add_edges))]
 fn add_edges(edges: &mut [u32], n: usize, a: u32, b: u32, d: u32, c: u32) -> usize
     requires { 2 * (add_edges a b d c (edges_in edges.old n)).counts.edges ≤ length edges.old }
     ensures { edges_in edges.new result ≡ add_edges a b d c (edges_in edges.old n) }
@@ -110,6 +112,7 @@ fn extend(
 }
 
 // The front moves: the count of its edges after it.
+#[tactic(auto, unfolding(front::specs::Place::move_front))]
 fn move_front(
     c: Corner,
     d: Corner,
@@ -202,7 +205,7 @@ pub fn place_quad(
     let id_d = d.id(n + c.added());
     let m = new_corners(c, d, xs, ys, next, prev, n);
     let e = add_edges(edges, k.edges, a, b, id_d, id_c);
-    mesh_changes::store_quad(quads, q, a, b, id_d, id_c);
+    front::put_quad(quads, q, a, b, id_d, id_c);
     let after = move_front(c, d, next, prev, m, f, a, b, id_c, id_d);
     Counts {
         nodes: m,

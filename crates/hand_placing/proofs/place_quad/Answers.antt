@@ -14,8 +14,8 @@ move_front-after-requires c =
     let m = c.new_corners-m.ensures.1 in
     let v = c.args in
     let P = c.requires in (
-      omega (arith, m, P.nodes.next_fit, c.next-1.given),
-      omega (arith, m, P.nodes.prev_fit, c.prev-1.given),
+      omega (arith, m, P.nodes.next_fit),
+      omega (arith, m, P.nodes.prev_fit),
       rw (m, c.id-id_c.ensures, second_id_lem v.k.nodes v.c v.d c.added.ensures.0 c.id-id_d.ensures) P.ids,
       omega (arith, P.front),
     )
@@ -26,5 +26,5 @@ returns c =
     λ snapshot.
     parts_placed _ _ _ _ _ _ _ _ snapshot _ _ v.k c.id-id_c.ensures
     (second_id_lem v.k.nodes v.c v.d c.added.ensures.0 c.id-id_d.ensures)
-    c.new_corners-m.ensures.0 c.add_edges-e.ensures c.store_quad.ensures
+    c.new_corners-m.ensures.0 c.add_edges-e.ensures c.put_quad.ensures
     c.move_front-after.ensures

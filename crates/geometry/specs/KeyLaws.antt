@@ -1,13 +1,13 @@
 -- Laws of the keys: their order as the machine tests it, and their gap as a difference of unsigned numbers.
-use Rattle.std.specs.Prelude.{Bool, true, false, not, cond, ◌≡◌, refl, ℕ, zero, suc, ◌+◌, ◌-◌, ◌^◌, ◌<◌, ◌≤◌, ℤ, pos, negsuc, nat_abs, ◌-ℤ◌, leb, ltb}
+use Rattle.std.specs.Prelude.{Bool, true, false, not, cond, ◌≡◌, refl, ℕ, zero, suc, ◌+◌, ◌-◌, ◌^◌, ◌<◌, ◌≤◌, ℤ, pos, negsuc, nat_abs, ◌-ℤ◌, leb, ltb, int_lt}
 use Rattle.std.proofs.Common.{true≢false, sym, ap, ◌∙◌, arith, lt-ltb, le-ltb, le-leb, ltb-true, ltb-false, leb-true, leb-false, to_z, of_z, SFits}
 use Rattle.std.proofs.lemmas.Bool.{lt-leb}
 use Rattle.std.proofs.Math.IntN.{sub_ℕ}
 use Rattle.std.proofs.Math.Dec.{leb-suc-suc}
 use Rattle.std.specs.Int.Signed.{mag, le_z, lt_z}
-use Rattle.std.specs.Int.{w64}
+use Rattle.std.specs.Int.{w64, int_min, int_max}
 use Rattle.std.proofs.lemmas.Int.{to_z-of_z}
-use Rattle.geometry.specs.Keys.{is_negative, at_most, gap}
+use Rattle.geometry.specs.Keys.{is_negative, at_most, lesser, greater, gap}
 
 -- ---- the order
 
@@ -31,6 +31,30 @@ at_most_lem (pos zero) (negsuc b) = ap not (sym (sign _ _ (ltb zero (suc b)) ∙
 at_most_lem (pos (suc a)) (negsuc b) = refl
 at_most_lem (negsuc a) (pos b) = refl
 at_most_lem (negsuc a) (negsuc b) = sym (leb-suc-suc b a) ∙ not_below_lem (suc b) (suc a) ∙ ap not (sym (sign _ _ (ltb (suc a) (suc b))))
+
+-- and so are its least and its greatest of two
+le_by_lt : (k l : ℤ) → le_z k l ≡ not (int_lt l k)
+le_by_lt (pos a) (pos b) = not_below_lem a b
+le_by_lt (pos a) (negsuc b) = refl
+le_by_lt (negsuc a) (pos b) = refl
+le_by_lt (negsuc a) (negsuc b) = not_below_lem b a
+
+least_is : (k l : ℤ) → int_min k l ≡ lesser k l
+least_is k l = rw (sym (at_most_lem k l), le_by_lt k l) (by (int_lt l k))
+  where
+    by : (t : Bool) → cond t l k ≡ cond (not t) k l
+    by true = refl
+    by false = refl
+
+greatest_is : (k l : ℤ) → int_max k l ≡ greater k l
+greatest_is k l = rw (sym (at_most_lem k l), le_by_lt k l) (by (int_lt l k))
+  where
+    by : (t : Bool) → cond t k l ≡ cond (not t) l k
+    by true = refl
+    by false = refl
+
+pub ends_meet : (k l m n : ℤ) {a b : ℤ} → a ≡ int_min k l → b ≡ int_max m n → le_z a b ≡ at_most (lesser k l) (greater m n)
+ends_meet k l m n e f = rw (e, f, least_is k l, greatest_is m n) (at_most_lem (lesser k l) (greater m n))
 
 -- ---- the gap
 

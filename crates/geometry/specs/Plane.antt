@@ -1,7 +1,7 @@
 -- The free functions of src/alt_crossfield.rs on points, each float operation as it stands there. `convex_ccw` is that file's, with the
 -- angle limit, and not the one of src/two_d.rs.
 -- Definitions only.
-use Rattle.std.specs.Prelude.{Bool, true, false, not, ◌&&◌, ◌||◌, cond, Float}
+use Rattle.std.specs.Prelude.{Bool, not, ◌&&◌, ◌||◌, cond, Float}
 use Rattle.std.specs.Float.Ieee.{neg, lt, le}
 use Rattle.numbers.specs.Float.{◌⊕◌, ◌⊖◌, ◌⊗◌, ◌⊘◌, zero_f, one_f, four_f, tolerance, abs_f, min_f, max_f}
 use Rattle.exact.specs.Corner.{norm, corner_ok}

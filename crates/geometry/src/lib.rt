@@ -1,7 +1,7 @@
 // The geometry tests of src/alt_crossfield.rs, and the keys that replace its two indexes. Each function equals its definition on every input.
 #![tactic(auto)]
 
-ghost use Rattle.std.specs.Prelude.{◌≡◌, ◌&&◌};
+ghost use Rattle.std.specs.Prelude.{◌≡◌};
 ghost use Rattle.exact.specs.Corner.{norm};
 ghost use Rattle.geometry.specs.Plane.{distance, tangent, area_term, cross2, doubled_area, left_of, point_in_convex, on_segment, opposite};
 ghost use Rattle.geometry.specs.Plane.{touches, segments_cross, centroid, convex_ccw};
@@ -48,12 +48,14 @@ struct Side {
 // ---- lengths
 
 // The root of x·x + y·y.
+#[tactic(auto, unfolding(exact::specs::Corner::norm))]
 pub fn norm(x: f64, y: f64) -> f64
     ensures { result ≡ norm x y }
 {
     numbers::sqrt_f64(x * x + y * y)
 }
 
+#[tactic(auto, unfolding(crate::specs::Plane::distance))]
 pub fn distance(a: Point, b: Point) -> f64
     ensures { result ≡ distance a b }
 {
@@ -61,6 +63,7 @@ pub fn distance(a: Point, b: Point) -> f64
 }
 
 // The direction from a to b: (1, 0) for a segment no longer than 1e-12.
+#[tactic(auto, unfolding(crate::specs::Plane::tangent))]
 pub fn tangent(a: Point, b: Point) -> Point
     ensures { result ≡ tangent a b }
 {
@@ -80,6 +83,7 @@ pub fn tangent(a: Point, b: Point) -> Point
 // ---- orientation
 
 // The summand of an area, doubled, of the side a to b.
+#[tactic(auto, unfolding(crate::specs::Plane::area_term))]
 pub fn area_term(a: Point, b: Point) -> f64
     ensures { result ≡ area_term a b }
 {
@@ -87,19 +91,18 @@ pub fn area_term(a: Point, b: Point) -> f64
 }
 
 // Twice the signed area of the triangle a, b, c.
+#[tactic(auto, unfolding(crate::specs::Plane::cross2))]
 pub fn cross2(a: Point, b: Point, c: Point) -> f64
     ensures { result ≡ cross2 a b c }
 {
     (b.x - a.x) * (c.y - a.y) - (b.y - a.y) * (c.x - a.x)
 }
 
+#[tactic(auto, unfolding(crate::specs::Plane::doubled_area))]
 pub fn doubled_area(p: Corners) -> f64
     ensures { result ≡ doubled_area p }
 {
-    let a = p.a;
-    let b = p.b;
-    let d = p.d;
-    let c = p.c;
+    let Corners { a, b, d, c } = p;
     0.0 + area_term(a, b) + area_term(b, d) + area_term(d, c) + area_term(c, a)
 }
 
@@ -116,61 +119,42 @@ fn side_of(a: Point, b: Point) -> Side
 }
 
 // One corner of `convex_ccw`, where u ends and v starts: both sides above 1e-12, and the sine of the turn above sin 20°.
+#[tactic(auto, unfolding(crate::specs::Sides::turn_ok))]
 fn turns(u: Side, v: Side) -> bool
     ensures { result ≡ turn_ok u v }
 {
-    let lu = u.length;
-    if lu <= Settings::TOLERANCE {
+    if u.length <= Settings::TOLERANCE || v.length <= Settings::TOLERANCE {
         return false;
     }
-    let lv = v.length;
-    if lv <= Settings::TOLERANCE {
-        return false;
-    }
-    let sine = (u.x * v.y - u.y * v.x) / (lu * lv);
+    let sine = (u.x * v.y - u.y * v.x) / (u.length * v.length);
     !(sine <= Settings::LEAST_SINE)
 }
 
 // Whether the corner b, from a to c, is seen to fail without a length: the cross product of its steps is finite and not above 0.
+#[tactic(auto, unfolding(crate::specs::LeftTurns::no_left_turn))]
 fn no_left_turn(a: Point, b: Point, c: Point) -> bool
     ensures { result ≡ no_left_turn a b c }
 {
     let cross = (b.x - a.x) * (c.y - b.y) - (b.y - a.y) * (c.x - b.x);
-    if cross <= 0.0 {
-        numbers::is_finite_f64(cross)
-    } else {
-        false
-    }
+    cross <= 0.0 && numbers::is_finite_f64(cross)
 }
 
 // Whether a corner of the quad is seen to fail without a length.
+#[tactic(auto, unfolding(crate::specs::LeftTurns::lacks_left_turn))]
 fn lacks_left_turn(p: Corners) -> bool
     ensures { result ≡ lacks_left_turn p }
 {
-    let a = p.a;
-    let b = p.b;
-    let d = p.d;
-    let c = p.c;
-    if no_left_turn(c, a, b) {
-        return true;
-    }
-    if no_left_turn(a, b, d) {
-        return true;
-    }
-    if no_left_turn(b, d, c) {
-        return true;
-    }
-    no_left_turn(d, c, a)
+    let Corners { a, b, d, c } = p;
+    no_left_turn(c, a, b) || no_left_turn(a, b, d) || no_left_turn(b, d, c) || no_left_turn(d, c, a)
 }
 
 // Whether each corner turns left by more than 20°. A side's length is taken once, for both its corners.
+// Stays a ladder: a side's length is a root, and is taken only where the corners before it turn.
+#[tactic(auto, unfolding(crate::specs::LeftTurns::corners_turn))]
 fn corners_turn(p: Corners) -> bool
     ensures { result ≡ corners_turn p }
 {
-    let a = p.a;
-    let b = p.b;
-    let d = p.d;
-    let c = p.c;
+    let Corners { a, b, d, c } = p;
     let ca = side_of(c, a);
     let ab = side_of(a, b);
     if !turns(ca, ab) {
@@ -188,25 +172,18 @@ fn corners_turn(p: Corners) -> bool
 }
 
 // Whether the quad turns left by more than 20° at each corner. One that lacks a left turn fails without a root.
+#[tactic(auto, unfolding(crate::specs::Plane::convex_ccw))]
 pub fn convex_ccw(p: Corners) -> bool
     ensures { result ≡ convex_ccw p }
 {
-    if doubled_area(p) <= Settings::TOLERANCE {
-        return false;
-    }
-    if lacks_left_turn(p) {
-        return false;
-    }
-    corners_turn(p)
+    !(doubled_area(p) <= Settings::TOLERANCE) && !lacks_left_turn(p) && corners_turn(p)
 }
 
+#[tactic(auto, unfolding(crate::specs::Plane::centroid))]
 pub fn centroid(p: Corners) -> Point
     ensures { result ≡ centroid p }
 {
-    let a = p.a;
-    let b = p.b;
-    let d = p.d;
-    let c = p.c;
+    let Corners { a, b, d, c } = p;
     Point {
         x: (a.x + b.x + d.x + c.x) / 4.0,
         y: (a.y + b.y + d.y + c.y) / 4.0,
@@ -216,84 +193,51 @@ pub fn centroid(p: Corners) -> Point
 // ---- points and segments
 
 // Whether q is strictly left of a to b.
+#[tactic(auto, unfolding(crate::specs::Plane::left_of))]
 pub fn left_of(a: Point, b: Point, q: Point) -> bool
     ensures { result ≡ left_of a b q }
 {
     !(cross2(a, b, q) <= 0.0)
 }
 
+#[tactic(auto, unfolding(crate::specs::Plane::point_in_convex))]
 pub fn point_in_convex(p: Corners, q: Point) -> bool
     ensures { result ≡ point_in_convex p q }
 {
-    let a = p.a;
-    let b = p.b;
-    let d = p.d;
-    let c = p.c;
-    if !left_of(a, b, q) {
-        return false;
-    }
-    if !left_of(b, d, q) {
-        return false;
-    }
-    if !left_of(d, c, q) {
-        return false;
-    }
-    left_of(c, a, q)
+    let Corners { a, b, d, c } = p;
+    left_of(a, b, q) && left_of(b, d, q) && left_of(d, c, q) && left_of(c, a, q)
 }
 
 // Whether p lies in the box of the segment a to b, widened by 1e-12.
+#[tactic(auto, unfolding(crate::specs::Plane::on_segment))]
 pub fn on_segment(a: Point, b: Point, p: Point) -> bool
     ensures { result ≡ on_segment a b p }
 {
-    if numbers::min_f64(a.x, b.x) - Settings::TOLERANCE <= p.x {
-        if p.x <= numbers::max_f64(a.x, b.x) + Settings::TOLERANCE {
-            if numbers::min_f64(a.y, b.y) - Settings::TOLERANCE <= p.y {
-                return p.y <= numbers::max_f64(a.y, b.y) + Settings::TOLERANCE;
-            }
-        }
-    }
-    false
+    numbers::min_f64(a.x, b.x) - Settings::TOLERANCE <= p.x
+        && p.x <= numbers::max_f64(a.x, b.x) + Settings::TOLERANCE
+        && numbers::min_f64(a.y, b.y) - Settings::TOLERANCE <= p.y
+        && p.y <= numbers::max_f64(a.y, b.y) + Settings::TOLERANCE
 }
 
 // Whether one orientation is above 1e-12 and the other below -1e-12.
+#[tactic(auto, unfolding(crate::specs::Plane::opposite))]
 pub fn opposite(o: f64, u: f64) -> bool
     ensures { result ≡ opposite o u }
 {
-    if o > Settings::TOLERANCE {
-        if u < -Settings::TOLERANCE {
-            return true;
-        }
-    }
-    if o < -Settings::TOLERANCE {
-        u > Settings::TOLERANCE
-    } else {
-        false
-    }
+    o > Settings::TOLERANCE && u < -Settings::TOLERANCE
+        || o < -Settings::TOLERANCE && u > Settings::TOLERANCE
 }
 
 // Whether p, of orientation o towards a to b, lies on it, by the tolerance 1e-12.
+#[tactic(auto, unfolding(crate::specs::Plane::touches))]
 pub fn touches(o: f64, a: Point, b: Point, p: Point) -> bool
     ensures { result ≡ touches o a b p }
 {
-    if numbers::abs_f64(o) <= Settings::TOLERANCE {
-        on_segment(a, b, p)
-    } else {
-        false
-    }
-}
-
-// Whether each segment's ends lie on two sides of the other, by the four orientations.
-fn cross_properly(o1: f64, o2: f64, o3: f64, o4: f64) -> bool
-    ensures { result ≡ opposite o1 o2 && opposite o3 o4 }
-{
-    if opposite(o1, o2) {
-        opposite(o3, o4)
-    } else {
-        false
-    }
+    numbers::abs_f64(o) <= Settings::TOLERANCE && on_segment(a, b, p)
 }
 
 // Whether a to b and c to d cross or touch.
+#[tactic(auto, unfolding(crate::specs::Plane::segments_cross))]
 pub fn segments_cross(a: Point, b: Point, c: Point, d: Point) -> bool
     ensures { result ≡ segments_cross a b c d }
 {
@@ -301,24 +245,17 @@ pub fn segments_cross(a: Point, b: Point, c: Point, d: Point) -> bool
     let o2 = cross2(a, b, d);
     let o3 = cross2(c, d, a);
     let o4 = cross2(c, d, b);
-    if cross_properly(o1, o2, o3, o4) {
-        return true;
-    }
-    if touches(o1, a, b, c) {
-        return true;
-    }
-    if touches(o2, a, b, d) {
-        return true;
-    }
-    if touches(o3, c, d, a) {
-        return true;
-    }
-    touches(o4, c, d, b)
+    opposite(o1, o2) && opposite(o3, o4)
+        || touches(o1, a, b, c)
+        || touches(o2, a, b, d)
+        || touches(o3, c, d, a)
+        || touches(o4, c, d, b)
 }
 
 // ---- keys
 
 // The key of p for a bucket size.
+#[tactic(auto, unfolding(crate::specs::Keys::key_of))]
 pub fn key_of(bucket: f64, p: Point) -> Key
     ensures { result ≡ key_of bucket p }
 {
@@ -328,49 +265,18 @@ pub fn key_of(bucket: f64, p: Point) -> Key
     }
 }
 
-// k moved up by 2^63, so that differences can be taken without a sign.
-fn offset(k: i64) -> u64
-    ensures { result ≡ offset k }
-{
-    if k < 0 {
-        9223372036854775807 - ((-1 - k) as u64)
-    } else {
-        9223372036854775808 + (k as u64)
-    }
-}
-
 // How far apart two keys are.
 pub fn gap(k: i64, l: i64) -> u64
     ensures { result ≡ gap k l }
 {
-    let a = offset(k);
-    let b = offset(l);
-    if a < b { b - a } else { a - b }
-}
-
-fn at_most(k: i64, l: i64) -> bool
-    ensures { result ≡ at_most k l }
-{
-    k <= l
-}
-
-fn lesser(k: i64, l: i64) -> i64
-    ensures { result ≡ lesser k l }
-{
-    if at_most(k, l) { k } else { l }
-}
-
-fn greater(k: i64, l: i64) -> i64
-    ensures { result ≡ greater k l }
-{
-    if at_most(k, l) { l } else { k }
+    k.abs_diff(l)
 }
 
 // Whether k lies from l to m.
 fn between(k: i64, l: i64, m: i64) -> bool
     ensures { result ≡ between k l m }
 {
-    if at_most(l, k) { at_most(k, m) } else { false }
+    l <= k && k <= m
 }
 
 // The spans of the key rectangle with the corners k and l.
@@ -384,39 +290,32 @@ fn spans_of(k: Key, l: Key) -> Spans
 }
 
 // Whether the spans of a key rectangle add up to 4,096 at most.
+#[tactic(auto, unfolding(crate::specs::Keys::spans_kept))]
 pub fn spans_kept(k: Key, l: Key) -> bool
     ensures { result ≡ spans_kept k l }
 {
     let s = spans_of(k, l);
-    if Settings::MOST_SPANS < s.i {
-        return false;
-    }
-    s.j <= Settings::MOST_SPANS - s.i
+    s.i <= Settings::MOST_SPANS && s.j <= Settings::MOST_SPANS - s.i
 }
 
 // Whether the ranges from k to l and from m to n, either end first, have a number in common.
+#[tactic(auto, unfolding(crate::specs::Keys::ranges_meet))]
 pub fn ranges_meet(k: i64, l: i64, m: i64, n: i64) -> bool
     ensures { result ≡ ranges_meet k l m n }
 {
-    if at_most(lesser(k, l), greater(m, n)) {
-        at_most(lesser(m, n), greater(k, l))
-    } else {
-        false
-    }
+    k.min(l) <= m.max(n) && m.min(n) <= k.max(l)
 }
 
 // Whether two key rectangles, each by two opposite corners, overlap.
+#[tactic(auto, unfolding(crate::specs::Keys::rectangles_meet))]
 pub fn rectangles_meet(k: Key, l: Key, m: Key, n: Key) -> bool
     ensures { result ≡ rectangles_meet k l m n }
 {
-    if ranges_meet(k.i, l.i, m.i, n.i) {
-        ranges_meet(k.j, l.j, m.j, n.j)
-    } else {
-        false
-    }
+    ranges_meet(k.i, l.i, m.i, n.i) && ranges_meet(k.j, l.j, m.j, n.j)
 }
 
 // Whether the columns of the edge c to d meet those from k to l.
+#[tactic(auto, unfolding(crate::specs::Keys::key_of))]
 fn columns_meet(k: Key, l: Key, bucket: f64, c: Point, d: Point) -> bool
     ensures { result ≡ ranges_meet k.i l.i (key_of bucket c).i (key_of bucket d).i }
 {
@@ -426,6 +325,7 @@ fn columns_meet(k: Key, l: Key, bucket: f64, c: Point, d: Point) -> bool
 }
 
 // Whether the edge c to d is a candidate for a query whose ends have the keys k and l. Most edges leave at the columns.
+#[tactic(auto, unfolding(crate::specs::Keys::candidate_at))]
 pub fn candidate_at(k: Key, l: Key, size: f64, c: Point, d: Point) -> bool
     ensures { result ≡ candidate_at k l size c d }
 {
@@ -435,16 +335,11 @@ pub fn candidate_at(k: Key, l: Key, size: f64, c: Point, d: Point) -> bool
     }
     let m = key_of(bucket, c);
     let n = key_of(bucket, d);
-    if !rectangles_meet(k, l, m, n) {
-        return false;
-    }
-    if !spans_kept(k, l) {
-        return false;
-    }
-    spans_kept(m, n)
+    rectangles_meet(k, l, m, n) && spans_kept(k, l) && spans_kept(m, n)
 }
 
 // Whether the edge c to d is a candidate for the query a to b.
+#[tactic(auto, unfolding(crate::specs::Keys::is_candidate))]
 pub fn is_candidate(size: f64, a: Point, b: Point, c: Point, d: Point) -> bool
     ensures { result ≡ is_candidate size a b c d }
 {
@@ -453,31 +348,26 @@ pub fn is_candidate(size: f64, a: Point, b: Point, c: Point, d: Point) -> bool
 }
 
 // Whether the key l is within two of k each way.
+#[tactic(auto, unfolding(crate::specs::Keys::near_keys))]
 fn near_keys(k: Key, l: Key) -> bool
     ensures { result ≡ near_keys k l }
 {
     let s = spans_of(k, l);
-    if s.i <= Settings::REACH {
-        s.j <= Settings::REACH
-    } else {
-        false
-    }
+    s.i <= Settings::REACH && s.j <= Settings::REACH
 }
 
 // Whether the node q is too close to p, whose key is k; `radius2` is the square of the clearance. The distance is the cheaper test.
+#[tactic(auto, unfolding(crate::specs::Keys::too_close_at))]
 pub fn too_close_at(k: Key, p: Point, radius2: f64, size: f64, q: Point) -> bool
     ensures { result ≡ too_close_at k p radius2 size q }
 {
     let dx = q.x - p.x;
     let dy = q.y - p.y;
-    if dx * dx + dy * dy < radius2 {
-        near_keys(k, key_of(size, q))
-    } else {
-        false
-    }
+    dx * dx + dy * dy < radius2 && near_keys(k, key_of(size, q))
 }
 
 // Whether the node q is too close to p: nearer than 0.45 × size.
+#[tactic(auto, unfolding(crate::specs::Keys::is_too_close))]
 pub fn is_too_close(size: f64, p: Point, q: Point) -> bool
     ensures { result ≡ is_too_close size p q }
 {
@@ -487,6 +377,7 @@ pub fn is_too_close(size: f64, p: Point, q: Point) -> bool
 
 // ---- a quad's box
 
+// Stays two functions of nested calls: one that takes `min_f64` or `max_f64` as a closure has a clause for each of the four calls, and is no plainer.
 fn least_of(x: f64, y: f64, z: f64, w: f64) -> f64
     ensures { result ≡ least_of x y z w }
 {
@@ -506,13 +397,11 @@ fn greatest_of(x: f64, y: f64, z: f64, w: f64) -> f64
 }
 
 // The lower left corner of the quad's box.
+#[tactic(auto, unfolding(crate::specs::Keys::lowest))]
 pub fn lowest(p: Corners) -> Point
     ensures { result ≡ lowest p }
 {
-    let a = p.a;
-    let b = p.b;
-    let d = p.d;
-    let c = p.c;
+    let Corners { a, b, d, c } = p;
     Point {
         x: least_of(a.x, b.x, d.x, c.x),
         y: least_of(a.y, b.y, d.y, c.y),
@@ -520,13 +409,11 @@ pub fn lowest(p: Corners) -> Point
 }
 
 // The upper right corner of the quad's box.
+#[tactic(auto, unfolding(crate::specs::Keys::highest))]
 pub fn highest(p: Corners) -> Point
     ensures { result ≡ highest p }
 {
-    let a = p.a;
-    let b = p.b;
-    let d = p.d;
-    let c = p.c;
+    let Corners { a, b, d, c } = p;
     Point {
         x: greatest_of(a.x, b.x, d.x, c.x),
         y: greatest_of(a.y, b.y, d.y, c.y),
@@ -534,17 +421,16 @@ pub fn highest(p: Corners) -> Point
 }
 
 // Whether the key of the node q lies from l to m.
+#[tactic(auto, unfolding(crate::specs::Keys::in_box_at, crate::specs::Keys::key_of))]
 pub fn in_box_at(l: Key, m: Key, size: f64, q: Point) -> bool
     ensures { result ≡ in_box_at l m size q }
 {
-    if between(numbers::floor_quotient(q.x, size), l.i, m.i) {
-        between(numbers::floor_quotient(q.y, size), l.j, m.j)
-    } else {
-        false
-    }
+    between(numbers::floor_quotient(q.x, size), l.i, m.i)
+        && between(numbers::floor_quotient(q.y, size), l.j, m.j)
 }
 
 // Whether the key of the node q lies in the quad's key rectangle.
+#[tactic(auto, unfolding(crate::specs::Keys::is_in_box))]
 pub fn is_in_box(size: f64, p: Corners, q: Point) -> bool
     ensures { result ≡ is_in_box size p q }
 {

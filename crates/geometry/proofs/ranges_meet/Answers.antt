@@ -1,35 +1,28 @@
--- `geometry::ranges_meet` meets its contract, by those of `at_most`, `lesser` and `greater`.
-use mathlib.Core.Path.{◌≡◌, sym, ◌∙◌}
-use Rattle.geometry.specs.KeyLaws.{back, back_of}
-use Rattle.geometry.specs.Keys.{at_most, lesser, greater, ranges_meet}
+-- `geometry::ranges_meet` meets its contract: the library's order of whole numbers is the keys' (`KeyLaws`).
+use Rattle.std.proofs.Common.{sym, ◌∙◌}
+use Rattle.geometry.specs.KeyLaws.{back, back_of, ends_meet}
+use Rattle.geometry.specs.Keys.{ranges_meet}
 use Rattle.geometry.proofs.ranges_meet.Goals as goal
-use Rattle.geometry.proofs.ranges_meet.Goals.{After-at_most, After-at_most-then-at_most}
 
--- what the two calls answer
-meets : (c : After-at_most)
-    → let s = c.args in
-    c.at_most.result ≡ at_most (lesser s.k s.l) (greater s.m s.n)
-meets c =
-    let low = c.lesser in
-    let high = c.greater in
-    let low-is = rw (back c.ranges.k, back c.ranges.l) at low.ensures in
-    let high_is = rw (back c.ranges.m, back c.ranges.n) at high.ensures in
-    rw (back_of low.result low.type_inv, back_of high.result high.type_inv, low-is, high_is) at c.at_most.ensures
-
-meets-back : (c : After-at_most-then-at_most)
-    → let s = c.args in
-    c.at_most-then-at_most.result ≡ at_most (lesser s.m s.n) (greater s.k s.l)
-meets-back c =
-    let low = c.lesser-then-at_most in
-    let high = c.greater-then-at_most in
-    let low-is = rw (back c.ranges.m, back c.ranges.n) at low.ensures in
-    let high_is = rw (back c.ranges.k, back c.ranges.l) at high.ensures in
-    rw (back_of low.result low.type_inv, back_of high.result high.type_inv, low-is, high_is) at c.at_most-then-at_most.ensures
-
-pub returns-then-at_most : goal.returns-then-at_most
+pub returns-then-min-max : goal.returns-then-min-max
 unfolding ranges_meet
-returns-then-at_most c = rw (sym (meets (goal.at.returns-then-at_most c).After-at_most) ∙ c.if-at_most.true) (meets-back (goal.at.returns-then-at_most c).After-at_most-then-at_most)
+returns-then-min-max c =
+    let s = c.args in
+    let r = c.ranges in
+    let low = rw (back r.k, back r.l) at c.min.ensures.value in
+    let high = rw (back r.m, back r.n) at c.max.ensures.value in
+    let low_2 = rw (back r.m, back r.n) at c.min-then-min-max.ensures.value in
+    let high_2 = rw (back r.k, back r.l) at c.max-then-min-max.ensures.value in
+    let t = rw (back_of c.min.result c.min.type_inv, back_of c.max.result c.max.type_inv) at c.if-min-max.true in
+    rw (sym (ends_meet s.k s.l s.m s.n low high) ∙ t, back_of c.min-then-min-max.result c.min-then-min-max.type_inv, back_of c.max-then-min-max.result c.max-then-min-max.type_inv)
+    (ends_meet s.m s.n s.k s.l low_2 high_2)
 
-pub returns-else-at_most : goal.returns-else-at_most
+pub returns-else-min-max : goal.returns-else-min-max
 unfolding ranges_meet
-returns-else-at_most c = rw (sym (meets (goal.at.returns-else-at_most c).After-at_most) ∙ c.if-at_most.false)
+returns-else-min-max c =
+    let s = c.args in
+    let r = c.ranges in
+    let low = rw (back r.k, back r.l) at c.min.ensures.value in
+    let high = rw (back r.m, back r.n) at c.max.ensures.value in
+    let t = rw (back_of c.min.result c.min.type_inv, back_of c.max.result c.max.type_inv) at c.if-min-max.false in
+    rw (sym (ends_meet s.k s.l s.m s.n low high) ∙ t, back_of c.min.result c.min.type_inv, back_of c.max.result c.max.type_inv) t

@@ -2,6 +2,7 @@
 use Rattle.std.specs.Prelude.{Bool, true, false, cond, List, [], ◌∷◌, ◌++◌, ◌≡◌, ℕ, zero, suc, ◌+◌, ◌-◌, ◌<◌, ◌≤◌, eqb, length, Option, Some, None}
 use Rattle.pools.specs.Pool.{none, cells, capacity, own_at, chain, any_of, cell_of, chain_at, span}
 use Rattle.pools.specs.declared.Rect.{Rect}
+use Rattle.key_rects.specs.Rects.{Meets}
 use Rattle.index.specs.declared.Cursor.{Cursor}
 
 -- f i, f (i + 1), .., w of them, joined
@@ -60,6 +61,10 @@ pub record NextCursor (pool : List ℕ) (r : Rect) (c d : Cursor) : Type 0 where
   pub at : over d ≡ false → At pool d
   pub rest : ahead pool r c ≡ own_at (length pool) pool c.t ∷ ahead pool r d
 
--- a call of a test on an item answers what `tests` says of it
-abbrev pub Decides : (ℕ → Bool → Type 0) → (ℕ → Bool) → Type 0
-Decides post tests = (id : ℕ) (b : Bool) → id < 4294967296 → post id b → b ≡ tests id
+-- a call of a test on a number below `count` answers what `tests` says of it
+abbrev pub Decides : (ℕ → Bool → Type 0) → ℕ → (ℕ → Bool) → Type 0
+Decides post count tests = (id : ℕ) (b : Bool) → id < count → post id b → b ≡ tests id
+
+-- what passes the test has a rectangle that meets r
+abbrev pub AreMet : (ℕ → Bool) → (ℕ → Rect) → Rect → Type 0
+AreMet tests rects r = (id : ℕ) → tests id ≡ true → Meets (rects id) r

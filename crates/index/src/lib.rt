@@ -2,9 +2,10 @@
 // answer: `visited_answers` and the laws of `Walk` in specs/WalkLaws.antt.
 #![tactic(auto)]
 
-ghost use Rattle.std.specs.Prelude.{◌≡◌, ℕ, Bool, false, ◌+◌, ◌-◌, ◌≤◌, ◌<◌, IfSome, length};
-ghost use Rattle.pools.specs.Pool.{cells, own_at, cell_of, span, any_of};
-ghost use Rattle.index.specs.Walk.{columns, rows, visited, over, cursor_of, At, InRow, Stands, NextCursor, Decides};
+ghost use Rattle.std.specs.Prelude.{◌≡◌, ℕ, Bool, false, ◌+◌, ◌-◌, ◌≤◌, ◌<◌, max, IfSome, length};
+ghost use Rattle.pools.specs.Pool.{cells, own_at, cell_of, span, any_of, Indexed};
+ghost use Rattle.index.specs.Walk.{columns, rows, visited, over, cursor_of, At, InRow, Stands, NextCursor, Decides, AreMet};
+ghost use Rattle.laws.specs.Loop.{any_up};
 
 use pools::Rect;
 
@@ -111,16 +112,35 @@ fn after(pool: &[u32], r: Rect, c: Cursor) -> Option<Cursor>
 }
 
 // Whether the test holds for an item visited.
-pub fn any_visited<F: Fn(u32) -> bool>(pool: &[u32], r: Rect, test: F) -> bool
+pub fn any_visited<F: Fn(usize) -> bool>(pool: &[u32], r: Rect, test: F) -> bool
     requires { (id : ℕ) → id < 4294967296 → F.pre test id }
-    ensures { (tests : ℕ → Bool) → Decides (F.post test) tests → result ≡ any_of tests (visited pool.now r) }
+    ensures { (tests : ℕ → Bool) → Decides (F.post test) 4294967296 tests → result ≡ any_of tests (visited pool.now r) }
 {
     let mut next = first(pool, r);
     while let Some(c) = next {
-        if test(own_at(pool, c)) {
+        if test(own_at(pool, c) as usize) {
             return true;
         }
         next = after(pool, r, c);
+    }
+    false
+}
+
+// Whether the test holds for one of the first `count` items, where each that it holds for has a key in r: a walk for those that are filed, and a scan of
+// the others.
+pub fn any_item<F: Fn(usize) -> bool>(pool: &[u32], r: Rect, count: usize, test: F) -> bool
+    requires walked { (id : ℕ) → id < 4294967296 → F.pre test id }
+    requires scanned { (id : ℕ) → id < count → F.pre test id }
+    ensures { (tests : ℕ → Bool) (rects : ℕ → Rect) → Decides (F.post test) (max count 4294967296) tests → Indexed pool.now rects count
+        → AreMet tests rects r → result ≡ any_up count tests }
+{
+    if any_visited(pool, r, &test) {
+        return true;
+    }
+    for id in pools::filed(pool) as usize..count {
+        if test(id) {
+            return true;
+        }
     }
     false
 }

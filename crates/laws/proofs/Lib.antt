@@ -1,4 +1,5 @@
 pub mod Certificate
 pub mod Examples
 pub mod Lists
+pub mod Ranges
 pub mod Ring

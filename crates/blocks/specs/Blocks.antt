@@ -8,6 +8,7 @@ use Rattle.exact.specs.Units.{Within}
 use Rattle.domain.specs.declared.Point.{Point}
 use Rattle.domain.specs.Outline.{Outline, hole_start, loop_at, points, point_at, point_after, most_points, outline_refusal}
 use Rattle.domain.specs.Accepted.{AllFit, OutlineFits, LoopWithin}
+use Rattle.outlines.specs.Order.{lower_of, higher_of}
 use Rattle.blocks.specs.declared.Extent.{Extent}
 
 -- ---- a part of a loop
@@ -21,13 +22,6 @@ for_between from to turn a = for_up (to - from) (λ j. turn (from + j)) a
 -- The sides, by number: 0 is least x, 1 greatest x, 2 least y, 3 greatest y. The coordinate that a side bounds:
 abbrev pub coordinate : ℕ → Point → Float
 coordinate d p = cond (ltb d 2) p.x p.y
-
--- the lower and the higher of two numbers, neither of which is a NaN
-abbrev pub lower_of : Float → Float → Float
-lower_of x y = cond (lt y x) y x
-
-abbrev pub higher_of : Float → Float → Float
-higher_of x y = cond (lt x y) y x
 
 -- how far the segment a to b reaches on side d: over a, b, and a + (b − a), which is where a part of the way from a to b ends as it is computed
 unfoldable pub reach_of : ℕ → Point → Point → Float

@@ -13,7 +13,8 @@ use Rattle.exact.specs.Keeps.{add_within, sub_within, le_self, le_through}
 use Rattle.domain.specs.declared.Point.{Point}
 use Rattle.domain.specs.Outline.{points, point_at, point_after}
 use Rattle.domain.specs.Accepted.{AllFit, PointFits, PointWithin, LoopWithin, after_within}
-use Rattle.blocks.specs.Blocks.{lower_of, higher_of, reach_of, side_at, BlockThere, ExtentWithin, segment_extent, block_extent}
+use Rattle.outlines.specs.Order.{lower_of, higher_of}
+use Rattle.blocks.specs.Blocks.{reach_of, side_at, BlockThere, ExtentWithin, segment_extent, block_extent}
 
 -- ---- bounded floats
 

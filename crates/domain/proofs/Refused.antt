@@ -1,9 +1,9 @@
 -- The laws by which a function takes over the refusal of one that it calls.
-use Rattle.std.specs.Prelude.{◌≡◌, ℕ, refl}
+use Rattle.std.specs.Prelude.{◌≡◌, ℕ, true, false, refl, Result, Ok, Err, is_ok}
 use Rattle.domain.specs.declared.Refusal.{Refusal}
 use Rattle.domain.specs.declared.Refusal.TheVariants.{Lists, ShortLoop, NotFinite, TooFar, NoSize, SizeOutOfRange, Flat, TooManySweeps, FieldNeedsSpace, FrontNeedsSpace, NoFieldRecord, WrongCheck, WrongFile, AnswerLists, NoNode, ThresholdTooHigh, NoThreshold, NoQuad, WeightTooHigh, NotAllowed, NotEachOnce, TooEarly, UnsoundMesh, NotOnFront, NotShown, FoursNeedSpace}
 use Rattle.domain.specs.Outline.{first_of}
-use Rattle.domain.specs.Refusals.{refusal_number}
+use Rattle.domain.specs.Refusals.{refusal_number, refused}
 
 -- what is refused first stays refused
 pub first_refused : (r : Refusal) (next : ℕ) → first_of (refusal_number r) next ≡ refusal_number r
@@ -62,3 +62,12 @@ refusal_some UnsoundMesh e = cc
 refusal_some NotOnFront e = cc
 refusal_some NotShown e = cc
 refusal_some FoursNeedSpace e = cc
+
+-- what `is_ok` tells
+pub ok_unrefused : {A : Type 0} (r : Result A Refusal) → is_ok r ≡ true → refused r ≡ 0
+ok_unrefused (Ok a) e = refl
+ok_unrefused (Err f) e = cc
+
+pub err_refused : {A : Type 0} (r : Result A Refusal) → is_ok r ≡ false → refused r ≡ 0 → ⊥
+err_refused (Ok a) e z = cc
+err_refused (Err f) e z = refusal_some f z

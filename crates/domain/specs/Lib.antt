@@ -1,4 +1,5 @@
 pub mod Accepted
+pub mod Doubles
 pub mod Examples
 pub mod Limits
 pub mod Outline

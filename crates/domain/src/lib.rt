@@ -3,6 +3,7 @@
 #![tactic(auto)]
 
 ghost use Rattle.std.specs.Prelude.{◌≡◌};
+ghost use Rattle.domain.specs.Doubles.{Doubles};
 ghost use Rattle.domain.specs.Refusals.{refusal_number, refused};
 
 // `[f64; 2]`
@@ -18,6 +19,7 @@ pub struct Domain<'a> {
     pub outer: &'a [f64],
     pub holes: &'a [f64],
     pub lens: &'a [usize],
+    ghost doubles: { Doubles outer.now holes.now },
 }
 
 // A segment's ends and its distance; its loop, 0 for the outer one and k + 1 for hole k; and its place there, 0 for the segment from the loop's first point.

@@ -26,7 +26,8 @@ use Rattle.domain.specs.Accepted.{AllFit, PointFits, PointWithin, LoopWithin, af
 use Rattle.domain.specs.Queries.{squared_distance, foot_of}
 use Rattle.domain.specs.Search.{searched}
 use Rattle.blocks.specs.declared.Extent.{Extent}
-use Rattle.blocks.specs.Blocks.{lower_of, higher_of, reach_of, is_farther, ExtentWithin, Covers}
+use Rattle.outlines.specs.Order.{lower_of, higher_of}
+use Rattle.blocks.specs.Blocks.{reach_of, is_farther, ExtentWithin, Covers}
 use Rattle.blocks.specs.OrderLaws.{lt_cut}
 use Rattle.blocks.specs.ReachLaws.{point_fits, after_fits, within_number, le_of_lt_true, le_of_lt_false, lt_false_of_le, lower_fits, higher_fits}
 use Rattle.blocks.specs.ReachLaws.{Highest, Lowest, reach_0, reach_1, reach_2, reach_3}

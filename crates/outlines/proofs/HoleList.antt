@@ -1,10 +1,11 @@
 -- The list of an outline's holes is as long as that of their lengths, and has hole k at place k.
 use Rattle.std.specs.Iterator.{Yields, YieldsFirstBy}
-use Rattle.std.specs.Prelude.{Option, Some, None, false, List, [], ◌∷◌, ◌≡◌, refl, ℕ, zero, suc, ◌+◌, ◌*◌, ◌<◌, ◌^◌, length, get_or, take, drop, sum, Float}
-use Rattle.std.proofs.Common.{sym, ap, ap₂, ◌∙◌, arith}
+use Rattle.std.specs.Prelude.{Option, Some, None, false, List, [], ◌∷◌, ◌≡◌, refl, ℕ, zero, suc, ◌+◌, ◌*◌, ◌≤◌, ◌<◌, ◌^◌, length, get_or, take, drop, sum, Float}
+use Rattle.std.proofs.Common.{sym, ap, ap₂, ◌∙◌, arith, length-take, get_or-take}
 use Rattle.std.proofs.lemmas.List.{drop-drop}
 use Rattle.std.proofs.lemmas.List.Sums.{sum_by-cons}
 use Rattle.std.proofs.lemmas.Iterator.Consumers.{YieldsList-from_first, YieldsList-turn, YieldsList-end}
+use Rattle.std.proofs.lemmas.Iterator.{YieldsList}
 use Rattle.domain.specs.Outline.{Outline, hole_length, hole_start, hole_at, misshapen}
 use Rattle.domain.specs.OutlineLaws.{start_first, start_next, shaped}
 use Rattle.outlines.specs.declared.Hole.{Hole}
@@ -61,6 +62,9 @@ left h = cut h.index h.start h.lens.now h.points.now
 abbrev pub GivesHoles : Holes → Option Hole → Holes → Type 0
 GivesHoles = YieldsFirstBy placed left
 
+pub holes_yield : (o : Outline) (first : Holes) → left first ≡ hole_list o → YieldsList GivesHoles placed first (hole_list o)
+holes_yield o first all = YieldsList-from_first placed left (hole_list o) all
+
 -- the hole is the outline's k-th
 pub record HolePlace (o : Outline) (k : ℕ) (h : Hole) : Type 0 where
   pub within : k < length o.lens
@@ -68,21 +72,38 @@ pub record HolePlace (o : Outline) (k : ℕ) (h : Hole) : Type 0 where
   pub start : h.start ≡ hole_start o.lens k
   pub points : h.points.now ≡ hole_at o k
 
+hole_place : (o : Outline) (k : ℕ) (h : Hole) → k < length o.lens → placed h ≡ get_or (hole_list o) k (placed h) → HolePlace o k h
+hole_place o k h within e =
+    let same = e ∙ hole_list_at o (placed h) k within in
+    record {
+      within = within;
+      index = ap (λ (p : ℕ × (ℕ × List Float)). p.0) same;
+      start = ap (λ (p : ℕ × (ℕ × List Float)). p.1.0) same;
+      points = ap (λ (p : ℕ × (ℕ × List Float)). p.1.1) same;
+    }
+
 module _ (o : Outline) (first here next : Holes) (given : List Hole) (all : left first ≡ hole_list o) (so_far : Yields GivesHoles first given here) where
   -- it gives the next hole
   pub hole_given : {r : Option Hole} (h : Hole) → r ≡ Some h → GivesHoles here r next → HolePlace o (length given) h
   hole_given h e step =
-      let turn = YieldsList-turn (YieldsList-from_first placed left (hole_list o) all) given here so_far _ next h e step in
-      let within : length given < length o.lens = omega (arith, turn.0, hole_list_length o) in
-      let same = turn.1 ∙ hole_list_at o (placed h) (length given) within in
-      record {
-        within = within;
-        index = ap (λ (p : ℕ × (ℕ × List Float)). p.0) same;
-        start = ap (λ (p : ℕ × (ℕ × List Float)). p.1.0) same;
-        points = ap (λ (p : ℕ × (ℕ × List Float)). p.1.1) same;
-      }
+      let turn = YieldsList-turn (holes_yield o first all) given here so_far _ next h e step in
+      hole_place o (length given) h (omega (arith, turn.0, hole_list_length o)) turn.1
 
   -- or all have been given
   pub holes_given : {r : Option Hole} → r ≡ None → GivesHoles here r next → length given ≡ length o.lens
-  holes_given e step =
-      (YieldsList-end (YieldsList-from_first placed left (hole_list o) all) given here so_far _ next e step).1 ∙ hole_list_length o
+  holes_given e step = (YieldsList-end (holes_yield o first all) given here so_far _ next e step).1 ∙ hole_list_length o
+
+-- the same of an iterator over the first n holes
+module _ {S : Type 0} {steps : S → Option Hole → S → Type 0} (o : Outline) (n : ℕ) (few : n ≤ length o.lens) {first : S} (all : YieldsList steps placed first (take n (hole_list o)))
+    (here next : S) (given : List Hole) (so_far : Yields steps first given here) where
+  taken : length (take n (hole_list o)) ≡ n
+  taken = omega (arith, length-take n (hole_list o), hole_list_length o)
+
+  pub first_given : {r : Option Hole} (h : Hole) → r ≡ Some h → steps here r next → (length given < n) × HolePlace o (length given) h
+  first_given h e step =
+      let turn = YieldsList-turn all given here so_far _ next h e step in
+      let within : length given < n = omega (arith, turn.0, taken) in
+      (within, hole_place o (length given) h (omega arith) (turn.1 ∙ get_or-take n (hole_list o) (length given) (placed h) within))
+
+  pub firsts_given : {r : Option Hole} → r ≡ None → steps here r next → length given ≡ n
+  firsts_given e step = (YieldsList-end all given here so_far _ next e step).1 ∙ taken

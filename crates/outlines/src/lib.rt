@@ -6,6 +6,7 @@ ghost use Rattle.domain.specs.Outline.{outline_of, hole_start, loop_at, point_at
 ghost use Rattle.domain.specs.Outline.{loop_refusal, loops_refusal, outline_refusal, point_refusal};
 ghost use Rattle.domain.specs.Refusals.{refused};
 ghost use Rattle.std.specs.Iterator.{YieldsFirstBy, item_count};
+ghost use Rattle.outlines.specs.Order.{lower_of, higher_of};
 ghost use Rattle.outlines.specs.Holes.{placed, cut, hole_list, Filled};
 ghost use Rattle.domain.specs.Queries.{ray_crosses, squared_distance, foot_of};
 ghost use Rattle.domain.specs.Search.{search_start, searched};
@@ -208,6 +209,21 @@ pub fn ray_crosses(p: Point, a: Point, b: Point) -> bool
     ensures { result ≡ ray_crosses p a b }
 {
     (a.y > p.y) != (b.y > p.y) && p.x < a.x + (p.y - a.y) / (b.y - a.y) * (b.x - a.x)
+}
+
+// ---- the lower and the higher of two numbers, neither of which is a NaN
+
+// One instruction tells them apart; `min_f64` and `max_f64` ask for a NaN first.
+pub fn lower_of(x: f64, y: f64) -> f64
+    ensures { result ≡ lower_of x y }
+{
+    if y < x { y } else { x }
+}
+
+pub fn higher_of(x: f64, y: f64) -> f64
+    ensures { result ≡ higher_of x y }
+{
+    if x < y { y } else { x }
 }
 
 // ---- `nearest_segment` at one segment

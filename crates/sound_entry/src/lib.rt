@@ -24,13 +24,9 @@ pub extern "C" fn sitjorbe_sound<'a>(
     ensures { result ≡ sound_answer (outline outer.now holes.now lens.now) }
 {
     let domain = Domain { outer, holes, lens };
-    let refusal = outlines::outline_refusal(domain);
-    if refusal != 0 {
-        return SoundAnswer {
-            refusal,
-            sound: false,
-        };
+    let checked = outlines::check_outline(domain);
+    SoundAnswer {
+        refusal: domain::number_of(checked),
+        sound: checked.is_ok() && soundness::is_sound(domain),
     }
-    let sound = soundness::is_sound(domain);
-    SoundAnswer { refusal: 0, sound }
 }

@@ -12,34 +12,19 @@ ghost use Rattle.sound_outlines.specs.Sound.{segment_start, segment_end, overlap
 ghost use Rattle.sound_outlines.specs.Sound.{ray_meets, is_inside, outline_sound};
 ghost use Rattle.sound_outlines.specs.Whole.{is_whole};
 ghost use Rattle.sound_outlines.specs.FoldsLaws.{is_extreme};
-ghost use Rattle.soundness.specs.SegmentLaws.{lesser_f, greater_f};
 ghost use Rattle.soundness.specs.WalkLaws.{any_point, holes_clash, hole_unsound, Judged};
 
 use domain::{Domain, Point};
 
 // ---- two segments, a to b and c to d
 
-fn lesser(x: f64, y: f64) -> f64
-    ensures { result ≡ lesser_f x y }
-{
-    if x < y { x } else { y }
-}
-
-fn greater(x: f64, y: f64) -> f64
-    ensures { result ≡ greater_f x y }
-{
-    if x < y { y } else { x }
-}
-
 // Whether the numbers from u to v and those from s to t have one in common.
 fn overlaps(u: f64, v: f64, s: f64, t: f64) -> bool
     requires { Within 1000 u × Within 1000 v × Within 1000 s × Within 1000 t }
     ensures { result ≡ overlap (units u) (units v) (units s) (units t) }
 {
-    if greater(u, v) < lesser(s, t) {
-        return false;
-    }
-    !(greater(s, t) < lesser(u, v))
+    !(outlines::higher_of(u, v) < outlines::lower_of(t, s))
+        && !(outlines::higher_of(s, t) < outlines::lower_of(v, u))
 }
 
 // Whether c and d are on the same side of the line through a and b, neither of them on it.
@@ -48,41 +33,28 @@ fn is_parted(a: Point, b: Point, c: Point, d: Point) -> bool
     ensures { result ≡ parted (in_units a) (in_units b) (in_units c) (in_units d) }
 {
     let first = orientation::side(a, b, c);
-    if first == 0 {
-        return false;
-    }
-    first == orientation::side(a, b, d)
+    first.is_ne() && first == orientation::side(a, b, d)
 }
 
 // Whether they have a point in common, ends included.
+#[tactic(auto, unfolding(sound_outlines::specs::Sound::meets))]
 fn meets(a: Point, b: Point, c: Point, d: Point) -> bool
     requires { PointWithin 1000 1000 a × PointWithin 1000 1000 b × PointWithin 1000 1000 c × PointWithin 1000 1000 d }
     ensures { result ≡ meets (in_units a) (in_units b) (in_units c) (in_units d) }
 {
-    if !overlaps(a.x, b.x, c.x, d.x) {
-        return false;
-    }
-    if !overlaps(a.y, b.y, c.y, d.y) {
-        return false;
-    }
-    if is_parted(a, b, c, d) {
-        return false;
-    }
-    !is_parted(c, d, a, b)
+    overlaps(a.x, b.x, c.x, d.x)
+        && overlaps(a.y, b.y, c.y, d.y)
+        && !is_parted(a, b, c, d)
+        && !is_parted(c, d, a, b)
 }
 
 // Whether v is above both u and w, or below both.
+#[tactic(auto, unfolding(sound_outlines::specs::FoldsLaws::is_extreme), using(crate::specs::SegmentLaws::lt_lt_z))]
 fn is_extreme(u: f64, v: f64, w: f64) -> bool
     requires { Within 1000 u × Within 1000 v × Within 1000 w }
     ensures { result ≡ is_extreme (units u) (units v) (units w) }
 {
-    if u < v {
-        return w < v;
-    }
-    if v < u {
-        return v < w;
-    }
-    false
+    (u < v && w < v) || (v < u && v < w)
 }
 
 // Whether the way from a to b and on to c goes back on itself at b.
@@ -90,13 +62,7 @@ fn folds_back(a: Point, b: Point, c: Point) -> bool
     requires { PointWithin 1000 1000 a × PointWithin 1000 1000 b × PointWithin 1000 1000 c }
     ensures { result ≡ folds_back (in_units a) (in_units b) (in_units c) }
 {
-    if is_extreme(a.x, b.x, c.x) {
-        return orientation::side(a, b, c) == 0;
-    }
-    if is_extreme(a.y, b.y, c.y) {
-        return orientation::side(a, b, c) == 0;
-    }
-    false
+    (is_extreme(a.x, b.x, c.x) || is_extreme(a.y, b.y, c.y)) && orientation::side(a, b, c).is_eq()
 }
 
 // ---- one loop
@@ -106,12 +72,12 @@ fn folds_at(s: &[f64], i: usize, j: usize) -> bool
     requires { LoopWithin s.now × (i < points s.now) × (j < points s.now) }
     ensures { result ≡ folds_at s.now i j }
 {
-    if j != outlines::after(s.len() / 2, i) {
-        return false;
-    }
-    let a = outlines::point_at(s, i);
-    let b = outlines::point_at(s, j);
-    folds_back(a, b, outlines::point_after(s, j))
+    j == outlines::after(s.len() / 2, i)
+        && folds_back(
+            outlines::point_at(s, i),
+            outlines::point_at(s, j),
+            outlines::point_after(s, j),
+        )
 }
 
 // Whether segments i and j have in common what they may not: neighbours more than their common end, others anything.
@@ -119,16 +85,11 @@ fn clash(s: &[f64], i: usize, j: usize) -> bool
     requires { LoopWithin s.now × (i < points s.now) × (j < points s.now) }
     ensures { result ≡ clash s.now i j }
 {
-    if folds_at(s, i, j) {
+    let n = s.len() / 2;
+    if folds_at(s, i, j) || folds_at(s, j, i) {
         return true;
     }
-    if folds_at(s, j, i) {
-        return true;
-    }
-    if j == outlines::after(s.len() / 2, i) {
-        return false;
-    }
-    if i == outlines::after(s.len() / 2, j) {
+    if j == outlines::after(n, i) || i == outlines::after(n, j) {
         return false;
     }
     let a = outlines::point_at(s, i);
@@ -137,26 +98,19 @@ fn clash(s: &[f64], i: usize, j: usize) -> bool
     meets(a, b, c, outlines::point_after(s, j))
 }
 
-// Whether some two segments of the loop clash. The search is left at the first that do.
+// Whether some two segments of the loop clash.
 fn crosses_itself(s: &[f64]) -> bool
     requires { LoopWithin s.now }
     ensures { result ≡ crosses_itself s.now }
 {
-    let n = s.len() / 2;
-    let mut found = false;
-    let mut i = 0;
-    'pairs: while i < n {
-        let mut j = 0;
-        while j < i {
+    for i in 0..s.len() / 2 {
+        for j in 0..i {
             if clash(s, j, i) {
-                found = true;
-                break 'pairs;
+                return true;
             }
-            j += 1;
         }
-        i += 1;
     }
-    found
+    false
 }
 
 // ---- two loops
@@ -166,14 +120,10 @@ fn meets_loop(a: Point, b: Point, t: &[f64]) -> bool
     requires { PointWithin 1000 1000 a × PointWithin 1000 1000 b × LoopWithin t.now }
     ensures { result ≡ any_up (points t.now) (λ j. meets (in_units a) (in_units b) (segment_start t.now j) (segment_end t.now j)) }
 {
-    let n = t.len() / 2;
-    let mut j = 0;
-    while j < n {
-        let c = outlines::point_at(t, j);
-        if meets(a, b, c, outlines::point_after(t, j)) {
+    for j in 0..t.len() / 2 {
+        if meets(a, b, outlines::point_at(t, j), outlines::point_after(t, j)) {
             return true;
         }
-        j += 1;
     }
     false
 }
@@ -183,14 +133,10 @@ fn touches(s: &[f64], t: &[f64]) -> bool
     requires { LoopWithin s.now × LoopWithin t.now }
     ensures { result ≡ touch s.now t.now }
 {
-    let n = s.len() / 2;
-    let mut i = 0;
-    while i < n {
-        let a = outlines::point_at(s, i);
-        if meets_loop(a, outlines::point_after(s, i), t) {
+    for i in 0..s.len() / 2 {
+        if meets_loop(outlines::point_at(s, i), outlines::point_after(s, i), t) {
             return true;
         }
-        i += 1;
     }
     false
 }
@@ -200,16 +146,11 @@ fn ray_meets(p: Point, a: Point, b: Point) -> bool
     requires { PointWithin 1000 1000 p × PointWithin 1000 1000 a × PointWithin 1000 1000 b }
     ensures { result ≡ ray_meets (in_units p) (in_units a) (in_units b) }
 {
-    if p.y < a.y {
-        if p.y < b.y {
-            return false;
-        }
-        return orientation::side(a, b, p) == 2;
+    match (p.y < a.y, p.y < b.y) {
+        (true, false) => orientation::side(a, b, p).is_lt(),
+        (false, true) => orientation::side(a, b, p).is_gt(),
+        _ => false,
     }
-    if p.y < b.y {
-        return orientation::side(a, b, p) == 1;
-    }
-    false
 }
 
 // Whether p is inside the loop: the ray meets an odd number of its segments.
@@ -217,13 +158,9 @@ fn is_inside(p: Point, s: &[f64]) -> bool
     requires { PointWithin 1000 1000 p × LoopWithin s.now }
     ensures { result ≡ is_inside (in_units p) s.now }
 {
-    let n = s.len() / 2;
     let mut inside = false;
-    let mut i = 0;
-    while i < n {
-        let a = outlines::point_at(s, i);
-        inside = inside != ray_meets(p, a, outlines::point_after(s, i));
-        i += 1;
+    for i in 0..s.len() / 2 {
+        inside ^= ray_meets(p, outlines::point_at(s, i), outlines::point_after(s, i));
     }
     inside
 }
@@ -233,13 +170,10 @@ fn any_point(s: &[f64], t: &[f64], inside: bool) -> bool
     requires { LoopWithin s.now × LoopWithin t.now }
     ensures { result ≡ any_point s.now t.now inside }
 {
-    let n = s.len() / 2;
-    let mut i = 0;
-    while i < n {
+    for i in 0..s.len() / 2 {
         if is_inside(outlines::point_at(s, i), t) == inside {
             return true;
         }
-        i += 1;
     }
     false
 }
@@ -247,57 +181,37 @@ fn any_point(s: &[f64], t: &[f64], inside: bool) -> bool
 // ---- the outline
 
 // Whether two holes touch, or one has a point inside the other.
+#[tactic(auto, unfolding(crate::specs::WalkLaws::holes_clash))]
 fn holes_clash(s: &[f64], t: &[f64]) -> bool
     requires { LoopWithin s.now × LoopWithin t.now }
     ensures { result ≡ holes_clash s.now t.now }
 {
-    if touches(s, t) {
-        return true;
-    }
-    if any_point(s, t, true) {
-        return true;
-    }
-    any_point(t, s, true)
+    touches(s, t) || any_point(s, t, true) || any_point(t, s, true)
 }
 
 // Whether the loop s clashes with one of the first k holes.
-fn clashes_before(
-    domain: Domain<'_>, s: &[f64],
-    k: usize,
-) -> bool
+fn clashes_before(domain: Domain<'_>, s: &[f64], k: usize) -> bool
     requires { Judged (outline_of domain) × LoopWithin s.now × (k ≤ length domain.lens.now) }
     ensures { result ≡ any_up k (λ l. holes_clash s.now (hole_at (outline_of domain.entry) l)) }
 {
-    let mut l = 0;
-    let mut start = 0;
-    while l < k {
-        if holes_clash(s, outlines::loop_points(domain, l + 1, start)) {
+    for hole in outlines::holes_of(domain).take(k) {
+        if holes_clash(s, hole.points) {
             return true;
         }
-        start += domain.lens[l];
-        l += 1;
     }
     false
 }
 
 // What is asked of hole k, whose points are s: whether it crosses itself, touches or strays out of the outer loop, or clashes with a hole before it.
-fn is_hole_unsound(
-    domain: Domain<'_>, s: &[f64],
-    k: usize,
-) -> bool
+#[tactic(auto, unfolding(crate::specs::WalkLaws::hole_unsound))]
+fn is_hole_unsound(domain: Domain<'_>, s: &[f64], k: usize) -> bool
     requires { Judged (outline_of domain) × LoopWithin s.now × (k ≤ length domain.lens.now) }
     ensures { result ≡ hole_unsound (outline_of domain.entry) s.now k }
 {
-    if crosses_itself(s) {
-        return true;
-    }
-    if touches(s, domain.outer) {
-        return true;
-    }
-    if any_point(s, domain.outer, false) {
-        return true;
-    }
-    clashes_before(domain, s, k)
+    crosses_itself(s)
+        || touches(s, domain.outer)
+        || any_point(s, domain.outer, false)
+        || clashes_before(domain, s, k)
 }
 
 // Whether the outline, which refusals 1 to 4 let pass, is sound.
@@ -308,27 +222,20 @@ pub fn is_sound(domain: Domain<'_>) -> bool
     if crosses_itself(domain.outer) {
         return false;
     }
-    let mut k = 0;
-    let mut start = 0;
-    while k < domain.lens.len() {
-        let s = outlines::loop_points(domain, k + 1, start);
-        if is_hole_unsound(domain, s, k) {
+    for hole in outlines::holes_of(domain) {
+        if is_hole_unsound(domain, hole.points, hole.index) {
             return false;
         }
-        start += domain.lens[k];
-        k += 1;
     }
     true
 }
 
 // Whether a run is whole: so many loops of its front are listed, that is none, and the outline, which refusals 1 to 4 let pass, is sound. It is judged
 // only where nothing is listed.
+#[tactic(auto, unfolding(sound_outlines::specs::Whole::is_whole))]
 pub fn is_whole(domain: Domain<'_>, listed: usize) -> bool
     requires { outline_refusal (outline_of domain) ≡ 0 }
     ensures { result ≡ is_whole (outline_of domain.entry) listed }
 {
-    if listed != 0 {
-        return false;
-    }
-    is_sound(domain)
+    listed == 0 && is_sound(domain)
 }

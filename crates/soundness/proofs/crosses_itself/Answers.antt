@@ -1,39 +1,28 @@
--- `soundness::crosses_itself` meets its contract: both loops are searches that have found nothing yet; the label is left where both have found something.
-use mathlib.Core.Path.{refl, sym, ◌∙◌}
-use native.Mathlib.Omega.{arith}
-use Rattle.sound_outlines.specs.Sound.{crosses_itself}
+-- `crosses_itself` meets its contract: both loops are searches that have found nothing yet.
+use Rattle.std.proofs.Common.{sym, ◌∙◌, arith}
 use Rattle.laws.specs.Loop.{scan_start, scan_next, scan_hit, scan_none}
+use Rattle.sound_outlines.specs.Sound.{crosses_itself}
 use Rattle.soundness.proofs.crosses_itself.Goals as goal
 
-pub pairs-init : goal.pairs-init
-pairs-init c = (refl, refl, scan_start _ _)
+pub loop-i-init : goal.loop-i-init
+loop-i-init c = scan_start _ _
 
 pub loop-j-init : goal.loop-j-init
-loop-j-init c = (c.pairs.invariant.0, scan_start _ _)
-
-pub clash-requires : goal.clash-requires
-clash-requires c =
-    let h = c.loop-j-test.true in
-    let g = c.pairs-test.true in
-    let e = c.pairs.invariant.1 in
-    (c.requires, omega arith, omega arith)
-
-pub loop-j-preserved : goal.loop-j-preserved
-loop-j-preserved c =
-    let inv = c.loop-j.invariant in
-    (inv.0, scan_next _ inv.1 c.loop-j-test.true (sym c.clash.ensures ∙ c.if-clash.false))
-
-pub pairs-preserved : goal.pairs-preserved
-pairs-preserved c =
-    let inv = c.pairs.invariant in
-    (c.loop-j.invariant.0, inv.1, scan_next _ inv.2 c.pairs-test.true (sym (scan_none _ c.loop-j.invariant.1 c.loop-j-test.false)))
-
-pub returns-after-pairs : goal.returns-after-pairs
-unfolding crosses_itself
-returns-after-pairs c = let inv = c.pairs.invariant in inv.0 ∙ scan_none _ inv.2 c.pairs-test.false
+loop-j-init c = scan_start _ _
 
 pub returns-then-clash : goal.returns-then-clash
 unfolding crosses_itself
 returns-then-clash c =
-    scan_hit _ c.pairs.invariant.2 c.pairs-test.true
-    (sym (scan_hit _ c.loop-j.invariant.1 c.loop-j-test.true (sym c.clash.ensures ∙ c.if-clash.true)))
+    scan_hit _ c.loop-i.invariant c.loop-i-test.true
+    (sym (scan_hit _ c.loop-j.invariant c.loop-j-test.true (sym c.clash.ensures ∙ c.if-clash.true)))
+
+pub loop-j-preserved : goal.loop-j-preserved
+loop-j-preserved c = scan_next _ c.loop-j.invariant c.loop-j-test.true (sym c.clash.ensures ∙ c.if-clash.false)
+
+pub loop-i-preserved : goal.loop-i-preserved
+loop-i-preserved c =
+    scan_next _ c.loop-i.invariant c.loop-i-test.true (sym (scan_none _ c.loop-j.invariant c.loop-j-test.false))
+
+pub returns : goal.returns
+unfolding crosses_itself
+returns c = scan_none _ c.loop-i.invariant c.loop-i-test.false

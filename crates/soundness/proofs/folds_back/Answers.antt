@@ -1,14 +1,22 @@
--- `soundness::folds_back` meets its contract: `folds_x`, `folds_y`, `folds_none`.
+-- `folds_back` meets its contract: `folds_x`, `folds_y`, `folds_none`.
+use Rattle.std.proofs.Common.{arith, sym, ◌∙◌}
+use Rattle.std.proofs.lemmas.Grind.{common_steps}
+use Rattle.orientation.specs.Orient.{is_level}
 use Rattle.soundness.specs.SegmentLaws.{folds_x, folds_y, folds_none}
 use Rattle.soundness.proofs.folds_back.Goals as goal
-
-pub returns-then-is_extreme : goal.returns-then-is_extreme
-returns-then-is_extreme c = folds_x _ _ _ c.is_extreme.ensures c.if-is_extreme.true c.side.ensures
+use Rattle.soundness.proofs.folds_back.Goals.{then-is_extreme, else-is_extreme}
 
 pub returns-then-is_extreme-2 : goal.returns-then-is_extreme-2
 returns-then-is_extreme-2 c =
-    folds_y _ _ _ c.is_extreme.ensures c.if-is_extreme.false c.is_extreme-2.ensures c.if-is_extreme-2.true
-    c.side-then-is_extreme-2.ensures
+    c.is_eq.ensures ∙ is_level _
+    ∙ elim c.if-is_extreme.branch [
+      | then-is_extreme w ↦ folds_x _ _ _ c.is_extreme.ensures w.if-is_extreme.true c.side.ensures
+      | else-is_extreme w ↦ folds_y _ _ _ c.is_extreme.ensures w.if-is_extreme.false w.is_extreme-else-is_extreme.ensures (sym w.value-is ∙ c.if-is_extreme-2.true) c.side.ensures
+    ]
 
-pub returns : goal.returns
-returns c = folds_none _ _ _ c.is_extreme.ensures c.if-is_extreme.false c.is_extreme-2.ensures c.if-is_extreme-2.false
+pub returns-else-is_extreme-2 : goal.returns-else-is_extreme-2
+returns-else-is_extreme-2 c =
+    elim c.if-is_extreme.branch [
+      | then-is_extreme w ↦ grind (arith, common_steps)
+      | else-is_extreme w ↦ c.if-is_extreme-2.false ∙ folds_none _ _ _ c.is_extreme.ensures w.if-is_extreme.false w.is_extreme-else-is_extreme.ensures (sym w.value-is ∙ c.if-is_extreme-2.false)
+    ]

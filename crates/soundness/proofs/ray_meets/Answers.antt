@@ -1,25 +1,27 @@
--- `soundness::ray_meets` meets its contract: `ray_above`, `ray_down`, `ray_up`, `ray_below`.
-use mathlib.Core.Path.{sym, ◌∙◌}
+-- `ray_meets` meets its contract: `ray_above`, `ray_down`, `ray_up`, `ray_below`.
+use Rattle.std.proofs.Common.{sym, ◌∙◌}
+use Rattle.orientation.specs.Orient.{is_left, is_right}
 use Rattle.soundness.specs.SegmentLaws.{lt_lt_z, ray_above, ray_down, ray_up, ray_below}
 use Rattle.soundness.proofs.ray_meets.Goals as goal
 
-pub returns-then-p-b : goal.returns-then-p-b
-returns-then-p-b c =
+pub returns-in-true-false : goal.returns-in-true-false
+returns-in-true-false c =
     let p = c.requires in
-    ray_above _ _ _ (sym (lt_lt_z p.0.y p.1.y) ∙ c.if-p-a.true) (sym (lt_lt_z p.0.y p.2.y) ∙ c.if-p-b.true)
+    c.is_lt.ensures ∙ is_right _
+    ∙ ray_down _ _ _ (sym (lt_lt_z p.0.y p.1.y) ∙ c.in-true-false.is-0) (sym (lt_lt_z p.0.y p.2.y) ∙ c.in-true-false.is-1) c.side.ensures
 
-pub returns-then-p-a : goal.returns-then-p-a
-returns-then-p-a c =
+pub returns-in-false-true : goal.returns-in-false-true
+returns-in-false-true c =
     let p = c.requires in
-    ray_down _ _ _ (sym (lt_lt_z p.0.y p.1.y) ∙ c.if-p-a.true) (sym (lt_lt_z p.0.y p.2.y) ∙ c.if-p-b.false)
-    c.side.ensures
+    c.is_gt.ensures ∙ is_left _
+    ∙ ray_up _ _ _ (sym (lt_lt_z p.0.y p.1.y) ∙ c.in-false-true.is-0) (sym (lt_lt_z p.0.y p.2.y) ∙ c.in-false-true.is-1) c.side-in-false-true.ensures
 
-pub returns-then-p-b-2 : goal.returns-then-p-b-2
-returns-then-p-b-2 c =
+pub returns-in_default : goal.returns-in_default
+returns-in_default c =
     let p = c.requires in
-    ray_up _ _ _ (sym (lt_lt_z p.0.y p.1.y) ∙ c.if-p-a.false) (sym (lt_lt_z p.0.y p.2.y) ∙ c.if-p-b-2.true) c.side-then-p-b-2.ensures
+    ray_above _ _ _ (sym (lt_lt_z p.0.y p.1.y) ∙ c.in_default.is-0) (sym (lt_lt_z p.0.y p.2.y) ∙ c.in_default.is-1)
 
-pub returns : goal.returns
-returns c =
+pub returns-in_default-2 : goal.returns-in_default-2
+returns-in_default-2 c =
     let p = c.requires in
-    ray_below _ _ _ (sym (lt_lt_z p.0.y p.1.y) ∙ c.if-p-a.false) (sym (lt_lt_z p.0.y p.2.y) ∙ c.if-p-b-2.false)
+    ray_below _ _ _ (sym (lt_lt_z p.0.y p.1.y) ∙ c.in_default.is-0) (sym (lt_lt_z p.0.y p.2.y) ∙ c.in_default.is-1)

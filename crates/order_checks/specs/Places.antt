@@ -34,6 +34,10 @@ emptied_next places x k E h =
         under {a} {b} ne l = omega (arith, ne, l)
 
 -- nothing is looked at yet
+pub filled_none : (places order : List ℕ) → Emptied places (length order) (length places) → Filled places order (length order)
+filled_none places order E =
+    record { within = omega arith; at = λ i h. E.at i h ∙ omega (arith, place_end order i (length order) refl) }
+
 pub filled_start : (places order : List ℕ) (k : ℕ) → Emptied places (length order) k → length places ≤ k → Filled places order (length order - 0)
 filled_start places order k E past =
     let same : length order - 0 ≡ length order = omega arith in
@@ -47,7 +51,7 @@ pub emptied_end : {places : List ℕ} {x k : ℕ} → Emptied places x k → len
 emptied_end E past = record { within = omega arith; at = λ i h. E.at i (omega arith) }
 
 -- one entry more, at q, before those that are filled
-filled_next : (places order : List ℕ) (p q : ℕ) → Filled places order p → p ≡ q + 1 → Filled (set places (get_or order q 0) q) order q
+pub filled_next : (places order : List ℕ) (p q : ℕ) → Filled places order p → p ≡ q + 1 → Filled (set places (get_or order q 0) q) order q
 filled_next places order p q F e = record { within = omega (arith, F.within); at = λ i h. by i (rw length-set at h) (eqb x i) refl }
   where
     x : ℕ

@@ -5,7 +5,7 @@
 ghost use Rattle.std.specs.Prelude.{◌≡◌, true, ◌<◌, length, get_or, set};
 ghost use Rattle.laws.specs.Loop.{any_up, Unfound};
 ghost use Rattle.order.specs.Order.{is_step, lays, lays_for, needs, first_place, is_wrong, is_absent, names_each_once, waits_for, too_early};
-ghost use Rattle.order_checks.specs.Places.{FirstPlaces, Emptied};
+ghost use Rattle.order_checks.specs.Places.{FirstPlaces};
 
 use lent_mesh::QuadIds;
 
@@ -15,45 +15,32 @@ use lent_mesh::QuadIds;
 pub fn is_step(u: u32, v: u32, x: u32, y: u32) -> bool
     ensures { result ≡ is_step u v x y }
 {
-    if u == x { v == y } else { false }
+    (u, v) == (x, y)
 }
 
 // Whether p has a step v to u that isn't its a to b.
+#[tactic(auto, unfolding(order::specs::Order::lays))]
 fn lays(p: QuadIds, u: u32, v: u32) -> bool
     ensures { result ≡ lays p u v }
 {
-    if is_step(v, u, p.b, p.d) {
-        return true;
-    }
-    if is_step(v, u, p.d, p.c) {
-        return true;
-    }
-    is_step(v, u, p.c, p.a)
+    is_step(v, u, p.b, p.d) || is_step(v, u, p.d, p.c) || is_step(v, u, p.c, p.a)
 }
 
 // Whether it has one where q has the step u to v, and that isn't q's d to c.
+#[tactic(auto, unfolding(order::specs::Order::lays_for))]
 fn lays_for(p: QuadIds, q: QuadIds) -> bool
     ensures { result ≡ lays_for p q }
 {
-    if lays(p, q.a, q.b) {
-        return true;
-    }
-    if lays(p, q.b, q.d) {
-        return true;
-    }
-    lays(p, q.c, q.a)
+    lays(p, q.a, q.b) || lays(p, q.b, q.d) || lays(p, q.c, q.a)
 }
 
 // Whether quad j may come only after quad i.
+#[tactic(auto, unfolding(order::specs::Order::needs))]
 fn needs(quads: &[u32], j: usize, i: usize) -> bool
     requires { j < 4294967296 }
     ensures { result ≡ needs quads.now j i }
 {
-    if i < j {
-        lays_for(lent_mesh::quad_at(quads, i), lent_mesh::quad_at(quads, j))
-    } else {
-        false
-    }
+    i < j && lays_for(lent_mesh::quad_at(quads, i), lent_mesh::quad_at(quads, j))
 }
 
 // ---- the list's places
@@ -62,14 +49,10 @@ fn needs(quads: &[u32], j: usize, i: usize) -> bool
 fn first_place(order: &[u32], i: usize) -> usize
     ensures { result ≡ first_place order.now i }
 {
-    let mut k = 0;
-    while k < order.len() {
-        if lent_mesh::entry_at(order, k) as usize == i {
-            return k;
-        }
-        k += 1;
-    }
-    k
+    order
+        .iter()
+        .position(|&x| x as usize == i)
+        .unwrap_or(order.len())
 }
 
 // Place i set to x; where the list hasn't that place, nothing is.
@@ -81,29 +64,13 @@ fn set_place(places: &mut [usize], i: usize, x: usize)
     }
 }
 
-// Every place set to x.
-fn empty_places(places: &mut [usize], x: usize)
-    ensures { Emptied places.new x (length places.new) }
-{
-    let m = places.len();
-    let mut i = 0;
-    while i < m {
-        places[i] = x;
-        i += 1;
-    }
-}
-
 // The first place of each i that `places` has a place for: the last entry goes first, so that the first place stays.
 pub fn fill_places(order: &[u32], places: &mut [usize])
     ensures { FirstPlaces places.new order.now }
 {
-    let n = order.len();
-    empty_places(places, n);
-    let mut k = 0;
-    while k < n {
-        let p = n - 1 - k;
-        set_place(places, lent_mesh::entry_at(order, p) as usize, p);
-        k += 1;
+    places.fill(order.len());
+    for p in (0..order.len()).rev() {
+        set_place(places, order[p] as usize, p);
     }
 }
 
@@ -127,38 +94,7 @@ fn is_wrong(n: usize, order: &[u32], places: &[usize], p: usize) -> bool
     ensures { result ≡ is_wrong n order.now p }
 {
     let x = lent_mesh::entry_at(order, p) as usize;
-    if n <= x {
-        return true;
-    }
-    place_at(order, places, x) != p
-}
-
-fn any_wrong(n: usize, order: &[u32], places: &[usize]) -> bool
-    requires { FirstPlaces places.now order.now }
-    ensures { result ≡ any_up (length order.now) (is_wrong n order.now) }
-{
-    let mut p = 0;
-    while p < order.len() {
-        if is_wrong(n, order, places, p) {
-            return true;
-        }
-        p += 1;
-    }
-    false
-}
-
-fn any_absent(n: usize, order: &[u32], places: &[usize]) -> bool
-    requires { FirstPlaces places.now order.now }
-    ensures { result ≡ any_up n (is_absent order.now) }
-{
-    let mut i = 0;
-    while i < n {
-        if place_at(order, places, i) == order.len() {
-            return true;
-        }
-        i += 1;
-    }
-    false
+    n <= x || place_at(order, places, x) != p
 }
 
 // Whether none of n quads is absent, repeated or unknown.
@@ -166,10 +102,8 @@ pub fn names_each_once(n: usize, order: &[u32], places: &[usize]) -> bool
     requires { FirstPlaces places.now order.now }
     ensures { result ≡ names_each_once n order.now }
 {
-    if any_wrong(n, order, places) {
-        return false;
-    }
-    !any_absent(n, order, places)
+    let any_wrong = (0..order.len()).any(|p| is_wrong(n, order, places, p));
+    !any_wrong && !(0..n).any(|i| place_at(order, places, i) == order.len())
 }
 
 // ---- too early, by a scan
@@ -179,11 +113,7 @@ fn waits_for(quads: &[u32], order: &[u32], places: &[usize], p: usize, j: usize,
     requires { (j < 4294967296) × FirstPlaces places.now order.now }
     ensures { result ≡ waits_for quads.now order.now p j i }
 {
-    if needs(quads, j, i) {
-        p < place_at(order, places, i)
-    } else {
-        false
-    }
+    needs(quads, j, i) && p < place_at(order, places, i)
 }
 
 // Whether the quad at p stands too early: a scan of the quads from `from` on, where none before keeps it from p.
@@ -199,12 +129,5 @@ pub fn early_from(
     ensures { result ≡ too_early quads.now n order.now p }
 {
     let j = lent_mesh::entry_at(order, p) as usize;
-    let mut i = from;
-    while i < n {
-        if waits_for(quads, order, places, p, j, i) {
-            return true;
-        }
-        i += 1;
-    }
-    false
+    (from..n).any(|i| waits_for(quads, order, places, p, j, i))
 }

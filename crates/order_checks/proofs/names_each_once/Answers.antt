@@ -1,14 +1,33 @@
--- `order::names_each_once` meets its contract.
-use Rattle.order.specs.Order.{names_each_once}
-use mathlib.Core.Bool.{not}
-use mathlib.Core.Path.{sym, ◌∙◌, ap}
-use Rattle.laws.specs.Chain.{passes, fails}
+-- `order_checks::names_each_once` meets its contract.
+use Rattle.std.proofs.Common.{sym, ◌∙◌, refl, rules, tests, arith, length}
+use Rattle.std.proofs.lemmas.Iterator.{YieldsList-from_range}
+use Rattle.std.proofs.lemmas.Iterator.Search.{any_from_yields_List}
+use Rattle.laws.proofs.Ranges.{any_ranged}
+use Rattle.order.specs.Order.{is_wrong, is_absent, names_each_once}
 use Rattle.order_checks.proofs.names_each_once.Goals as goal
 
-pub returns-then-any_wrong : goal.returns-then-any_wrong
+pub returns-then-not-any_wrong : goal.returns-then-not-any_wrong
 unfolding names_each_once
-returns-then-any_wrong c = fails _ (ap not (sym c.any_wrong.ensures ∙ c.if-any_wrong.true))
+returns-then-not-any_wrong c =
+    let args = c.args in
+    let l = args.order.now in
+    let wrong = is_wrong args.n l in
+    let absent = is_absent l in
+    let first =
+    any_from_yields_List wrong _ _ c.any-any_wrong.result c.any-any_wrong.ensures.ran (YieldsList-from_range 0 (length l) (length l) (cc) (omega arith))
+    (λ x b q k. search (rules, tests)) ∙ any_ranged wrong (length l) in
+    let second =
+    any_from_yields_List absent _ _ c.any.result c.any.ensures.ran (YieldsList-from_range 0 args.n args.n (cc) (omega arith))
+    (λ x b q k. search (rules, tests)) ∙ any_ranged absent args.n in
+    rw (sym first ∙ c.if-not-any_wrong.true, ← second) refl
 
-pub returns : goal.returns
+pub returns-else-not-any_wrong : goal.returns-else-not-any_wrong
 unfolding names_each_once
-returns c = passes (ap not (sym c.any_wrong.ensures ∙ c.if-any_wrong.false)) (ap not c.any_absent.ensures)
+returns-else-not-any_wrong c =
+    let args = c.args in
+    let l = args.order.now in
+    let wrong = is_wrong args.n l in
+    let first =
+    any_from_yields_List wrong _ _ c.any-any_wrong.result c.any-any_wrong.ensures.ran (YieldsList-from_range 0 (length l) (length l) (cc) (omega arith))
+    (λ x b q k. search (rules, tests)) ∙ any_ranged wrong (length l) in
+    rw (c.if-not-any_wrong.false, sym first ∙ c.if-not-any_wrong.false) refl

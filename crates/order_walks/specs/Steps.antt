@@ -1,9 +1,10 @@
 -- The steps that quads lay, as items of a pool of `index`: item 3 i + s is step s of quad i. Definitions only.
-use Rattle.std.specs.Prelude.{ℕ, ◌/◌, ◌%◌, Bool, ◌&&◌, cond, List, eqb, ltb}
+use Rattle.std.specs.Prelude.{ℕ, ◌/◌, ◌%◌, Bool, ◌&&◌, cond, List, eqb, ltb, Option, Some, None}
 use Rattle.pools.specs.declared.Rect.{Rect}
 use Rattle.lent_mesh.specs.declared.QuadIds.{QuadIds}
 use Rattle.lent_mesh.specs.Mesh.{quad_in}
-use Rattle.order.specs.Order.{is_step, first_place}
+use Rattle.order.specs.declared.OrderAnswer.{OrderAnswer}
+use Rattle.order.specs.Order.{is_step, first_place, order_accepted, early_at}
 
 -- step s of those that a quad lays, v to u: b to d, d to c, c to a
 unfoldable pub laid_from : QuadIds → ℕ → ℕ
@@ -25,3 +26,8 @@ abbrev pub keeps_back : List ℕ → List ℕ → ℕ → ℕ → ℕ → ℕ �
 keeps_back quads order p j u v k =
     is_step v u (laid_from (quad_in quads (k / 3)) (k % 3)) (laid_to (quad_in quads (k / 3)) (k % 3))
     && (ltb (k / 3) j && ltb p (first_place order (k / 3)))
+
+-- the answer by the first place where a quad stands too early
+abbrev pub early_answer : Option ℕ → OrderAnswer
+early_answer (Some p) = early_at p
+early_answer None = order_accepted

@@ -7,38 +7,25 @@ ghost use Rattle.laws.specs.Loop.{any_up};
 ghost use Rattle.pools.specs.Pool.{filed, Indexed};
 ghost use Rattle.order.specs.Order.{too_early, first_early, order_answer};
 ghost use Rattle.order_checks.specs.Places.{FirstPlaces};
-ghost use Rattle.order_walks.specs.Steps.{laid_from, laid_to, step_key, step_rect, keeps_back};
+ghost use Rattle.order_walks.specs.Steps.{laid_from, laid_to, step_key, step_rect, keeps_back, early_answer};
 
+use domain::Refusal;
 use lent_mesh::QuadIds;
 use order::OrderAnswer;
 use pools::Rect;
 
 // ---- the steps laid
 
-// Where step s of those that a quad lays begins: b to d, d to c, c to a.
-fn laid_from(q: QuadIds, s: usize) -> u32
-    ensures { result ≡ laid_from q s }
+// Step s of those that a quad lays: b to d, d to c, c to a.
+#[tactic(auto, unfolding(crate::specs::Steps::laid_from, crate::specs::Steps::laid_to))]
+fn laid_step(q: QuadIds, s: usize) -> (u32, u32)
+    ensures { (result.0 ≡ laid_from q s) × (result.1 ≡ laid_to q s) }
 {
-    if s == 0 {
-        return q.b;
+    match s {
+        0 => (q.b, q.d),
+        1 => (q.d, q.c),
+        _ => (q.c, q.a),
     }
-    if s == 1 {
-        return q.d;
-    }
-    q.c
-}
-
-// Where it ends.
-fn laid_to(q: QuadIds, s: usize) -> u32
-    ensures { result ≡ laid_to q s }
-{
-    if s == 0 {
-        return q.d;
-    }
-    if s == 1 {
-        return q.c;
-    }
-    q.a
 }
 
 // The one key (u, v).
@@ -54,13 +41,14 @@ fn step_key(u: u32, v: u32) -> Rect
 }
 
 // The key of item k: of a step v to u, (u, v).
+#[tactic(auto, unfolding(crate::specs::Steps::step_rect))]
 fn step_rect(quads: &[u32], k: usize) -> Rect
     requires { k < 4294967296 }
     ensures { result ≡ step_rect quads.now k }
 {
     let q = lent_mesh::quad_at(quads, k / 3);
-    let s = k % 3;
-    step_key(laid_to(q, s), laid_from(q, s))
+    let (from, to) = laid_step(q, k % 3);
+    step_key(to, from)
 }
 
 // Files the steps that n quads lay: items 3i, 3i + 1, 3i + 2 are those of quad i.
@@ -69,13 +57,7 @@ fn file_steps(pool: &mut [u32], quads: &[u32], n: usize)
     ensures { Indexed pool.new (step_rect quads.now) (3 * n) }
 {
     pools::clear(pool);
-    let to = 3 * n;
-    let mut k = 0;
-    while k < to {
-        let r = step_rect(quads, k);
-        pools::file(pool, r, k as u32);
-        k += 1;
-    }
+    pools::file_items(pool, 0, 3 * n, |k| step_rect(quads, k as usize));
 }
 
 // ---- too early
@@ -96,16 +78,7 @@ fn keeps_back(
 {
     let i = k / 3;
     let q = lent_mesh::quad_at(quads, i);
-    let s = k % 3;
-    if order_checks::is_step(v, u, laid_from(q, s), laid_to(q, s)) {
-        if i < j {
-            p < order_checks::place_at(order, places, i)
-        } else {
-            false
-        }
-    } else {
-        false
-    }
+    laid_step(q, k % 3) == (v, u) && i < j && p < order_checks::place_at(order, places, i)
 }
 
 // Whether some item that is filed is: a walk of the cell of the key (u, v).
@@ -124,15 +97,7 @@ fn any_back(
     ensures { result ≡ any_up (filed pool.now) (keeps_back quads.now order.now p j u v) }
 {
     let r = step_key(u, v);
-    let mut t = index::first(pool, r);
-    while !index::is_over(t) {
-        let k = index::own_at(pool, t) as usize;
-        if keeps_back(quads, order, places, p, j, u, v, k) {
-            return true;
-        }
-        t = index::after(pool, r, t);
-    }
-    false
+    index::any_visited(pool, r, |k| keeps_back(quads, order, places, p, j, u, v, k))
 }
 
 // Whether the quad at p stands too early: a walk for each of its steps a to b, b to d and c to a, and then a scan from the first quad that has a step
@@ -172,24 +137,16 @@ fn first_early(
     n: usize,
     order: &[u32],
     places: &[usize],
-) -> OrderAnswer
+) -> Option<usize>
     requires { Indexed pool.now (step_rect quads.now) (3 * n) × FirstPlaces places.now order.now }
-    ensures { result ≡ first_early quads.now n order.now }
+    ensures { early_answer result ≡ first_early quads.now n order.now }
 {
-    let mut p = 0;
-    while p < order.len() {
+    for p in 0..order.len() {
         if is_early(pool, quads, n, order, places, p) {
-            return OrderAnswer {
-                refusal: 22,
-                place: p,
-            };
+            return Some(p);
         }
-        p += 1;
     }
-    OrderAnswer {
-        refusal: 0,
-        place: 0,
-    }
+    None
 }
 
 // Whether the quads may be tested in this order: each of them once, and after every quad that laid a front edge which it used up. `places` and `pool`
@@ -208,10 +165,19 @@ pub extern "C" fn sitjorbe_order(
     order_checks::fill_places(order, places);
     if !order_checks::names_each_once(n, order, places) {
         return OrderAnswer {
-            refusal: 21,
+            refusal: u32::from(Refusal::NotEachOnce),
             place: 0,
         };
     }
     file_steps(pool, quads, n);
-    first_early(pool, quads, n, order, places)
+    match first_early(pool, quads, n, order, places) {
+        Some(place) => OrderAnswer {
+            refusal: u32::from(Refusal::TooEarly),
+            place,
+        },
+        None => OrderAnswer {
+            refusal: 0,
+            place: 0,
+        },
+    }
 }

@@ -2,11 +2,7 @@
 use Rattle.order.specs.Order.{order_accepted, early_turn}
 use Rattle.laws.specs.Loop.{Run}
 use lib.ListN.{length}
-use Prim.Native.Nat.{◌-◌}
 use Rattle.order_walks.proofs.first_early.Given as goal
 
 abbrev pub invariant-loop-p : goal.invariant-loop-p
 invariant-loop-p l = Run (early_turn l.quads l.n l.order) (λ s. order_accepted) tt (length l.order) l.p tt
-
-abbrev pub decreases-loop-p : goal.decreases-loop-p
-decreases-loop-p l = length l.order - l.p

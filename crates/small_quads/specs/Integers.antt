@@ -4,7 +4,7 @@ use Rattle.std.specs.Prelude.{◌≡◌, refl, Bool, false, not, ◌&&◌, cond,
 use Rattle.std.proofs.Common.{sym, ◌∙◌, arith, lt-ltb, le-ltb}
 use Rattle.std.proofs.Math.Path.{ap, ap₂}
 use Rattle.std.specs.Bool.{beq}
-use Rattle.std.proofs.Math.Dec.{T, ltb}
+use Rattle.std.proofs.Math.Dec.{ltb}
 use Rattle.laws.specs.Chain.{passes, fails}
 use Rattle.laws.specs.Loop.{for_up, any_up, any_none}
 use Rattle.exact.specs.Corner.{cross, squared_length, sine_above_third}

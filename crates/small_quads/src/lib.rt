@@ -4,8 +4,10 @@
 ghost use Rattle.std.specs.Prelude.{◌≡◌, cond, ◌+◌, ◌*◌, ◌<◌, ◌≤◌, length};
 ghost use Rattle.std.proofs.lemmas.List.Edits.{sets};
 ghost use Rattle.lattice.specs.Fours.{corner_turns, above_third, points_of, fours, fours_answer, small_quads};
-ghost use Rattle.small_quads.specs.Integers.{step_size, step_squared, left_turn};
+ghost use Rattle.small_quads.specs.Integers.{step_squared, left_turn};
 ghost use Rattle.small_quads.specs.ListLaws.{FourFits};
+
+use domain::Refusal;
 
 // `refusal` is 26 where the lent list is too short, 0 otherwise; `count` is how many fours are listed.
 #[repr(C)]
@@ -20,38 +22,14 @@ const FOURS: u32 = 65_536;
 
 // ---- a corner
 
-// a · b, of two small numbers.
-fn times(a: u32, b: u32) -> u32
-    requires { (a ≤ 100) × (b ≤ 100) }
-    ensures { (result ≡ a * b) × (result ≤ 10000) }
-{
-    a * b
-}
-
-// a · b, of two numbers not above 6.
-fn times_small(a: u32, b: u32) -> u32
-    requires { (a ≤ 6) × (b ≤ 6) }
-    ensures { (result ≡ a * b) × (result ≤ 36) }
-{
-    a * b
-}
-
-// |x - 3|
-fn step_size(x: u32) -> u32
-    requires { x ≤ 6 }
-    ensures { (result ≡ step_size x) × (result ≤ 3) }
-{
-    if x < 3 { 3 - x } else { x - 3 }
-}
-
 // The squared length of the step (x - 3, y - 3).
 fn step_squared(x: u32, y: u32) -> u32
     requires { (x ≤ 6) × (y ≤ 6) }
     ensures { (result ≡ step_squared x y) × (result ≤ 72) }
 {
-    let a = step_size(x);
-    let b = step_size(y);
-    times_small(a, a) + times_small(b, b)
+    let a = x.abs_diff(3);
+    let b = y.abs_diff(3);
+    a * a + b * b
 }
 
 // Whether the step (ux - 3, uy - 3) and then (vx - 3, vy - 3) turn left with a sine above 1/3.
@@ -59,15 +37,13 @@ fn left_turn(ux: u32, uy: u32, vx: u32, vy: u32) -> bool
     requires { (ux ≤ 6) × (uy ≤ 6) × (vx ≤ 6) × (vy ≤ 6) }
     ensures { result ≡ left_turn ux uy vx vy }
 {
-    let plus = times_small(ux, vy) + 3 * uy + 3 * vx;
-    let minus = times_small(uy, vx) + 3 * ux + 3 * vy;
+    let plus = ux * vy + 3 * uy + 3 * vx;
+    let minus = uy * vx + 3 * ux + 3 * vy;
     if plus <= minus {
         return false;
     }
     let p = plus - minus;
-    let u = step_squared(ux, uy);
-    let v = step_squared(vx, vy);
-    times(u, v) < 9 * times(p, p)
+    step_squared(ux, uy) * step_squared(vx, vy) < 9 * (p * p)
 }
 
 // The same of the way from p to q to r, points of the lattice.
@@ -86,6 +62,7 @@ fn corner_turns(p: u32, q: u32, r: u32) -> bool
 // ---- a four
 
 // Whether the four k turns so at all four corners.
+#[tactic(auto, unfolding(lattice::specs::Fours::above_third))]
 fn is_small_quad(k: u32) -> bool
     requires { k < 65536 }
     ensures { result ≡ above_third k }
@@ -94,16 +71,7 @@ fn is_small_quad(k: u32) -> bool
     let b = k / 256 % 16;
     let d = k / 16 % 16;
     let c = k % 16;
-    if !corner_turns(c, a, b) {
-        return false;
-    }
-    if !corner_turns(a, b, d) {
-        return false;
-    }
-    if !corner_turns(b, d, c) {
-        return false;
-    }
-    corner_turns(d, c, a)
+    corner_turns(c, a, b) && corner_turns(a, b, d) && corner_turns(b, d, c) && corner_turns(d, c, a)
 }
 
 // ---- the list
@@ -113,17 +81,16 @@ fn count_quads() -> usize
     ensures { (length (fours above_third) ≡ 4 * result) × (result ≤ 65536) }
 {
     let mut n: usize = 0;
-    let mut k: u32 = 0;
-    while k < FOURS {
+    for k in 0..FOURS {
         if is_small_quad(k) {
             n += 1;
         }
-        k += 1;
     }
     n
 }
 
 // The four k at the places from n on.
+// Stays four stores: of what a copy leaves behind a part lent as `&mut`, a proof knows only the length.
 fn write_four(list: &mut [u32], n: usize, k: u32)
     requires { n + 4 ≤ length list.old }
     ensures { list.new ≡ sets list.old n (points_of k) }
@@ -151,10 +118,8 @@ fn list_quads(list: &mut [u32])
     ensures { list.new ≡ sets list.old 0 (fours above_third) }
 {
     let mut n: usize = 0;
-    let mut k: u32 = 0;
-    while k < FOURS {
+    for k in 0..FOURS {
         n = list_four(list, n, k);
-        k += 1;
     }
 }
 
@@ -166,7 +131,7 @@ pub extern "C" fn sitjorbe_small_quads(fours: &mut [u32]) -> SmallQuadsAnswer
     let count = count_quads();
     if fours.len() < 4 * count {
         return SmallQuadsAnswer {
-            refusal: 26,
+            refusal: u32::from(Refusal::FoursNeedSpace),
             count: 0,
         };
     }

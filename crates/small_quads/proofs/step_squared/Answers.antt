@@ -1,15 +1,19 @@
--- `small_quads::step_squared` meets its contract: each product is that of the definition. Assumes nothing.
-use mathlib.Core.Path.{ap₂, ◌∙◌}
-use native.Mathlib.Omega.{arith}
-use Rattle.small_quads.specs.Integers.{step_squared}
-use Prim.Native.Nat.{ℕ, ◌+◌, ◌*◌}
+-- `small_quads::step_squared` meets its contract: the two cases of `step_size`. Assumes nothing.
+use Rattle.std.proofs.Common.{◌≡◌, ℕ, ◌+◌, ◌-◌, ◌≤◌, Bool, true, false, cond, ltb, refl, arith, ltb-true, ltb-false, mul-le-mul}
+use Rattle.small_quads.specs.Integers.{step_size, step_squared}
 use Rattle.small_quads.proofs.step_squared.Goals as goal
+
+size_is : (x : ℕ) → (x - 3) + (3 - x) ≡ step_size x
+unfolding step_size
+size_is x = by (ltb x 3) refl
+  where
+    by : (t : Bool) → ltb x 3 ≡ t → (x - 3) + (3 - x) ≡ cond t (3 - x) (x - 3)
+    by true e = omega (arith, ltb-true x 3 e)
+    by false e = omega (arith, ltb-false x 3 e)
 
 pub returns : goal.returns
 unfolding step_squared
-returns c = (
-  ap₂ (λ (x y : ℕ). x + y)
-      (c.times_small.ensures.0 ∙ ap₂ (λ (x y : ℕ). x * y) c.step_size-a.ensures.0 c.step_size-a.ensures.0)
-      (c.times_small-2.ensures.0 ∙ ap₂ (λ (x y : ℕ). x * y) c.step_size-b.ensures.0 c.step_size-b.ensures.0),
-  omega arith,
-)
+returns c =
+    let a : c.abs_diff-a.result ≤ 3 = omega arith in
+    let b : c.abs_diff-b.result ≤ 3 = omega arith in
+    (rw (c.abs_diff-a.ensures, c.abs_diff-b.ensures, size_is c.args.x, size_is c.args.y), omega (arith, mul-le-mul a a, mul-le-mul b b))

@@ -3,7 +3,7 @@
 
 ghost use Rattle.std.specs.Prelude.{◌≡◌, ◌+◌, ◌*◌, ◌^◌, ◌≤◌, ◌<◌, min, max, length, get_or, set};
 ghost use Rattle.std.specs.Float.{nan};
-ghost use Rattle.topology.specs.Links.{off};
+ghost use Rattle.topology.specs.Links.{off, link_of};
 ghost use Rattle.front.specs.State.{state_of, node_in, fewest, most_nodes};
 ghost use Rattle.front.specs.Place.{added, corner_id};
 ghost use Rattle.front.specs.Ready.{Ready};
@@ -120,6 +120,15 @@ pub fn node_at(xs: &[f64], ys: &[f64], id: u32) -> Point
         x: coordinate(xs, id),
         y: coordinate(ys, id),
     }
+}
+
+// The link of node u, where the first n places are in use; OFF for a node that isn't there.
+#[tactic(auto, unfolding(topology::specs::Links::link_of))]
+pub fn link_of(links: &[u32], n: u32, u: u32) -> u32
+    requires { n ≤ length links.now }
+    ensures { result ≡ link_of n links.now u }
+{
+    if u < n { links[u as usize] } else { OFF }
 }
 
 // ---- the new nodes

@@ -1,13 +1,15 @@
--- `stepping::hand_refusal` meets its contract.
+-- `stepping::check_hand` meets its contract: 23 first.
+use Rattle.std.proofs.Common.{refl, arith, rules}
+use Rattle.std.proofs.lemmas.Grind.{common_steps}
+use Rattle.domain.proofs.Refused.{refusal_some}
 use Rattle.hand_steps.specs.StepLaws.{hand_mesh, hand_edge, next_long}
-use Rattle.stepping.proofs.hand_refusal.Goals as goal
+use Rattle.stepping.proofs.check_hand.Goals as goal
 
-pub returns-then-r-ne0 : goal.returns-then-r-ne0
-returns-then-r-ne0 c = hand_mesh _ _ _ c.mesh_refusal-r.ensures c.if-r-ne0.true
+pub returns-in_err-check_mesh : goal.returns-in_err-check_mesh
+returns-in_err-check_mesh c = hand_mesh _ _ _ (search rules) (grind (arith, common_steps, refusal_some))
 
-pub edge_refusal-requires : goal.edge_refusal-requires
-edge_refusal-requires c =
-    next_long _ _ _ _ _ _ _ c.args.k c.mesh_refusal-r.ensures c.if-r-ne0.false
+pub check_edge-requires : goal.check_edge-requires
+check_edge-requires c = next_long _ _ _ _ _ _ _ c.args.k c.in_ok-check_mesh.ensures refl
 
 pub returns : goal.returns
-returns c = hand_edge _ _ _ c.mesh_refusal-r.ensures c.if-r-ne0.false c.edge_refusal.ensures
+returns c = hand_edge _ _ _ c.in_ok-check_mesh.ensures refl c.check_edge.ensures

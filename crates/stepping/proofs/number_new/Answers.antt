@@ -1,23 +1,14 @@
--- `stepping::number_new` meets its contract: the loop writes the numbers one by one.
-use native.Mathlib.Omega.{arith}
-use Rattle.laws.specs.Loop.{loop_end}
+-- `stepping::number_new` meets its contract.
+use Rattle.std.proofs.Common.{◌≡◌, ◌-◌, length, take, drop, arith, rules}
+use Rattle.std.proofs.lemmas.Grind.{common_steps}
 use Rattle.hand_steps.specs.Hand.{new_origins}
-use Rattle.hand_steps.specs.StepLaws.{new_start, new_next}
+use Rattle.stepping.proofs.Filled.{filled}
 use Rattle.stepping.proofs.number_new.Goals as goal
-
-pub loop-i-init : goal.loop-i-init
-loop-i-init c = new_start _ _ _ _
-
-pub bounds-origins-from : goal.bounds-origins-from
-bounds-origins-from c =
-    omega (arith, c.loop-i.invariant.0.within, c.loop-i.invariant.1, c.requires.2)
-
-pub loop-i-preserved : goal.loop-i-preserved
-loop-i-preserved c = new_next _ _ _ _ c.loop-i.invariant c.loop-i-test.true
-
-pub shape_of-origins : goal.shape_of-origins
-shape_of-origins c = c.loop-i.invariant.1
 
 pub returns : goal.returns
 unfolding new_origins
-returns c = loop_end _ _ c.loop-i.invariant.0 c.loop-i-test.false
+returns c =
+    let o = c.args.origins.now in
+    let j = c.args.m - c.args.n in
+    let long : length (take j (drop c.args.n o)) ≡ j = grind (arith, common_steps) in
+    rw (c.fill.ensures.after (λ y h. search rules), long) (filled _ c.args.n j o (omega arith))

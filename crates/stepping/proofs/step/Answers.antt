@@ -4,6 +4,8 @@ use mathlib.Core.List.{List, []}
 use Prim.Native.Nat.{ℕ}
 use native.Mathlib.Omega.{arith}
 use Rattle.domain.specs.Outline.{Outline, outline_of}
+use Rattle.domain.specs.Refusals.{refused}
+use Rattle.domain.proofs.Refused.{refusal_some}
 use Rattle.direction.specs.Record.{FieldRecord, field_record}
 use Rattle.front.specs.State.{State, node_places}
 use Rattle.mesh_check.specs.Check.{lent_state}
@@ -27,20 +29,20 @@ lent s =
     lent_state s.args.xs.now s.args.ys.now s.args.next.now s.args.prev.now s.args.origins.now s.args.quads.now
     s.args.edges.now s.args.k
 
-pub returns-then-r-ne0 : goal.returns-then-r-ne0
-returns-then-r-ne0 c =
+pub returns-in-Err : goal.returns-in-Err
+returns-in-Err c =
     λ marks.
-    step_refused (around (goal.at.returns-then-r-ne0 c).Start) c.args.size (field (goal.at.returns-then-r-ne0 c).Start marks) c.args.a c.args.b _ _ _ _ _ _ _ c.args.k c.hand_refusal-r.ensures
-    c.if-r-ne0.true
+    step_refused (around (goal.at.returns-in-Err c).Start) c.args.size (field (goal.at.returns-in-Err c).Start marks) c.args.a c.args.b _ _ _ _ _ _ _ c.args.k (c.from.ensures ∙ (sym (ap refused c.in-Err.is) ∙ c.check_hand.ensures))
+    (λ z. refusal_some _ (sym c.from.ensures ∙ z))
 
 pub place_on-h-requires : goal.place_on-h-requires
 place_on-h-requires c =
-    (c.requires, on_front_lem (lent (goal.at.place_on-h-requires c).Start) c.args.a c.args.b (sym c.hand_refusal-r.ensures ∙ c.if-r-ne0.false))
+    (c.requires, on_front_lem (lent (goal.at.place_on-h-requires c).Start) c.args.a c.args.b (sym c.check_hand.ensures ∙ ap refused c.in_default.is))
 
 pub number_new-requires : goal.number_new-requires
 unfolding node_places
 number_new-requires c =
-    let S = on_front_lem (lent (goal.at.number_new-requires c).Start) c.args.a c.args.b (sym c.hand_refusal-r.ensures ∙ c.if-r-ne0.false) in
+    let S = on_front_lem (lent (goal.at.number_new-requires c).Start) c.args.a c.args.b (sym c.check_hand.ensures ∙ ap refused c.in_default.is) in
     let R = front_room _ _ _ _ _ _ _ c.args.k c.args.a c.args.b S in
     let G = place_grown (around (goal.at.number_new-requires c).Start) c.args.size (field (goal.at.number_new-requires c).Start []) (lent (goal.at.number_new-requires c).Start) c.args.a c.args.b S in
     let m = ap (λ (h : Handled). h.state.counts.nodes) (c.place_on-h.ensures []) in
@@ -49,6 +51,6 @@ number_new-requires c =
 pub returns : goal.returns
 returns c =
     λ marks.
-    step_done (around (goal.at.returns c).Start) c.args.size (field (goal.at.returns c).Start marks) c.args.a c.args.b _ _ _ _ _ _ _ c.args.k c.hand_refusal-r.ensures
-    c.if-r-ne0.false
+    step_done (around (goal.at.returns c).Start) c.args.size (field (goal.at.returns c).Start marks) c.args.a c.args.b _ _ _ _ _ _ _ c.args.k c.check_hand.ensures
+    (ap refused c.in_default.is)
     _ _ _ _ _ _ _ _ (c.place_on-h.ensures marks) _ c.number_new.ensures

@@ -1,6 +1,6 @@
 -- Laws of what the program prints: `given_whole` (what a buffer holds that has places for the listing), `read_listed` (the listing is that of what was
 -- read) and `start_decides` (of endless input the first 4,609 bytes decide). Assumes nothing.
-use Rattle.std.specs.Prelude.{◌≡◌, false, List, [], ℕ, zero, suc, ◌-◌, ◌*◌, ◌/◌, ◌≤◌, length, get_or, take, drop, Float}
+use Rattle.std.specs.Prelude.{◌≡◌, false, List, [], ℕ, zero, suc, ◌-◌, ◌*◌, ◌/◌, ◌≤◌, length, get_or, take, drop, Float, Result, Ok, Err}
 use Rattle.std.proofs.Math.Path.{refl, ap}
 use Rattle.std.proofs.Common.{sym, ◌∙◌, subst, arith, length-append, length-take-le}
 use Rattle.laws.specs.Overlay.{overlay, overlay_length}
@@ -12,8 +12,6 @@ use Rattle.domain.specs.Queries.{answer_by}
 use Rattle.run.specs.declared.Paved.{Paved}
 use Rattle.run.specs.Run.{Lent, Paves}
 use Rattle.outline_file.specs.declared.Head.{Head}
-use Rattle.outline_file.specs.declared.FileAnswer.{FileAnswer}
-use Rattle.outline_file.specs.declared.FileAnswer.TheVariants.{Refused, Read}
 use Rattle.outline_file.specs.File.{block_at, head_loops, head_length, head_points, coordinate_at, file_points, file_refusal, Request, request_of, outline_of}
 use Rattle.outline_file.specs.File.{head_of, Reading, reading, read_as, read_file}
 use Rattle.outline_file.specs.ReadLaws.{accepted_file}
@@ -164,28 +162,28 @@ module _ (file : List ℕ) (points : List Float) (lens : List ℕ) where
       go (suc n) e = tt
 
   -- what the code has in hand: the answer r of `read_file`
-  module _ {r : FileAnswer} {points' : List Float} {lens' : List ℕ} (e : reading r points' lens' ≡ read_file file points lens)
+  module _ {r : Result Head ℕ} {points' : List Float} {lens' : List ℕ} (e : reading r points' lens' ≡ read_file file points lens)
       (long : length points ≡ 496) (longs : length lens ≡ 8) where
-    told : {answer : FileAnswer} → r ≡ answer → Told (reading answer points' lens')
+    told : {answer : Result Head ℕ} → r ≡ answer → Told (reading answer points' lens')
     told case =
-        subst Told (ap (λ (a : FileAnswer). reading a points' lens') case) (subst Told (sym e) (told_read long longs))
+        subst Told (ap (λ (a : Result Head ℕ). reading a points' lens') case) (subst Told (sym e) (told_read long longs))
 
-    listed_as : {answer : FileAnswer} → r ≡ answer → read_listing (reading answer points' lens') ≡ program_listing file
-    listed_as case = ap (λ (a : FileAnswer). read_listing (reading a points' lens')) (sym case) ∙ (ap read_listing e ∙ listing_read)
+    listed_as : {answer : Result Head ℕ} → r ≡ answer → read_listing (reading answer points' lens') ≡ program_listing file
+    listed_as case = ap (λ (a : Result Head ℕ). read_listing (reading a points' lens')) (sym case) ∙ (ap read_listing e ∙ listing_read)
 
     -- where it is read
-    pub read_held : {head : Head} → r ≡ Read head → RequestHeld points' lens' head
+    pub read_held : {head : Head} → r ≡ Ok head → RequestHeld points' lens' head
     read_held case = told case
 
-    pub read_listed : {head : Head} → r ≡ Read head → outline_listing (held_outline points' lens' head) head.settings ≡ program_listing file
+    pub read_listed : {head : Head} → r ≡ Ok head → outline_listing (held_outline points' lens' head) head.settings ≡ program_listing file
     read_listed case = listed_as case
 
     -- where it is refused: with a number, since no outline has no loop
-    pub refused_number : (n : ℕ) → r ≡ Refused n → n ≡ 0 → ⊥
+    pub refused_number : (n : ℕ) → r ≡ Err n → n ≡ 0 → ⊥
     refused_number zero case z = absurd (omega (arith, (told case).some))
     refused_number (suc n) case z = omega arith
 
-    pub refused_as : (n : ℕ) → r ≡ Refused n → refused_listing n ≡ program_listing file
+    pub refused_as : (n : ℕ) → r ≡ Err n → refused_listing n ≡ program_listing file
     refused_as zero case = absurd (omega (arith, (told case).some))
     refused_as (suc n) case = listed_as case
 

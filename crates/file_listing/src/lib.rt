@@ -8,7 +8,7 @@ ghost use Rattle.file_listing.specs.Laws.{RequestHeld, held_outline};
 
 use domain::{Domain, Settings};
 use listing::Heading;
-use outline_file::{FileAnswer, Head};
+use outline_file::Head;
 use run::Paved;
 
 fn heading(r: Paved) -> Heading
@@ -29,10 +29,7 @@ fn heading(r: Paved) -> Heading
 // The listing of an outline. The lists that the program lends are all here: 1,600 field nodes, 800 nodes, 800 quads, 2,400 edges, 8 loops.
 // The pools have room for each node, and for each edge six times; the list of blocks has four numbers for each of 23: one for 16 of up to 248
 // points, and one more for each of up to eight loops. The list of tries has three numbers for each node.
-fn list_outline(
-    domain: Domain<'_>, settings: Settings,
-    out: &mut [u8],
-) -> usize
+fn list_outline(domain: Domain<'_>, settings: Settings, out: &mut [u8]) -> usize
     ensures { ListingGiven (outline_listing (outline_of domain.entry) settings)
         out.old out.new result }
 {
@@ -95,14 +92,12 @@ fn list_request(points: &[f64], lens: &[usize], head: Head, out: &mut [u8]) -> u
     let loops = head.loops;
     let outer = 2 * head.outer;
     let all = 2 * head.points;
-    let settings = head.settings;
-    list_outline(
-        &points[..outer],
-        &points[outer..all],
-        &lens[1..loops],
-        settings,
-        out,
-    )
+    let domain = Domain {
+        outer: &points[..outer],
+        holes: &points[outer..all],
+        lens: &lens[1..loops],
+    };
+    list_outline(domain, head.settings, out)
 }
 
 // Writes the listing of an outline's file into `out`, as far as it goes, and answers how many bytes are written. No listing is longer than
@@ -112,9 +107,8 @@ pub fn list_file(file: &[u8], out: &mut [u8]) -> usize
 {
     let mut points = [0.0; 496];
     let mut lens = [0usize; 8];
-    let read = outline_file::read_file(file, &mut points, &mut lens);
-    match read {
-        FileAnswer::Refused(number) => listing::write_refused(out, number),
-        FileAnswer::Read(head) => list_request(&points, &lens, head, out),
+    match outline_file::read_file(file, &mut points, &mut lens) {
+        Ok(head) => list_request(&points, &lens, head, out),
+        Err(refusal) => listing::write_refused(out, u32::from(refusal)),
     }
 }

@@ -1,10 +1,11 @@
 -- What the loops over nodes, quads and loops have left to write: from the lists that their iterators have left.
 use Rattle.std.proofs.Common.{◌≡◌, refl, ◌∙◌, ℕ, zero, suc, ◌+◌, ◌/◌, ◌<◌, min, ◌⊎◌, List, [], ◌∷◌, ◌++◌, length, take, drop, replicate, add-one, arith, length-append, take_at, drop_at}
 use Rattle.std.proofs.Math.Logic.{⊎_elim}
+use Rattle.std.proofs.lemmas.List.{take_min, drop_min}
 use Rattle.std.specs.Prelude.{Float}
 use Prim.Native.Char.{code}
 use Rattle.listing.specs.Listing.{row, row_lines, node_line, node_lines}
-use Rattle.listing.specs.Left.{rows_first, rows_end, take_min, drop_min}
+use Rattle.listing.specs.Left.{rows_first, rows_end}
 
 no_items : {A : Type 0} (l : List A) → length l ≡ 0 → l ≡ []
 no_items [] h = refl

@@ -4,8 +4,7 @@ use Rattle.std.proofs.Math.Path.{refl, ap, ap₂}
 use Rattle.std.proofs.Common.{sym, ◌∙◌, add-one, arith, length-take, length-drop, drop_of_length-le, drop-cons, drop-drop, get_or-take}
 use mathlib.Core.List.{List, [], ◌∷◌, ◌++◌}
 use Prim.Native.Char.{code}
-use Rattle.std.proofs.Math.Nat.{suc-min-suc}
-use Rattle.std.proofs.Math.Seq.{take-nil, drop-nil}
+use Rattle.std.proofs.lemmas.List.{take_min, drop_min}
 use Rattle.listing.specs.Text.{ascii}
 use Rattle.listing.specs.Buffer.{Buffer, puts, Wrote}
 use Rattle.listing.specs.BufferLaws.{puts_append, puts_length}
@@ -103,17 +102,6 @@ quads_next quads count k h =
     let four : 4 * k + 4 - 4 * k ≡ 4 = omega arith in
     let after : 4 * (k + 1) ≡ 4 * k + 4 = omega arith in
     rw (left, four, after) (rows_first (code "q") 4 _ _ ∙ rw drop-drop refl)
-
--- as many as there are
-pub take_min : (n : ℕ) (l : List ℕ) → take (min n (length l)) l ≡ take n l
-take_min zero l = let e : min 0 (length l) ≡ 0 = omega arith in rw e
-take_min (suc n) [] = take-nil (min (suc n) 0)
-take_min (suc n) (x ∷ l) = rw suc-min-suc (ap (λ (m : List ℕ). x ∷ m) (take_min n l))
-
-pub drop_min : (n : ℕ) (l : List ℕ) → drop (min n (length l)) l ≡ drop n l
-drop_min zero l = let e : min 0 (length l) ≡ 0 = omega arith in rw e
-drop_min (suc n) [] = drop-nil (min (suc n) 0)
-drop_min (suc n) (x ∷ l) = rw suc-min-suc (drop_min n l)
 
 -- the lines of n loops from loop k on, whose ids begin at a
 abbrev pub loops_from : List ℕ → List ℕ → ℕ → ℕ → ℕ → List ℕ

@@ -8,6 +8,8 @@ ghost use Rattle.listing.specs.Output.{Started, Put};
 ghost use Rattle.listing.specs.Listing.{decimal, hex_digit, hex_of, spaced, row, node_line, node_lines, quad_lines, loop_lines};
 ghost use Rattle.listing.specs.Listing.{end_word, head_line, refused_listing, mesh_listing, listing};
 
+use std::num;
+
 // What the first line says of a mesh, `end` by the run's number; and `loops`, how many loops are listed.
 #[derive(Clone, Copy)]
 pub struct Heading {
@@ -110,9 +112,9 @@ impl<'a> Output<'a> {
         ensures { Put (node_line x y) self.old self.new }
     {
         self.put_all(b"n ");
-        self.put_hex(16, numbers::bits_of(x));
+        self.put_hex(16, num::f64_to_bits_with_nan(x));
         self.put(b' ');
-        self.put_hex(16, numbers::bits_of(y));
+        self.put_hex(16, num::f64_to_bits_with_nan(y));
         self.put(b'\n');
     }
 

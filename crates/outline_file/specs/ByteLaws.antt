@@ -38,7 +38,7 @@ pub number_start : (n : ℕ) (b : List ℕ) (i : ℕ) → Number n b i (i + n) 0
 number_start n b i = record { from = omega arith; to = omega arith; so_far = number_none b (i + n) _ (omega arith) }
 
 -- one byte more, in front
-number_more : (n : ℕ) (b : List ℕ) (i x : ℕ) → NumberOf n b (suc i) x → get_or b i 0 < 256 → NumberOf (suc n) b i (x * 256 + get_or b i 0)
+pub number_more : (n : ℕ) (b : List ℕ) (i x : ℕ) → NumberOf n b (suc i) x → get_or b i 0 < 256 → NumberOf (suc n) b i (x * 256 + get_or b i 0)
 unfolding number_at
 number_more n b i x l h = record {
   same = turn x (get_or b i 0) ∙ ap (λ (y : ℕ). get_or b i 0 + 256 * y) l.same;

@@ -1,6 +1,6 @@
 -- The outline file of document 01's 'File and listing': 512-byte blocks, integers and float bits low byte first, and the refusals 12 and 13.
 -- A file is a list of bytes, naturals below 256, of any length. Definitions only.
-use Rattle.std.specs.Prelude.{Bool, not, ◌&&◌, cond, ℕ, zero, suc, ◌+◌, ◌-◌, ◌*◌, ◌/◌, ◌%◌, min, leb, ltb, eqb, length, get_or, take, drop, replicate, Float}
+use Rattle.std.specs.Prelude.{Bool, not, ◌&&◌, cond, ℕ, zero, suc, ◌+◌, ◌-◌, ◌*◌, ◌/◌, ◌%◌, min, leb, ltb, eqb, length, get_or, take, drop, replicate, Float, Result, Ok, Err}
 use mathlib.Core.List.{List, [], ◌∷◌, ◌++◌, map, flatten}
 use Rattle.std.specs.Float.{binary64}
 use Rattle.std.specs.Float.Ieee.{to_bits}
@@ -12,8 +12,6 @@ use Rattle.numbers.specs.Whole.{ceil_div}
 use Rattle.domain.specs.declared.Settings.{Settings}
 use Rattle.domain.specs.Outline.{Outline, outline, first_of}
 use Rattle.outline_file.specs.declared.Head.{Head}
-use Rattle.outline_file.specs.declared.FileAnswer.{FileAnswer}
-use Rattle.outline_file.specs.declared.FileAnswer.TheVariants.{Refused, Read}
 
 -- What a file asks for: the settings, the points of all loops as coordinates, x then y, and each loop's length in points. The outer loop is first.
 pub record Request : Type 0 where
@@ -150,23 +148,23 @@ pub record FileNumbers : Type 0 where
   pub refusal : ℕ
   pub head : Head
 
-abbrev pub file_numbers : FileAnswer → FileNumbers
-file_numbers (Refused n) =
+abbrev pub file_numbers : Result Head ℕ → FileNumbers
+file_numbers (Err n) =
     record { refusal = n; head = record { settings = record { size = zero_f; sweeps = 0; passes = 0 }; loops = 0; outer = 0; points = 0 } }
-file_numbers (Read head) = record { refusal = 0; head = head }
+file_numbers (Ok head) = record { refusal = 0; head = head }
 
 pub record Reading : Type 0 where
   pub numbers : FileNumbers
   pub points : List Float
   pub lens : List ℕ
 
-abbrev pub reading : FileAnswer → List Float → List ℕ → Reading
+abbrev pub reading : Result Head ℕ → List Float → List ℕ → Reading
 reading answer points lens = record { numbers = file_numbers answer; points = points; lens = lens }
 
 -- refused with its number and nothing written; or the request's coordinates and lengths on the first places
 abbrev pub read_as : ℕ → Request → List Float → List ℕ → Reading
-read_as zero r points lens = reading (Read (head_of r)) (overlay r.coordinates points) (overlay r.lengths lens)
-read_as (suc n) r points lens = reading (Refused (suc n)) points lens
+read_as zero r points lens = reading (Ok (head_of r)) (overlay r.coordinates points) (overlay r.lengths lens)
+read_as (suc n) r points lens = reading (Err (suc n)) points lens
 
 unfoldable pub read_file : List ℕ → List Float → List ℕ → Reading
 read_file file points lens = read_as (file_refusal file) (request_of file) points lens

@@ -1,5 +1,5 @@
 -- Laws of reading a file that isn't refused. Assumes nothing.
-use Rattle.std.specs.Prelude.{◌≡◌, refl, ℕ, zero, suc, ◌+◌, ◌*◌, ◌/◌, ◌%◌, ◌≤◌, length, drop, Float}
+use Rattle.std.specs.Prelude.{◌≡◌, refl, ℕ, zero, suc, ◌+◌, ◌*◌, ◌/◌, ◌%◌, ◌≤◌, length, drop, Float, Ok, Err}
 use Rattle.std.proofs.Math.Path.{sym, ap}
 use Rattle.std.proofs.Common.{◌∙◌, arith, length-take, length-drop}
 use mathlib.Core.List.{List}
@@ -11,7 +11,6 @@ use Rattle.outline_file.specs.declared.Head.{Head}
 use Rattle.outline_file.specs.File.{number_at, float_at, block_at, block_refusal, head_loops, head_length, head_points, head_refusal, point_blocks}
 use Rattle.outline_file.specs.File.{points_refusal, points_turn, blocks_refusal, coordinate_at, file_points, file_length, end_refusal, file_refusal}
 use Rattle.outline_file.specs.File.{request_of, head_of, reading, read_as, read_file}
-use Rattle.outline_file.specs.declared.FileAnswer.TheVariants.{Refused, Read}
 use Rattle.outline_file.specs.ByteLaws.{NumberOf}
 use Rattle.outline_file.specs.RefusalLaws.{block_long, Headed, headed}
 
@@ -78,11 +77,11 @@ module _ (file : List ℕ) (c : ℕ) {b : List ℕ} (at : b ≡ block_at file (c
 -- ---- what `read_file` answers
 
 pub read_refused : (file : List ℕ) (points : List Float) (lens : List ℕ) {r : ℕ} → r ≡ file_refusal file → (r ≡ 0 → ⊥)
-    → reading (Refused r) points lens ≡ read_file file points lens
+    → reading (Err r) points lens ≡ read_file file points lens
 unfolding read_file
 read_refused file points lens {r} e n = go r n ∙ ap (λ (k : ℕ). read_as k (request_of file) points lens) e
   where
-    go : (r : ℕ) → (r ≡ 0 → ⊥) → reading (Refused r) points lens ≡ read_as r (request_of file) points lens
+    go : (r : ℕ) → (r ≡ 0 → ⊥) → reading (Err r) points lens ≡ read_as r (request_of file) points lens
     go zero n = absurd (n refl)
     go (suc k) n = refl
 
@@ -109,10 +108,10 @@ module _ (file : List ℕ) (points : List Float) (lens : List ℕ) {r : ℕ} (e 
     read_count = let d = accepted_file file (sym e ∙ z) in rw (f, at) (d.head.sound.points, d.long)
 
     pub read_whole : {points' : List Float} {lens' : List ℕ} → lens' ≡ overlay (tabulate head.loops (head_length h)) lens
-        → points' ≡ overlay (tabulate (2 * head.points) (coordinate_at file)) points → reading (Read head) points' lens' ≡ read_file file points lens
+        → points' ≡ overlay (tabulate (2 * head.points) (coordinate_at file)) points → reading (Ok head) points' lens' ≡ read_file file points lens
     unfolding read_file block_head request_of
     read_whole p q =
         rw (p, q, f, at)
-        (ap (λ (k : Head). reading (Read k) (overlay (request_of file).coordinates points) (overlay (request_of file).lengths lens))
+        (ap (λ (k : Head). reading (Ok k) (overlay (request_of file).coordinates points) (overlay (request_of file).lengths lens))
         (head_of_lem file (accepted_file file (sym e ∙ z)).head)
         ∙ sym (ap (λ (k : ℕ). read_as k (request_of file) points lens) (sym e ∙ z)))

@@ -1,12 +1,7 @@
--- `file_writing::put_lengths` meets its contract: the loop's invariant is `Pieces`, and each answer is a law of it.
+-- `file_writing::put_lengths` meets its contract: the loop's invariant is `Pieces`.
 use Rattle.file_writing.specs.WriteLaws.{Pieces}
 use Rattle.outline_file.specs.File.{number_bytes}
-use lib.ListN.{length}
-use Prim.Native.Nat.{◌-◌}
 use Rattle.file_writing.proofs.put_lengths.Given as goal
 
 abbrev pub invariant-loop-k : goal.invariant-loop-k
 invariant-loop-k l = Pieces 2 (number_bytes 2) l.lens 14 l.initial.b l.k l.b
-
-abbrev pub decreases-loop-k : goal.decreases-loop-k
-decreases-loop-k l = length l.lens - l.k

@@ -1,14 +1,7 @@
--- `file_writing::put_points` meets its contract: the loop's invariant is `Pieces`, and each answer is a law of it.
-use lib.ListN.{length}
-use Prim.Native.Nat.{◌-◌}
+-- `file_writing::put_points` meets its contract: the loop's invariant is `Pieces`.
 use Rattle.file_writing.specs.WriteLaws.{Pieces}
 use Rattle.outline_file.specs.File.{float_bytes}
 use Rattle.file_writing.proofs.put_points.Given as goal
 
--- `file_writing::put_points` meets its contract: the loop's invariant is `Pieces`, and each answer is a law of it.
-
 abbrev pub invariant-loop-c : goal.invariant-loop-c
 invariant-loop-c l = Pieces 8 float_bytes l.points 0 l.initial.b l.c l.b
-
-abbrev pub decreases-loop-c : goal.decreases-loop-c
-decreases-loop-c l = length l.points - l.c

@@ -1,10 +1,12 @@
 -- `file_writing::seal` meets its contract: what the calls ensure makes it up.
+use Rattle.std.proofs.Common.{◌-◌, arith}
 use Rattle.file_writing.specs.WriteLaws.{block_sealed}
+use Rattle.file_writing.proofs.Bytes.{zeros_put}
 use Rattle.file_writing.proofs.seal.Goals as goal
 
 pub returns : goal.returns
 returns c =
-    block_sealed _ _ c.requires.0
-    c.requires.1
-    c.clear.ensures c.check_of-sum.ensures
-    c.put_number.ensures
+    let b = c.args.b.now in
+    let used = c.args.used in
+    let zeros = zeros_put b used (510 - used) (omega (arith, c.requires)) (c.fill.ensures.after (λ y h. h)) in
+    block_sealed b used c.requires.0 c.requires.1 zeros c.check_of-sum.ensures c.put_number.ensures

@@ -11,7 +11,7 @@ returns c =
     let s = c.args.settings in
     let lens = c.args.lens.now in
     let b = c.args.b.now in
-    let put = head_put s lens b c.bits_of.ensures c.put_number.ensures
+    let put = head_put s lens b c.f64_to_bits_with_nan.ensures c.put_number.ensures
     c.put_number-2.ensures c.put_number-3.ensures
     c.put_number-4.ensures
     c.put_lengths.ensures in

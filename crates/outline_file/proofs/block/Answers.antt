@@ -1,12 +1,6 @@
--- `outline_file::block` meets its contract: a block is absent, cut short, or whole.
-use Rattle.outline_file.specs.ByteLaws.{block_absent, block_short, block_whole}
+-- `outline_file::block` meets its contract.
+use Rattle.outline_file.proofs.Bytes.{block_cut}
 use Rattle.outline_file.proofs.block.Goals as goal
 
-pub returns-then-n-from : goal.returns-then-n-from
-returns-then-n-from c = block_absent _ _ c.if-n-from.true
-
-pub returns-then-n-from-lt512 : goal.returns-then-n-from-lt512
-returns-then-n-from-lt512 c = block_short _ _ c.if-n-from-lt512.true
-
 pub returns : goal.returns
-returns c = block_whole _ _
+returns c = block_cut _ _ c.min-from.ensures c.min-to.ensures

@@ -1,28 +1,28 @@
 -- `outline_file::read_file` meets its contract: refused, or what the calls ensure makes it up.
+use Rattle.std.proofs.Common.{refl, arith}
+use Rattle.std.proofs.lemmas.Grind.{common_steps}
+use Rattle.domain.proofs.Refused.{refusal_some}
 use Rattle.outline_file.specs.ReadLaws.{read_refused, read_headed, read_loops, read_count, read_whole}
-use native.Mathlib.Omega.{arith}
 use Rattle.outline_file.proofs.read_file.Goals as goal
 
-pub returns-then-refusal-ne0 : goal.returns-then-refusal-ne0
-returns-then-refusal-ne0 c = read_refused _ _ _ c.file_refusal-refusal.ensures c.if-refusal-ne0.true
+pub returns-in_err-check_file : goal.returns-in_err-check_file
+returns-in_err-check_file c =
+    let given = read_refused _ c.args.points.now c.args.lens.now c.in_err-check_file.ensures (refusal_some _) in
+    grind (arith, common_steps)
 
 pub read_head-head-requires : goal.read_head-head-requires
-read_head-head-requires c =
-    read_headed _ c.args.points.now c.args.lens.now c.file_refusal-refusal.ensures c.if-refusal-ne0.false c.block-h.ensures
+read_head-head-requires c = read_headed _ c.args.points.now c.args.lens.now c.in_ok-check_file.ensures refl c.block-h.ensures
 
 pub read_lengths-requires : goal.read_lengths-requires
 read_lengths-requires c =
-    let n = read_loops _ c.args.points.now c.args.lens.now c.file_refusal-refusal.ensures
-    c.if-refusal-ne0.false c.block-h.ensures c.read_head-head.ensures in
+    let n = read_loops _ c.args.points.now c.args.lens.now c.in_ok-check_file.ensures refl c.block-h.ensures c.read_head-head.ensures in
     (n.0, n.1, omega arith)
 
 pub read_points-requires : goal.read_points-requires
 read_points-requires c =
-    let n = read_count _ c.args.points.now c.args.lens.now c.file_refusal-refusal.ensures c.if-refusal-ne0.false
-    c.block-h.ensures c.read_head-head.ensures in
+    let n = read_count _ c.args.points.now c.args.lens.now c.in_ok-check_file.ensures refl c.block-h.ensures c.read_head-head.ensures in
     (n.0, n.1, omega arith)
 
 pub returns : goal.returns
 returns c =
-    read_whole _ _ _ c.file_refusal-refusal.ensures c.if-refusal-ne0.false c.block-h.ensures c.read_head-head.ensures
-    c.read_lengths.ensures c.read_points.ensures
+    read_whole _ _ _ c.in_ok-check_file.ensures refl c.block-h.ensures c.read_head-head.ensures c.read_lengths.ensures c.read_points.ensures

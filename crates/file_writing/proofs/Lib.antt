@@ -1,0 +1,2 @@
+-- What the code's ways of writing bytes rest on: Bytes.
+pub mod Bytes

@@ -11,6 +11,11 @@ use listing::Heading;
 use outline_file::Head;
 use run::Paved;
 
+// So many bytes of a file decide: the longest has one fewer.
+pub const DECISIVE: usize = outline_file::LONGEST_FILE + 1;
+
+pub const LONGEST_LISTING: usize = 117681;
+
 fn heading(r: Paved) -> Heading
     ensures { result ≡ heading_of r }
 {

@@ -22,4 +22,8 @@ pub returns-in-Ok : goal.returns-in-Ok
 returns-in-Ok c = given_as (read_listed _ _ _ c.read_file.ensures refl refl (ap numbered c.in-Ok.is)) c.list_request.ensures
 
 pub returns-in-Err : goal.returns-in-Err
-returns-in-Err c = ?
+returns-in-Err c =
+    let answered = c.read_file.ensures in
+    let case = ap numbered c.in-Err.is in
+    given_as (refused_as _ _ _ answered refl refl _ case)
+    (refused_listed (refused_number _ _ _ answered refl refl _ case) (rw c.from.ensures at c.write_refused.ensures))

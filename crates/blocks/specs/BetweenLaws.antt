@@ -2,7 +2,7 @@
 -- its turns changes the state. Assumes nothing.
 use Rattle.std.specs.Prelude.{◌≡◌}
 use Rattle.std.proofs.Math.Path.{refl, ap}
-use Rattle.std.proofs.Common.{sym, ◌∙◌}
+use Rattle.std.proofs.Common.{sym, ◌∙◌, subst}
 use Prim.Native.Nat.{ℕ, zero, suc, ◌+◌, ◌-◌, ◌*◌, ◌≤◌, ◌<◌, min}
 use native.Mathlib.Omega.{arith}
 use Rattle.laws.specs.Loop.{for_up, for_up_keeps}
@@ -121,3 +121,26 @@ module _ {A : Type 0} (turn : ℕ → A → A) (a : A) where
     where
       all : (from n : ℕ) → n ≤ from → min from n ≡ n
       all from n h = omega arith
+
+-- block c of the loop is number `first + c`
+pub place_of : {n first : ℕ} (c : ℕ) → block_size * c < n + block_size → BlockPlace n first (block_size * c) (first + c)
+place_of {n} {first} c h = record { begun = omega arith; at = omega arith; within = omega arith }
+
+module _ {A : Type 0} {turn : ℕ → A → A} {a : A} where
+  -- of c blocks passed
+  pub passed_start : {n first : ℕ} → ByBlocks turn a n first 0 first a → ByBlocks turn a n first (block_size * 0) (first + 0) a
+  passed_start {n} {first} l = subst (λ (k : ℕ). ByBlocks turn a n first 0 k a) (none first) l
+    where
+      none : (k : ℕ) → k ≡ k + 0
+      none k = omega arith
+
+  pub passed_more : {n first : ℕ} (c : ℕ) {s : A} → ByBlocks turn a n first (block_size * c + block_size) (first + c + 1) s
+      → ByBlocks turn a n first (block_size * (c + 1)) (first + (c + 1)) s
+  passed_more {n} {first} c {s} l =
+      subst (λ (k : ℕ). ByBlocks turn a n first k (first + (c + 1)) s) (from c) (subst (λ (k : ℕ). ByBlocks turn a n first (block_size * c + block_size) k s) (number first c) l)
+    where
+      from : (c : ℕ) → block_size * c + block_size ≡ block_size * (c + 1)
+      from c = omega arith
+
+      number : (first c : ℕ) → first + c + 1 ≡ first + (c + 1)
+      number first c = omega arith

@@ -6,7 +6,7 @@ ghost use Rattle.std.specs.Prelude.{◌≡◌, ◌+◌, ◌*◌, ◌≤◌, ◌<
 ghost use Rattle.laws.specs.Loop.{any_up};
 ghost use Rattle.domain.specs.Outline.{outline_of, points, most_points, outline_refusal};
 ghost use Rattle.domain.specs.Queries.{polygon_turn, point_in_polygon, in_hole, contains};
-ghost use Rattle.blocks.specs.Blocks.{for_between, coordinate, lower_of, higher_of, reach, is_farther, Farthest, block_end, is_listed, BlockThere, BlockFiles, LoopFiles};
+ghost use Rattle.blocks.specs.Blocks.{for_between, coordinate, reach, is_farther, Farthest, block_end, is_listed, BlockThere, BlockFiles, LoopFiles};
 ghost use Rattle.blocks.specs.Blocks.{LoopDrawn, first_block_at, Drawn, block_extent, ray_misses};
 
 use domain::{Domain, Point};
@@ -31,20 +31,9 @@ fn coordinate(d: usize, p: Point) -> f64
     if d < 2 { p.x } else { p.y }
 }
 
-// Of two numbers neither of which is a NaN, which one instruction tells apart; `min_f64` and `max_f64` ask for a NaN first.
-fn lower_of(x: f64, y: f64) -> f64
-    ensures { result ≡ lower_of x y }
-{
-    if y < x { y } else { x }
-}
-
-fn higher_of(x: f64, y: f64) -> f64
-    ensures { result ≡ higher_of x y }
-{
-    if x < y { y } else { x }
-}
-
 // On the sides 0, least x; 1, greatest x; 2, least y; 3, greatest y.
+// Stays a number: a side is also its place among the four numbers of a block, and the lent list has these flat.
+#[tactic(auto, unfolding(crate::specs::Blocks::reach_of))]
 pub fn reach(d: usize, s: &[f64], i: usize) -> f64
     requires { 2 * i + 1 < length s.now }
     ensures { result ≡ reach d s.now i }
@@ -53,12 +42,13 @@ pub fn reach(d: usize, s: &[f64], i: usize) -> f64
     let v = coordinate(d, outlines::point_after(s, i));
     let w = u + (v - u);
     if d % 2 == 1 {
-        higher_of(higher_of(u, v), w)
+        outlines::higher_of(outlines::higher_of(u, v), w)
     } else {
-        lower_of(lower_of(u, v), w)
+        outlines::lower_of(outlines::lower_of(u, v), w)
     }
 }
 
+#[tactic(auto, unfolding(crate::specs::Blocks::is_farther))]
 fn is_farther(d: usize, x: f64, y: f64) -> bool
     ensures { result ≡ is_farther d x y }
 {
@@ -71,8 +61,7 @@ pub fn block_end(n: usize, from: usize) -> usize
     requires { from ≤ most_points }
     ensures { result ≡ block_end n from }
 {
-    let to = from + BLOCK;
-    if to < n { to } else { n }
+    (from + BLOCK).min(n)
 }
 
 // Of the segments `from` up to `to` one that reaches farthest out on side d.
@@ -81,12 +70,10 @@ fn farthest(d: usize, s: &[f64], from: usize, to: usize) -> u32
     ensures { Farthest s.now d from to result }
 {
     let mut far = from;
-    let mut i = from + 1;
-    while i < to {
+    for i in from + 1..to {
         if is_farther(d, reach(d, s, i), reach(d, s, far)) {
             far = i;
         }
-        i += 1;
     }
     far as u32
 }
@@ -132,15 +119,10 @@ fn file_loop(s: &[f64], first: usize, blocks: &mut [u32])
     requires { (points s.now ≤ most_points) × (first ≤ 2 * most_points) }
     ensures { LoopFiles s.now blocks.old blocks.new first }
 {
-    let n = s.len() / 2;
-    let mut from = 0;
-    let mut b = first;
-    while from < n {
-        if is_listed(blocks, b) {
-            file_block(s, from, b, blocks);
+    for c in 0..(s.len() / 2).div_ceil(BLOCK) {
+        if is_listed(blocks, first + c) {
+            file_block(s, BLOCK * c, first + c, blocks);
         }
-        from += BLOCK;
-        b += 1;
     }
 }
 
@@ -149,36 +131,25 @@ pub fn file(domain: Domain<'_>, blocks: &mut [u32])
     requires { outline_refusal (outline_of domain) ≡ 0 }
     ensures { Drawn (outline_of domain.entry) blocks.new }
 {
-    file_loop(outlines::loop_points(domain, 0, 0), 0, blocks);
-    let mut k = 0;
-    let mut start = 0;
-    while k < domain.lens.len() {
-        let first = first_block(domain.outer, k + 1, start);
-        file_loop(
-            outlines::loop_points(domain, k + 1, start),
-            first,
-            blocks,
-        );
-        start += domain.lens[k];
-        k += 1;
+    file_loop(domain.outer, 0, blocks);
+    for hole in outlines::holes_of(domain) {
+        let first = first_block(domain.outer, hole.index + 1, hole.start);
+        file_loop(hole.points, first, blocks);
     }
 }
 
 // ---- `contains`
 
 // Whether the ray from p can't change sides at a segment of block b. The heights are asked first: most blocks are above p or below it.
+#[tactic(auto, unfolding(crate::specs::Blocks::ray_misses))]
 fn ray_misses(p: Point, s: &[f64], blocks: &[u32], b: usize) -> bool
     requires { BlockThere s.now blocks.now b }
     ensures { result ≡ ray_misses p (block_extent s.now blocks.now b) }
 {
     let at = 4 * b;
-    if p.y < reach(2, s, blocks[at + 2] as usize) {
-        return true;
-    }
-    if !(p.y < reach(3, s, blocks[at + 3] as usize)) {
-        return true;
-    }
-    !(p.x < reach(1, s, blocks[at + 1] as usize))
+    p.y < reach(2, s, blocks[at + 2] as usize)
+        || !(p.y < reach(3, s, blocks[at + 3] as usize))
+        || !(p.x < reach(1, s, blocks[at + 1] as usize))
 }
 
 // Whether p's side, so far, changes with the segments `from` up to `to`.
@@ -187,11 +158,8 @@ fn crossings(p: Point, s: &[f64], from: usize, to: usize, inside: bool) -> bool
     ensures { result ≡ for_between from to (polygon_turn p s.now) inside }
 {
     let mut odd = inside;
-    let mut i = from;
-    while i < to {
-        odd = odd
-            != outlines::ray_crosses(p, outlines::point_at(s, i), outlines::point_after(s, i));
-        i += 1;
+    for i in from..to {
+        odd ^= outlines::ray_crosses(p, outlines::point_at(s, i), outlines::point_after(s, i));
     }
     odd
 }
@@ -202,59 +170,32 @@ fn point_in_polygon(p: Point, s: &[f64], blocks: &[u32], first: usize) -> bool
 {
     let n = s.len() / 2;
     let mut inside = false;
-    let mut from = 0;
-    let mut b = first;
-    while from < n {
-        if !(is_listed(blocks, b) && ray_misses(p, s, blocks, b)) {
-            inside = crossings(p, s, from, block_end(n, from), inside);
+    for c in 0..n.div_ceil(BLOCK) {
+        if !(is_listed(blocks, first + c) && ray_misses(p, s, blocks, first + c)) {
+            inside = crossings(p, s, BLOCK * c, block_end(n, BLOCK * c), inside);
         }
-        from += BLOCK;
-        b += 1;
     }
     inside
 }
 
-fn in_some_hole(
-    domain: Domain<'_>, blocks: &[u32],
-    p: Point,
-) -> bool
+fn in_some_hole(domain: Domain<'_>, blocks: &[u32], p: Point) -> bool
     requires { Drawn (outline_of domain) blocks.now }
     ensures { result ≡ any_up (length domain.entry.lens.now) (in_hole (outline_of domain.entry) p) }
 {
-    let mut k = 0;
-    let mut start = 0;
-    while k < domain.lens.len() {
-        let first = first_block(domain.outer, k + 1, start);
-        if point_in_polygon(
-            p,
-            outlines::loop_points(domain, k + 1, start),
-            blocks,
-            first,
-        ) {
+    for hole in outlines::holes_of(domain) {
+        let first = first_block(domain.outer, hole.index + 1, hole.start);
+        if point_in_polygon(p, hole.points, blocks, first) {
             return true;
         }
-        start += domain.lens[k];
-        k += 1;
     }
     false
 }
 
 // `contains` of the outline.
-pub fn contains_point(
-    domain: Domain<'_>, blocks: &[u32],
-    p: Point,
-) -> bool
+#[tactic(auto, unfolding(domain::specs::Queries::contains))]
+pub fn contains_point(domain: Domain<'_>, blocks: &[u32], p: Point) -> bool
     requires { Drawn (outline_of domain) blocks.now }
     ensures { result ≡ contains (outline_of domain.entry) p }
 {
-    if point_in_polygon(
-        p,
-        outlines::loop_points(domain, 0, 0),
-        blocks,
-        0,
-    ) {
-        !in_some_hole(domain, blocks, p)
-    } else {
-        false
-    }
+    point_in_polygon(p, domain.outer, blocks, 0) && !in_some_hole(domain, blocks, p)
 }

@@ -16,16 +16,21 @@ use domain::{Domain, Near, Point, Search, Settings};
 // A coordinate beyond this either way is too far out for the search by blocks.
 const MODERATE: f64 = 1048576.0;
 
+#[tactic(auto, unfolding(crate::specs::Far::span_gap))]
 fn span_gap(x: f64, least: f64, most: f64) -> f64
     ensures { result ≡ span_gap x least most }
 {
     if x < least {
-        return x - least;
+        x - least
+    } else if most < x {
+        x - most
+    } else {
+        0.0
     }
-    if most < x { x - most } else { 0.0 }
 }
 
 // Whether no segment in the box is nearer to p than the best so far.
+#[tactic(auto, unfolding(crate::specs::Far::is_far, crate::specs::Far::extent_squared))]
 fn is_far(p: Point, e: Extent, squared: f64) -> bool
     ensures { result ≡ is_far p e squared }
 {
@@ -55,15 +60,12 @@ fn block_extent(s: &[f64], blocks: &[u32], b: usize) -> Extent
 }
 
 // Whether block b is listed and no segment of it is nearer to p than the best so far.
+#[tactic(auto, unfolding(crate::specs::Far::is_passed))]
 fn is_passed(p: Point, s: &[f64], blocks: &[u32], b: usize, squared: f64) -> bool
     requires { (b ≤ 3 * most_points) × (4 * b + 3 < length blocks.now → BlockThere s.now blocks.now b) }
     ensures { result ≡ is_passed p s.now blocks.now b squared }
 {
-    if blocks::is_listed(blocks, b) {
-        is_far(p, block_extent(s, blocks, b), squared)
-    } else {
-        false
-    }
+    blocks::is_listed(blocks, b) && is_far(p, block_extent(s, blocks, b), squared)
 }
 
 // The search over the segments `from` up to `to` of a loop. To ask each one's box first would take longer than the division that it spares.
@@ -79,12 +81,10 @@ fn search_part(
     ensures { result ≡ for_between from to (search_turn p s.now loop_index) best }
 {
     let mut found = best;
-    let mut i = from;
-    while i < to {
+    for i in from..to {
         let a = outlines::point_at(s, i);
         let b = outlines::point_after(s, i);
         found = outlines::search_segment(p, a, b, loop_index, i, found);
-        i += 1;
     }
     found
 }
@@ -102,57 +102,34 @@ fn search_loop(
 {
     let n = s.len() / 2;
     let mut found = best;
-    let mut from = 0;
-    let mut b = first;
-    while from < n {
-        if !is_passed(p, s, blocks, b, found.squared) {
+    for c in 0..n.div_ceil(BLOCK) {
+        if !is_passed(p, s, blocks, first + c, found.squared) {
+            let from = BLOCK * c;
             found = search_part(p, s, loop_index, from, blocks::block_end(n, from), found);
         }
-        from += BLOCK;
-        b += 1;
     }
     found
 }
 
-fn search_all(
-    domain: Domain<'_>, blocks: &[u32],
-    p: Point,
-    best: Search,
-) -> Search
+fn search_all(domain: Domain<'_>, blocks: &[u32], p: Point, best: Search) -> Search
     requires { Drawn (outline_of domain) blocks.now × (0 < length blocks.now → ModeratePoint p) }
     ensures { result ≡ search_from (outline_of domain.entry) p best }
 {
-    let mut found = search_loop(
-        p,
-        outlines::loop_points(domain, 0, 0),
-        0,
-        blocks,
-        0,
-        best,
-    );
-    let mut k = 0;
-    let mut start = 0;
-    while k < domain.lens.len() {
-        let loop_index = k + 1;
-        let first = blocks::first_block(domain.outer, loop_index, start);
-        let s = outlines::loop_points(domain, loop_index, start);
-        found = search_loop(p, s, loop_index, blocks, first, found);
-        start += domain.lens[k];
-        k += 1;
+    let mut found = search_loop(p, domain.outer, 0, blocks, 0, best);
+    for hole in outlines::holes_of(domain) {
+        let loop_index = hole.index + 1;
+        let first = blocks::first_block(domain.outer, loop_index, hole.start);
+        found = search_loop(p, hole.points, loop_index, blocks, first, found);
     }
     found
 }
 
 // `nearest_segment` of the outline, with no guess. Without blocks every segment is asked, and p may be anywhere.
-pub fn search_outline(
-    domain: Domain<'_>, blocks: &[u32],
-    p: Point,
-) -> Near
+pub fn search_outline(domain: Domain<'_>, blocks: &[u32], p: Point) -> Near
     requires { Drawn (outline_of domain) blocks.now × (0 < length blocks.now → ModeratePoint p) }
     ensures { result ≡ nearest_segment (outline_of domain.entry) p }
 {
-    let found = search_all(domain, blocks, p, outlines::search_start());
-    found.near
+    search_all(domain, blocks, p, outlines::search_start()).near
 }
 
 // ---- from a guess
@@ -167,11 +144,7 @@ fn is_moderate(x: f64) -> bool
 fn is_near(p: Point) -> bool
     ensures { result ≡ true → ModeratePoint p }
 {
-    if is_moderate(p.x) {
-        is_moderate(p.y)
-    } else {
-        false
-    }
+    is_moderate(p.x) && is_moderate(p.y)
 }
 
 // Slightly more than the squared distance of p from the segment guessed. The answer is the same with any other number, so nothing is promised of it.
@@ -182,11 +155,7 @@ fn limit(p: Point, guess: Near) -> f64 {
 
 // `nearest_segment` of the outline. With a guess of a segment near p the search begins at its distance, so that most blocks are passed over. The guess may
 // be anything: where nothing nearer than a little beyond it is found, the search begins anew without it.
-pub fn nearest_segment(
-    domain: Domain<'_>, blocks: &[u32],
-    p: Point,
-    guess: Near,
-) -> Near
+pub fn nearest_segment(domain: Domain<'_>, blocks: &[u32], p: Point, guess: Near) -> Near
     requires { Drawn (outline_of domain) blocks.now }
     ensures { result ≡ nearest_segment (outline_of domain.entry) p }
 {
@@ -194,14 +163,12 @@ pub fn nearest_segment(
         return search_outline(domain, &blocks[0..0], p);
     }
     let start = outlines::search_start();
-    let nowhere = start.near;
     let squared = limit(p, guess);
     let guessed = Search {
-        near: nowhere,
+        near: start.near,
         squared,
     };
-    let first = search_all(domain, blocks, p, guessed);
-    let near = first.near;
+    let near = search_all(domain, blocks, p, guessed).near;
     if near.distance < numbers::sqrt_f64(squared) {
         return near;
     }

@@ -1,13 +1,13 @@
 -- The list of an outline's holes is as long as that of their lengths, and has hole k at place k.
 use Rattle.std.specs.Iterator.{Yields, YieldsFirstBy}
 use Rattle.std.specs.Prelude.{Option, Some, None, false, List, [], ◌∷◌, ◌≡◌, refl, ℕ, zero, suc, ◌+◌, ◌*◌, ◌≤◌, ◌<◌, ◌^◌, length, get_or, take, drop, sum, Float}
-use Rattle.std.proofs.Common.{sym, ap, ap₂, ◌∙◌, arith, length-take, get_or-take}
+use Rattle.std.proofs.Common.{sym, ap, ap₂, ◌∙◌, arith, add-one, length-take, get_or-take}
 use Rattle.std.proofs.lemmas.List.{drop-drop}
 use Rattle.std.proofs.lemmas.List.Sums.{sum_by-cons}
 use Rattle.std.proofs.lemmas.Iterator.Consumers.{YieldsList-from_first, YieldsList-turn, YieldsList-end}
 use Rattle.std.proofs.lemmas.Iterator.{YieldsList}
-use Rattle.domain.specs.Outline.{Outline, hole_length, hole_start, hole_at, misshapen}
-use Rattle.domain.specs.OutlineLaws.{start_first, start_next, shaped}
+use Rattle.domain.specs.Outline.{Outline, hole_length, hole_start, hole_at, loop_at, misshapen}
+use Rattle.domain.specs.OutlineLaws.{start_first, start_next, shaped, HolesPassed}
 use Rattle.outlines.specs.declared.Hole.{Hole}
 use Rattle.outlines.specs.declared.Holes.{Holes}
 use Rattle.outlines.specs.Holes.{placed, cut, hole_list, Filled}
@@ -107,3 +107,12 @@ module _ {S : Type 0} {steps : S → Option Hole → S → Type 0} (o : Outline)
 
   pub firsts_given : {r : Option Hole} → r ≡ None → steps here r next → length given ≡ n
   firsts_given e step = (YieldsList-end all given here so_far _ next e step).1 ∙ taken
+
+-- where its points begin, and that it is loop k + 1
+module _ {o : Outline} {k : ℕ} {h : Hole} (p : HolePlace o k h) where
+  pub place_passed : misshapen o ≡ false → HolesPassed o k h.start
+  place_passed e = record { shape = e; at = p.start }
+
+  pub place_loop : h.points.now ≡ loop_at o (k + 1)
+  unfolding loop_at
+  place_loop = p.points ∙ sym (rw add-one refl)

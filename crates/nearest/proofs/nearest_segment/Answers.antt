@@ -13,14 +13,14 @@ search_outline-requires c =
     let pre = c.requires in
     (drawn_none pre.taken pre.fits refl, λ some. absurd (omega arith))
 
-pub search_all-first-requires : goal.search_all-first-requires
-search_all-first-requires c =
+pub search_all-requires : goal.search_all-requires
+search_all-requires c =
     (c.requires, λ some. c.is_near.ensures (not-false _ c.if-not-is_near.false-raw))
 
 pub returns-then-near-sqrt_f64 : goal.returns-then-near-sqrt_f64
 returns-then-near-sqrt_f64 c =
     guess_taken _ _ c.search_start-start.ensures _ (subst T (sym c.limit-squared.type_inv) tt)
-    c.search_all-first.ensures c.sqrt_f64.ensures c.if-near-sqrt_f64.true
+    c.search_all.ensures c.sqrt_f64.ensures c.if-near-sqrt_f64.true
 
 pub search_outline-requires-2 : goal.search_outline-requires-2
 search_outline-requires-2 c =

@@ -2,8 +2,8 @@
 use Rattle.nearest.specs.GuessLaws.{whole_taken}
 use Rattle.nearest.proofs.search_outline.Goals as goal
 
-pub search_all-found-requires : goal.search_all-found-requires
-search_all-found-requires c = c.requires
+pub search_all-requires : goal.search_all-requires
+search_all-requires c = c.requires
 
 pub returns : goal.returns
-returns c = whole_taken _ _ c.search_start.ensures c.search_all-found.ensures
+returns c = whole_taken _ _ c.search_start.ensures c.search_all.ensures

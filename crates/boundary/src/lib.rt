@@ -2,7 +2,7 @@
 #![tactic(auto)]
 
 ghost use Rattle.std.specs.Prelude.{◌≡◌, false, List, ℕ, ◌+◌, ◌*◌, ◌<◌, ◌≤◌, min, Float, length};
-ghost use Rattle.domain.specs.Outline.{outline_of, misshapen, loop_start};
+ghost use Rattle.domain.specs.Outline.{outline_of, misshapen};
 ghost use Rattle.domain.specs.Refusals.{refused};
 ghost use Rattle.front.specs.declared.Counts.{Counts};
 ghost use Rattle.front.specs.State.{State, state_of, most_nodes, push_node};
@@ -21,45 +21,34 @@ use front::{Counts, OFF, Ring};
 const MOST: u64 = 1099511627776;
 
 // The parts that a segment is cut into.
+#[tactic(auto, unfolding(front::specs::Sampling::parts_of))]
 pub fn parts_of(size: f64, length: f64) -> u64
     ensures { result ≡ parts_of size length }
 {
-    let n = numbers::ceil_count(length / (Settings::STRETCH * size));
-    if n < 1 { 1 } else { n }
-}
-
-fn add_counts(a: u64, b: u64) -> u64
-    requires { a ≤ most }
-    ensures { result ≡ min (a + b) most }
-{
-    if b < MOST - a { a + b } else { MOST }
+    numbers::ceil_count(length / (Settings::STRETCH * size)).max(1)
 }
 
 // The points of a loop before it is made even.
 pub fn loop_parts(s: &[f64], size: f64) -> u64
     ensures { result ≡ min (loop_parts size s.now) most }
 {
-    let n = s.len() / 2;
     let mut sum: u64 = 0;
-    let mut i = 0;
-    while i < n {
+    for i in 0..s.len() / 2 {
         let a = outlines::point_at(s, i);
         let b = outlines::point_after(s, i);
-        sum = add_counts(sum, parts_of(size, geometry::distance(a, b)));
-        i += 1;
+        sum = sum
+            .saturating_add(parts_of(size, geometry::distance(a, b)))
+            .min(MOST);
     }
     sum
 }
 
-// How many hole points stand before loop k + 1, where `start` stand before loop k.
-pub fn next_start(lens: &[usize], k: usize, start: usize) -> usize
-    requires { (k ≤ length lens.now) × (start ≡ loop_start lens.now k) × (loop_start lens.now (k + 1) < 4294967296) }
-    ensures { result ≡ loop_start lens.now (k + 1) }
+// The points sampled of a loop: an odd one gets one more.
+fn loop_nodes(s: &[f64], size: f64) -> u64
+    ensures { result ≡ even_up (min (loop_parts size s.now) most) }
 {
-    if k == 0 {
-        return 0;
-    }
-    start + lens[k - 1]
+    let parts = loop_parts(s, size);
+    parts + parts % 2
 }
 
 // The points sampled.
@@ -67,14 +56,9 @@ pub fn sampled_count(domain: Domain<'_>, size: f64) -> u64
     requires { misshapen (outline_of domain) ≡ false }
     ensures { result ≡ min (sampled_count (outline_of domain.entry) size) most }
 {
-    let mut sum: u64 = 0;
-    let mut start = 0;
-    let mut k = 0;
-    while k <= domain.lens.len() {
-        let parts = loop_parts(outlines::loop_points(domain, k, start), size);
-        sum = add_counts(sum, parts + parts % 2);
-        start = next_start(domain.lens, k, start);
-        k += 1;
+    let mut sum = loop_nodes(domain.outer, size).min(MOST);
+    for hole in outlines::holes_of(domain) {
+        sum = (sum + loop_nodes(hole.points, size)).min(MOST);
     }
     sum
 }
@@ -100,6 +84,7 @@ pub fn check_places(
 // ---- the nodes of a loop
 
 // Point k of n on the segment a to b.
+#[tactic(auto, unfolding(front::specs::Sampling::cut))]
 fn cut(a: Point, b: Point, n: usize, k: usize) -> Point
     requires { (n < 4294967296) × (k < 4294967296) }
     ensures { result ≡ cut a b n k }
@@ -112,6 +97,7 @@ fn cut(a: Point, b: Point, n: usize, k: usize) -> Point
 }
 
 // `push_node`: node n is p, off the front.
+#[tactic(auto, unfolding(front::specs::State::push_node))]
 fn push_node(xs: &mut [f64], ys: &mut [f64], next: &mut [u32], prev: &mut [u32], n: usize, p: Point)
     requires { NodeRoom (n + 1) xs.old ys.old next.old prev.old }
     ensures { (st : State) → with_nodes st xs.new ys.new next.new prev.new (n + 1)
@@ -138,10 +124,8 @@ fn sample_segment(
     ensures { (st : State) → with_nodes st xs.new ys.new next.new prev.new (from + parts)
         ≡ sample_segment a b parts (with_nodes st xs.old ys.old next.old prev.old from) }
 {
-    let mut k = 0;
-    while k < parts {
+    for k in 0..parts {
         push_node(xs, ys, next, prev, from + k, cut(a, b, parts, k));
-        k += 1;
     }
 }
 
@@ -160,16 +144,13 @@ fn sample_loop(
         × ((st : State) → with_nodes st xs.new ys.new next.new prev.new result
         ≡ sample_loop size s.now (with_nodes st xs.old ys.old next.old prev.old from)) }
 {
-    let n = s.len() / 2;
     let mut nodes = from;
-    let mut i = 0;
-    while i < n {
+    for i in 0..s.len() / 2 {
         let a = outlines::point_at(s, i);
         let b = outlines::point_after(s, i);
         let parts = parts_of(size, geometry::distance(a, b)) as usize;
         sample_segment(a, b, parts, xs, ys, next, prev, nodes);
         nodes += parts;
-        i += 1;
     }
     nodes
 }
@@ -182,12 +163,10 @@ fn signed_area(xs: &[f64], ys: &[f64], base: usize, n: usize) -> f64
     ensures { result ≡ signed_area xs.now ys.now base n }
 {
     let mut sum = 0.0;
-    let mut i = 0;
-    while i < n {
+    for i in 0..n {
         let a = front::node_at(xs, ys, (base + i) as u32);
         let b = front::node_at(xs, ys, (base + outlines::after(n, i)) as u32);
         sum = sum + (a.x * b.y - b.x * a.y);
-        i += 1;
     }
     0.5 * sum
 }
@@ -201,6 +180,7 @@ fn ordered_at(base: usize, n: usize, turned: bool, k: usize) -> usize
 }
 
 // The length of the edge from id k to the next one.
+#[tactic(auto, unfolding(front::specs::Sampling::edge_length))]
 fn edge_length(xs: &[f64], ys: &[f64], base: usize, n: usize, turned: bool, k: usize) -> f64
     requires { NodesFrom base n × (k < n) }
     ensures { result ≡ edge_length xs.now ys.now base n turned k }
@@ -221,10 +201,7 @@ fn longest_edge(xs: &[f64], ys: &[f64], base: usize, n: usize, turned: bool) -> 
 {
     let mut best = 0;
     let mut longest = edge_length(xs, ys, base, n, turned, 0);
-    let mut k = 0;
-    while k < n {
-        let i = k;
-        k += 1;
+    for i in 0..n {
         let length = edge_length(xs, ys, base, n, turned, i);
         if !(length < longest) {
             best = i;
@@ -235,6 +212,7 @@ fn longest_edge(xs: &[f64], ys: &[f64], base: usize, n: usize, turned: bool) -> 
 }
 
 // The ring of loop k, of which n nodes were sampled from base on.
+#[tactic(auto, unfolding(front::specs::Sampling::ring_of))]
 fn ring_of(k: usize, xs: &[f64], ys: &[f64], base: usize, n: usize) -> Ring
     requires { NodesFrom base n }
     ensures { result ≡ ring_of k xs.now ys.now base n }
@@ -268,15 +246,13 @@ fn sampled_at(r: Ring, k: usize) -> u32
 }
 
 // `ids[k]`
+#[tactic(auto, unfolding(front::specs::Sampling::ring_at))]
 fn ring_at(r: Ring, k: usize) -> u32
     requires { RingFits r × (k < ring_count r) }
     ensures { (result ≡ ring_at r k) × (result < r.base + ring_count r) }
 {
-    if !r.split {
-        return sampled_at(r, k);
-    }
-    let middle = (r.longest as usize) + 1;
-    if k < middle {
+    let middle = r.longest as usize + 1;
+    if !r.split || k < middle {
         return sampled_at(r, k);
     }
     if k == middle {
@@ -286,6 +262,7 @@ fn ring_at(r: Ring, k: usize) -> u32
 }
 
 // The midpoint of the longest edge.
+#[tactic(auto, unfolding(front::specs::Sampling::midpoint))]
 fn midpoint(xs: &[f64], ys: &[f64], r: Ring) -> Point
     requires { NodesFrom r.base r.count × (r.longest < r.count) }
     ensures { result ≡ midpoint xs.now ys.now r }
@@ -325,15 +302,14 @@ fn split_longest(
 // ---- the front
 
 // v comes after u, and their edge is edge e.
+#[tactic(auto, unfolding(front::specs::State::push_edge))]
 fn link(next: &mut [u32], prev: &mut [u32], edges: &mut [u32], u: u32, v: u32, e: usize)
     requires { (u < length next.old) × (v < length prev.old) × (2 * e + 1 < length edges.old) }
     ensures { (st : State) → with_front_edges st next.new prev.new edges.new (e + 1)
         ≡ with_link u v (with_front_edges st next.old prev.old edges.old e) }
 {
-    next[u as usize] = v;
-    prev[v as usize] = u;
-    edges[2 * e] = numbers::min_u32(u, v);
-    edges[2 * e + 1] = numbers::max_u32(u, v);
+    front::link(next, prev, u, v);
+    front::write_edge(edges, e, u, v);
 }
 
 // Each id of the ring is joined to the next. Its edges are new, so none is looked for: they are written from edge e on.
@@ -344,12 +320,10 @@ fn link_ring(r: Ring, next: &mut [u32], prev: &mut [u32], edges: &mut [u32], e: 
         ≡ link_ring r (with_front_edges st next.old prev.old edges.old e) }
 {
     let n = ring_count(r);
-    let mut i = 0;
-    while i < n {
+    for i in 0..n {
         let u = ring_at(r, i);
         let v = ring_at(r, outlines::after(n, i));
         link(next, prev, edges, u, v, e + i);
-        i += 1;
     }
 }
 
@@ -397,14 +371,19 @@ pub fn from_boundary(
         ≡ from_boundary (outline_of domain.entry) size
         (state_of xs.old ys.old next.old prev.old snapshot quads edges.old counts) }
 {
-    let mut nodes = 0;
-    let mut start = 0;
-    let mut k = 0;
-    while k <= domain.lens.len() {
-        let s = outlines::loop_points(domain, k, start);
-        nodes = lay_loop(k, s, size, xs, ys, next, prev, edges, nodes);
-        start = next_start(domain.lens, k, start);
-        k += 1;
+    let mut nodes = lay_loop(0, domain.outer, size, xs, ys, next, prev, edges, 0);
+    for hole in outlines::holes_of(domain) {
+        nodes = lay_loop(
+            hole.index + 1,
+            hole.points,
+            size,
+            xs,
+            ys,
+            next,
+            prev,
+            edges,
+            nodes,
+        );
     }
     Counts {
         nodes: nodes as u32,

@@ -31,13 +31,6 @@ link-requires c = (
   omega (arith, c.requires.3, c.loop-i.invariant.0, c.loop-i-test.true, c.loop-i.invariant.3),
 )
 
-pub overflow_add-i : goal.overflow_add-i
-overflow_add-i c = omega (arith, c.loop-i-test.true)
-
-pub loop-i-smaller : goal.loop-i-smaller
-loop-i-smaller c =
-    omega (arith, c.loop-i-test.true)
-
 pub loop-i-preserved : goal.loop-i-preserved
 loop-i-preserved c =
     let inv = c.loop-i.invariant in

@@ -7,35 +7,27 @@ use Rattle.boundary.specs.LayingLaws.{room_fewer, loop_as, parts_are, sampling_n
 use Rattle.boundary.proofs.sample_loop.Goals as goal
 
 pub loop-i-init : goal.loop-i-init
-loop-i-init c = (refl, sampling_none _ _ _, refl, refl, refl, refl, λ st. loop_start_lem _ _ _)
+loop-i-init c = (sampling_none _ _ _, refl, refl, refl, refl, λ st. loop_start_lem _ _ _)
 
 pub point_at-a-requires : goal.point_at-a-requires
-point_at-a-requires c = omega (arith, c.loop-i.invariant.0, c.loop-i-test.true)
+point_at-a-requires c = omega (arith, c.loop-i-test.true)
 
 pub point_after-b-requires : goal.point_after-b-requires
-point_after-b-requires c = omega (arith, c.loop-i.invariant.0, c.loop-i-test.true)
+point_after-b-requires c = omega (arith, c.loop-i-test.true)
 
 pub sample_segment-requires : goal.sample_segment-requires
 sample_segment-requires c =
     let inv = c.loop-i.invariant in
     let are = parts_are _ _ _ c.parts_of-parts.ensures c.distance.ensures c.point_at-a.ensures
     c.point_after-b.ensures in
-    room_fewer _ _ _ _ _ c.requires (sampling_fits _ _ inv.1 (rw (← inv.0) c.loop-i-test.true) are) inv.2 inv.3 inv.4 inv.5
+    room_fewer _ _ _ _ _ c.requires (sampling_fits _ _ inv.0 c.loop-i-test.true are) inv.1 inv.2 inv.3 inv.4
 
 pub overflow_add-nodes : goal.overflow_add-nodes
 overflow_add-nodes c =
     let inv = c.loop-i.invariant in
     let are = parts_are _ _ _ c.parts_of-parts.ensures c.distance.ensures c.point_at-a.ensures
     c.point_after-b.ensures in
-    omega (arith, sampling_fits _ _ inv.1 (rw (← inv.0) c.loop-i-test.true) are, c.requires.few)
-
-pub overflow_add-i : goal.overflow_add-i
-overflow_add-i c =
-    omega (arith, c.loop-i-test.true)
-
-pub loop-i-smaller : goal.loop-i-smaller
-loop-i-smaller c =
-    omega (arith, c.loop-i-test.true)
+    omega (arith, sampling_fits _ _ inv.0 c.loop-i-test.true are, c.requires.few)
 
 pub loop-i-preserved : goal.loop-i-preserved
 loop-i-preserved c =
@@ -43,29 +35,28 @@ loop-i-preserved c =
     let kept = c.sample_segment.auto in
     let are = parts_are _ _ _ c.parts_of-parts.ensures c.distance.ensures c.point_at-a.ensures
     c.point_after-b.ensures in (
-      inv.0,
-      sampling_next _ _ inv.1 (rw (← inv.0) c.loop-i-test.true) are,
-      kept.xs ∙ inv.2,
-      kept.ys ∙ inv.3,
-      kept.next ∙ inv.4,
-      kept.prev ∙ inv.5,
-      λ st. loop_as _ _ _ (inv.6 st) c.loop-i-test.true
+      sampling_next _ _ inv.0 c.loop-i-test.true are,
+      kept.xs ∙ inv.1,
+      kept.ys ∙ inv.2,
+      kept.next ∙ inv.3,
+      kept.prev ∙ inv.4,
+      λ st. loop_as _ _ _ (inv.5 st) c.loop-i-test.true
           (rw (c.sample_segment.ensures st, c.point_at-a.ensures, c.point_after-b.ensures, ← are)),
     )
 
 pub shape_of-xs : goal.shape_of-xs
-shape_of-xs c = c.loop-i.invariant.2
+shape_of-xs c = c.loop-i.invariant.1
 
 pub shape_of-ys : goal.shape_of-ys
-shape_of-ys c = c.loop-i.invariant.3
+shape_of-ys c = c.loop-i.invariant.2
 
 pub shape_of-next : goal.shape_of-next
-shape_of-next c = c.loop-i.invariant.4
+shape_of-next c = c.loop-i.invariant.3
 
 pub shape_of-prev : goal.shape_of-prev
-shape_of-prev c = c.loop-i.invariant.5
+shape_of-prev c = c.loop-i.invariant.4
 
 pub returns : goal.returns
 unfolding sample_loop
 returns c = let inv = c.loop-i.invariant in
-    (sampling_all _ _ inv.1 (rw (← inv.0) c.loop-i-test.false), λ st. rw (← inv.0) (loop_end _ _ (inv.6 st) c.loop-i-test.false))
+    (sampling_all _ _ inv.0 c.loop-i-test.false, λ st. loop_end _ _ (inv.5 st) c.loop-i-test.false)

@@ -24,14 +24,6 @@ push_node-requires c =
     room_fewer _ _ _ _ _ c.requires (omega (arith, c.loop-k-test.true)) c.loop-k.invariant.0 c.loop-k.invariant.1
     c.loop-k.invariant.2 c.loop-k.invariant.3
 
-pub overflow_add-k : goal.overflow_add-k
-overflow_add-k c =
-    omega (arith, c.loop-k-test.true)
-
-pub loop-k-smaller : goal.loop-k-smaller
-loop-k-smaller c =
-    omega (arith, c.loop-k-test.true)
-
 pub loop-k-preserved : goal.loop-k-preserved
 loop-k-preserved c =
     let inv = c.loop-k.invariant in

@@ -1,42 +1,32 @@
 -- `boundary::sampled_count` meets its contract: the loop's invariant is `PartSum`: the sum so far, stopped.
-use mathlib.Core.Path.{refl}
-use native.Mathlib.Omega.{arith}
-use Rattle.front.specs.Sampling.{sampled_count}
-use Rattle.boundary.specs.Counting.{added_none, added_few, added_all, loop_added, start_few}
+use Rattle.std.specs.Prelude.{◌≡◌, ◌+◌, min}
+use Rattle.std.proofs.Common.{refl, ◌∙◌, arith}
+use Rattle.std.proofs.lemmas.List.{length_push}
+use Rattle.domain.specs.Outline.{outline_of, loop_at}
+use Rattle.outlines.proofs.HoleList.{hole_given, holes_given}
+use Rattle.front.specs.Sampling.{loop_parts, sampled_count}
+use Rattle.boundary.proofs.Holes.{hole_loop}
+use Rattle.boundary.specs.Counting.{most, even_up, added_none, added_few, added_all, loop_added}
 use Rattle.boundary.proofs.sampled_count.Goals as goal
 
-pub loop-k-init : goal.loop-k-init
-loop-k-init c = (refl, added_none _ _)
+pub loop-hole-init : goal.loop-hole-init
+unfolding loop_at
+loop-hole-init c =
+    let stopped : c.min-sum.result ≡ min (0 + even_up (min (loop_parts c.args.size c.args.domain.outer.now) most)) most = omega arith in
+    rw stopped (loop_added _ _ c.args.domain.outer.now _ (added_none _ _) (omega arith) refl refl)
 
-pub loop_points-requires : goal.loop_points-requires
-loop_points-requires c =
-    record { shape = c.requires; within = c.loop-k-test.true; at = c.loop-k.invariant.0 }
+pub overflow_add-sum : goal.overflow_add-sum
+overflow_add-sum c = omega (arith, added_few _ c.loop-hole.invariant)
 
-pub overflow_add-parts : goal.overflow_add-parts
-overflow_add-parts c = omega (arith, c.loop_parts-parts.ensures)
-
-pub add_counts-sum-requires : goal.add_counts-sum-requires
-add_counts-sum-requires c = added_few _ c.loop-k.invariant.1
-
-pub next_start-start-requires : goal.next_start-start-requires
-next_start-start-requires c =
-    (c.loop-k-test.true, c.loop-k.invariant.0, start_few _ c.requires _ c.loop-k-test.true)
-
-pub overflow_add-k : goal.overflow_add-k
-overflow_add-k c =
-    omega (arith, c.loop-k-test.true, c.well_formed.1.1.0)
-
-pub loop-k-smaller : goal.loop-k-smaller
-loop-k-smaller c = omega (arith, c.loop-k-test.true)
-
-pub loop-k-preserved : goal.loop-k-preserved
-loop-k-preserved c = (
-  c.next_start-start.ensures,
-  rw c.add_counts-sum.ensures
-      (loop_added _ _ _ _ c.loop-k.invariant.1 c.loop-k-test.true c.loop_points.ensures
-      c.loop_parts-parts.ensures),
-)
+pub loop-hole-preserved : goal.loop-hole-preserved
+loop-hole-preserved c =
+    let place = hole_given (outline_of c.args.domain) _ _ c.next.new.self _ (cc) c.loop-hole.yielded_by c.in-Some.hole c.in-Some.is c.next.ensures.steps in
+    let stopped : c.min-sum-in-loop-hole.result ≡ min (c.loop-hole.sum + even_up (min (loop_parts c.args.size c.in-Some.hole.points.now) most)) most = omega arith in
+    rw (length_push c.loop-hole.yielded c.in-Some.hole, stopped)
+    (loop_added _ _ _ _ c.loop-hole.invariant (omega (arith, place.within)) (place.points ∙ hole_loop _ _) refl)
 
 pub returns : goal.returns
 unfolding sampled_count
-returns c = added_all _ c.loop-k.invariant.1 (omega (arith, c.loop-k-test.false))
+returns c =
+    let all = holes_given (outline_of c.args.domain) _ _ c.next.new.self _ (cc) c.loop-hole.yielded_by c.in-None.is c.next.ensures.steps in
+    added_all _ c.loop-hole.invariant (omega (arith, all))

@@ -1,3 +1,4 @@
 pub mod Start
 pub mod Theorem
 pub mod Writing
+pub mod Filled

@@ -4,48 +4,36 @@
 ghost use Rattle.std.specs.Prelude.{◌≡◌, ◌+◌, ◌<◌, ◌≤◌, length, replicate};
 ghost use Rattle.std.proofs.lemmas.List.Edits.{sets};
 ghost use Rattle.domain.specs.Outline.{outline_of};
-ghost use Rattle.front.specs.Sampling.{sampled_count};
+ghost use Rattle.front.specs.Sampling.{loop_parts, sampled_count};
+ghost use Rattle.boundary.specs.Counting.{even_up};
 ghost use Rattle.laws.specs.Overlay.{overlay};
 ghost use Rattle.origins.specs.Origins.{sampled_origins, origins_after};
 ghost use Rattle.origins.specs.Writing.{push_count, push_at, Numberable, Sampleable};
 
 use domain::Domain;
 
-// Writes `number` on `count` places from `from` on.
-fn fill_number(origins: &mut [u16], from: usize, count: usize, number: u16)
-    requires { from + count ≤ length origins.old }
-    ensures { origins.new ≡ sets origins.old from (replicate count number) }
+// The number of a loop's samples, from node n on. The answer is how many nodes have a number then.
+fn number_loop(number: u16, s: &[f64], size: f64, origins: &mut [u16], n: usize) -> usize
+    requires { (n + even_up (loop_parts size s.now) ≤ length origins.old) × (n + even_up (loop_parts size s.now) < 4294967296) }
+    ensures { (result ≡ n + even_up (loop_parts size s.now))
+        × (origins.new ≡ sets origins.old n (replicate (even_up (loop_parts size s.now)) number)) }
 {
-    let mut i = 0;
-    while i < count {
-        origins[from + i] = number;
-        i += 1;
-    }
+    let parts = boundary::loop_parts(s, size) as usize;
+    let count = parts + parts % 2;
+    origins[n..n + count].fill(number);
+    n + count
 }
 
 // The numbers of the samples. The answer is how many there are.
-fn number_samples(
-    domain: Domain<'_>, size: f64,
-    origins: &mut [u16],
-) -> usize
+fn number_samples(domain: Domain<'_>, size: f64, origins: &mut [u16]) -> usize
     requires { Sampleable (outline_of domain) size (length origins.old) }
     ensures { (result ≡ sampled_count (outline_of domain.entry) size)
         × (origins.new
         ≡ overlay (sampled_origins (outline_of domain.entry) size) origins.old) }
 {
-    let mut n = 0;
-    let mut start = 0;
-    let mut k = 0;
-    while k <= domain.lens.len() {
-        let parts = boundary::loop_parts(
-            outlines::loop_points(domain, k, start),
-            size,
-        ) as usize;
-        let count = parts + parts % 2;
-        fill_number(origins, n, count, k as u16);
-        n += count;
-        start = boundary::next_start(domain.lens, k, start);
-        k += 1;
+    let mut n = number_loop(0, domain.outer, size, origins, 0);
+    for hole in outlines::holes_of(domain) {
+        n = number_loop((hole.index + 1) as u16, hole.points, size, origins, n);
     }
     n
 }
@@ -63,23 +51,16 @@ fn push_origin(origins: &mut [u16], n: usize, a: u32, id: u32) -> usize
 }
 
 // The numbers of a run's nodes, from the outline, the size and the first `count` of the quads answered. Places past the nodes aren't written.
-pub fn number_nodes(
-    domain: Domain<'_>, size: f64,
-    quads: &[u32],
-    count: usize,
-    origins: &mut [u16],
-)
+pub fn number_nodes(domain: Domain<'_>, size: f64, quads: &[u32], count: usize, origins: &mut [u16])
     requires { Numberable (outline_of domain) size quads.now count (length origins.old) }
     ensures { origins.new
         ≡ overlay (origins_after (outline_of domain.entry) size quads.now count)
         origins.old }
 {
     let mut n = number_samples(domain, size, origins);
-    let mut k = 0;
-    while k < count {
+    for k in 0..count {
         let q = lent_mesh::quad_at(quads, k);
         n = push_origin(origins, n, q.a, q.c);
         n = push_origin(origins, n, q.a, q.d);
-        k += 1;
     }
 }

@@ -27,14 +27,6 @@ push_origin-n-requires-in-loop-k c =
     numbering_second _ _ _ c.loop-k.invariant c.loop-k-test.true c.requires long c.quad_at-q.ensures
     c.push_origin-n.new.origins c.push_origin-n.ensures.0 c.push_origin-n.auto.origins
 
-pub overflow_add-k : goal.overflow_add-k
-overflow_add-k c =
-    omega (arith, c.loop-k-test.true, c.requires.small)
-
-pub loop-k-smaller : goal.loop-k-smaller
-loop-k-smaller c =
-    omega (arith, c.loop-k-test.true)
-
 pub loop-k-preserved : goal.loop-k-preserved
 loop-k-preserved c =
     let long = c.number_samples-n.auto.origins in

@@ -1,5 +1,4 @@
 -- `origins::number_nodes` meets its contract: the loop's invariant is `Numbering`, and each answer is a law of it.
-use Prim.Native.Nat.{◌-◌}
 use Rattle.domain.specs.Outline.{outline_of}
 use Rattle.origins.specs.Writing.{Numbering}
 use Rattle.origins.proofs.number_nodes.Given as goal
@@ -7,6 +6,3 @@ use Rattle.origins.proofs.number_nodes.Given as goal
 abbrev pub invariant-loop-k : goal.invariant-loop-k
 invariant-loop-k l =
     Numbering (outline_of l.domain) l.size l.quads l.count l.k l.n l.initial.origins l.origins
-
-abbrev pub decreases-loop-k : goal.decreases-loop-k
-decreases-loop-k l = l.count - l.k

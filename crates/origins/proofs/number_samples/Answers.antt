@@ -1,61 +1,63 @@
 -- `origins::number_samples` meets its contract: the loop's invariant is `LoopsNumbered`, and each answer is a law of it.
-use mathlib.Core.Path.{ap}
-use native.Mathlib.Omega.{arith}
-use Rattle.boundary.specs.Counting.{even_up, start_few}
+use Rattle.std.specs.Prelude.{◌+◌, ◌≤◌, length}
+use Rattle.std.proofs.Common.{refl, ◌∙◌, arith}
+use Rattle.std.proofs.lemmas.List.{length_push}
+use Rattle.domain.specs.Outline.{outline_of, loop_at}
+use Rattle.outlines.proofs.HoleList.{hole_given, holes_given}
+use Rattle.boundary.proofs.Holes.{hole_loop}
 use Rattle.boundary.specs.Progress.{outline_shaped}
-use Rattle.origins.specs.Writing.{loops_few, numbered_none, parts_exact, numbered_few, numbered_fits, numbered_next, numbered_all}
+use Rattle.origins.specs.Writing.{loops_few, numbered_none, numbered_few, numbered_fits, numbered_next, numbered_all}
 use Rattle.origins.proofs.number_samples.Goals as goal
 
-pub loop-k-init : goal.loop-k-init
-loop-k-init c = numbered_none _ _ _
+pub number_loop-n-requires : goal.number_loop-n-requires
+unfolding loop_at
+number_loop-n-requires c =
+    let none = numbered_none (outline_of c.args.domain) c.args.size c.args.origins.now in (
+      numbered_fits _ _ _ none (omega arith) refl c.requires.room,
+      numbered_few _ _ _ none (omega arith) refl c.requires.few,
+    )
 
-pub loop_points-requires : goal.loop_points-requires
-loop_points-requires c =
-    record { shape = outline_shaped _ c.requires.outline; within = c.loop-k-test.true; at = c.loop-k.invariant.progress.at }
+pub holes_of-hole-items-requires : goal.holes_of-hole-items-requires
+holes_of-hole-items-requires c = outline_shaped _ c.requires.outline
 
-pub overflow_add-count : goal.overflow_add-count
-overflow_add-count c = omega (arith, c.loop_parts-parts.ensures)
+pub loop-hole-init : goal.loop-hole-init
+unfolding loop_at
+loop-hole-init c =
+    let call = c.number_loop-n in
+    rw call.ensures.0 (numbered_next _ _ _ (numbered_none _ _ _) (omega arith) refl c.requires.room refl refl call.ensures.1 call.auto.origins)
 
-pub overflow_cast-k : goal.overflow_cast-k
-overflow_cast-k c =
-    omega (arith, loops_few _ c.requires.outline, c.loop-k-test.true)
+pub overflow_add-hole : goal.overflow_add-hole
+overflow_add-hole c =
+    let place = hole_given (outline_of c.args.domain) _ _ c.next.new.self _ (cc) c.loop-hole.yielded_by c.in-Some.hole c.in-Some.is c.next.ensures.steps in
+    omega (arith, place.index, place.within, loops_few _ c.requires.outline)
 
-pub fill_number-requires : goal.fill_number-requires
-fill_number-requires c =
-    let W = c.loop-k.invariant in
-    let e = c.loop_points.ensures in
-    let exact = parts_exact _ _ _ W c.loop-k-test.true e c.requires.few c.loop_parts-parts.ensures in
-    omega (arith, numbered_fits _ _ _ W c.loop-k-test.true e c.requires.room)
+pub overflow_cast-hole : goal.overflow_cast-hole
+overflow_cast-hole c =
+    let place = hole_given (outline_of c.args.domain) _ _ c.next.new.self _ (cc) c.loop-hole.yielded_by c.in-Some.hole c.in-Some.is c.next.ensures.steps in
+    omega (arith, place.index, place.within, loops_few _ c.requires.outline)
 
-pub overflow_add-n : goal.overflow_add-n
-overflow_add-n c =
-    let W = c.loop-k.invariant in
-    let e = c.loop_points.ensures in
-    let exact = parts_exact _ _ _ W c.loop-k-test.true e c.requires.few c.loop_parts-parts.ensures in
-    omega (arith, numbered_few _ _ _ W c.loop-k-test.true e c.requires.few)
+pub number_loop-n-requires-in-loop-hole : goal.number_loop-n-requires-in-loop-hole
+number_loop-n-requires-in-loop-hole c =
+    let place = hole_given (outline_of c.args.domain) _ _ c.next.new.self _ (cc) c.loop-hole.yielded_by c.in-Some.hole c.in-Some.is c.next.ensures.steps in
+    let W = c.loop-hole.invariant in
+    let within : length c.loop-hole.yielded + 1 ≤ length c.args.domain.lens.now = omega (arith, place.within) in
+    let points = place.points ∙ hole_loop _ _ in
+    (numbered_fits _ _ _ W within points c.requires.room, numbered_few _ _ _ W within points c.requires.few)
 
-pub next_start-start-requires : goal.next_start-start-requires
-next_start-start-requires c =
-    (c.loop-k-test.true, c.loop-k.invariant.progress.at, start_few _ (outline_shaped _ c.requires.outline) _ c.loop-k-test.true)
-
-pub overflow_add-k : goal.overflow_add-k
-overflow_add-k c =
-    omega (arith, c.loop-k-test.true, loops_few _ c.requires.outline)
-
-pub loop-k-smaller : goal.loop-k-smaller
-loop-k-smaller c =
-    omega (arith, c.loop-k-test.true)
-
-pub loop-k-preserved : goal.loop-k-preserved
-loop-k-preserved c =
-    let W = c.loop-k.invariant in
-    let e = c.loop_points.ensures in
-    let exact = parts_exact _ _ _ W c.loop-k-test.true e c.requires.few c.loop_parts-parts.ensures in
-    numbered_next _ _ _ W c.loop-k-test.true e c.requires.room c.next_start-start.ensures (ap even_up exact)
-    c.fill_number.ensures c.fill_number.auto.origins
+pub loop-hole-preserved : goal.loop-hole-preserved
+loop-hole-preserved c =
+    let place = hole_given (outline_of c.args.domain) _ _ c.next.new.self _ (cc) c.loop-hole.yielded_by c.in-Some.hole c.in-Some.is c.next.ensures.steps in
+    let W = c.loop-hole.invariant in
+    let within : length c.loop-hole.yielded + 1 ≤ length c.args.domain.lens.now = omega (arith, place.within) in
+    let points = place.points ∙ hole_loop _ _ in
+    let call = c.number_loop-n-in-loop-hole in
+    rw (length_push c.loop-hole.yielded c.in-Some.hole, call.ensures.0)
+    (numbered_next _ _ _ W within points c.requires.room refl refl (rw place.index at call.ensures.1) call.auto.origins)
 
 pub shape_of-origins : goal.shape_of-origins
-shape_of-origins c = c.loop-k.invariant.long
+shape_of-origins c = c.loop-hole.invariant.long
 
 pub returns : goal.returns
-returns c = numbered_all _ _ _ c.loop-k.invariant c.loop-k-test.false
+returns c =
+    let all = holes_given (outline_of c.args.domain) _ _ c.next.new.self _ (cc) c.loop-hole.yielded_by c.in-None.is c.next.ensures.steps in
+    numbered_all _ _ _ c.loop-hole.invariant (omega (arith, all))

@@ -43,24 +43,11 @@ pub enum Sight {
 
 // ---- the front after a quad, from the links before it
 
-// The link of node u, where the first n places are in use; none for a node that isn't there.
-fn link_number(links: &[u32], n: u32, u: u32) -> u32
-    requires { n ≤ length links.now }
-    ensures { result ≡ link_of n links.now u }
-{
-    if u >= n { OFF } else { links[u as usize] }
-}
-
 // The link of u without the front edge x to y; `was` is the link of x, and `link` that of u.
 fn link_removed(was: u32, link: u32, x: u32, y: u32, u: u32) -> u32
     ensures { result ≡ cond (eqb was y) (cond (eqb x u) off link) link }
 {
-    if was == y {
-        if x == u {
-            return OFF;
-        }
-    }
-    link
+    if was == y && x == u { OFF } else { link }
 }
 
 // The link of u with the front edge x to y; `link` is that of u.
@@ -85,8 +72,8 @@ fn link_without(n: u32, next: &[u32], a: u32, b: u32, u: u32) -> u32
     requires { n ≤ length next.now }
     ensures { result ≡ remove_link a b (link_of n next.now) u }
 {
-    let was = link_number(next, n, a);
-    link_removed(was, link_number(next, n, u), a, b, u)
+    let was = front::link_of(next, n, a);
+    link_removed(was, front::link_of(next, n, u), a, b, u)
 }
 
 // And once c to a is, where c is reused.
@@ -105,6 +92,7 @@ fn link_without_c(c: Corner, n: u32, next: &[u32], a: u32, b: u32, id_c: u32, u:
 }
 
 // And once b to d is, where d is reused.
+#[tactic(auto, unfolding(crate::specs::Preview::bare_links))]
 fn link_bare(
     c: Corner,
     d: Corner,
@@ -130,6 +118,7 @@ fn link_bare(
 }
 
 // The link of u after the quad.
+#[tactic(auto, unfolding(crate::specs::Preview::moved_links))]
 fn link_after(
     c: Corner,
     d: Corner,
@@ -156,7 +145,7 @@ fn link_shown(quad: Attempt, n: u32, next: &[u32], a: u32, b: u32, u: u32) -> u3
     ensures { result ≡ shown_links quad a b n (link_of n next.now) u }
 {
     let Attempt::Quad(c, d) = quad else {
-        return link_number(next, n, u);
+        return front::link_of(next, n, u);
     };
     let id_c = c.id(n);
     let id_d = d.id(n + c.added());
@@ -175,6 +164,7 @@ fn nodes_shown(quad: Attempt, n: u32) -> u32
 }
 
 // Writes the front edges of the first m nodes, with the quad placed, by their first node: how many there are.
+#[tactic(auto, using(crate::specs::ListLaws::written_room, crate::specs::ListLaws::written_end))]
 fn list_front(
     quad: Attempt,
     n: u32,
@@ -187,16 +177,14 @@ fn list_front(
     requires { (n ≤ length next.now) × (n ≤ 4294967294) × (2 * sum_up m (is_on (shown_links quad a b n (link_of n next.now))) ≤ length list.old) }
     ensures { edge_list list.new result ≡ front_listed m (shown_links quad a b n (link_of n next.now)) list.old }
 {
-    let mut j: usize = 0;
-    let mut u = 0;
-    while u < m {
+    let mut j = 0;
+    for u in 0..m {
         let v = link_shown(quad, n, next, a, b, u);
         if v != OFF {
             list[2 * j] = u;
             list[2 * j + 1] = v;
             j += 1;
         }
-        u += 1;
     }
     j
 }
@@ -337,14 +325,13 @@ pub fn preview(
     let foreseen = foresee_on(
         domain, size, grid, values, xs, ys, next, prev, origins, quads, edges, k, a, b,
     );
-    let outcome = foreseen.outcome;
-    let quad = foreseen.quad;
+    let Foreseen { outcome, quad } = foreseen;
     let n = k.nodes;
     let m = nodes_shown(quad, n);
     let front = list_front(quad, n, next, a, b, m, list);
     Sight::Shown(View {
-        outcome: outcome,
-        quad: quad,
-        front: front,
+        outcome,
+        quad,
+        front,
     })
 }

@@ -1,23 +1,21 @@
--- `previews::preview_refusal` meets its contract.
-use native.Mathlib.Omega.{arith}
+-- `previews::check_preview` meets its contract: 23 of the mesh, 23 of the list, then 24.
+use Rattle.std.proofs.Common.{refl, arith, rules}
+use Rattle.std.proofs.lemmas.Grind.{common_steps}
+use Rattle.domain.proofs.Refused.{refusal_some}
 use Rattle.previews.specs.PreviewSteps.{preview_mesh, preview_list_lem, preview_edge, lent_passes}
-use Rattle.previews.proofs.preview_refusal.Goals as goal
+use Rattle.previews.proofs.check_preview.Goals as goal
 
-pub returns-then-r-ne0 : goal.returns-then-r-ne0
-returns-then-r-ne0 c = preview_mesh _ _ _ _ c.mesh_refusal-r.ensures c.if-r-ne0.true
+pub returns-in_err-check_mesh : goal.returns-in_err-check_mesh
+returns-in_err-check_mesh c = preview_mesh _ _ _ _ (search rules) (grind (arith, common_steps, refusal_some))
 
 pub overflow_add-k : goal.overflow_add-k
-overflow_add-k c =
-    omega (arith, (lent_passes _ _ _ _ _ _ _ c.args.k c.mesh_refusal-r.ensures c.if-r-ne0.false).0)
+overflow_add-k c = omega (arith, (lent_passes _ _ _ _ _ _ _ c.args.k c.in_ok-check_mesh.ensures refl).0)
 
 pub returns-then-places-k : goal.returns-then-places-k
-returns-then-places-k c =
-    preview_list_lem _ _ _ _ c.mesh_refusal-r.ensures c.if-r-ne0.false c.if-places-k.true
+returns-then-places-k c = preview_list_lem _ _ _ _ c.in_ok-check_mesh.ensures refl c.if-places-k.true
 
-pub edge_refusal-requires : goal.edge_refusal-requires
-edge_refusal-requires c =
-    (lent_passes _ _ _ _ _ _ _ c.args.k c.mesh_refusal-r.ensures c.if-r-ne0.false).1
+pub check_edge-requires : goal.check_edge-requires
+check_edge-requires c = (lent_passes _ _ _ _ _ _ _ c.args.k c.in_ok-check_mesh.ensures refl).1
 
 pub returns : goal.returns
-returns c =
-    preview_edge _ _ _ _ c.mesh_refusal-r.ensures c.if-r-ne0.false c.if-places-k.false c.edge_refusal.ensures
+returns c = preview_edge _ _ _ _ c.in_ok-check_mesh.ensures refl c.if-places-k.false c.check_edge.ensures

@@ -1,7 +1,7 @@
 -- `previews::foresee_on` meets its contract.
 use mathlib.Core.List.{[]}
 use mathlib.Core.Path.{refl}
-use Rattle.domain.specs.Outline.{Outline, outline}
+use Rattle.domain.specs.Outline.{Outline, outline_of}
 use Rattle.front.specs.State.{State}
 use Rattle.mesh_check.specs.Check.{lent_state}
 use Rattle.hand_steps.specs.UseLaws.{front_room, try_lent}

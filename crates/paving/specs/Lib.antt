@@ -1,7 +1,8 @@
-pub mod Checks
+pub mod Advance
 pub mod Attempt
 pub mod AttemptLaws
-pub mod Advance
+pub mod Checks
+pub mod Ends
 pub mod Loops
 pub mod Reach
 pub mod ReachLaws

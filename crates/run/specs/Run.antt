@@ -10,7 +10,7 @@ use Rattle.direction.specs.Record.{FieldLists, field_lists}
 use Rattle.front.specs.declared.Counts.{Counts}
 use Rattle.front.specs.State.{State, state_of}
 use Rattle.paving.specs.declared.End.{End}
-use Rattle.paving.specs.declared.End.TheVariants.{Still, Passes, Cap, Full}
+pub use Rattle.paving.specs.Ends.{end_number}
 use Rattle.whole_run.specs.Run.{run_refusal, run_of}
 use Rattle.loops.specs.declared.Listed.{Listed}
 use Rattle.loops.specs.Listed as loops
@@ -95,12 +95,6 @@ abbrev pub broadened : Lent → Lent → Lent
 broadened l after = other_snapshot after (after.snapshot ++ drop (snapshot_places l) l.snapshot)
 
 -- ---- the answer
-
-abbrev pub end_number : End → ℕ
-end_number Still = 0
-end_number Passes = 1
-end_number Cap = 2
-end_number Full = 3
 
 unfoldable pub refused_answer : ℕ → Paved
 refused_answer number =

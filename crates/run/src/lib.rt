@@ -3,15 +3,15 @@
 
 ghost use Rattle.std.specs.Prelude.{◌≡◌};
 ghost use Rattle.domain.specs.Outline.{outline_of};
-ghost use Rattle.run.specs.Run.{settings, lent, scratch, ran, end_number, refused_answer, paved_answer, accepted_in, Paves, Spares};
+ghost use Rattle.domain.specs.Refusals.{refusal_number};
+ghost use Rattle.run.specs.Run.{settings, lent, scratch, ran, refused_answer, paved_answer, accepted_in, Paves, Spares};
 ghost use Rattle.run.specs.Asked.{CanRun};
 
-use domain::Domain;
 use advance::Advanced;
 use direction::Grid;
+use domain::{Domain, Refusal};
 use front::Counts;
 use loops::Listed;
-use paving::End;
 
 // `refusal` is document 01's number, 0 where nothing is refused; `end` is 0 for still, 1 for passes, 2 for cap and 3 for full. All is 0 or false on a
 // refusal.
@@ -27,22 +27,13 @@ pub struct Paved {
 
 // ---- the answer
 
-fn end_number(end: End) -> u32
-    ensures { result ≡ end_number end }
-{
-    match end {
-        End::Still => 0,
-        End::Passes => 1,
-        End::Cap => 2,
-        End::Full => 3,
-    }
-}
-
-fn refused(number: u32) -> Paved
-    ensures { result ≡ refused_answer number }
+// Stays a literal: a derived `Default` would have to be that of a floating-point grid, whose contract says no more and is longer.
+#[tactic(auto, unfolding(crate::specs::Run::refused_answer))]
+fn refused(refusal: Refusal) -> Paved
+    ensures { result ≡ refused_answer (refusal_number refusal) }
 {
     Paved {
-        refusal: number,
+        refusal: u32::from(refusal),
         end: 0,
         grid: Grid {
             xmin: 0.0,
@@ -51,12 +42,7 @@ fn refused(number: u32) -> Paved
             nx: 0,
             ny: 0,
         },
-        counts: Counts {
-            nodes: 0,
-            quads: 0,
-            edges: 0,
-            front: 0,
-        },
+        counts: Counts::default(),
         listed: Listed { count: 0, ids: 0 },
         whole: false,
     }
@@ -65,13 +51,11 @@ fn refused(number: u32) -> Paved
 fn answer(grid: Grid, a: Advanced, listed: Listed, whole: bool) -> Paved
     ensures { result ≡ paved_answer grid a.end a.counts listed whole }
 {
-    let end = a.end;
-    let counts = a.counts;
     Paved {
         refusal: 0,
-        end: end_number(end),
+        end: u32::from(a.end),
         grid,
-        counts,
+        counts: a.counts,
         listed,
         whole,
     }
@@ -81,7 +65,8 @@ fn answer(grid: Grid, a: Advanced, listed: Listed, whole: bool) -> Paved
 
 // A run that isn't refused, where `snapshot` is no longer than `loops` and `origins`.
 fn pave_in(
-    domain: Domain<'_>, size: f64,
+    domain: Domain<'_>,
+    size: f64,
     sweeps: usize,
     passes: usize,
     values: &mut [f64],
@@ -113,8 +98,8 @@ fn pave_in(
 {
     let grid = crossfield::make_field(domain, size, sweeps, values, marks, blocks);
     let a = sampled_advance::sample_and_advance(
-        domain, blocks, size, grid, values, xs, ys, next, prev, snapshot, quads, edges,
-        node_pool, edge_pool, tried, passes,
+        domain, blocks, size, grid, values, xs, ys, next, prev, snapshot, quads, edges, node_pool,
+        edge_pool, tried, passes,
     );
     origins::number_nodes(domain, size, quads, a.counts.quads, origins);
     let listed = loops::front_loops(a.counts, next, snapshot, loops, lengths);
@@ -129,7 +114,8 @@ fn pave_in(
 // and `tried` are scratch of any length: searches go by the first three as far as they have room, and the last has three numbers for a node from which an
 // edge was tried in vain. The answer doesn't depend on what they hold, and what a run leaves in them is free.
 pub fn pave(
-    domain: Domain<'_>, size: f64,
+    domain: Domain<'_>,
+    size: f64,
     sweeps: usize,
     passes: usize,
     values: &mut [f64],
@@ -158,41 +144,41 @@ pub fn pave(
         × Spares result.refusal (scratch node_pool.old edge_pool.old blocks.old tried.old)
         (scratch node_pool.new edge_pool.new blocks.new tried.new) }
 {
-    let m = run_refusal::snapshot_places(snapshot.len(), loops.len(), origins.len());
-    let field = numbers::min_usize(values.len() / 2, marks.len());
-    let nodes = run_refusal::node_places(xs.len(), ys.len(), next.len(), prev.len(), m);
-    let number = run_refusal::refusal(
+    let m = snapshot.len().min(loops.len()).min(origins.len());
+    let field = (values.len() / 2).min(marks.len());
+    let nodes = front::node_places(xs, ys, next, prev, m);
+    let edge_places = edges.len() / 2;
+    match run_refusal::check_run(
         domain,
         size,
         sweeps,
         field,
         nodes,
-        edges.len() / 2,
+        edge_places,
         lengths.len(),
-    );
-    if number != 0 {
-        return refused(number);
+    ) {
+        Err(refusal) => refused(refusal),
+        Ok(()) => pave_in(
+            domain,
+            size,
+            sweeps,
+            passes,
+            values,
+            marks,
+            xs,
+            ys,
+            next,
+            prev,
+            &mut snapshot[..m],
+            origins,
+            quads,
+            edges,
+            loops,
+            lengths,
+            node_pool,
+            edge_pool,
+            blocks,
+            tried,
+        ),
     }
-    pave_in(
-        domain,
-        size,
-        sweeps,
-        passes,
-        values,
-        marks,
-        xs,
-        ys,
-        next,
-        prev,
-        &mut snapshot[..m],
-        origins,
-        quads,
-        edges,
-        loops,
-        lengths,
-        node_pool,
-        edge_pool,
-        blocks,
-        tried,
-    )
 }

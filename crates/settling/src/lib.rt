@@ -113,11 +113,15 @@ pub fn file_all(
 {
     pools::clear(node_pool);
     pools::clear(edge_pool);
-    let none = Counts {
-        nodes: 0,
-        quads: 0,
-        edges: 0,
-        front: 0,
-    };
-    file_added(size, xs, ys, edges, node_pool, edge_pool, tried, none, k);
+    file_added(
+        size,
+        xs,
+        ys,
+        edges,
+        node_pool,
+        edge_pool,
+        tried,
+        Counts::default(),
+        k,
+    );
 }

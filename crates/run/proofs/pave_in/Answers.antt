@@ -26,7 +26,7 @@ given s =
 paves : (s : After-make_field-grid)
     → CanPave (around s) s.make_field-grid.new.blocks s.args.size s.make_field-grid.result s.make_field-grid.new.values (state_part (given s))
 paves s =
-    can_pave (around s) (set s) (given s) s.requires (subst T (sym s.well_formed.1.1.1.0.1) tt) _ _ _ s.make_field-grid.ensures.0
+    can_pave (around s) (set s) (given s) s.requires (subst T (sym s.well_formed.1.0.1) tt) _ _ _ s.make_field-grid.ensures.0
     s.make_field-grid.auto.values _ s.make_field-grid.ensures.1
 
 pub make_field-grid-requires : goal.make_field-grid-requires

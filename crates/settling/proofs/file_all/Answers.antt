@@ -5,8 +5,9 @@ use Rattle.settling.proofs.file_all.Goals as goal
 pub file_added-requires : goal.file_added-requires
 file_added-requires c =
     let args = c.args in
-    all_addable args.size args.xs.now args.ys.now args.edges.now args.k c.requires args.node_pool.now args.edge_pool.now
-    c.clear.ensures c.clear-2.ensures
+    rw (c.default.ensures.0, c.default.ensures.1.1.0)
+    (all_addable args.size args.xs.now args.ys.now args.edges.now args.k c.requires args.node_pool.now args.edge_pool.now
+    c.clear.ensures c.clear-2.ensures)
 
 pub returns : goal.returns
-returns c = c.file_added.ensures
+returns c = rw c.default.ensures.0 at c.file_added.ensures

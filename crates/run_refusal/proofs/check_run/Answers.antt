@@ -1,0 +1,8 @@
+-- `run_refusal::check_run` meets its contract: an outline that the field takes is in shape.
+use Rattle.std.proofs.Common.{sym}
+use Rattle.domain.proofs.Accepted.{accepted}
+use Rattle.crossfield.specs.FieldLaws.{field_unrefused}
+use Rattle.run_refusal.proofs.check_run.Goals as goal
+
+pub check_places-requires : goal.check_places-requires
+check_places-requires c = (accepted _ (field_unrefused _ _ _ _ (sym c.in_ok-check_field.ensures)).outline).shape

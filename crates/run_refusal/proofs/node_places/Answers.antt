@@ -1,7 +1,0 @@
--- `run_refusal::node_places` meets its contract. Assumes nothing.
-use mathlib.Core.Path.{refl, ◌∙◌}
-use Rattle.run_refusal.proofs.node_places.Goals as goal
-
-pub returns : goal.returns
-returns c =
-    c.min_usize-2.ensures ∙ rw (c.min_usize.ensures, c.min_usize-coordinates.ensures, c.min_usize-links.ensures) refl

@@ -3,6 +3,8 @@ use Rattle.std.specs.Prelude.{◌≡◌, ℕ, true, false, refl, Result, Ok, Err
 use Rattle.domain.specs.declared.Refusal.{Refusal}
 use Rattle.domain.specs.declared.Refusal.TheVariants.{Lists, ShortLoop, NotFinite, TooFar, NoSize, SizeOutOfRange, Flat, TooManySweeps, FieldNeedsSpace, FrontNeedsSpace, NoFieldRecord, WrongCheck, WrongFile, AnswerLists, NoNode, ThresholdTooHigh, NoThreshold, NoQuad, WeightTooHigh, NotAllowed, NotEachOnce, TooEarly, UnsoundMesh, NotOnFront, NotShown, FoursNeedSpace}
 use Rattle.domain.specs.Outline.{first_of}
+use Rattle.domain.specs.Queries.{answer_by}
+use Rattle.domain.specs.RefusalLaws.{answer_refused}
 use Rattle.domain.specs.Refusals.{refusal_number, refused}
 
 -- what is refused first stays refused
@@ -71,3 +73,7 @@ ok_unrefused (Err f) e = cc
 pub err_refused : {A : Type 0} (r : Result A Refusal) → is_ok r ≡ false → refused r ≡ 0 → ⊥
 err_refused (Ok a) e z = cc
 err_refused (Err f) e z = refusal_some f z
+
+-- an answer that is refused
+pub refused_answer : {A : Type 0} (a : A) (r : Refusal) → answer_by Err (Ok a) (refusal_number r) ≡ Err (refusal_number r)
+refused_answer a r = answer_refused Err (Ok a) (refusal_number r) (refusal_some r)

@@ -1,43 +1,37 @@
 -- The answers of the queries: refused with document 01's number, or answered; and as they cross to the host. Definitions only.
-use Rattle.std.specs.Prelude.{false, ◌≡◌}
+use Rattle.std.specs.Prelude.{Bool, false, ◌≡◌, ℕ, Result, Ok, Err, Float}
 use Rattle.numbers.specs.Float.{zero_f}
 use Rattle.domain.specs.declared.Point.{Point}
 use Rattle.domain.specs.declared.Near.{Near}
 use Rattle.domain.specs.Outline.{Outline, point, query_refusal}
 use Rattle.domain.specs.Queries.{contains, near, nearest_segment, distance_to_boundary, answer_by}
 use Rattle.nearest.specs.Named.{Named}
-use Rattle.queries.specs.declared.Contains.{Contains}
-use Rattle.queries.specs.declared.Contains.TheVariants as contains-is
-use Rattle.queries.specs.declared.Nearest.{Nearest}
-use Rattle.queries.specs.declared.Nearest.TheVariants as nearest-is
-use Rattle.queries.specs.declared.Distance.{Distance}
-use Rattle.queries.specs.declared.Distance.TheVariants as distance_is
 use Rattle.queries.specs.declared.ContainsAnswer.{ContainsAnswer}
 use Rattle.queries.specs.declared.NearestAnswer.{NearestAnswer}
 use Rattle.queries.specs.declared.DistanceAnswer.{DistanceAnswer}
 
 -- ---- refused, or answered
 
-unfoldable pub contains_answer : Outline → Point → Contains
-contains_answer o p = answer_by contains-is.Refused (contains-is.Inside (contains o p)) (query_refusal o p)
+unfoldable pub contains_answer : Outline → Point → Result Bool ℕ
+contains_answer o p = answer_by Err (Ok (contains o p)) (query_refusal o p)
 
-unfoldable pub nearest_answer : Outline → Point → Nearest
-nearest_answer o p = answer_by nearest-is.Refused (nearest-is.Segment (nearest_segment o p)) (query_refusal o p)
+unfoldable pub nearest_answer : Outline → Point → Result Near ℕ
+nearest_answer o p = answer_by Err (Ok (nearest_segment o p)) (query_refusal o p)
 
-unfoldable pub distance_answer : Outline → Point → Distance
-distance_answer o p = answer_by distance_is.Refused (distance_is.Of (distance_to_boundary o p)) (query_refusal o p)
+unfoldable pub distance_answer : Outline → Point → Result Float ℕ
+distance_answer o p = answer_by Err (Ok (distance_to_boundary o p)) (query_refusal o p)
 
 -- ---- as numbers: 0 says that nothing is refused, and the values of a refusal are false, 0.0 or 0
 
 -- of `contains`: whether the point is inside
-unfoldable pub contains_numbers : Contains → ContainsAnswer
-contains_numbers (contains-is.Refused n) = record { refusal = n; inside = false }
-contains_numbers (contains-is.Inside b) = record { refusal = 0; inside = b }
+unfoldable pub contains_numbers : Result Bool ℕ → ContainsAnswer
+contains_numbers (Err n) = record { refusal = n; inside = false }
+contains_numbers (Ok b) = record { refusal = 0; inside = b }
 
 -- of `nearest_segment`: the ends, the distance and the name
-unfoldable pub nearest_numbers : Nearest → NearestAnswer
-nearest_numbers (nearest-is.Refused n) = record { refusal = n; ax = zero_f; ay = zero_f; bx = zero_f; by = zero_f; distance = zero_f; loop_index = 0; segment_index = 0 }
-nearest_numbers (nearest-is.Segment s) = record {
+unfoldable pub nearest_numbers : Result Near ℕ → NearestAnswer
+nearest_numbers (Err n) = record { refusal = n; ax = zero_f; ay = zero_f; bx = zero_f; by = zero_f; distance = zero_f; loop_index = 0; segment_index = 0 }
+nearest_numbers (Ok s) = record {
   refusal = 0;
   ax = s.a.x;
   ay = s.a.y;
@@ -59,6 +53,6 @@ pub record NearestGiven (o : Outline) (p : Point) (r : NearestAnswer) : Type 0 w
   pub named : r.refusal ≡ 0 → Named o p (near_of r)
 
 -- of `distance_to_boundary`
-unfoldable pub distance_numbers : Distance → DistanceAnswer
-distance_numbers (distance_is.Refused n) = record { refusal = n; distance = zero_f }
-distance_numbers (distance_is.Of d) = record { refusal = 0; distance = d }
+unfoldable pub distance_numbers : Result Float ℕ → DistanceAnswer
+distance_numbers (Err n) = record { refusal = n; distance = zero_f }
+distance_numbers (Ok d) = record { refusal = 0; distance = d }

@@ -1,5 +1,5 @@
 -- What the code of a query asks of an outline that isn't refused: it needs no blocks. And `nearest_given`: the segment answered is named. Assumes nothing.
-use Rattle.std.specs.Prelude.{List, ◌≡◌, refl, ℕ, zero, suc, length}
+use Rattle.std.specs.Prelude.{List, ◌≡◌, refl, ℕ, zero, suc, length, Ok, Err}
 use Rattle.std.proofs.Common.{arith}
 use Rattle.domain.specs.declared.Point.{Point}
 use Rattle.domain.specs.Outline.{Outline, outline_refusal, point_refusal, query_refusal}
@@ -10,7 +10,6 @@ use Rattle.blocks.specs.BlockLaws.{drawn_none}
 use Rattle.nearest.specs.Named.{Named}
 use Rattle.nearest.specs.NamedLaws.{named}
 use Rattle.queries.specs.declared.NearestAnswer.{NearestAnswer}
-use Rattle.queries.specs.declared.Nearest.TheVariants as nearest-is
 use Rattle.queries.specs.Answers.{nearest_answer, nearest_numbers, near_of, NearestGiven}
 
 pub query_drawn : (o : Outline) (p : Point) {blocks : List ℕ} → query_refusal o p ≡ 0 → OutlineFits o → length blocks ≡ 0 → Drawn o blocks
@@ -22,6 +21,6 @@ unfolding nearest_answer nearest_numbers query_refusal
 nearest_given o p f g e = record { equal = e; named = rw e (answered (query_refusal o p) refl) }
   where
     answered : (n : ℕ) → query_refusal o p ≡ n
-        → let r = nearest_numbers (answer_by nearest-is.Refused (nearest-is.Segment (nearest_segment o p)) n) in r.refusal ≡ 0 → Named o p (near_of r)
+        → let r = nearest_numbers (answer_by Err (Ok (nearest_segment o p)) n) in r.refusal ≡ 0 → Named o p (near_of r)
     answered zero h none = let z = first_zero (outline_refusal o) (point_refusal p) h in named o p f g z.0 z.1
     answered (suc n) h none = absurd (omega arith)

@@ -4,29 +4,13 @@
 
 ghost use Rattle.std.specs.Prelude.{◌≡◌};
 ghost use Rattle.domain.specs.Outline.{outline, outline_of, point, query_refusal};
+ghost use Rattle.domain.specs.Refusals.{refused, numbered};
 ghost use Rattle.queries.specs.Answers.{contains_answer, nearest_answer, distance_answer, contains_numbers, NearestGiven, distance_numbers};
 
-use domain::{Domain, Near, Point};
-
-#[derive(Clone, Copy)]
-pub enum Contains {
-    Refused(u32),
-    Inside(bool),
-}
-
-#[derive(Clone, Copy)]
-pub enum Nearest {
-    Refused(u32),
-    Segment(Near),
-}
-
-#[derive(Clone, Copy)]
-pub enum Distance {
-    Refused(u32),
-    Of(f64),
-}
+use domain::{Domain, Near, Point, Refusal};
 
 // `refusal` is document 01's number, 0 where nothing is refused. The values of a refused query are false, 0.0 or 0.
+// Stays a number beside the values, here and below: the C interface needs it.
 #[repr(C)]
 #[derive(Clone, Copy)]
 pub struct ContainsAnswer {
@@ -56,54 +40,43 @@ pub struct DistanceAnswer {
 
 // ---- the queries, refusals first
 
-fn query_refusal(domain: Domain<'_>, p: Point) -> u32
-    ensures { result ≡ query_refusal (outline_of domain.entry) p }
+#[tactic(auto, unfolding(domain::specs::Outline::query_refusal), using(domain::proofs::Refused::first_refused))]
+fn check_query(domain: Domain<'_>, p: Point) -> Result<(), Refusal>
+    ensures { refused result ≡ query_refusal (outline_of domain.entry) p }
 {
-    let refusal = outlines::outline_refusal(domain);
-    if refusal != 0 {
-        return refusal;
-    }
-    outlines::point_refusal(p)
+    outlines::check_outline(domain)?;
+    outlines::check_point(p)
 }
 
-pub fn query_contains(domain: Domain<'_>, p: Point) -> Contains
-    ensures { result ≡ contains_answer (outline_of domain.entry) p }
+#[tactic(auto, unfolding(crate::specs::Answers::contains_answer), using(domain::proofs::Refused::refused_answer))]
+pub fn query_contains(domain: Domain<'_>, p: Point) -> Result<bool, Refusal>
+    ensures { numbered result ≡ contains_answer (outline_of domain.entry) p }
 {
-    let refusal = query_refusal(domain, p);
-    if refusal != 0 {
-        return Contains::Refused(refusal);
-    }
-    let none: [u32; 0] = [];
-    Contains::Inside(blocks::contains_point(domain, &none, p))
+    check_query(domain, p)?;
+    Ok(blocks::contains_point(domain, &[], p))
 }
 
-pub fn query_nearest(domain: Domain<'_>, p: Point) -> Nearest
-    ensures { result ≡ nearest_answer (outline_of domain.entry) p }
+#[tactic(auto, unfolding(crate::specs::Answers::nearest_answer), using(domain::proofs::Refused::refused_answer))]
+pub fn query_nearest(domain: Domain<'_>, p: Point) -> Result<Near, Refusal>
+    ensures { numbered result ≡ nearest_answer (outline_of domain.entry) p }
 {
-    let refusal = query_refusal(domain, p);
-    if refusal != 0 {
-        return Nearest::Refused(refusal);
-    }
-    let none: [u32; 0] = [];
-    Nearest::Segment(nearest::search_outline(domain, &none, p))
+    check_query(domain, p)?;
+    Ok(nearest::search_outline(domain, &[], p))
 }
 
-pub fn query_distance(domain: Domain<'_>, p: Point) -> Distance
-    ensures { result ≡ distance_answer (outline_of domain.entry) p }
+#[tactic(auto, unfolding(crate::specs::Answers::distance_answer), using(domain::proofs::Refused::refused_answer))]
+pub fn query_distance(domain: Domain<'_>, p: Point) -> Result<f64, Refusal>
+    ensures { numbered result ≡ distance_answer (outline_of domain.entry) p }
 {
-    let refusal = query_refusal(domain, p);
-    if refusal != 0 {
-        return Distance::Refused(refusal);
-    }
-    let none: [u32; 0] = [];
-    let found = nearest::search_outline(domain, &none, p);
-    Distance::Of(found.distance)
+    check_query(domain, p)?;
+    Ok(nearest::search_outline(domain, &[], p).distance)
 }
 
 // ---- the entries
 
 // Whether the point is inside the outer loop and outside every hole.
 #[unsafe(no_mangle)]
+#[tactic(auto, unfolding(crate::specs::Answers::contains_numbers))]
 pub extern "C" fn sitjorbe_contains<'a>(
     outer: &'a [f64],
     holes: &'a [f64],
@@ -114,13 +87,12 @@ pub extern "C" fn sitjorbe_contains<'a>(
     ensures { result ≡ contains_numbers (contains_answer (outline outer.now holes.now lens.now) (point x y)) }
 {
     let domain = Domain { outer, holes, lens };
-    let answer = query_contains(domain, Point { x, y });
-    match answer {
-        Contains::Refused(refusal) => ContainsAnswer {
-            refusal,
+    match query_contains(domain, Point { x, y }) {
+        Err(refusal) => ContainsAnswer {
+            refusal: u32::from(refusal),
             inside: false,
         },
-        Contains::Inside(inside) => ContainsAnswer { refusal: 0, inside },
+        Ok(inside) => ContainsAnswer { refusal: 0, inside },
     }
 }
 
@@ -136,10 +108,9 @@ pub extern "C" fn sitjorbe_nearest_segment<'a>(
     ensures { NearestGiven (outline outer.now holes.now lens.now) (point x y) result }
 {
     let domain = Domain { outer, holes, lens };
-    let answer = query_nearest(domain, Point { x, y });
-    match answer {
-        Nearest::Refused(refusal) => NearestAnswer {
-            refusal,
+    match query_nearest(domain, Point { x, y }) {
+        Err(refusal) => NearestAnswer {
+            refusal: u32::from(refusal),
             ax: 0.0,
             ay: 0.0,
             bx: 0.0,
@@ -148,7 +119,7 @@ pub extern "C" fn sitjorbe_nearest_segment<'a>(
             loop_index: 0,
             segment_index: 0,
         },
-        Nearest::Segment(near) => NearestAnswer {
+        Ok(near) => NearestAnswer {
             refusal: 0,
             ax: near.a.x,
             ay: near.a.y,
@@ -163,6 +134,7 @@ pub extern "C" fn sitjorbe_nearest_segment<'a>(
 
 // The distance from the point to the nearest segment of the outline.
 #[unsafe(no_mangle)]
+#[tactic(auto, unfolding(crate::specs::Answers::distance_numbers))]
 pub extern "C" fn sitjorbe_distance_to_boundary<'a>(
     outer: &'a [f64],
     holes: &'a [f64],
@@ -173,13 +145,12 @@ pub extern "C" fn sitjorbe_distance_to_boundary<'a>(
     ensures { result ≡ distance_numbers (distance_answer (outline outer.now holes.now lens.now) (point x y)) }
 {
     let domain = Domain { outer, holes, lens };
-    let answer = query_distance(domain, Point { x, y });
-    match answer {
-        Distance::Refused(refusal) => DistanceAnswer {
-            refusal,
+    match query_distance(domain, Point { x, y }) {
+        Err(refusal) => DistanceAnswer {
+            refusal: u32::from(refusal),
             distance: 0.0,
         },
-        Distance::Of(distance) => DistanceAnswer {
+        Ok(distance) => DistanceAnswer {
             refusal: 0,
             distance,
         },

@@ -7,6 +7,7 @@ ghost use Rattle.sound_entry.specs.Answer.{sound_answer};
 
 use domain::Domain;
 
+// Stays a number beside a flag: the C interface needs it.
 #[repr(C)]
 #[derive(Clone, Copy)]
 pub struct SoundAnswer {

@@ -1,21 +1,12 @@
--- `queries::query_nearest` meets its contract: refused with its number, or answered by `search_outline`, with no blocks.
-use mathlib.Core.Path.{refl, sym, ap, ◌∙◌}
-use native.Mathlib.Omega.{arith}
-use Rattle.domain.specs.RefusalLaws.{answer_refused}
-use Rattle.queries.specs.declared.Nearest.TheVariants.{Refused, Segment}
-use Rattle.queries.specs.Answers.{nearest_answer}
+-- `query_nearest` meets its contract: answered by `search_outline`, with no blocks.
+use Rattle.std.specs.Prelude.{refl}
+use Rattle.std.proofs.Common.{rules, arith}
+use Rattle.domain.specs.Outline.{outline_of}
 use Rattle.queries.specs.Laws.{query_drawn}
 use Rattle.queries.proofs.query_nearest.Goals as goal
 
-pub returns-then-refusal-ne0 : goal.returns-then-refusal-ne0
-unfolding nearest_answer
-returns-then-refusal-ne0 c = rw (← c.query_refusal-refusal.ensures) (sym (answer_refused Refused _ _ c.if-refusal-ne0.true))
-
 pub search_outline-requires : goal.search_outline-requires
-search_outline-requires c =
-    let none = sym c.query_refusal-refusal.ensures ∙ c.if-refusal-ne0.false in
-    (query_drawn _ _ none (record { outer = λ i h. c.type_inv.outer i; holes = λ i h. c.type_inv.holes i }) refl, λ some. absurd (omega arith))
-
-pub returns : goal.returns
-unfolding nearest_answer
-returns c = rw (sym c.query_refusal-refusal.ensures ∙ c.if-refusal-ne0.false) (ap Segment c.search_outline.ensures)
+search_outline-requires c = (
+  query_drawn (outline_of c.args.domain) c.args.p (search rules) (record { outer = λ i h. c.args.domain.doubles.outer i; holes = λ i h. c.args.domain.doubles.holes i }) refl,
+  λ some. absurd (omega arith),
+)

@@ -1,7 +1,7 @@
 -- `sitjorbe_nearest_segment` meets its contract: the answer is that of `query_nearest`, and each arm is a line of `nearest_numbers`;
--- the segment is named (`nearest_given`). Assumes nothing.
-use mathlib.Core.Path.{refl, sym, subst}
-use lib.Dec.{T}
+-- the segment is named (`nearest_given`).
+use Rattle.std.specs.Prelude.{refl, T}
+use Rattle.std.proofs.Common.{sym, subst, rules}
 use Rattle.domain.specs.Outline.{outline, point}
 use Rattle.domain.specs.Accepted.{OutlineFits, PointFits}
 use Rattle.queries.specs.Answers.{nearest_numbers}
@@ -9,21 +9,21 @@ use Rattle.queries.specs.Laws.{nearest_given}
 use Rattle.queries.proofs.sitjorbe_nearest_segment.Goals as goal
 
 -- refused
-pub returns-in-Refused : goal.returns-in-Refused
+pub returns-in-Err : goal.returns-in-Err
 unfolding nearest_numbers
-returns-in-Refused c =
+returns-in-Err c =
     let fits : OutlineFits (outline c.args.outer.now c.args.holes.now c.args.lens.now)
     = record { outer = λ i h. c.type_inv.outer i; holes = λ i h. c.type_inv.holes i } in
     let here : PointFits (point c.args.x c.args.y)
     = record { x = subst T (sym c.well_formed.1.1.1.0.1) tt; y = subst T (sym c.well_formed.1.1.1.1.0.1) tt } in
-    nearest_given _ _ fits here (rw (← c.query_nearest-answer.ensures, c.in-Refused.is) refl)
+    nearest_given _ _ fits here (search rules)
 
 -- answered
-pub returns-in-Segment : goal.returns-in-Segment
+pub returns-in-Ok : goal.returns-in-Ok
 unfolding nearest_numbers
-returns-in-Segment c =
+returns-in-Ok c =
     let fits : OutlineFits (outline c.args.outer.now c.args.holes.now c.args.lens.now)
     = record { outer = λ i h. c.type_inv.outer i; holes = λ i h. c.type_inv.holes i } in
     let here : PointFits (point c.args.x c.args.y)
     = record { x = subst T (sym c.well_formed.1.1.1.0.1) tt; y = subst T (sym c.well_formed.1.1.1.1.0.1) tt } in
-    nearest_given _ _ fits here (rw (← c.query_nearest-answer.ensures, c.in-Segment.is) refl)
+    nearest_given _ _ fits here (search rules)

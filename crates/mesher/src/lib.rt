@@ -48,9 +48,8 @@ pub extern "C" fn sitjorbe_pave<'a>(
         (scratch node_pool.new edge_pool.new blocks.new tried.new) }
 {
     let domain = Domain { outer, holes, lens };
-    let paved = run::pave(
-        domain, size, sweeps, passes, values, marks, xs, ys, next, prev, snapshot,
-        origins, quads, edges, loops, lengths, node_pool, edge_pool, blocks, tried,
-    );
-    pave_answer::pave_numbers(paved)
+    PaveAnswer::from(run::pave(
+        domain, size, sweeps, passes, values, marks, xs, ys, next, prev, snapshot, origins, quads,
+        edges, loops, lengths, node_pool, edge_pool, blocks, tried,
+    ))
 }

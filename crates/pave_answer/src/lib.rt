@@ -28,23 +28,26 @@ pub struct PaveAnswer {
     pub ids: usize,
 }
 
-pub fn pave_numbers(paved: Paved) -> PaveAnswer
-    ensures { result ≡ pave_numbers paved }
-{
-    PaveAnswer {
-        refusal: paved.refusal,
-        end: paved.end,
-        whole: paved.whole,
-        xmin: paved.grid.xmin,
-        ymin: paved.grid.ymin,
-        h: paved.grid.h,
-        nx: paved.grid.nx,
-        ny: paved.grid.ny,
-        nodes: paved.counts.nodes,
-        quads: paved.counts.quads,
-        edges: paved.counts.edges,
-        front: paved.counts.front,
-        loops: paved.listed.count,
-        ids: paved.listed.ids,
+impl From<Paved> for PaveAnswer {
+    ghost from_gives = { λ paved answer. answer ≡ pave_numbers paved };
+
+    #[tactic(auto, unfolding(crate::specs::Numbers::pave_numbers))]
+    fn from(paved: Paved) -> PaveAnswer {
+        PaveAnswer {
+            refusal: paved.refusal,
+            end: paved.end,
+            whole: paved.whole,
+            xmin: paved.grid.xmin,
+            ymin: paved.grid.ymin,
+            h: paved.grid.h,
+            nx: paved.grid.nx,
+            ny: paved.grid.ny,
+            nodes: paved.counts.nodes,
+            quads: paved.counts.quads,
+            edges: paved.counts.edges,
+            front: paved.counts.front,
+            loops: paved.listed.count,
+            ids: paved.listed.ids,
+        }
     }
 }

@@ -23,6 +23,6 @@ host-spares {before} {after} p k e = subst⁻¹ (λ (v : PaveAnswer). Spares v.r
 
 pub returns : goal.returns
 returns c =
-    let same = c.pave_numbers.ensures in
-    let promised = c.pave-paved.ensures in
+    let same = c.from.ensures in
+    let promised = c.pave.ensures in
     (host-paves promised.0 same, host-spares _ promised.1 same)

@@ -12,7 +12,7 @@ use previews::View;
 // What became of the edge (0 placed, 1 none, 2 full, 3 cap), and how many nodes, quads, distinct edges and front edges there are after it. All is 0 on a
 // refusal.
 #[repr(C)]
-#[derive(Clone, Copy)]
+#[derive(Clone, Copy, Default)]
 pub struct StepAnswer {
     pub refusal: u32,
     pub outcome: u32,
@@ -25,7 +25,7 @@ pub struct StepAnswer {
 // What would become of the edge; the quad that would be placed, how many of its nodes would be new, and where: corners c and d have 0 for coordinates
 // where they aren't new, and all of the quad is 0 where none would be placed; and how many front edges there would be. All is 0 on a refusal.
 #[repr(C)]
-#[derive(Clone, Copy)]
+#[derive(Clone, Copy, Default)]
 pub struct PreviewAnswer {
     pub refusal: u32,
     pub outcome: u32,
@@ -41,6 +41,7 @@ pub struct PreviewAnswer {
     pub front: usize,
 }
 
+// Stays a `match` here: a `From` would have to stand beside `StepOutcome`, and these numbers are the host's alone.
 fn outcome_number(w: StepOutcome) -> u32
     ensures { result ≡ outcome_number w }
 {
@@ -57,11 +58,7 @@ pub fn refused_step(number: u32) -> StepAnswer
 {
     StepAnswer {
         refusal: number,
-        outcome: 0,
-        nodes: 0,
-        quads: 0,
-        edges: 0,
-        front: 0,
+        ..StepAnswer::default()
     }
 }
 
@@ -86,37 +83,17 @@ pub fn refused_preview(number: u32) -> PreviewAnswer
 {
     PreviewAnswer {
         refusal: number,
-        outcome: 0,
-        a: 0,
-        b: 0,
-        d: 0,
-        c: 0,
-        new_nodes: 0,
-        cx: 0.0,
-        cy: 0.0,
-        dx: 0.0,
-        dy: 0.0,
-        front: 0,
+        ..PreviewAnswer::default()
     }
 }
 
-// The x of a new corner.
-fn fresh_x(c: Corner) -> f64
-    ensures { result ≡ fresh_x c }
+// The coordinates of a new corner.
+fn fresh(c: Corner) -> (f64, f64)
+    ensures { (result.0 ≡ fresh_x c) × (result.1 ≡ fresh_y c) }
 {
     match c {
-        Corner::Reused(_) => 0.0,
-        Corner::Fresh(x, _) => x,
-    }
-}
-
-// And its y.
-fn fresh_y(c: Corner) -> f64
-    ensures { result ≡ fresh_y c }
-{
-    match c {
-        Corner::Reused(_) => 0.0,
-        Corner::Fresh(_, y) => y,
+        Corner::Reused(_) => (0.0, 0.0),
+        Corner::Fresh(x, y) => (x, y),
     }
 }
 
@@ -125,27 +102,18 @@ pub fn view_numbers(v: View, n: u32, a: u32, b: u32) -> PreviewAnswer
     requires { n ≤ 4294967294 }
     ensures { result ≡ view_numbers v n a b }
 {
-    let w = v.outcome;
-    let outcome = outcome_number(w);
+    let outcome = outcome_number(v.outcome);
     let front = v.front;
-    let quad = v.quad;
-    let Attempt::Quad(c, d) = quad else {
+    let Attempt::Quad(c, d) = v.quad else {
         return PreviewAnswer {
-            refusal: 0,
             outcome,
-            a: 0,
-            b: 0,
-            d: 0,
-            c: 0,
-            new_nodes: 0,
-            cx: 0.0,
-            cy: 0.0,
-            dx: 0.0,
-            dy: 0.0,
             front,
+            ..PreviewAnswer::default()
         };
     };
     let more_c = c.added();
+    let (cx, cy) = fresh(c);
+    let (dx, dy) = fresh(d);
     PreviewAnswer {
         refusal: 0,
         outcome,
@@ -154,10 +122,10 @@ pub fn view_numbers(v: View, n: u32, a: u32, b: u32) -> PreviewAnswer
         d: d.id(n + more_c),
         c: c.id(n),
         new_nodes: more_c + d.added(),
-        cx: fresh_x(c),
-        cy: fresh_y(c),
-        dx: fresh_x(d),
-        dy: fresh_y(d),
+        cx,
+        cy,
+        dx,
+        dy,
         front,
     }
 }

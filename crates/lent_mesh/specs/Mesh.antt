@@ -3,6 +3,7 @@ use Rattle.std.specs.Prelude.{List, ℕ, ◌+◌, ◌*◌, ◌/◌, ◌≤◌, �
 use Rattle.std.proofs.Math.Nat.{mul-div-le}
 use Rattle.std.proofs.Common.{arith}
 use Rattle.lent_mesh.specs.declared.QuadIds.{QuadIds}
+use Rattle.lent_mesh.specs.declared.LentMesh.{LentMesh}
 
 -- the count of nodes, which stops where a coordinate isn't lent
 unfoldable pub node_count_of : ℕ → List Float → List Float → ℕ
@@ -28,6 +29,10 @@ mesh nodes quads ids = record { nodes = nodes; quads = quads; ids = ids }
 -- the mesh of the lists lent, its counts as they stop
 abbrev pub mesh_of : ℕ → List Float → List Float → ℕ → List ℕ → Mesh
 mesh_of nodes xs ys count quads = mesh (node_count_of nodes xs ys) (quad_count_of count quads) quads
+
+-- the mesh that is lent, its nodes as they are given, its quads as they stop
+abbrev pub mesh_lent : LentMesh → Mesh
+mesh_lent l = mesh l.nodes (quad_count_of l.quad_count l.quads.now) l.quads.now
 
 -- quad k of a mesh
 abbrev pub quad_of : Mesh → ℕ → QuadIds

@@ -1,8 +1,8 @@
 // A mesh as it is lent: its counts, which stop at the last whole node and quad, and its quads by their four ids.
 #![tactic(auto)]
 
-ghost use Rattle.std.specs.Prelude.{◌≡◌, ◌<◌, get_or};
-ghost use Rattle.lent_mesh.specs.Mesh.{node_count_of, quad_count_of, quad_in};
+ghost use Rattle.std.specs.Prelude.{◌≡◌, ◌<◌, ◌≤◌, get_or};
+ghost use Rattle.lent_mesh.specs.Mesh.{node_count_of, quad_count_of, quad_in, mesh_lent, quad_of};
 
 use domain::Settings;
 
@@ -15,30 +15,58 @@ pub struct QuadIds {
     pub c: u32,
 }
 
+// A mesh where its coordinates don't matter: its nodes, counted as they stop, and its quads as they are lent.
+#[derive(Clone, Copy)]
+pub struct LentMesh<'a> {
+    pub nodes: u32,
+    pub quad_count: usize,
+    pub quads: &'a [u32],
+}
+
+impl LentMesh<'_> {
+    // How many quads it has, as they stop.
+    #[tactic(auto, using(crate::specs::Mesh::quads_few))]
+    pub fn quad_count(self) -> usize
+        ensures stops { result ≡ (mesh_lent self.entry).quads }
+        ensures few { result ≤ 250000 }
+    {
+        quad_count(self.quad_count, self.quads)
+    }
+
+    // The ids of quad k.
+    pub fn quad(self, k: usize) -> QuadIds
+        requires { k < 4294967296 }
+        ensures { result ≡ quad_of (mesh_lent self.entry) k }
+    {
+        quad_at(self.quads, k)
+    }
+}
+
 // The count of nodes: it stops where a coordinate isn't lent.
+#[tactic(auto, unfolding(crate::specs::Mesh::node_count_of))]
 pub fn node_count(nodes: u32, xs: &[f64], ys: &[f64]) -> u32
     ensures { result ≡ node_count_of nodes xs.now ys.now }
 {
-    let whole = numbers::min_usize(xs.len(), ys.len());
-    numbers::min_usize(nodes as usize, whole) as u32
+    (nodes as usize).min(xs.len().min(ys.len())) as u32
 }
 
 // The count of quads: it stops at the last whole quad, and at 250,000.
+#[tactic(auto, unfolding(crate::specs::Mesh::quad_count_of))]
 pub fn quad_count(count: usize, quads: &[u32]) -> usize
     ensures { result ≡ quad_count_of count quads.now }
 {
-    let most = numbers::min_usize(quads.len() / 4, Settings::MOST_QUADS);
-    numbers::min_usize(count, most)
+    count.min((quads.len() / 4).min(Settings::MOST_QUADS))
 }
 
 // An entry of a list; past its end 0.
 pub fn entry_at(list: &[u32], i: usize) -> u32
     ensures { result ≡ get_or list.now i 0 }
 {
-    if i < list.len() { list[i] } else { 0 }
+    list.get(i).copied().unwrap_or(0)
 }
 
 // The ids of quad k.
+#[tactic(auto, unfolding(crate::specs::Mesh::quad_in))]
 pub fn quad_at(quads: &[u32], k: usize) -> QuadIds
     requires { k < 4294967296 }
     ensures { result ≡ quad_in quads.now k }

@@ -1,5 +1,5 @@
 -- Examples of what `front_loops` leaves, by computation.
-use Rattle.std.specs.Prelude.{List, [], ◌∷◌, ◌≡◌, refl, ℕ}
+use Rattle.std.specs.Prelude.{[], ◌∷◌, ◌≡◌, refl}
 use Rattle.topology.specs.Links.{off, link_of}
 use Rattle.topology.specs.Walk.{walk_by, prepend}
 use Rattle.topology.specs.Listing.{long_loops, add_loop}

@@ -1,11 +1,12 @@
 -- `front_loops` from its parts: the marks cleared, then every node visited.
-use Rattle.std.specs.Prelude.{Bool, true, false, List, ◌≡◌, eqb, ltb, get_or, take}
+use Rattle.std.specs.Prelude.{Bool, true, false, List, ◌≡◌, eqb, ltb, get_or, take, drop, replicate, ◌++◌}
 use Rattle.std.proofs.Math.Bool.{cond}
 use Rattle.std.proofs.Math.Path.{refl, sym, ap, fun_ext}
-use Rattle.std.proofs.Common.{◌∙◌, subst, le_antisymm, arith, ext_get_or, get_or-take, length-take-le, eqb-true, ltb-true, ltb-false}
-use Prim.Native.Nat.{ℕ, suc, zero, ◌+◌, ◌-◌, ◌<◌, ◌≤◌}
+use Rattle.std.proofs.Common.{◌∙◌, add-one, subst, arith, ext_get_or, get_or-take, length-take-le, eqb-true, ltb-true, ltb-false}
+use Prim.Native.Nat.{ℕ, suc, zero, ◌≤◌}
 use Rattle.std.proofs.Math.ListN.{length}
 use Rattle.std.proofs.lemmas.Bool.{eqb-false}
+use Rattle.std.proofs.lemmas.List.{length-replicate, replicate-append-replicate}
 use Rattle.laws.specs.Loop.{for_up}
 use Rattle.laws.specs.Overlay.{overlay, filled_length, filled_at, filled_past}
 use Rattle.laws.specs.Tabulate.{tabulate}
@@ -30,6 +31,15 @@ use Rattle.loops.specs.Visits.{visit, visit_all, marks_after, after_length, afte
 -- the marks of the first n nodes cleared
 abbrev pub cleared_marks : ℕ → List ℕ → List ℕ
 cleared_marks n marks = overlay (tabulate n (λ _. 0)) marks
+
+zeros : (n : ℕ) → tabulate {A = ℕ} n (λ _. 0) ≡ replicate n 0
+unfolding tabulate
+zeros zero = refl
+zeros (suc n) = rw (zeros n) (replicate-append-replicate n 1 0 ∙ ap (λ (k : ℕ). replicate k 0) (add-one n))
+
+pub marks_cleared : (n : ℕ) (marks : List ℕ) → cleared_marks n marks ≡ replicate n 0 ++ drop n marks
+unfolding overlay
+marks_cleared n marks = rw (zeros n, length-replicate {A = ℕ} n 0) refl
 
 -- ---- the marks at the end
 

@@ -21,11 +21,7 @@ fn clear_marks(marks: &mut [u32], n: usize)
     requires { n ≤ length marks.old }
     ensures { marks.new ≡ cleared_marks n marks.old }
 {
-    let mut i = 0;
-    while i < n {
-        marks[i] = 0;
-        i += 1;
-    }
+    marks[..n].fill(0);
 }
 
 // Walks along the loop from `start`, marks its nodes and writes their ids from place `at` on. The answer is the place after them.
@@ -35,6 +31,7 @@ fn list_loop(next: &[u32], marks: &mut [u32], loops: &mut [u32], start: u32, at:
 {
     let mut u = start;
     let mut i = at;
+    // Stays a `loop`: the next node is where the link leads, so no range has it.
     loop {
         let node = u as usize;
         marks[node] = 1;
@@ -47,6 +44,7 @@ fn list_loop(next: &[u32], marks: &mut [u32], loops: &mut [u32], start: u32, at:
     }
 }
 
+// Stays with the lists as parameters: one value of three `&mut` would have each function promise too that none is exchanged, which is no plainer.
 // The turn of node `u`. Where it is on the front and not marked, it is the smallest id of its loop.
 fn list_from(
     next: &[u32],
@@ -93,10 +91,8 @@ fn list_all(next: &[u32], marks: &mut [u32], loops: &mut [u32], lengths: &mut [u
         ≡ visit_all next.now marks.old loops.old lengths.old }
 {
     let mut listed = Listed { count: 0, ids: 0 };
-    let mut i = 0;
-    while i < next.len() {
+    for i in 0..next.len() {
         listed = list_from(next, marks, loops, lengths, listed, i as u32);
-        i += 1;
     }
     listed
 }

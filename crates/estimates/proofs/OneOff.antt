@@ -1,28 +1,27 @@
 -- What holds of the definitions of specs/OneOff.antt.
-use Rattle.std.specs.Prelude.{◌≡◌, Bool, false, not, ◌||◌, cond, List, ◌⊎◌, length, eqb, ltb, leb}
+use Rattle.std.specs.Prelude.{◌≡◌, Bool, false, not, ◌||◌, cond, List, ◌⊎◌, length, eqb, ltb, leb, Result, Ok, Err, IfOk}
 use Rattle.std.proofs.Math.Path.{refl, subst}
-use Rattle.std.proofs.Common.{sym, ◌∙◌, inl, inr, arith, get_or-set_same, lit≤}
+use Rattle.std.proofs.Common.{sym, ◌∙◌, inl, inr, arith, get_or-set_same, lit≤, rules}
 use Rattle.std.proofs.Math.Bool.{true}
 use Rattle.std.proofs.Math.Logic.{⊎_elim}
 use Prim.Native.Nat.{ℕ, zero, suc, ◌+◌, ◌≤◌, ◌<◌}
 use Rattle.std.proofs.Math.ListN.{set, get_or-eq_default}
 use borrow.Author.Tests.{eqb-true, ltb-true, ltb-false, le-leb, lt-ltb}
 use Rattle.laws.specs.Tests.{neither}
-use Rattle.domain.specs.Queries.{answer_by}
 use Rattle.lent_mesh.specs.declared.QuadIds.{QuadIds}
 use Rattle.lent_mesh.specs.Mesh.{Mesh, quad_of}
 use Rattle.thresholds.specs.Figures.{no_threshold, most_threshold, threshold_at, stands, is_complete, names}
 use Rattle.thresholds.specs.Figures.{Results, unless_refused, refusal_at, with_threshold, enter_answer, withdraw_answer}
 use Rattle.thresholds.specs.Laws.{stands_means, taken}
 use Rattle.thresholds.proofs.Laws.{other_same}
-use Rattle.estimates.specs.declared.EstimateAnswer.{EstimateAnswer}
 use Rattle.estimates.specs.Estimate.{estimate_of, least_threshold, greatest_threshold, estimate_refusal, estimated, estimate_answer}
 use Rattle.estimates.specs.Moves.{estimate_moves}
 use Rattle.estimates.proofs.Moves.{estimate_least, estimate_greatest}
 use Rattle.estimates.specs.OneOff.{tenths_apart, EqualWithin, elsewhere}
 
-equal_within : (most : ℕ) (p : EstimateAnswer) → EqualWithin most p p
-equal_within most p = record { refusal = refl; above = omega arith; below = omega arith }
+equal_within : (most : ℕ) (p : Result ℕ ℕ) → EqualWithin most p p
+equal_within most (Ok x) = (omega arith, omega arith)
+equal_within most (Err r) = refl
 
 -- ---- one place of the list
 
@@ -88,8 +87,8 @@ module _ (n : ℕ) (t : List ℕ) (id x : ℕ) (here : stands n t id ≡ true) (
 -- ---- the answers
 
 -- an answer by its two tests
-answer : Bool → Bool → ℕ → EstimateAnswer
-answer a b x = answer_by (λ number. estimated number 0) (estimated 0 x) (cond a 18 (cond b 19 0))
+answer : Bool → Bool → ℕ → Result ℕ ℕ
+answer a b x = estimated (cond a 18 (cond b 19 0)) x
 
 -- two answers with the same tests
 same_tests : (a : Bool) (u v x y most : ℕ) → (u ≤ 256 → v ≤ 256 → (x ≤ y + most) × (y ≤ x + most))
@@ -102,8 +101,7 @@ same_tests false u v x y most h = by (ltb 256 u || ltb 256 v) refl
     by true e = equal_within most (estimated 19 0)
     by false e =
         let p = neither (ltb 256 u) (ltb 256 v) e in
-        let r = h (ltb-false 256 u p.0) (ltb-false 256 v p.1) in
-        record { refusal = refl; above = r.0; below = r.1 }
+        h (ltb-false 256 u p.0) (ltb-false 256 v p.1)
 
 -- ONE OFF: a threshold that stands is replaced by x. Then every answer, of every quad and all weights, is refused as before, or its estimate moves
 -- by no more than the threshold moved.
@@ -162,20 +160,19 @@ module _ (m : Mesh) (r : Results) (id k u v : ℕ) where
 -- ---- between
 
 -- BETWEEN: an estimate that is answered lies between the least and the greatest of its corners
-pub between_corners : (m : Mesh) (t : List ℕ) (k u v : ℕ) → (estimate_answer m t k u v).refusal ≡ 0
-    → (least_threshold t (quad_of m k) ≤ (estimate_answer m t k u v).estimate) × ((estimate_answer m t k u v).estimate ≤ greatest_threshold t (quad_of m k))
+pub between_corners : (m : Mesh) (t : List ℕ) (k u v : ℕ)
+    → IfOk (estimate_answer m t k u v) (λ e. (least_threshold t (quad_of m k) ≤ e) × (e ≤ greatest_threshold t (quad_of m k)))
 unfolding estimate_answer estimate_refusal estimate_of least_threshold greatest_threshold answer
 between_corners m t k u v = by (leb m.quads k || not (is_complete m.nodes t q)) (ltb 256 u || ltb 256 v) refl
   where
     q : QuadIds
     q = quad_of m k
 
-    by : (a b : Bool) → ltb 256 u || ltb 256 v ≡ b → (answer a b (estimate_of u v t (quad_of m k))).refusal ≡ 0
-        → (least_threshold t (quad_of m k) ≤ (answer a b (estimate_of u v t (quad_of m k))).estimate)
-        × ((answer a b (estimate_of u v t (quad_of m k))).estimate ≤ greatest_threshold t (quad_of m k))
-    by true b f z = absurd (omega (arith, z))
-    by false true f z = absurd (omega (arith, z))
-    by false false f z =
+    by : (a b : Bool) → ltb 256 u || ltb 256 v ≡ b
+        → IfOk (answer a b (estimate_of u v t (quad_of m k))) (λ e. (least_threshold t (quad_of m k) ≤ e) × (e ≤ greatest_threshold t (quad_of m k)))
+    by true b f = search rules
+    by false true f = search rules
+    by false false f =
         let p = neither (ltb 256 u) (ltb 256 v) f in
         let hu = ltb-false 256 u p.0 in
         let hv = ltb-false 256 v p.1 in (

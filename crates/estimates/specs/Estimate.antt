@@ -1,10 +1,9 @@
 -- The estimate between the nodes of a quad, from the thresholds at its corners. Definitions only.
-use Rattle.std.specs.Prelude.{not, ◌||◌, cond, List, ℕ, ◌+◌, ◌-◌, ◌*◌, ◌/◌, min, max, ltb, leb}
+use Rattle.std.specs.Prelude.{not, ◌||◌, cond, List, ℕ, ◌+◌, ◌-◌, ◌*◌, ◌/◌, min, max, ltb, leb, Result, Ok, Err}
 use Rattle.domain.specs.Queries.{answer_by}
 use Rattle.lent_mesh.specs.declared.QuadIds.{QuadIds}
 use Rattle.lent_mesh.specs.Mesh.{Mesh, quad_of}
 use Rattle.thresholds.specs.Figures.{threshold_at, is_complete}
-use Rattle.estimates.specs.declared.EstimateAnswer.{EstimateAnswer}
 
 -- the thresholds at a, b, d and c by the weights u and v, from 0 to 256, rounded down once
 unfoldable pub estimate : (u v a b d c : ℕ) → ℕ
@@ -28,9 +27,10 @@ unfoldable pub estimate_refusal : Mesh → List ℕ → ℕ → ℕ → ℕ → 
 estimate_refusal m t k u v =
     cond (leb m.quads k || not (is_complete m.nodes t (quad_of m k))) 18 (cond (ltb 256 u || ltb 256 v) 19 0)
 
-abbrev pub estimated : ℕ → ℕ → EstimateAnswer
-estimated refusal value = record { refusal = refusal; estimate = value }
+-- an estimate, unless it is refused with a number other than 0
+abbrev pub estimated : ℕ → ℕ → Result ℕ ℕ
+estimated refusal value = answer_by Err (Ok value) refusal
 
--- the estimate in quad k; 0 beside a refusal
-unfoldable pub estimate_answer : Mesh → List ℕ → ℕ → ℕ → ℕ → EstimateAnswer
-estimate_answer m t k u v = answer_by (λ number. estimated number 0) (estimated 0 (estimate_of u v t (quad_of m k))) (estimate_refusal m t k u v)
+-- the estimate in quad k
+unfoldable pub estimate_answer : Mesh → List ℕ → ℕ → ℕ → ℕ → Result ℕ ℕ
+estimate_answer m t k u v = estimated (estimate_refusal m t k u v) (estimate_of u v t (quad_of m k))

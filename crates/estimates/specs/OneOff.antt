@@ -1,22 +1,22 @@
 -- ONE THRESHOLD OFF BY A LITTLE: what one answer can do to the estimates of a mesh.
-use Rattle.std.specs.Prelude.{◌≡◌, false, List}
+use Rattle.std.specs.Prelude.{◌≡◌, false, List, Result, Ok, Err}
 use Prim.Native.Nat.{ℕ, ◌+◌, ◌-◌, ◌≤◌}
 use Rattle.std.proofs.Math.ListN.{set}
 use Rattle.lent_mesh.specs.Mesh.{Mesh, quad_of}
 use Rattle.thresholds.specs.Figures.{names}
 use Rattle.thresholds.proofs.Laws.{complete_same, four_same}
-use Rattle.estimates.specs.declared.EstimateAnswer.{EstimateAnswer}
 use Rattle.estimates.specs.Estimate.{estimate_of, estimate_refusal, estimate_answer}
 
 -- how far two thresholds are apart
 abbrev pub tenths_apart : ℕ → ℕ → ℕ
 tenths_apart a b = (a - b) + (b - a)
 
--- two answers with the same refusal, whose estimates are at most `most` apart
-pub record EqualWithin (most : ℕ) (p q : EstimateAnswer) : Type 0 where
-  pub refusal : p.refusal ≡ q.refusal
-  pub above : p.estimate ≤ q.estimate + most
-  pub below : q.estimate ≤ p.estimate + most
+-- two answers with the same refusal, or two estimates that are at most `most` apart
+abbrev pub EqualWithin : ℕ → Result ℕ ℕ → Result ℕ ℕ → Type 0
+EqualWithin most (Ok x) (Ok y) = (x ≤ y + most) × (y ≤ x + most)
+EqualWithin most (Err p) (Err q) = p ≡ q
+EqualWithin most (Ok x) (Err q) = ⊥
+EqualWithin most (Err p) (Ok y) = ⊥
 
 -- ---- the answers
 

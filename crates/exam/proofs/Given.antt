@@ -1,15 +1,13 @@
 -- What holds of the definitions of specs/Given.antt.
-use Rattle.std.specs.Prelude.{Bool, cond, List, [], ◌∷◌, ◌≡◌, ℕ, zero, suc, ◌≤◌, set}
+use Rattle.std.specs.Prelude.{Bool, cond, List, [], ◌∷◌, ◌≡◌, ℕ, zero, suc, ◌≤◌, set, Result, Err, IfOk}
 use Rattle.std.proofs.Math.Bool.{true, false}
 use Rattle.std.proofs.Math.Path.{refl, subst}
 use Rattle.std.proofs.Common.{sym, ◌∙◌, eqb-true}
 use Rattle.std.proofs.Math.Dec.{eqb}
-use Rattle.domain.specs.Queries.{answer_by}
 use Rattle.lent_mesh.specs.Mesh.{Mesh, quad_of}
 use Rattle.thresholds.specs.Figures.{threshold_at, Results}
 use Rattle.thresholds.specs.Kept.{Afresh, enter_unmoved, withdraw_unmoved}
 use Rattle.thresholds.specs.Figures.{begin_answer}
-use Rattle.estimates.specs.declared.EstimateAnswer.{EstimateAnswer}
 use Rattle.estimates.specs.Estimate.{least_threshold, greatest_threshold, estimate_answer, estimate_refusal, estimate_of, estimated}
 use Rattle.estimates.specs.OneOff.{tenths_apart, EqualWithin, elsewhere}
 use Rattle.estimates.proofs.OneOff.{one_off, between_corners}
@@ -19,9 +17,9 @@ use Rattle.exam.specs.declared.ResultRead.TheVariants.{ReadEstimate}
 use Rattle.exam.specs.declared.ExamRequest.{ExamRequest}
 use Rattle.exam.specs.declared.ExamRequest.TheVariants.{Changes, ReadsMesh, ReadsResults, Unknown}
 use Rattle.exam.specs.declared.ExamReply.{ExamReply}
-use Rattle.exam.specs.declared.ExamReply.TheVariants.{Refused, Done, Estimate}
+use Rattle.exam.specs.declared.ExamReply.TheVariants.{Done, Estimate}
 use Rattle.exam.specs.declared.ExamAnswer.{ExamAnswer}
-use Rattle.exam.specs.Exam.{ExamMesh, mesh_in, may, may_read_mesh, may_read_results, mesh_seen, change_answer, reply_or, result_reply, estimate_reply}
+use Rattle.exam.specs.Exam.{ExamMesh, mesh_in, may, may_read_mesh, may_read_results, mesh_seen, change_answer, reply_or, reply_with, result_reply, estimate_reply}
 use Rattle.exam.specs.Exam.{acted, does, exam_acts, exam_numbers, ExamExit, exam_exit, exam_answer, masked_exit, masked_answer}
 use Rattle.exam.specs.Statement.{EstimateGiven, ExamGiven}
 use Rattle.exam.specs.Given.{masked_sees, exam_kept, exam_begun, Call, after_calls}
@@ -49,7 +47,7 @@ change_unmoved m x (Withdraw id) h = withdraw_unmoved m x id h
 
 module _ (m : ExamMesh) (x : Results) (role : ℕ) where
   -- a request that isn't a change, allowed or not, leaves them
-  reads_leave : (b : Bool) (reply : ExamReply) (list after : List ℕ) → (cond b (acted reply after x) (acted (Refused 20) list x)).left ≡ x
+  reads_leave : (b : Bool) (reply : Result ExamReply ℕ) (list after : List ℕ) → (cond b (acted reply after x) (acted (Err 20) list x)).left ≡ x
   reads_leave true reply list after = refl
   reads_leave false reply list after = refl
 
@@ -59,8 +57,8 @@ module _ (m : ExamMesh) (x : Results) (role : ℕ) where
   exam_unmoved (Changes c) list h = by (eqb role 1) refl h
     where
       by : (b : Bool) → eqb role 1 ≡ b
-          → ((role ≡ 1) × ((exam_numbers (cond b (does m x (Changes c) list) (acted (Refused 20) list x)).reply).refusal ≡ 0) → ⊥)
-          → (cond b (does m x (Changes c) list) (acted (Refused 20) list x)).left ≡ x
+          → ((role ≡ 1) × ((exam_numbers (cond b (does m x (Changes c) list) (acted (Err 20) list x)).reply).refusal ≡ 0) → ⊥)
+          → (cond b (does m x (Changes c) list) (acted (Err 20) list x)).left ≡ x
       by true e h = change_unmoved (mesh_in m) x c (λ z. h (eqb-true role 1 e, done_number (change_answer (mesh_in m) x c).refusal ∙ z))
       by false e h = refl
   exam_unmoved (ReadsMesh r) list h = reads_leave (may_read_mesh role) (mesh_seen m r list).reply list (mesh_seen m r list).list
@@ -72,27 +70,22 @@ module _ (m : ExamMesh) (x : Results) (role : ℕ) where
 estimate_flat : (m : Mesh) (t : List ℕ) (k u v : ℕ)
     → estimated (exam_numbers (estimate_reply m t k u v)).refusal (exam_numbers (estimate_reply m t k u v)).estimate ≡ estimate_answer m t k u v
 unfolding estimate_reply reply_or estimate_answer exam_numbers
-estimate_flat m t k u v = by (estimate_refusal m t k u v)
+estimate_flat m t k u v = by (estimate_refusal m t k u v) (estimate_of u v t (quad_of m k))
   where
-    by : (n : ℕ)
-        → estimated (exam_numbers (answer_by Refused (Estimate (answer_by (λ number. estimated number 0) (estimated 0 (estimate_of u v t (quad_of m k))) n).estimate)
-        (answer_by (λ number. estimated number 0) (estimated 0 (estimate_of u v t (quad_of m k))) n).refusal)).refusal
-        (exam_numbers (answer_by Refused (Estimate (answer_by (λ number. estimated number 0) (estimated 0 (estimate_of u v t (quad_of m k))) n).estimate)
-        (answer_by (λ number. estimated number 0) (estimated 0 (estimate_of u v t (quad_of m k))) n).refusal)).estimate
-        ≡ answer_by (λ number. estimated number 0) (estimated 0 (estimate_of u v t (quad_of m k))) n
-    by zero = refl
-    by (suc n) = refl
+    by : (n x : ℕ) → let e = exam_numbers (reply_with Estimate (estimated n x)) in estimated e.refusal e.estimate ≡ estimated n x
+    by zero x = refl
+    by (suc n) x = refl
 
 -- the theorems on one threshold, of whatever equals the definition
-estimate_given : (m : Mesh) (t : List ℕ) (k u v : ℕ) (r : EstimateAnswer) → r ≡ estimate_answer m t k u v → EstimateGiven m t k u v r
+estimate_given : (m : Mesh) (t : List ℕ) (k u v : ℕ) (r : Result ℕ ℕ) → r ≡ estimate_answer m t k u v → EstimateGiven m t k u v r
 estimate_given m t k u v r same =
     record {
       equal = same;
       one_off = λ id x here low.
-          subst (λ (a : EstimateAnswer). EqualWithin (tenths_apart x (threshold_at t id)) (estimate_answer m (set t id x) k u v) a) (sym same)
+          subst (λ (a : Result ℕ ℕ). EqualWithin (tenths_apart x (threshold_at t id)) (estimate_answer m (set t id x) k u v) a) (sym same)
           (one_off m t id x k u v here low);
       elsewhere = λ id x apart. elsewhere m t id x k u v apart ∙ sym same;
-      between = subst (λ (a : EstimateAnswer). a.refusal ≡ 0 → (least_threshold t (quad_of m k) ≤ a.estimate) × (a.estimate ≤ greatest_threshold t (quad_of m k)))
+      between = subst (λ (a : Result ℕ ℕ). IfOk a (λ e. (least_threshold t (quad_of m k) ≤ e) × (e ≤ greatest_threshold t (quad_of m k))))
           (sym same) (between_corners m t k u v);
     }
 

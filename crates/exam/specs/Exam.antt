@@ -1,5 +1,5 @@
 -- THE EXAM: its record, who may ask what, and what is answered. Definitions only.
-use Rattle.std.specs.Prelude.{Bool, false, ◌||◌, cond, List, ℕ, min, eqb, leb, length, get_or, Float}
+use Rattle.std.specs.Prelude.{Bool, false, ◌||◌, cond, List, ℕ, min, eqb, leb, length, get_or, Float, Result, Ok, Err}
 use Rattle.numbers.specs.Float.{zero_f}
 use Rattle.domain.specs.Queries.{answer_by}
 use Rattle.front.specs.State.{node_in}
@@ -7,6 +7,8 @@ use Rattle.lent_mesh.specs.Mesh.{Mesh, mesh, node_count_of, quad_count_of, quad_
 use Rattle.thresholds.specs.Figures.{threshold_at, Results, Outcome, refusal_at, begin_answer, enter_answer, withdraw_answer}
 use Rattle.estimates.specs.Estimate.{estimate_answer}
 use Rattle.exam_loops.specs.Loops.{read_loop}
+use Rattle.exam.specs.declared.Role.{Role}
+use Rattle.exam.specs.declared.Role.TheVariants.{Desk, Reader, MaskedReader}
 use Rattle.exam.specs.declared.ResultChange.{ResultChange}
 use Rattle.exam.specs.declared.ResultChange.TheVariants.{Begin, Enter, Withdraw}
 use Rattle.exam.specs.declared.MeshRead.{MeshRead}
@@ -16,7 +18,7 @@ use Rattle.exam.specs.declared.ResultRead.TheVariants.{ReadThreshold, ReadFigure
 use Rattle.exam.specs.declared.ExamRequest.{ExamRequest}
 use Rattle.exam.specs.declared.ExamRequest.TheVariants.{Changes, ReadsMesh, ReadsResults, Unknown}
 use Rattle.exam.specs.declared.ExamReply.{ExamReply}
-use Rattle.exam.specs.declared.ExamReply.TheVariants.{Refused, Done, Node, Quad, Loop, Threshold, Figures, Estimate}
+use Rattle.exam.specs.declared.ExamReply.TheVariants.{Done, Node, Quad, Loop, Threshold, Figures, Estimate}
 use Rattle.exam.specs.declared.ExamAnswer.{ExamAnswer}
 
 -- ---- the exam record: the mesh, as it is lent, and the results (`Results`: the thresholds and the two figures)
@@ -47,6 +49,11 @@ abbrev pub mesh_in : ExamMesh → Mesh
 mesh_in m = mesh (nodes_in m) (quad_count_of m.quad_count_of m.quads) m.quads
 
 -- ---- roles: 1 the desk, 2 a reader, 3 a masked reader
+
+abbrev pub role_number : Role → ℕ
+role_number Desk = 1
+role_number Reader = 2
+role_number MaskedReader = 3
 
 abbrev pub may_change : ℕ → Bool
 may_change role = eqb role 1
@@ -79,31 +86,36 @@ request_numbered operation item value u v =
     (cond (eqb operation 9) (ReadsResults (ReadEstimate item u v)) Unknown))))))))
 
 -- the reply, unless it is refused
-unfoldable pub reply_or : ℕ → ExamReply → ExamReply
-reply_or refusal reply = answer_by Refused reply refusal
+unfoldable pub reply_or : ℕ → ExamReply → Result ExamReply ℕ
+reply_or refusal reply = answer_by Err (Ok reply) refusal
+
+-- the reply with what was found, unless that is refused
+abbrev pub reply_with : (ℕ → ExamReply) → Result ℕ ℕ → Result ExamReply ℕ
+reply_with reply (Ok found) = Ok (reply found)
+reply_with reply (Err refusal) = Err refusal
 
 -- ---- what is read of the mesh: no results are among the arguments
 
 -- 15 only where the node isn't in the mesh
-unfoldable pub node_reply : ℕ → List Float → List Float → List ℕ → ℕ → ExamReply
-node_reply n xs ys origins id = cond (leb n id) (Refused 15) (Node (node_in xs ys id) (get_or origins id 0))
+unfoldable pub node_reply : ℕ → List Float → List Float → List ℕ → ℕ → Result ExamReply ℕ
+node_reply n xs ys origins id = cond (leb n id) (Err 15) (Ok (Node (node_in xs ys id) (get_or origins id 0)))
 
 -- 18 only where the quad isn't in the mesh
-unfoldable pub quad_reply : ℕ → List ℕ → ℕ → ExamReply
-quad_reply count quads k = cond (leb (quad_count_of count quads) k) (Refused 18) (Quad (quad_in quads k))
+unfoldable pub quad_reply : ℕ → List ℕ → ℕ → Result ExamReply ℕ
+quad_reply count quads k = cond (leb (quad_count_of count quads) k) (Err 18) (Ok (Quad (quad_in quads k)))
 
 -- a reply and the reply list as it is left
 pub record Seen : Type 0 where
-  pub reply : ExamReply
+  pub reply : Result ExamReply ℕ
   pub list : List ℕ
 
-abbrev pub seen : ExamReply → List ℕ → Seen
+abbrev pub seen : Result ExamReply ℕ → List ℕ → Seen
 seen reply list = record { reply = reply; list = list }
 
 unfoldable pub loop_seen : ℕ → List ℕ → List ℕ → ℕ → List ℕ → Seen
 loop_seen n next prev k list =
     let r = read_loop n next prev k list in
-    seen (reply_or r.read.refusal (Loop r.read.length)) r.list
+    seen (reply_with Loop r.read) r.list
 
 unfoldable pub mesh_seen : ExamMesh → MeshRead → List ℕ → Seen
 mesh_seen m (ReadNode id) list = seen (node_reply (nodes_in m) m.xs m.ys m.origins id) list
@@ -118,28 +130,26 @@ change_answer m x (Enter id v) = enter_answer m x id v
 change_answer m x (Withdraw id) = withdraw_answer m x id
 
 -- 15 as for an entry, then 17 where none stands
-unfoldable pub threshold_reply : ℕ → List ℕ → ℕ → ExamReply
+unfoldable pub threshold_reply : ℕ → List ℕ → ℕ → Result ExamReply ℕ
 threshold_reply n t id = reply_or (refusal_at n t id (threshold_at t id) 17) (Threshold (threshold_at t id))
 
-unfoldable pub estimate_reply : Mesh → List ℕ → ℕ → ℕ → ℕ → ExamReply
-estimate_reply m t k u v =
-    let e = estimate_answer m t k u v in
-    reply_or e.refusal (Estimate e.estimate)
+unfoldable pub estimate_reply : Mesh → List ℕ → ℕ → ℕ → ℕ → Result ExamReply ℕ
+estimate_reply m t k u v = reply_with Estimate (estimate_answer m t k u v)
 
-unfoldable pub result_reply : Mesh → Results → ResultRead → ExamReply
+unfoldable pub result_reply : Mesh → Results → ResultRead → Result ExamReply ℕ
 result_reply m x (ReadThreshold id) = threshold_reply m.nodes x.thresholds id
-result_reply m x ReadFigures = Figures x.count x.sum
+result_reply m x ReadFigures = Ok (Figures x.count x.sum)
 result_reply m x (ReadEstimate k u v) = estimate_reply m x.thresholds k u v
 
 -- ---- the exam
 
 -- a reply, the reply list and the results as they are left
 pub record Acted : Type 0 where
-  pub reply : ExamReply
+  pub reply : Result ExamReply ℕ
   pub list : List ℕ
   pub left : Results
 
-abbrev pub acted : ExamReply → List ℕ → Results → Acted
+abbrev pub acted : Result ExamReply ℕ → List ℕ → Results → Acted
 acted reply list left = record { reply = reply; list = list; left = left }
 
 -- what a request does where the role may ask it
@@ -147,11 +157,11 @@ abbrev pub does : ExamMesh → Results → ExamRequest → List ℕ → Acted
 does m x (Changes c) list = acted (reply_or (change_answer (mesh_in m) x c).refusal Done) list (change_answer (mesh_in m) x c).results
 does m x (ReadsMesh r) list = acted (mesh_seen m r list).reply (mesh_seen m r list).list x
 does m x (ReadsResults r) list = acted (result_reply (mesh_in m) x r) list x
-does m x Unknown list = acted (Refused 20) list x
+does m x Unknown list = acted (Err 20) list x
 
 -- 20 before all other checks
 unfoldable pub exam_acts : ExamMesh → Results → ℕ → ExamRequest → List ℕ → Acted
-exam_acts m x role q list = cond (may role q) (does m x q list) (acted (Refused 20) list x)
+exam_acts m x role q list = cond (may role q) (does m x q list) (acted (Err 20) list x)
 
 -- ---- the answer as it crosses
 
@@ -173,15 +183,15 @@ flat refusal x y a b d c length threshold count sum estimate origin =
       origin = origin;
     }
 
-unfoldable pub exam_numbers : ExamReply → ExamAnswer
-exam_numbers (Refused number) = flat number zero_f zero_f 0 0 0 0 0 0 0 0 0 0
-exam_numbers Done = flat 0 zero_f zero_f 0 0 0 0 0 0 0 0 0 0
-exam_numbers (Node p origin) = flat 0 p.x p.y 0 0 0 0 0 0 0 0 0 origin
-exam_numbers (Quad q) = flat 0 zero_f zero_f q.a q.b q.d q.c 0 0 0 0 0 0
-exam_numbers (Loop length) = flat 0 zero_f zero_f 0 0 0 0 length 0 0 0 0 0
-exam_numbers (Threshold t) = flat 0 zero_f zero_f 0 0 0 0 0 t 0 0 0 0
-exam_numbers (Figures count sum) = flat 0 zero_f zero_f 0 0 0 0 0 0 count sum 0 0
-exam_numbers (Estimate e) = flat 0 zero_f zero_f 0 0 0 0 0 0 0 0 e 0
+unfoldable pub exam_numbers : Result ExamReply ℕ → ExamAnswer
+exam_numbers (Err number) = flat number zero_f zero_f 0 0 0 0 0 0 0 0 0 0
+exam_numbers (Ok Done) = flat 0 zero_f zero_f 0 0 0 0 0 0 0 0 0 0
+exam_numbers (Ok (Node p origin)) = flat 0 p.x p.y 0 0 0 0 0 0 0 0 0 origin
+exam_numbers (Ok (Quad q)) = flat 0 zero_f zero_f q.a q.b q.d q.c 0 0 0 0 0 0
+exam_numbers (Ok (Loop length)) = flat 0 zero_f zero_f 0 0 0 0 length 0 0 0 0 0
+exam_numbers (Ok (Threshold t)) = flat 0 zero_f zero_f 0 0 0 0 0 t 0 0 0 0
+exam_numbers (Ok (Figures count sum)) = flat 0 zero_f zero_f 0 0 0 0 0 0 count sum 0 0
+exam_numbers (Ok (Estimate e)) = flat 0 zero_f zero_f 0 0 0 0 0 0 0 0 e 0
 
 -- the numbers answered, the reply list and the results as they are left
 pub record ExamExit : Type 0 where
@@ -209,6 +219,6 @@ masked_exit numbers list = record { numbers = numbers; list = list }
 -- what it gets, made of the mesh, its request and its reply list alone
 unfoldable pub masked_answer : ExamMesh → ExamRequest → List ℕ → MaskedExit
 masked_answer m (ReadsMesh r) list = masked_exit (exam_numbers (mesh_seen m r list).reply) (mesh_seen m r list).list
-masked_answer m (Changes c) list = masked_exit (exam_numbers (Refused 20)) list
-masked_answer m (ReadsResults r) list = masked_exit (exam_numbers (Refused 20)) list
-masked_answer m Unknown list = masked_exit (exam_numbers (Refused 20)) list
+masked_answer m (Changes c) list = masked_exit (exam_numbers (Err 20)) list
+masked_answer m (ReadsResults r) list = masked_exit (exam_numbers (Err 20)) list
+masked_answer m Unknown list = masked_exit (exam_numbers (Err 20)) list

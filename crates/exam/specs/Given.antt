@@ -1,5 +1,5 @@
 -- What a host gets of an exam follows from the definition: `exam_given`. And what holds of any list of requests by any roles.
-use Rattle.std.specs.Prelude.{Bool, cond, List, [], ◌∷◌, ◌≡◌, ℕ}
+use Rattle.std.specs.Prelude.{Bool, cond, List, [], ◌∷◌, ◌≡◌, ℕ, Result, Err}
 use Rattle.std.proofs.Math.Bool.{true, false}
 use Rattle.std.proofs.Math.Path.{refl, subst}
 use Rattle.std.proofs.Common.{sym}
@@ -13,7 +13,6 @@ use Rattle.exam.specs.declared.ResultChange.TheVariants.{Begin, Enter, Withdraw}
 use Rattle.exam.specs.declared.ExamRequest.{ExamRequest}
 use Rattle.exam.specs.declared.ExamRequest.TheVariants.{Changes, ReadsMesh, ReadsResults, Unknown}
 use Rattle.exam.specs.declared.ExamReply.{ExamReply}
-use Rattle.exam.specs.declared.ExamReply.TheVariants.{Refused}
 use Rattle.exam.specs.Exam.{ExamMesh, mesh_in, may_read_mesh, may_read_results, mesh_seen, change_answer, result_reply}
 use Rattle.exam.specs.Exam.{acted, does, exam_acts, exam_answer, masked_exit, masked_answer}
 
@@ -31,7 +30,7 @@ masked_sees m x Unknown list = refl
 
 module _ (m : ExamMesh) (x : Results) (role : ℕ) where
   -- a request that isn't a change, allowed or not, leaves them
-  reads_leave : (b : Bool) (reply : ExamReply) (list after : List ℕ) → (cond b (acted reply after x) (acted (Refused 20) list x)).left ≡ x
+  reads_leave : (b : Bool) (reply : Result ExamReply ℕ) (list after : List ℕ) → (cond b (acted reply after x) (acted (Err 20) list x)).left ≡ x
   reads_leave true reply list after = refl
   reads_leave false reply list after = refl
 
@@ -45,7 +44,7 @@ module _ (m : ExamMesh) (x : Results) (role : ℕ) where
   unfolding exam_answer exam_acts
   exam_kept (Changes c) list a = by (eqb role 1)
     where
-      by : (b : Bool) → Afresh (mesh_in m) (cond b (does m x (Changes c) list) (acted (Refused 20) list x)).left
+      by : (b : Bool) → Afresh (mesh_in m) (cond b (does m x (Changes c) list) (acted (Err 20) list x)).left
       by true = change_kept c a
       by false = a
   exam_kept (ReadsMesh r) list a =

@@ -1,9 +1,8 @@
 -- What a host gets of an exam. Statements only.
-use Rattle.std.specs.Prelude.{true, false, List, ◌≡◌, ℕ, ◌≤◌, set}
+use Rattle.std.specs.Prelude.{true, false, List, ◌≡◌, ℕ, ◌≤◌, set, Result, IfOk}
 use Rattle.lent_mesh.specs.Mesh.{Mesh, quad_of}
 use Rattle.thresholds.specs.Figures.{most_threshold, threshold_at, stands, names, Results}
 use Rattle.thresholds.specs.Kept.{Afresh}
-use Rattle.estimates.specs.declared.EstimateAnswer.{EstimateAnswer}
 use Rattle.estimates.specs.Estimate.{least_threshold, greatest_threshold, estimate_answer, estimated}
 use Rattle.estimates.specs.OneOff.{tenths_apart, EqualWithin}
 use Rattle.exam.specs.declared.ExamRequest.{ExamRequest}
@@ -16,12 +15,12 @@ use Rattle.exam.specs.Exam.{ExamMesh, mesh_in, may_read_results, exam_exit, exam
 -- Of the estimate in quad k of a mesh: it equals its definition; were one threshold that stands another, the answer would be refused as it is, or its
 -- estimate be no farther from this one than the two thresholds are apart, and the same where the quad doesn't name that node; and an estimate lies
 -- between the least and the greatest of its corners.
-pub record EstimateGiven (m : Mesh) (t : List ℕ) (k u v : ℕ) (r : EstimateAnswer) : Type 0 where
+pub record EstimateGiven (m : Mesh) (t : List ℕ) (k u v : ℕ) (r : Result ℕ ℕ) : Type 0 where
   pub equal : r ≡ estimate_answer m t k u v
   pub one_off : (id x : ℕ) → stands m.nodes t id ≡ true → x ≤ most_threshold
       → EqualWithin (tenths_apart x (threshold_at t id)) (estimate_answer m (set t id x) k u v) r
   pub elsewhere : (id x : ℕ) → names (quad_of m k) id ≡ false → estimate_answer m (set t id x) k u v ≡ r
-  pub between : r.refusal ≡ 0 → (least_threshold t (quad_of m k) ≤ r.estimate) × (r.estimate ≤ greatest_threshold t (quad_of m k))
+  pub between : IfOk r (λ e. (least_threshold t (quad_of m k) ≤ e) × (e ≤ greatest_threshold t (quad_of m k)))
 
 -- WHAT A HOST GETS of the request q of a role to the exam of the mesh m and the results x, with a reply list: `r` is answered, `after` and `left` are the
 -- reply list and the results then.

@@ -5,6 +5,14 @@
 use domain::Point;
 use lent_mesh::QuadIds;
 
+// Who asks.
+#[derive(Clone, Copy, PartialEq, Eq)]
+pub enum Role {
+    Desk,
+    Reader,
+    MaskedReader,
+}
+
 // What changes the results.
 #[derive(Clone, Copy)]
 pub enum ResultChange {
@@ -29,6 +37,7 @@ pub enum ResultRead {
     ReadEstimate(u32, u32, u32),
 }
 
+// Stays an enum with `Unknown`, and no `Option`: it is a request like the others, which no role has.
 #[derive(Clone, Copy)]
 pub enum ExamRequest {
     Changes(ResultChange),
@@ -39,7 +48,6 @@ pub enum ExamRequest {
 
 #[derive(Clone, Copy)]
 pub enum ExamReply {
-    Refused(u32),
     Done,
     Node(Point, u32),
     Quad(QuadIds),
@@ -49,7 +57,7 @@ pub enum ExamReply {
     Estimate(u32),
 }
 
-// The reply as it crosses: `refusal` is 0 where nothing is refused; what isn't asked for is 0.
+// Stays a struct: C reads it. The reply as it crosses: `refusal` is 0 where nothing is refused; what isn't asked for is 0.
 #[repr(C)]
 #[derive(Clone, Copy)]
 pub struct ExamAnswer {

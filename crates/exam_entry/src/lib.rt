@@ -2,12 +2,50 @@
 // `&mut`, nothing is written where the call is refused.
 #![tactic(auto)]
 
+ghost use Rattle.std.specs.Prelude.{◌≡◌};
+ghost use Rattle.domain.specs.Refusals.{numbered};
 ghost use Rattle.thresholds.specs.Figures.{results};
-ghost use Rattle.exam.specs.Exam.{request_numbered, exam_mesh};
+ghost use Rattle.exam_results.specs.Lent.{results_lent, SameBorrows};
+ghost use Rattle.exam.specs.Exam.{request_numbered, exam_mesh, acted, exam_acts};
 ghost use Rattle.exam.specs.Statement.{ExamGiven};
+ghost use Rattle.exam_requests.specs.Lent.{exam_mesh_lent};
 
+use domain::Refusal;
 use exam::{ExamAnswer, ExamReply, ExamRequest};
+use exam_requests::LentExamMesh;
+use exam_results::LentResults;
 
+// What is replied. It is refused before all else where the role lacks the operation.
+#[tactic(auto, using(crate::specs::Code::no_role, exam_results::specs::FigureLaws::refusal_answered), unfolding(exam::specs::Exam::exam_acts, exam::specs::Exam::reply_or))]
+fn ask(
+    role: u32,
+    request: ExamRequest,
+    mesh: LentExamMesh<'_>,
+    results: &mut LentResults<'_>,
+    reply: &mut [u32],
+) -> Result<ExamReply, Refusal>
+    ensures same { SameBorrows results.old results.new }
+    ensures acts { acted (numbered result) reply.new (results_lent results.new)
+        ≡ exam_acts (exam_mesh_lent mesh.entry) (results_lent results.old) role request reply.old }
+{
+    let Some(role) = exam_requests::role_numbered(role) else {
+        return Err(Refusal::NotAllowed);
+    };
+    if !exam_requests::may(role, request) {
+        return Err(Refusal::NotAllowed);
+    }
+    match request {
+        ExamRequest::Changes(change) => {
+            exam_requests::change_results(change, mesh.mesh(), results)?;
+            Ok(ExamReply::Done)
+        }
+        ExamRequest::ReadsMesh(read) => exam_requests::read_mesh(read, mesh, reply),
+        ExamRequest::ReadsResults(read) => exam_requests::read_results(read, mesh.mesh(), results),
+        ExamRequest::Unknown => Err(Refusal::NotAllowed),
+    }
+}
+
+// Stays a row of numbers and slices, and its answer a struct: C calls it.
 // One request of one role to an exam. 20 comes before all else; where anything is refused, nothing lent is written.
 #[unsafe(no_mangle)]
 pub extern "C" fn sitjorbe_exam(
@@ -36,28 +74,20 @@ pub extern "C" fn sitjorbe_exam(
         result reply.new (results thresholds.new count.new sum.new) }
 {
     let request = exam_requests::request_numbered(operation, item, value, u, v);
-    if !exam_requests::may(role, request) {
-        return exam_requests::exam_numbers(ExamReply::Refused(20));
-    }
-    match request {
-        ExamRequest::Changes(change) => {
-            let n = exam_requests::nodes_lent(nodes, xs, ys, origins);
-            let refusal = exam_requests::change_results(
-                change, n, quad_count, quads, thresholds, count, sum,
-            );
-            exam_requests::exam_numbers(exam_requests::reply_or(refusal, ExamReply::Done))
-        }
-        ExamRequest::ReadsMesh(read) => exam_requests::exam_numbers(exam_requests::read_mesh(
-            read, nodes, xs, ys, quad_count, quads, next, prev, origins, reply,
-        )),
-        ExamRequest::ReadsResults(read) => {
-            let n = exam_requests::nodes_lent(nodes, xs, ys, origins);
-            let c = *count;
-            let s = *sum;
-            exam_requests::exam_numbers(exam_requests::read_results(
-                read, n, quad_count, quads, thresholds, c, s,
-            ))
-        }
-        ExamRequest::Unknown => exam_requests::exam_numbers(ExamReply::Refused(20)),
-    }
+    let mesh = LentExamMesh {
+        nodes,
+        xs,
+        ys,
+        quad_count,
+        quads,
+        next,
+        prev,
+        origins,
+    };
+    let mut results = LentResults {
+        thresholds,
+        count,
+        sum,
+    };
+    exam_requests::exam_numbers(ask(role, request, mesh, &mut results, reply))
 }

@@ -1,11 +1,11 @@
 -- Loops of lent links, each reading on the smallest input that shows it. The check computes them.
-use Rattle.std.specs.Prelude.{[], ◌∷◌, ◌≡◌, refl}
+use Rattle.std.specs.Prelude.{[], ◌∷◌, ◌≡◌, refl, Ok, Err}
 use Rattle.laws.specs.Loop.{for_up, any_up}
 use Rattle.topology.specs.Links.{off, link_of}
 use Rattle.topology.specs.Walk.{walk_by, prepend}
 use Rattle.topology.specs.Listing.{long_loops, add_loop}
 use Rattle.laws.specs.Overlay.{overlay}
-use Rattle.exam_loops.specs.Loops.{links_back, are_paired, links_sound, linked_loops, loop_numbered, loop_reading, loop_read, read_into, read_loop}
+use Rattle.exam_loops.specs.Loops.{links_back, are_paired, links_sound, linked_loops, loop_numbered, loop_reading, read_into, read_loop}
 
 -- nodes 0, 4, 2 and 1, 5, 3 make two loops, and 6 is off the front
 two_loops : linked_loops 7 (4 ∷ 5 ∷ 0 ∷ 1 ∷ 2 ∷ 3 ∷ off ∷ []) (2 ∷ 3 ∷ 4 ∷ 5 ∷ 0 ∷ 1 ∷ off ∷ []) ≡ (0 ∷ 4 ∷ 2 ∷ []) ∷ (1 ∷ 5 ∷ 3 ∷ []) ∷ []
@@ -50,15 +50,15 @@ unfolding linked_loops links_sound are_paired links_back any_up long_loops add_l
 long_links = refl
 
 -- a loop on the first places; with one place less 14, and the list as it was
-fits : read_loop 3 (1 ∷ 2 ∷ 0 ∷ []) (2 ∷ 0 ∷ 1 ∷ []) 0 (7 ∷ 7 ∷ 7 ∷ 7 ∷ []) ≡ loop_reading (loop_read 0 3) (0 ∷ 1 ∷ 2 ∷ 7 ∷ [])
+fits : read_loop 3 (1 ∷ 2 ∷ 0 ∷ []) (2 ∷ 0 ∷ 1 ∷ []) 0 (7 ∷ 7 ∷ 7 ∷ 7 ∷ []) ≡ loop_reading (Ok 3) (0 ∷ 1 ∷ 2 ∷ 7 ∷ [])
 unfolding read_loop read_into overlay loop_numbered linked_loops links_sound are_paired links_back any_up long_loops add_loop for_up walk_by prepend link_of
 fits = refl
 
-too_short : read_loop 3 (1 ∷ 2 ∷ 0 ∷ []) (2 ∷ 0 ∷ 1 ∷ []) 0 (7 ∷ 7 ∷ []) ≡ loop_reading (loop_read 14 0) (7 ∷ 7 ∷ [])
+too_short : read_loop 3 (1 ∷ 2 ∷ 0 ∷ []) (2 ∷ 0 ∷ 1 ∷ []) 0 (7 ∷ 7 ∷ []) ≡ loop_reading (Err 14) (7 ∷ 7 ∷ [])
 unfolding read_loop read_into overlay loop_numbered linked_loops links_sound are_paired links_back any_up long_loops add_loop for_up walk_by prepend link_of
 too_short = refl
 
 -- past the loops listed an empty one, for which no place is too few
-past_listed : read_loop 3 (1 ∷ 2 ∷ 0 ∷ []) (2 ∷ 0 ∷ 1 ∷ []) 7 [] ≡ loop_reading (loop_read 0 0) []
+past_listed : read_loop 3 (1 ∷ 2 ∷ 0 ∷ []) (2 ∷ 0 ∷ 1 ∷ []) 7 [] ≡ loop_reading (Ok 0) []
 unfolding read_loop read_into overlay loop_numbered linked_loops links_sound are_paired links_back any_up long_loops add_loop for_up walk_by prepend link_of
 past_listed = refl

@@ -1,10 +1,9 @@
 -- The loops of a mesh as it is lent, and what reading one answers. Definitions only.
-use Rattle.std.specs.Prelude.{Bool, not, ◌&&◌, ◌||◌, cond, List, [], ◌∷◌, ℕ, zero, suc, eqb, ltb, length}
+use Rattle.std.specs.Prelude.{Bool, not, ◌&&◌, ◌||◌, cond, List, [], ◌∷◌, ℕ, zero, suc, eqb, ltb, length, Result, Ok, Err}
 use Rattle.laws.specs.Loop.{any_up}
 use Rattle.topology.specs.Links.{off, link_of}
 use Rattle.topology.specs.Listing.{walks}
 use Rattle.laws.specs.Overlay.{overlay}
-use Rattle.exam_loops.specs.declared.LoopRead.{LoopRead}
 
 -- ---- links, of n nodes
 
@@ -34,20 +33,17 @@ loop_numbered (l ∷ ls) (suc k) = loop_numbered ls k
 
 -- ---- a reading
 
--- the refusal and the loop's length, and the reply list as it is left
+-- how many ids the loop has, or the refusal, and the reply list as it is left
 pub record LoopReading : Type 0 where
-  pub read : LoopRead
+  pub read : Result ℕ ℕ
   pub list : List ℕ
 
-abbrev pub loop_reading : LoopRead → List ℕ → LoopReading
+abbrev pub loop_reading : Result ℕ ℕ → List ℕ → LoopReading
 loop_reading r list = record { read = r; list = list }
-
-abbrev pub loop_read : ℕ → ℕ → LoopRead
-loop_read refusal length = record { refusal = refusal; length = length }
 
 -- l on the first places of the list; 14 where there are too few, and the list as it was
 unfoldable pub read_into : List ℕ → List ℕ → LoopReading
-read_into l list = cond (ltb (length list) (length l)) (loop_reading (loop_read 14 0) list) (loop_reading (loop_read 0 (length l)) (overlay l list))
+read_into l list = cond (ltb (length list) (length l)) (loop_reading (Err 14) list) (loop_reading (Ok (length l)) (overlay l list))
 
 -- loop k is read
 unfoldable pub read_loop : ℕ → List ℕ → List ℕ → ℕ → List ℕ → LoopReading

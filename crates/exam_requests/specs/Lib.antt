@@ -1,2 +1,2 @@
--- What the code goes by.
-pub mod Code
+-- The mesh as it is lent.
+pub mod Lent

@@ -2,16 +2,18 @@
 // thresholds of those quads, and the estimate between the nodes of a quad. A call that changes them looks only at the quads that name its node.
 #![tactic(auto)]
 
-ghost use Rattle.std.specs.Prelude.{◌≡◌, ◌<◌, ◌≤◌, ◌||◌, length, replicate, ◌==◌};
-ghost use Rattle.lent_mesh.specs.Mesh.{mesh, quad_count_of};
-ghost use Rattle.thresholds.specs.Figures.{no_threshold, threshold_at, stands, is_complete, once_only, quad_total, names, count_at, sum_at, share_of};
-ghost use Rattle.thresholds.specs.Figures.{moved, results, outcome, is_missing, refusal_at, with_threshold, begin_answer, enter_answer, withdraw_answer};
+ghost use Rattle.std.specs.Prelude.{◌≡◌, ◌<◌, ◌≤◌, ◌||◌, length, ◌==◌};
+ghost use Rattle.domain.specs.Refusals.{refusal_number, refused, numbered};
+ghost use Rattle.lent_mesh.specs.Mesh.{mesh_lent};
+ghost use Rattle.thresholds.specs.Figures.{threshold_at, stands, is_complete, once_only, quad_total, names, count_at, sum_at, share_of};
+ghost use Rattle.thresholds.specs.Figures.{moved, outcome, is_missing, refusal_at, with_threshold, begin_answer, enter_answer, withdraw_answer};
 ghost use Rattle.estimates.specs.Estimate.{estimate, estimate_of, estimate_refusal, estimate_answer};
 ghost use Rattle.exam_results.specs.FigureLaws.{count_share, sum_share};
 ghost use Rattle.exam_results.specs.EstimateLaws.{Weighable, Estimable};
+ghost use Rattle.exam_results.specs.Lent.{results_lent, SameBorrows};
 
-use estimates::EstimateAnswer;
-use lent_mesh::QuadIds;
+use domain::Refusal;
+use lent_mesh::{LentMesh, QuadIds};
 
 // The greatest threshold, in tenths of a decibel; anything above it means none.
 pub const MOST_THRESHOLD: u32 = 500;
@@ -29,261 +31,211 @@ struct Share {
     sum: u32,
 }
 
+// The results as they are lent: the thresholds, and the two figures kept of them.
+#[derive(Drop)]
+pub struct LentResults<'a> {
+    pub thresholds: &'a mut [u16],
+    pub count: &'a mut u32,
+    pub sum: &'a mut u32,
+}
+
 // ---- reading
 
 // What the list has at id; past the list none.
 pub fn threshold_at(thresholds: &[u16], id: u32) -> u32
     ensures { (result ≡ threshold_at thresholds.now id) × (result ≤ 65535) }
 {
-    let i = id as usize;
-    if i < thresholds.len() {
-        thresholds[i] as u32
-    } else {
-        NO_THRESHOLD as u32
-    }
+    u32::from(thresholds.get(id as usize).copied().unwrap_or(NO_THRESHOLD))
 }
 
 // Whether a threshold stands at id.
+#[tactic(auto, unfolding(thresholds::specs::Figures::stands))]
 pub fn stands(nodes: u32, thresholds: &[u16], id: u32) -> bool
     ensures { result ≡ stands nodes thresholds.now id }
 {
-    if id >= nodes {
-        return false;
-    }
-    threshold_at(thresholds, id) <= MOST_THRESHOLD
+    id < nodes && threshold_at(thresholds, id) <= MOST_THRESHOLD
 }
 
 // Whether a threshold stands at all four.
+#[tactic(auto, unfolding(thresholds::specs::Figures::is_complete))]
 pub fn is_complete(nodes: u32, thresholds: &[u16], q: QuadIds) -> bool
     ensures { result ≡ is_complete nodes thresholds.now q }
 {
-    if !stands(nodes, thresholds, q.a) {
-        return false;
-    }
-    if !stands(nodes, thresholds, q.b) {
-        return false;
-    }
-    if !stands(nodes, thresholds, q.d) {
-        return false;
-    }
-    stands(nodes, thresholds, q.c)
+    stands(nodes, thresholds, q.a)
+        && stands(nodes, thresholds, q.b)
+        && stands(nodes, thresholds, q.d)
+        && stands(nodes, thresholds, q.c)
 }
 
-// The threshold at id, or 0 where id is one of three others.
-fn once(thresholds: &[u16], id: u32, x: u32, y: u32, z: u32) -> u32
-    ensures { (result ≡ once_only (id == x || (id == y || id == z)) (threshold_at thresholds.now id)) × (result ≤ 65535) }
+// The threshold at id, or 0 where its node was counted already.
+fn once(thresholds: &[u16], id: u32, repeated: bool) -> u32
+    ensures { (result ≡ once_only repeated (threshold_at thresholds.now id)) × (result ≤ 65535) }
 {
-    if id == x {
-        return 0;
+    if repeated {
+        0
+    } else {
+        threshold_at(thresholds, id)
     }
-    if id == y {
-        return 0;
-    }
-    if id == z {
-        return 0;
-    }
-    threshold_at(thresholds, id)
 }
 
 // The thresholds of the quad's nodes, each node counted once.
+#[tactic(auto, unfolding(thresholds::specs::Figures::quad_total))]
 fn quad_total(thresholds: &[u16], q: QuadIds) -> u32
     ensures { result ≡ quad_total thresholds.now q }
 {
     let a = threshold_at(thresholds, q.a);
-    let b = once(thresholds, q.b, q.a, q.a, q.a);
-    let d = once(thresholds, q.d, q.a, q.a, q.b);
-    let c = once(thresholds, q.c, q.a, q.b, q.d);
+    let b = once(thresholds, q.b, q.b == q.a);
+    let d = once(thresholds, q.d, q.d == q.a || q.d == q.b);
+    let c = once(thresholds, q.c, q.c == q.a || q.c == q.b || q.c == q.d);
     a + b + d + c
 }
 
 // Whether one of the four is id.
+#[tactic(auto, unfolding(thresholds::specs::Figures::names))]
 fn names(q: QuadIds, id: u32) -> bool
     ensures { result ≡ names q id }
 {
-    if q.a == id {
-        return true;
-    }
-    if q.b == id {
-        return true;
-    }
-    if q.d == id {
-        return true;
-    }
-    q.c == id
+    q.a == id || q.b == id || q.d == id || q.c == id
 }
 
 // ---- the figures moved
 
 // What the quad adds to the shares of id.
+#[tactic(auto, unfolding(crate::specs::FigureLaws::count_share, crate::specs::FigureLaws::sum_share))]
 fn quad_share(nodes: u32, thresholds: &[u16], q: QuadIds, id: u32) -> Share
     ensures { (result.count ≡ count_share nodes thresholds.now q id) × (result.sum ≡ sum_share nodes thresholds.now q id) }
 {
-    if !names(q, id) {
-        return Share { count: 0, sum: 0 };
-    }
-    if !is_complete(nodes, thresholds, q) {
-        return Share { count: 0, sum: 0 };
-    }
-    Share {
-        count: 1,
-        sum: quad_total(thresholds, q),
+    if names(q, id) && is_complete(nodes, thresholds, q) {
+        let sum = quad_total(thresholds, q);
+        Share { count: 1, sum }
+    } else {
+        Share { count: 0, sum: 0 }
     }
 }
 
-// What those of the first m quads have that name id: a scan.
-fn node_share(nodes: u32, m: usize, quads: &[u32], thresholds: &[u16], id: u32) -> Share
-    requires { m ≤ 250000 }
-    ensures { (result.count ≡ share_of (mesh nodes m quads.now) id (count_at (mesh nodes m quads.now) thresholds.now))
-        × (result.sum ≡ share_of (mesh nodes m quads.now) id (sum_at (mesh nodes m quads.now) thresholds.now)) }
+// What the quads have that name id: a scan.
+fn node_share(mesh: LentMesh<'_>, thresholds: &[u16], id: u32) -> Share
+    ensures { (result.count ≡ share_of (mesh_lent mesh.entry) id (count_at (mesh_lent mesh.entry) thresholds.now))
+        × (result.sum ≡ share_of (mesh_lent mesh.entry) id (sum_at (mesh_lent mesh.entry) thresholds.now)) }
 {
     let mut count: u32 = 0;
     let mut sum: u32 = 0;
-    let mut k = 0;
-    while k < m {
-        let q = lent_mesh::quad_at(quads, k);
-        let share = quad_share(nodes, thresholds, q, id);
-        count = count + share.count;
-        sum = sum + share.sum;
-        k += 1;
+    for k in 0..mesh.quad_count() {
+        let share = quad_share(mesh.nodes, thresholds, mesh.quad(k), id);
+        count += share.count;
+        sum += share.sum;
     }
     Share { count, sum }
 }
 
 // A figure moved by what was lost and won, modulo 2^32.
+#[tactic(auto, unfolding(thresholds::specs::Figures::moved))]
 fn moved(x: u32, lost: u32, won: u32) -> u32
     ensures { result ≡ moved x lost won }
 {
-    std::num::wrapping_add_u32(std::num::wrapping_sub_u32(x, lost), won)
-}
-
-// v written at id, and the figures moved by what the quads that name id had before and have after.
-fn set_threshold(
-    nodes: u32,
-    m: usize,
-    quads: &[u32],
-    thresholds: &mut [u16],
-    count: &mut u32,
-    sum: &mut u32,
-    id: u32,
-    v: u16,
-)
-    requires { (m ≤ 250000) × (id < length thresholds.old) }
-    ensures { results thresholds.new count.new sum.new
-        ≡ with_threshold (mesh nodes m quads.now) (results thresholds.old count.old sum.old) id v }
-{
-    let i = id as usize;
-    let lost = node_share(nodes, m, quads, thresholds, id);
-    thresholds[i] = v;
-    let won = node_share(nodes, m, quads, thresholds, id);
-    let c = *count;
-    let s = *sum;
-    *count = moved(c, lost.count, won.count);
-    *sum = moved(s, lost.sum, won.sum);
+    x.wrapping_sub(lost).wrapping_add(won)
 }
 
 // ---- the refusals
 
 // Whether id is no node, or past the list.
+#[tactic(auto, unfolding(thresholds::specs::Figures::is_missing))]
 pub fn is_missing(nodes: u32, thresholds: &[u16], id: u32) -> bool
     ensures { result ≡ is_missing nodes thresholds.now id }
 {
-    if nodes <= id {
-        return true;
-    }
-    let i = id as usize;
-    thresholds.len() <= i
+    nodes <= id || thresholds.len() <= id as usize
 }
 
-// 15 where the node is missing, then `number` where v is no threshold; 0 for neither.
-pub fn refusal_at(nodes: u32, thresholds: &[u16], id: u32, v: u32, number: u32) -> u32
-    ensures { result ≡ refusal_at nodes thresholds.now id v number }
-{
-    let missing = is_missing(nodes, thresholds, id);
-    let high = MOST_THRESHOLD < v;
-    if missing {
-        return 15;
-    }
-    if high {
-        return number;
-    }
-    0
-}
-
-// ---- the three calls; each answers its refusal, 0 for none
-
-// An exam begins: none in every place, and both figures 0.
-pub fn begin(thresholds: &mut [u16], count: &mut u32, sum: &mut u32) -> u32
-    ensures { outcome result (results thresholds.new count.new sum.new)
-        ≡ begin_answer (results thresholds.old count.old sum.old) }
-{
-    blank(thresholds);
-    *count = 0;
-    *sum = 0;
-    0
-}
-
-fn blank(thresholds: &mut [u16])
-    ensures { thresholds.new ≡ replicate (length thresholds.old) no_threshold }
-{
-    let mut i = 0;
-    while i < thresholds.len() {
-        thresholds[i] = NO_THRESHOLD;
-        i += 1;
-    }
-}
-
-// A threshold arrives at a node. `nodes` is the count of nodes as it stops.
-pub fn enter(
+// No node where the node is missing, then `high` where v is no threshold.
+#[tactic(auto, unfolding(thresholds::specs::Figures::refusal_at))]
+pub fn check_threshold(
     nodes: u32,
-    quad_count: usize,
-    quads: &[u32],
-    thresholds: &mut [u16],
-    count: &mut u32,
-    sum: &mut u32,
-    node: u32,
-    threshold: u32,
-) -> u32
-    ensures { outcome result (results thresholds.new count.new sum.new)
-        ≡ enter_answer (mesh nodes (quad_count_of quad_count quads.now) quads.now)
-        (results thresholds.old count.old sum.old) node threshold }
+    thresholds: &[u16],
+    id: u32,
+    v: u32,
+    high: Refusal,
+) -> Result<(), Refusal>
+    ensures { refused result ≡ refusal_at nodes thresholds.now id v (refusal_number high) }
 {
-    let refusal = refusal_at(nodes, thresholds, node, threshold, 16);
-    if refusal != 0 {
-        return refusal;
+    if is_missing(nodes, thresholds, id) {
+        return Err(Refusal::NoNode);
     }
-    let m = lent_mesh::quad_count(quad_count, quads);
-    let v = threshold as u16;
-    set_threshold(nodes, m, quads, thresholds, count, sum, node, v);
-    0
+    if v > MOST_THRESHOLD {
+        return Err(high);
+    }
+    Ok(())
 }
 
-// The threshold at a node is withdrawn.
-pub fn withdraw(
-    nodes: u32,
-    quad_count: usize,
-    quads: &[u32],
-    thresholds: &mut [u16],
-    count: &mut u32,
-    sum: &mut u32,
-    node: u32,
-) -> u32
-    ensures { outcome result (results thresholds.new count.new sum.new)
-        ≡ withdraw_answer (mesh nodes (quad_count_of quad_count quads.now) quads.now)
-        (results thresholds.old count.old sum.old) node }
-{
-    let v = threshold_at(thresholds, node);
-    let refusal = refusal_at(nodes, thresholds, node, v, 17);
-    if refusal != 0 {
-        return refusal;
+// ---- the three calls
+
+impl LentResults<'_> {
+    pub fn thresholds(&self) -> &[u16]
+        ensures { result.now ≡ self.now.thresholds.now }
+    {
+        &*self.thresholds
     }
-    let m = lent_mesh::quad_count(quad_count, quads);
-    set_threshold(nodes, m, quads, thresholds, count, sum, node, NO_THRESHOLD);
-    0
+
+    // v written at id, and the figures moved by what the quads that name id had before and have after.
+    #[tactic(auto, unfolding(thresholds::specs::Figures::with_threshold))]
+    fn set_threshold(&mut self, mesh: LentMesh<'_>, id: u32, v: u16)
+        requires { id < length self.old.thresholds.now }
+        ensures same { SameBorrows self.old self.new }
+        ensures left { results_lent self.new ≡ with_threshold (mesh_lent mesh.entry) (results_lent self.old) id v }
+    {
+        let lost = node_share(mesh, self.thresholds(), id);
+        self.thresholds[id as usize] = v;
+        let won = node_share(mesh, self.thresholds(), id);
+        *self.count = moved(*self.count, lost.count, won.count);
+        *self.sum = moved(*self.sum, lost.sum, won.sum);
+    }
+
+    // An exam begins: none in every place, and both figures 0.
+    #[tactic(auto, unfolding(thresholds::specs::Figures::begin_answer))]
+    pub fn begin(&mut self)
+        ensures same { SameBorrows self.old self.new }
+        ensures left { outcome 0 (results_lent self.new) ≡ begin_answer (results_lent self.old) }
+    {
+        self.thresholds.fill(NO_THRESHOLD);
+        *self.count = 0;
+        *self.sum = 0;
+    }
+
+    // A threshold arrives at a node.
+    #[tactic(auto, using(crate::specs::FigureLaws::refusal_answered), unfolding(thresholds::specs::Figures::enter_answer, thresholds::specs::Figures::refusal_at, thresholds::specs::Figures::is_missing))]
+    pub fn enter(&mut self, mesh: LentMesh<'_>, node: u32, threshold: u32) -> Result<(), Refusal>
+        ensures same { SameBorrows self.old self.new }
+        ensures left { outcome (refused result) (results_lent self.new)
+            ≡ enter_answer (mesh_lent mesh.entry) (results_lent self.old) node threshold }
+    {
+        check_threshold(
+            mesh.nodes,
+            self.thresholds(),
+            node,
+            threshold,
+            Refusal::ThresholdTooHigh,
+        )?;
+        self.set_threshold(mesh, node, threshold as u16);
+        Ok(())
+    }
+
+    // The threshold at a node is withdrawn.
+    #[tactic(auto, using(crate::specs::FigureLaws::refusal_answered), unfolding(thresholds::specs::Figures::withdraw_answer, thresholds::specs::Figures::refusal_at, thresholds::specs::Figures::is_missing))]
+    pub fn withdraw(&mut self, mesh: LentMesh<'_>, node: u32) -> Result<(), Refusal>
+        ensures same { SameBorrows self.old self.new }
+        ensures left { outcome (refused result) (results_lent self.new)
+            ≡ withdraw_answer (mesh_lent mesh.entry) (results_lent self.old) node }
+    {
+        let v = threshold_at(self.thresholds(), node);
+        check_threshold(mesh.nodes, self.thresholds(), node, v, Refusal::NoThreshold)?;
+        self.set_threshold(mesh, node, NO_THRESHOLD);
+        Ok(())
+    }
 }
 
 // ---- estimates
 
 // Four thresholds by the weights u and v, rounded down once.
+#[tactic(auto, using(crate::specs::EstimateLaws::terms_small), unfolding(estimates::specs::Estimate::estimate))]
 fn weigh(u: u32, v: u32, a: u32, b: u32, d: u32, c: u32) -> u32
     requires { Weighable u v a b d c }
     ensures { result ≡ estimate u v a b d c }
@@ -293,7 +245,8 @@ fn weigh(u: u32, v: u32, a: u32, b: u32, d: u32, c: u32) -> u32
     (s * t * a + u * t * b + u * v * d + s * v * c) / 65536
 }
 
-// The estimate in a quad that has all four thresholds. `nodes` is the count of nodes as it stops.
+// The estimate in a quad that has all four thresholds.
+#[tactic(auto, unfolding(estimates::specs::Estimate::estimate_of))]
 fn estimate_in(nodes: u32, thresholds: &[u16], q: QuadIds, u: u32, v: u32) -> u32
     requires { Estimable nodes thresholds.now q u v }
     ensures { result ≡ estimate_of u v thresholds.now q }
@@ -305,57 +258,37 @@ fn estimate_in(nodes: u32, thresholds: &[u16], q: QuadIds, u: u32, v: u32) -> u3
     weigh(u, v, a, b, d, c)
 }
 
-// 18 for a quad that isn't in the mesh or lacks a threshold, then 19 for a weight above 256; 0 for neither.
-fn estimate_refusal(
-    nodes: u32,
-    quad_count: usize,
-    quads: &[u32],
+// A quad that isn't in the mesh or lacks a threshold, then a weight above 256.
+#[tactic(auto, unfolding(estimates::specs::Estimate::estimate_refusal))]
+fn check_estimate(
+    mesh: LentMesh<'_>,
     thresholds: &[u16],
     quad: usize,
     u: u32,
     v: u32,
-) -> u32
-    ensures { result ≡ estimate_refusal (mesh nodes (quad_count_of quad_count quads.now) quads.now) thresholds.now quad u v }
+) -> Result<(), Refusal>
+    ensures { refused result ≡ estimate_refusal (mesh_lent mesh.entry) thresholds.now quad u v }
 {
-    let m = lent_mesh::quad_count(quad_count, quads);
-    if m <= quad {
-        return 18;
+    if quad >= mesh.quad_count() || !is_complete(mesh.nodes, thresholds, mesh.quad(quad)) {
+        return Err(Refusal::NoQuad);
     }
-    let q = lent_mesh::quad_at(quads, quad);
-    if !is_complete(nodes, thresholds, q) {
-        return 18;
+    if u > MOST_WEIGHT || v > MOST_WEIGHT {
+        return Err(Refusal::WeightTooHigh);
     }
-    if MOST_WEIGHT < u {
-        return 19;
-    }
-    if MOST_WEIGHT < v {
-        return 19;
-    }
-    0
+    Ok(())
 }
 
-// The estimate in quad `quad` at the weights u and v. `nodes` is the count of nodes as it stops.
+// The estimate in quad `quad` at the weights u and v.
+#[tactic(auto, using(crate::specs::FigureLaws::refusal_answered), unfolding(estimates::specs::Estimate::estimate_answer))]
 pub fn estimate_at(
-    nodes: u32,
-    quad_count: usize,
-    quads: &[u32],
+    mesh: LentMesh<'_>,
     thresholds: &[u16],
     quad: usize,
     u: u32,
     v: u32,
-) -> EstimateAnswer
-    ensures { result ≡ estimate_answer (mesh nodes (quad_count_of quad_count quads.now) quads.now) thresholds.now quad u v }
+) -> Result<u32, Refusal>
+    ensures { numbered result ≡ estimate_answer (mesh_lent mesh.entry) thresholds.now quad u v }
 {
-    let refusal = estimate_refusal(nodes, quad_count, quads, thresholds, quad, u, v);
-    if refusal != 0 {
-        return EstimateAnswer {
-            refusal,
-            estimate: 0,
-        };
-    }
-    let q = lent_mesh::quad_at(quads, quad);
-    EstimateAnswer {
-        refusal: 0,
-        estimate: estimate_in(nodes, thresholds, q, u, v),
-    }
+    check_estimate(mesh, thresholds, quad, u, v)?;
+    Ok(estimate_in(mesh.nodes, thresholds, mesh.quad(quad), u, v))
 }

@@ -1,57 +1,27 @@
 -- What the code's loops and branches go by.
-use Rattle.std.specs.Prelude.{Bool, ◌≢◌, ◌≡◌, refl, ℕ, zero, suc, ◌+◌, ◌-◌, ◌<◌, ◌≤◌, eqb, ltb, length, get_or, set, take}
-use Rattle.std.proofs.Math.Bool.{true, false, not, cond}
+use Rattle.std.specs.Prelude.{Bool, ◌≢◌, ◌≡◌, refl, ℕ, zero, suc, ◌+◌, ◌-◌, ◌<◌, ◌≤◌, length, get_or, set, take, Option, MatchOption, Ok, Err}
+use Rattle.std.proofs.Math.Bool.{true, false, not}
 use mathlib.Core.List.{List, [], ◌∷◌, ◌++◌}
 use Rattle.std.proofs.Common.{sym, ◌∙◌, add-one, length-append, length-drop, length-take-le}
 use Rattle.std.proofs.Math.Path.{ap}
 use native.Mathlib.Omega.{arith}
-use Rattle.std.proofs.Math.ListN.{drop, get_or-eq_default}
+use Rattle.std.proofs.Math.ListN.{drop}
 use Rattle.std.proofs.Math.Seq.{take-length}
-use borrow.Author.Tests.{ltb-false, lt-ltb, le-ltb, ne_eqb, eq-eqb}
+use borrow.Author.Tests.{lt-ltb, le-ltb}
 use Rattle.laws.specs.Loop.{for_up, Scan, scan_hit, scan_next, scan_none}
-use Rattle.topology.specs.Links.{off, link_of, link_in_lem, link_read}
+use Rattle.topology.specs.Links.{off, link_of}
 use Rattle.topology.specs.Walk.{walk_by, prepend, walk_off}
 use Rattle.topology.specs.Listing.{long_loops, walks}
 use Rattle.laws.specs.Overlay.{overlay}
 use Rattle.loop_reads.specs.declared.FoundLoop.{FoundLoop}
-use Rattle.exam_loops.specs.Loops.{links_back, are_paired, links_sound, linked_loops, loop_numbered, loop_reading, loop_read, read_into, read_loop}
+use Rattle.exam_loops.specs.Loops.{are_paired, links_sound, linked_loops, loop_numbered, loop_reading, read_into, read_loop}
 use Rattle.exam_loops.specs.Walks.{walk_under, walk_closed, walk_onward, walk_first, walk_along}
 use Rattle.exam_loops.proofs.Walks.{starts_none}
 use Rattle.exam_loops.specs.Walks.{numbered_last, numbered_past, listing_long, listing_short, listing_stays}
 
 -- ---- links
 
-module _ (n : ℕ) (l : List ℕ) (u : ℕ) (node : u < n) where
-  pub link_there : u < length l → get_or l u 0 ≡ link_of n l u
-  link_there h = link_read (length l) l u h (omega arith) ∙ (link_in_lem (length l) l u h ∙ sym (link_in_lem n l u node))
-
-  pub link_missing : length l ≤ u → off ≡ link_of n l u
-  link_missing h = sym (get_or-eq_default l off h) ∙ sym (link_in_lem n l u node)
-
-module _ (n : ℕ) (back : List ℕ) (u v : ℕ) where
-  pub back_off : v ≡ off → true ≡ links_back n back u v
-  unfolding links_back
-  back_off e = rw (eq-eqb v off e)
-
-  module _ (on : v ≢ off) where
-    pub back_far : n ≤ v → false ≡ links_back n back u v
-    unfolding links_back
-    back_far h = rw (ne_eqb v off on, le-ltb v n h)
-
-    pub back_node : v < n → (w : ℕ) → w ≡ link_of n back v → eqb w u ≡ links_back n back u v
-    unfolding links_back
-    back_node h w e = rw (ne_eqb v off on, lt-ltb v n h, e)
-
 module _ (n : ℕ) (next prev : List ℕ) where
-  module _ (u v : ℕ) (e : v ≡ link_of n next u) (r : Bool) (back : r ≡ links_back n prev u v) where
-    pub pair_not : r ≡ false → false ≡ are_paired n next prev u
-    unfolding are_paired
-    pair_not f = rw (← e, ← back, f)
-
-    pub pair_if : r ≡ true → (w : ℕ) → w ≡ link_of n prev u → (s : Bool) → s ≡ links_back n next u w → s ≡ are_paired n next prev u
-    unfolding are_paired
-    pair_if t w g s forth = rw (← e, ← back, t, ← g) forth
-
   -- the invariant of `links_sound`: the links of the nodes below u are answered
   abbrev pub Paired : ℕ → Type 0
   Paired u = Scan (λ v. not (are_paired n next prev v)) n u
@@ -147,13 +117,14 @@ low_none n next prev sound u few v e low = sym (starts_none n next prev sound u 
 
 -- ---- loop k
 
--- loop k of the walks along f, where it starts and how many ids it has
-pub record Found (f : ℕ → ℕ) (n k : ℕ) (r : FoundLoop) : Type 0 where
-  pub long : r.length ≡ length (loop_numbered (walks 3 n n f) k)
-  pub walk : 0 < r.length → walk_by f n r.start r.start ≡ loop_numbered (walks 3 n n f) k
+-- loop k of the walks along f: where it starts, and how many ids it has
+pub record FoundAt (f : ℕ → ℕ) (n k : ℕ) (r : FoundLoop) : Type 0 where
+  pub long : r.length ≡ length (walk_by f n r.start r.start)
+  pub walk : walk_by f n r.start r.start ≡ loop_numbered (walks 3 n n f) k
 
-abbrev pub found_loop : ℕ → ℕ → FoundLoop
-found_loop start length = record { start = start; length = length }
+-- none where it has no id
+abbrev pub Found : (ℕ → ℕ) → ℕ → ℕ → Option FoundLoop → Type 0
+Found f n k r = MatchOption r (loop_numbered (walks 3 n n f) k ≡ []) (FoundAt f n k)
 
 module _ (f : ℕ → ℕ) (n k : ℕ) where
   -- the invariant of `find_loop`: the nodes below u are passed, and so many of the loops up to k are left
@@ -170,11 +141,10 @@ module _ (f : ℕ → ℕ) (n k : ℕ) where
   from u = walk_by f n u u
 
   module _ {left u : ℕ} (s : Finding left u) where
-    pub finding_end : n ≤ u → Found f n k (found_loop 0 0)
+    pub finding_end : n ≤ u → loop_numbered (walks 3 n n f) k ≡ []
     finding_end h =
         let all : u ≡ n = omega (arith, s.within) in
-        let past = numbered_past (walks 3 n n f) k (omega (arith, s.seen, ap (λ (j : ℕ). length (walks 3 j n f)) all)) in
-        record { long = sym (ap length past); walk = λ p. absurd (omega arith) }
+        numbered_past (walks 3 n n f) k (omega (arith, s.seen, ap (λ (j : ℕ). length (walks 3 j n f)) all))
 
     module _ (h : u < n) (m : ℕ) (e : m ≡ length (walk_by f n u u)) where
       pub finding_skip : m < 3 → {l : ℕ} → l ≡ left → Finding l (u + 1)
@@ -198,14 +168,14 @@ module _ (f : ℕ → ℕ) (n k : ℕ) where
                 );
           }
 
-      pub finding_hit : 3 ≤ m → left ≡ 0 → Found f n k (found_loop u m)
+      pub finding_hit : 3 ≤ m → left ≡ 0 → FoundAt f n k (record { start = u; length = m })
       finding_hit long none =
           let more = listing_long from u (omega (arith, e)) in
           let stays =
           listing_stays from k (suc u) n (omega arith) (omega (arith, s.seen, none, ap length more, length-append (walks 3 u n f) (from u ∷ []))) in
           let is : loop_numbered (walks 3 n n f) k ≡ from u =
           stays.same ∙ (ap (λ (ls : List (List ℕ)). loop_numbered ls k) more ∙ numbered_last (walks 3 u n f) (from u) k (omega (arith, s.seen, none))) in
-          record { long = e ∙ ap length (sym is); walk = λ p. sym is }
+          record { long = e; walk = sym is }
 
 -- ---- the ids written
 
@@ -267,56 +237,33 @@ module _ (f : ℕ → ℕ) (n start count : ℕ) (reply₀ : List ℕ) where
 
 -- ---- the reading
 
-no_ids : (l : List ℕ) → length l ≡ 0 → l ≡ []
-no_ids [] h = refl
-no_ids (x ∷ l) h = absurd (omega arith)
+module _ (n : ℕ) (next prev : List ℕ) (k : ℕ) (reply : List ℕ) where
+  -- of links that aren't sound every loop is empty
+  pub read_unsound : links_sound n next prev ≡ false → loop_reading (Ok 0) reply ≡ read_loop n next prev k reply
+  unfolding read_loop linked_loops loop_numbered read_into overlay
+  read_unsound e = rw (e, le-ltb (length reply) 0 (omega arith))
 
--- of links that aren't sound every loop is empty
-pub read_unsound : (n : ℕ) (next prev : List ℕ) (k : ℕ) (reply : List ℕ) → links_sound n next prev ≡ false
-    → loop_reading (loop_read 0 0) reply ≡ read_loop n next prev k reply
-unfolding read_loop linked_loops loop_numbered read_into overlay
-read_unsound n next prev k reply e = rw (e, le-ltb (length reply) 0 (omega arith))
+  module _ (sound : links_sound n next prev ≡ true) where
+    -- past the last loop too
+    pub read_none : loop_numbered (walks 3 n n (link_of n next)) k ≡ [] → loop_reading (Ok 0) reply ≡ read_loop n next prev k reply
+    unfolding read_loop linked_loops read_into overlay
+    read_none e = rw (sound, e, le-ltb (length reply) 0 (omega arith))
 
-module _ (n : ℕ) (next prev : List ℕ) (k : ℕ) (reply : List ℕ) (sound : links_sound n next prev ≡ true) (r : FoundLoop)
-    (found : Found (link_of n next) n k r) where
-  abbrev f : ℕ → ℕ
-  f = link_of n next
+    module _ (r : FoundLoop) (found : FoundAt (link_of n next) n k r) where
+      pub read_short : length reply < r.length → loop_reading (Err 14) reply ≡ read_loop n next prev k reply
+      unfolding read_loop linked_loops read_into
+      read_short h = rw (sound, ← found.walk, ← found.long, lt-ltb (length reply) r.length h)
 
-  -- loop k
-  abbrev loop_k : List ℕ
-  loop_k = loop_numbered (walks 3 n n (link_of n next)) k
+      module _ (h : r.length ≤ length reply) where
+        -- what is written has ids and places
+        pub can_write : Writable (walk_by (link_of n next) n r.start r.start) r.length reply
+        can_write = record { ids = omega (arith, found.long); places = h }
 
-  -- what is written has ids and places
-  pub can_write : (count : ℕ) → count ≡ cond (ltb (length reply) r.length) 0 r.length → Writable (walk_by (link_of n next) n r.start r.start) count reply
-  can_write count e = by (ltb (length reply) r.length) refl r.length refl e
-    where
-      by : (b : Bool) → ltb (length reply) r.length ≡ b → (m : ℕ) → r.length ≡ m → count ≡ cond b 0 r.length
-          → Writable (walk_by f n r.start r.start) count reply
-      by true q m l c = record { ids = omega arith; places = omega arith }
-      by false q zero l c = record { ids = omega (arith, l); places = omega (arith, l) }
-      by false q (suc m) l c =
-          record {
-            ids = omega (arith, found.long, ap length (found.walk (omega (arith, l))));
-            places = omega (arith, ltb-false (length reply) r.length q);
-          }
-
-  -- all ids of the walk are the loop's
-  all_taken : take r.length (walk_by (link_of n next) n r.start r.start) ≡ loop_numbered (walks 3 n n (link_of n next)) k
-  all_taken = by r.length refl
-    where
-      by : (m : ℕ) → r.length ≡ m → take r.length (walk_by f n r.start r.start) ≡ loop_k
-      by zero l = rw l (sym (no_ids loop_k (omega (arith, l, found.long))))
-      by (suc m) l = ap (take r.length) (found.walk (omega (arith, l))) ∙ (ap (λ (j : ℕ). take j loop_k) found.long ∙ take-length loop_k)
-
-  pub read_sound : (count refusal : ℕ) (list : List ℕ) → count ≡ cond (ltb (length reply) r.length) 0 r.length
-      → refusal ≡ cond (ltb (length reply) r.length) 14 0
-      → list ≡ take count (walk_by (link_of n next) n r.start r.start) ++ drop count reply
-      → loop_reading (loop_read refusal count) list ≡ read_loop n next prev k reply
-  unfolding read_loop linked_loops read_into overlay
-  read_sound count refusal list ec er el = rw (sound, ← found.long) (by (ltb (length reply) r.length) ec er)
-    where
-      by : (b : Bool) → count ≡ cond b 0 r.length → refusal ≡ cond b 14 0
-          → loop_reading (loop_read refusal count) list
-          ≡ cond b (loop_reading (loop_read 14 0) reply) (loop_reading (loop_read 0 r.length) (loop_k ++ drop r.length reply))
-      by true c q = rw (el, c, q)
-      by false c q = rw (el, c, q, all_taken)
+        -- all ids of the walk are written
+        pub read_written : (list : List ℕ) → list ≡ take r.length (walk_by (link_of n next) n r.start r.start) ++ drop r.length reply
+            → loop_reading (Ok r.length) list ≡ read_loop n next prev k reply
+        unfolding read_loop linked_loops read_into overlay
+        read_written list e =
+            let w = walk_by (link_of n next) n r.start r.start in
+            let all : take r.length w ≡ w = ap (λ (j : ℕ). take j w) found.long ∙ take-length w in
+            rw (sound, ← found.walk, ← found.long, le-ltb (length reply) r.length h) (ap (loop_reading (Ok r.length)) (e ∙ ap (λ (l : List ℕ). l ++ drop r.length reply) all))

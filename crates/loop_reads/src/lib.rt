@@ -2,16 +2,17 @@
 // long it is, and once to write it.
 #![tactic(auto)]
 
-ghost use Rattle.std.specs.Prelude.{◌≡◌, true, cond, ◌++◌, ltb, length, take, drop};
+ghost use Rattle.std.specs.Prelude.{◌≡◌, true, ◌++◌, length, take, drop};
+ghost use Rattle.domain.specs.Refusals.{numbered};
 ghost use Rattle.topology.specs.Links.{link_of};
 ghost use Rattle.topology.specs.Walk.{walk_by};
 ghost use Rattle.exam_loops.specs.Loops.{links_back, are_paired, links_sound, loop_reading, read_loop};
 ghost use Rattle.loop_reads.specs.Code.{Found, Writable};
 
-use exam_loops::LoopRead;
+use domain::Refusal;
 use front::OFF;
 
-// Where a loop starts and how many ids it has: none where there is no such loop.
+// Where a loop starts and how many ids it has.
 #[derive(Clone, Copy)]
 struct FoundLoop {
     start: u32,
@@ -21,51 +22,41 @@ struct FoundLoop {
 // ---- links
 
 // The link of node u of n; off where the list has none.
+#[tactic(auto, unfolding(topology::specs::Links::link_of))]
 fn link_in(n: u32, links: &[u32], u: u32) -> u32
     ensures { result ≡ link_of n links.now u }
 {
-    if n <= u {
-        return OFF;
+    if u < n {
+        links.get(u as usize).copied().unwrap_or(OFF)
+    } else {
+        OFF
     }
-    let i = u as usize;
-    if i < links.len() { links[i] } else { OFF }
 }
 
 // Whether v, to which u is linked, is off or a node that is linked back to u.
+#[tactic(auto, unfolding(exam_loops::specs::Loops::links_back))]
 fn links_back(n: u32, back: &[u32], u: u32, v: u32) -> bool
     ensures { result ≡ links_back n back.now u v }
 {
-    if v == OFF {
-        return true;
-    }
-    if n <= v {
-        return false;
-    }
-    link_in(n, back, v) == u
+    v == OFF || (v < n && link_in(n, back, v) == u)
 }
 
 // Whether both links of u are answered.
+#[tactic(auto, unfolding(exam_loops::specs::Loops::are_paired))]
 fn are_paired(n: u32, next: &[u32], prev: &[u32], u: u32) -> bool
     ensures { result ≡ are_paired n next.now prev.now u }
 {
-    let after = link_in(n, next, u);
-    let before = link_in(n, prev, u);
-    if !links_back(n, prev, u, after) {
-        return false;
-    }
-    links_back(n, next, u, before)
+    links_back(n, prev, u, link_in(n, next, u)) && links_back(n, next, u, link_in(n, prev, u))
 }
 
 // Whether the links of all nodes are.
 fn links_sound(n: u32, next: &[u32], prev: &[u32]) -> bool
     ensures { result ≡ links_sound n next.now prev.now }
 {
-    let mut u = 0;
-    while u < n {
+    for u in 0..n {
         if !are_paired(n, next, prev, u) {
             return false;
         }
-        u += 1;
     }
     true
 }
@@ -77,8 +68,7 @@ fn walk_length(n: u32, next: &[u32], start: u32) -> u32
     ensures { result ≡ length (walk_by (link_of n next.now) n start start) }
 {
     let mut u = start;
-    let mut count = 0;
-    while count < n {
+    for count in 0..n {
         if u < start {
             return 0;
         }
@@ -86,9 +76,8 @@ fn walk_length(n: u32, next: &[u32], start: u32) -> u32
         if v == OFF {
             return 0;
         }
-        count += 1;
         if v == start {
-            return count;
+            return count + 1;
         }
         u = v;
     }
@@ -107,42 +96,24 @@ fn loop_length(n: u32, next: &[u32], prev: &[u32], u: u32) -> u32
 }
 
 // Loop k of those that have three nodes or more.
-fn find_loop(n: u32, next: &[u32], prev: &[u32], k: u32) -> FoundLoop
+fn find_loop(n: u32, next: &[u32], prev: &[u32], k: u32) -> Option<FoundLoop>
     requires { links_sound n next.now prev.now ≡ true }
     ensures { Found (link_of n next.now) n k result }
 {
     let mut left = k;
-    let mut u = 0;
-    while u < n {
+    for u in 0..n {
         let length = loop_length(n, next, prev, u);
-        if 3 <= length {
+        if length >= 3 {
             if left == 0 {
-                return FoundLoop { start: u, length };
+                return Some(FoundLoop { start: u, length });
             }
             left -= 1;
         }
-        u += 1;
     }
-    FoundLoop {
-        start: 0,
-        length: 0,
-    }
+    None
 }
 
 // ---- the reply
-
-// How many ids are written: none where there are too few places.
-fn written_count(length: usize, places: usize) -> usize
-    ensures { result ≡ cond (ltb places length) 0 length }
-{
-    if places < length { 0 } else { length }
-}
-
-fn space_refusal(length: usize, places: usize) -> u32
-    ensures { result ≡ cond (ltb places length) 14 0 }
-{
-    if places < length { 14 } else { 0 }
-}
 
 // Writes the first `count` ids of the loop from `start`.
 fn write_ids(n: u32, next: &[u32], start: u32, count: usize, reply: &mut [u32])
@@ -151,31 +122,32 @@ fn write_ids(n: u32, next: &[u32], start: u32, count: usize, reply: &mut [u32])
         ≡ take count (walk_by (link_of n next.now) n start start) ++ drop count reply.old }
 {
     let mut u = start;
-    let mut i = 0;
-    while i < count {
+    for i in 0..count {
         reply[i] = u;
         u = link_in(n, next, u);
-        i += 1;
     }
 }
 
-// Loop k of the links on the first places of the reply list; on a refusal nothing is written.
-pub fn read_loop(n: u32, next: &[u32], prev: &[u32], k: u32, reply: &mut [u32]) -> LoopRead
-    ensures { loop_reading result reply.new ≡ read_loop n next.now prev.now k reply.old }
+// Loop k of the links on the first places of the reply list, and how many ids it has; on a refusal nothing is written.
+pub fn read_loop(
+    n: u32,
+    next: &[u32],
+    prev: &[u32],
+    k: u32,
+    reply: &mut [u32],
+) -> Result<usize, Refusal>
+    ensures { loop_reading (numbered result) reply.new ≡ read_loop n next.now prev.now k reply.old }
 {
     if !links_sound(n, next, prev) {
-        return LoopRead {
-            refusal: 0,
-            length: 0,
-        };
+        return Ok(0);
     }
-    let found = find_loop(n, next, prev, k);
+    let Some(found) = find_loop(n, next, prev, k) else {
+        return Ok(0);
+    };
     let length = found.length as usize;
-    let places = reply.len();
-    let count = written_count(length, places);
-    write_ids(n, next, found.start, count, reply);
-    LoopRead {
-        refusal: space_refusal(length, places),
-        length: count,
+    if reply.len() < length {
+        return Err(Refusal::AnswerLists);
     }
+    write_ids(n, next, found.start, length, reply);
+    Ok(length)
 }

@@ -1,4 +1,4 @@
--- `node_share` meets its contract: the scan's invariant is `Scanned`. Assumes nothing.
+-- `node_share` meets its contract: the scan's invariant is `Scanned`.
 use Rattle.std.proofs.Common.{arith}
 use Rattle.exam_results.specs.FigureLaws.{scanned_start, scanned_next, scanned_end, share_small}
 use Rattle.exam_results.proofs.node_share.Goals as goal
@@ -7,26 +7,14 @@ pub loop-k-init : goal.loop-k-init
 loop-k-init c = scanned_start _ _ _
 
 pub overflow_add-count : goal.overflow_add-count
-overflow_add-count c =
-    omega (
-      arith,
-      c.loop-k.invariant.few,
-      c.quad_share-share.ensures.0,
-      (share_small c.args.nodes c.args.thresholds.now c.quad_at-q.result c.args.id).0,
-    )
+overflow_add-count c = omega (arith, (share_small c.args.mesh.nodes c.args.thresholds.now c.quad.result c.args.id).0)
 
 pub overflow_add-sum : goal.overflow_add-sum
-overflow_add-sum c =
-    omega (
-      arith,
-      c.loop-k.invariant.small,
-      c.quad_share-share.ensures.1,
-      (share_small c.args.nodes c.args.thresholds.now c.quad_at-q.result c.args.id).1,
-    )
+overflow_add-sum c = omega (arith, (share_small c.args.mesh.nodes c.args.thresholds.now c.quad.result c.args.id).1)
 
 pub loop-k-preserved : goal.loop-k-preserved
 loop-k-preserved c =
-    scanned_next _ _ _ _ _ _ _ _ c.quad_at-q.result c.loop-k.invariant c.loop-k-test.true c.quad_at-q.ensures c.quad_share-share.ensures.0 c.quad_share-share.ensures.1
+    scanned_next _ _ _ _ _ _ _ _ c.quad.result c.loop-k.invariant (omega arith) c.quad.ensures c.quad_share-share.ensures.0 c.quad_share-share.ensures.1
 
 pub returns : goal.returns
-returns c = scanned_end _ _ _ _ _ _ c.loop-k.invariant c.loop-k-test.false
+returns c = scanned_end _ _ _ _ _ _ c.loop-k.invariant (omega arith)

@@ -1,4 +1,4 @@
--- `find_loop` meets its contract: the loop's invariant is `Finding`, and each return is a law of it. Assumes nothing.
+-- `find_loop` meets its contract: the loop's invariant is `Finding`, and each return is a law of it.
 use native.Mathlib.Omega.{arith}
 use Rattle.loop_reads.specs.Code.{finding_start, finding_end, finding_skip, finding_pass, finding_hit}
 use Rattle.topology.specs.Links.{link_of}

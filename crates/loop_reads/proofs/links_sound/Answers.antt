@@ -1,5 +1,4 @@
--- `links_sound` meets its contract: the scan's invariant is `Paired`. Assumes nothing.
-use borrow.Author.Tests.{not-true, not-false}
+-- `links_sound` meets its contract: the scan's invariant is `Paired`.
 use Rattle.loop_reads.specs.Code.{paired_not, paired_next, paired_all}
 use Rattle.exam_loops.specs.Loops.{are_paired}
 use Rattle.laws.specs.Loop.{scan_start}
@@ -12,17 +11,11 @@ loop-u-init c = let args = c.args in
 
 pub returns-then-not-are_paired : goal.returns-then-not-are_paired
 returns-then-not-are_paired c =
-    let args = c.args in
-    paired_not args.n args.next.now args.prev.now c.loop-u.invariant c.loop-u-test.true c.are_paired.result
-    c.are_paired.ensures
-    (not-true c.are_paired.result c.if-not-are_paired.true-raw)
+    paired_not _ _ _ c.loop-u.invariant c.loop-u-test.true _ c.are_paired.ensures c.if-not-are_paired.true
 
 pub loop-u-preserved : goal.loop-u-preserved
 loop-u-preserved c =
-    let args = c.args in
-    paired_next args.n args.next.now args.prev.now c.loop-u.invariant c.loop-u-test.true c.are_paired.result
-    c.are_paired.ensures
-    (not-false c.are_paired.result c.if-not-are_paired.false-raw)
+    paired_next _ _ _ c.loop-u.invariant c.loop-u-test.true _ c.are_paired.ensures c.if-not-are_paired.false
 
 pub returns : goal.returns
 returns c = let args = c.args in

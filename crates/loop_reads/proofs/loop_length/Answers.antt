@@ -1,4 +1,4 @@
--- `loop_length` meets its contract: `starts_None`, or the walk. Assumes nothing.
+-- `loop_length` meets its contract: `starts_None`, or the walk.
 use native.Mathlib.Omega.{arith}
 use Rattle.loop_reads.specs.Code.{low_none}
 use Rattle.loop_reads.proofs.loop_length.Goals as goal

@@ -1,4 +1,4 @@
--- `walk_length` meets its contract: the loop's invariant is `Stepping`, and each return is a law of it. Assumes nothing.
+-- `walk_length` meets its contract: the loop's invariant is `Stepping`, and each return is a law of it.
 use native.Mathlib.Omega.{arith}
 use Rattle.loop_reads.specs.Code.{stepping_start, stepping_under, stepping_off, stepping_end, stepping_next, stepping_out}
 use Rattle.topology.specs.Links.{link_of}

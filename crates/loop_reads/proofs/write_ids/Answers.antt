@@ -1,4 +1,4 @@
--- `write_ids` meets its contract: the loop's invariant is `Writing`. Assumes nothing.
+-- `write_ids` meets its contract: the loop's invariant is `Writing`.
 use native.Mathlib.Omega.{arith}
 use Rattle.loop_reads.specs.Code.{writing_start, writing_length, writing_next, writing_end}
 use Rattle.topology.specs.Links.{link_of}

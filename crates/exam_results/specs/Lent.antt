@@ -1,0 +1,13 @@
+-- The results as they are lent.
+use Rattle.std.specs.Prelude.{◌≡◌}
+use Rattle.thresholds.specs.Figures.{Results, results}
+use Rattle.exam_results.specs.declared.LentResults.{LentResults}
+
+abbrev pub results_lent : LentResults → Results
+results_lent r = results r.thresholds.now r.count.now r.sum.now
+
+-- s writes where r does
+pub record SameBorrows (r s : LentResults) : Type 0 where
+  pub thresholds : s.thresholds.ghost_name ≡ r.thresholds.ghost_name
+  pub count : s.count.ghost_name ≡ r.count.ghost_name
+  pub sum : s.sum.ghost_name ≡ r.sum.ghost_name

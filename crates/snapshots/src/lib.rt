@@ -9,15 +9,15 @@ ghost use Rattle.snapshots.specs.Stretches.{stretched, node_after, stretches_joi
 use front::OFF;
 
 // Node a has no try, and a stretch goes from it up to `end`, where the node has its places.
+#[tactic(auto, unfolding(crate::specs::Stretches::stretched))]
 pub fn set_stretch(tried: &mut [u32], a: u32, end: u32)
     ensures { tried.new ≡ stretched tried.old a end }
 {
     let i = a as usize;
-    if tried.len() / 3 <= i {
-        return;
+    if i < tried.len() / 3 {
+        tried[3 * i] = OFF;
+        tried[3 * i + 1] = end;
     }
-    tried[3 * i] = OFF;
-    tried[3 * i + 1] = end;
 }
 
 // The node with which to go on after a: the next of the n, or the end of the stretch that begins at a.
@@ -26,14 +26,12 @@ pub fn node_after(tried: &[u32], a: u32, n: u32) -> u32
     ensures { result ≡ node_after tried.now a n }
 {
     let i = a as usize;
-    if tried.len() / 3 <= i {
-        return a + 1;
+    if i < tried.len() / 3 && tried[3 * i] == OFF {
+        let end = tried[3 * i + 1].min(n);
+        (a + 1).max(end)
+    } else {
+        a + 1
     }
-    if tried[3 * i] != OFF {
-        return a + 1;
-    }
-    let end = numbers::min_u32(tried[3 * i + 1], n);
-    numbers::max_u32(a + 1, end)
 }
 
 // Copies the links of the first n nodes. Stretches are made of those off the front, and those that there are aren't copied again.
@@ -45,6 +43,7 @@ pub fn copy_links(next: &[u32], snapshot: &mut [u32], tried: &mut [u32], n: u32)
 {
     let mut from: u32 = 0;
     let mut i: u32 = 0;
+    // Stays a `while`: the next node is where a stretch ends, so no range has it.
     while i < n {
         let link = next[i as usize];
         snapshot[i as usize] = link;

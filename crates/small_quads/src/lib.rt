@@ -90,15 +90,11 @@ fn count_quads() -> usize
 }
 
 // The four k at the places from n on.
-// Stays four stores: of what a copy leaves behind a part lent as `&mut`, a proof knows only the length.
 fn write_four(list: &mut [u32], n: usize, k: u32)
     requires { n + 4 ≤ length list.old }
     ensures { list.new ≡ sets list.old n (points_of k) }
 {
-    list[n] = k / 4096;
-    list[n + 1] = k / 256 % 16;
-    list[n + 2] = k / 16 % 16;
-    list[n + 3] = k % 16;
+    list[n..n + 4].copy_from_slice(&[k / 4096, k / 256 % 16, k / 16 % 16, k % 16]);
 }
 
 // The four k at the places from n on, if it is one of the list; the place after it.

@@ -1,17 +1,15 @@
--- `small_quads::write_four` meets its contract: four stores are `sets`. Assumes nothing.
-use native.Mathlib.Omega.{arith}
-use lib.ListN.{length-set}
-use Rattle.small_quads.specs.ListLaws.{writes}
+-- `small_quads::write_four` meets its contract: the part written is `sets`. Assumes nothing.
+use Rattle.std.proofs.Common.{◌≡◌, ℕ, ◌+◌, ◌-◌, ◌++◌, List, drop, take, sym, ap, ◌∙◌, append_assoc, drop-drop, arith}
+use Rattle.std.proofs.lemmas.List.Edits.{sets-eq}
+use Rattle.lattice.specs.Fours.{points_of}
 use Rattle.small_quads.proofs.write_four.Goals as goal
 
-pub bounds-list-n-2 : goal.bounds-list-n-2
-bounds-list-n-2 c = simp length-set (omega arith)
-
-pub bounds-list-n-3 : goal.bounds-list-n-3
-bounds-list-n-3 c = simp length-set (omega arith)
-
-pub bounds-list-n-4 : goal.bounds-list-n-4
-bounds-list-n-4 c = simp length-set (omega arith)
+rest : (n : ℕ) (l : List ℕ) → drop (n + 4) l ≡ drop (n + 4 - n) (drop n l)
+rest n l = let k : n + 4 - n ≡ 4 = omega arith in rw (k, drop-drop)
 
 pub returns : goal.returns
-returns c = writes c.args.list.now c.args.n c.args.k
+returns c =
+    let n = c.args.n in
+    let l = c.args.list.now in
+    rw c.copy_from_slice.ensures.after
+    (sym (sets-eq (points_of c.args.k) l n c.requires ∙ append_assoc (take n l) (points_of c.args.k) _ ∙ ap (λ (z : List ℕ). take n l ++ (points_of c.args.k ++ z)) (rest n l)))

@@ -1,5 +1,5 @@
 -- Paper 12: a lent mesh in whole steps of 1/64 degree, the quads that the bowl can't show, and the answer. Definitions only.
-use Rattle.std.specs.Prelude.{Bool, ◌&&◌, cond, List, ℕ, ◌+◌, ◌*◌, eqb, leb, ℤ, pos, get_or, set, Float}
+use Rattle.std.specs.Prelude.{Bool, ◌&&◌, cond, List, ℕ, ◌+◌, ◌*◌, eqb, leb, ℤ, pos, get_or, set, Float, Option, Some, None}
 use Rattle.std.specs.Int.Signed.{lt_z}
 use Rattle.std.specs.Float.{nan}
 use Rattle.laws.specs.Loop.{for_up, Turn, go, out, run}
@@ -49,6 +49,11 @@ hidden_turn xs ys quads k s = cond (is_shown xs ys (quad_in quads k)) (go s) (ou
 -- 25 with the lowest of n quads that can't be shown
 unfoldable pub lowest_hidden : List Float → List Float → List ℕ → ℕ → StepsAnswer
 lowest_hidden xs ys quads n = run n (hidden_turn xs ys quads) (λ s. steps_given) tt
+
+-- of the lowest quad, if there is one, as the code finds it
+abbrev pub hidden_answer : Option ℕ → StepsAnswer
+hidden_answer None = steps_given
+hidden_answer (Some k) = hidden_at k
 
 -- THE ANSWER, of a mesh as lent and of the places of the step buffer: 23 of the mesh, 23 where a node hasn't two places, then 25
 unfoldable pub steps_answer : State → ℕ → StepsAnswer

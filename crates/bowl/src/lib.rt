@@ -5,9 +5,10 @@ ghost use Rattle.std.specs.Prelude.{◌≡◌, ◌+◌, ◌*◌, ◌≤◌, ◌<
 ghost use Rattle.orientation.specs.Orient.{way};
 ghost use Rattle.front.specs.State.{counted};
 ghost use Rattle.mesh_check.specs.Check.{lent_state};
-ghost use Rattle.bowl.specs.Steps.{steps_at, turns_left, is_shown, lowest_hidden, steps_answer, stored_steps};
+ghost use Rattle.bowl.specs.Steps.{steps_at, turns_left, is_shown, lowest_hidden, hidden_answer, steps_answer, stored_steps};
 ghost use Rattle.bowl.specs.Stepped.{vector, NodeWithin, FewSteps, IsVector, ids, QuadsWithin, NodesWithin, MeshStepped};
 
+use domain::Refusal;
 use front::Counts;
 
 // `refusal` is 23 or 25, 0 where nothing is refused; `quad` is the lowest quad that the bowl can't show, where 25 says so.
@@ -73,25 +74,15 @@ fn is_shown(xs: &[f64], ys: &[f64], a: u32, b: u32, d: u32, c: u32) -> bool
     let bd = way(at_b, at_d);
     let dc = way(at_d, at_c);
     let ca = way(at_c, at_a);
-    if !is_left(ca, ab) {
-        return false;
-    }
-    if !is_left(ab, bd) {
-        return false;
-    }
-    if !is_left(bd, dc) {
-        return false;
-    }
-    is_left(dc, ca)
+    is_left(ca, ab) && is_left(ab, bd) && is_left(bd, dc) && is_left(dc, ca)
 }
 
-// 25 with the lowest of n quads that can't be shown.
-fn lowest_hidden(xs: &[f64], ys: &[f64], quads: &[u32], n: usize) -> StepsAnswer
+// The lowest of n quads that can't be shown.
+fn lowest_hidden(xs: &[f64], ys: &[f64], quads: &[u32], n: usize) -> Option<usize>
     requires { QuadsWithin xs.now ys.now quads.now n }
-    ensures { result ≡ lowest_hidden xs.now ys.now quads.now n }
+    ensures { hidden_answer result ≡ lowest_hidden xs.now ys.now quads.now n }
 {
-    let mut k = 0;
-    while k < n {
+    for k in 0..n {
         if !is_shown(
             xs,
             ys,
@@ -100,17 +91,10 @@ fn lowest_hidden(xs: &[f64], ys: &[f64], quads: &[u32], n: usize) -> StepsAnswer
             quads[4 * k + 2],
             quads[4 * k + 3],
         ) {
-            return StepsAnswer {
-                refusal: 25,
-                quad: k,
-            };
+            return Some(k);
         }
-        k += 1;
     }
-    StepsAnswer {
-        refusal: 0,
-        quad: 0,
-    }
+    None
 }
 
 // ---- the step buffer
@@ -120,13 +104,9 @@ fn store_steps(xs: &[f64], ys: &[f64], n: usize, steps: &mut [i32])
     requires { NodesWithin xs.now ys.now n × (2 * n ≤ length steps.old) }
     ensures { steps.new ≡ stored_steps xs.now ys.now n steps.old }
 {
-    let mut i = 0;
-    while i < n {
-        let x = nearest_step::nearest_step(xs[i]);
-        let y = nearest_step::nearest_step(ys[i]);
-        steps[2 * i] = x;
-        steps[2 * i + 1] = y;
-        i += 1;
+    for i in 0..n {
+        steps[2 * i] = nearest_step::nearest_step(xs[i]);
+        steps[2 * i + 1] = nearest_step::nearest_step(ys[i]);
     }
 }
 
@@ -148,19 +128,24 @@ fn steps_answer(
         (lent_state xs.now ys.now next.now prev.now origins.now quads.now
         edges.now k) places }
 {
-    if mesh_check::mesh_refusal(xs, ys, next, prev, origins, quads, edges, k) != 0 {
+    if mesh_check::check_mesh(xs, ys, next, prev, origins, quads, edges, k).is_err()
+        || places / 2 < k.nodes as usize
+    {
         return StepsAnswer {
-            refusal: 23,
+            refusal: u32::from(Refusal::UnsoundMesh),
             quad: 0,
         };
     }
-    if places / 2 < k.nodes as usize {
-        return StepsAnswer {
-            refusal: 23,
+    match lowest_hidden(xs, ys, quads, k.quads) {
+        Some(quad) => StepsAnswer {
+            refusal: u32::from(Refusal::NotShown),
+            quad,
+        },
+        None => StepsAnswer {
+            refusal: 0,
             quad: 0,
-        };
+        },
     }
-    lowest_hidden(xs, ys, quads, k.quads)
 }
 
 // The nodes of a lent mesh in whole steps of 1/64 degree, each coordinate at the nearest step, halves at the even one. The mesh is only read, and the buffer is

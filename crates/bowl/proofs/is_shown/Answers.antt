@@ -1,12 +1,12 @@
 -- `bowl::is_shown` meets its contract: `shown_is`.
 use mathlib.Core.Bool.{◌&&◌}
-use mathlib.Core.Path.{◌≡◌}
-use borrow.Author.Tests.{not-true, not-false}
+use mathlib.Core.Path.{◌≡◌, sym, ◌∙◌}
+use Rattle.laws.specs.Chain.{passes, fails}
 use Rattle.bowl.specs.Steps.{turns_left, is_shown}
 use Rattle.bowl.specs.Stepped.{vector, ids}
 use Rattle.bowl.specs.StepsLaws.{shown_is}
 use Rattle.bowl.proofs.is_shown.Goals as goal
-use Rattle.bowl.proofs.is_shown.Goals.{After-way-ca}
+use Rattle.bowl.proofs.is_shown.Goals.{After-way-ca, then-is_left, else-is_left, then-is_left-2, else-is_left-2}
 
 -- the four corners, from the ways answered
 corners : (w4 : After-way-ca)
@@ -19,33 +19,36 @@ corners w4 =
     shown_is _ _ _ _ _ _ _ _ _ _ _ _ _ _ w4.steps_at-at_a.ensures w4.steps_at-at_b.ensures w4.steps_at-at_d.ensures w4.steps_at-at_c.ensures
     w4.way-ab.ensures w4.way-bd.ensures w4.way-dc.ensures w4.way-ca.ensures
 
-pub returns-then-not-is_left : goal.returns-then-not-is_left
-returns-then-not-is_left c =
-    rw (← c.is_left.ensures, not-true c.is_left.result c.if-not-is_left.true-raw) at (corners (goal.at.returns-then-not-is_left c).After-way-ca)
+pub returns-then-is_left-3 : goal.returns-then-is_left-3
+returns-then-is_left-3 c =
+    elim c.if-is_left-2.branch [
+      | then-is_left-2 w ↦ elim c.if-is_left.branch [
+        | then-is_left v ↦
+            passes (sym c.is_left.ensures ∙ v.if-is_left.true)
+            (passes (sym v.is_left-then-is_left.ensures ∙ sym v.value-is ∙ w.if-is_left-2.true)
+            (passes (sym w.is_left-then-is_left-2.ensures ∙ sym w.value-is ∙ c.if-is_left-3.true) c.is_left-then-is_left-3.ensures))
+            ∙ corners (goal.at.returns-then-is_left-3 c).After-way-ca
+        | else-is_left v ↦ cc
+      ]
+      | else-is_left-2 w ↦ cc
+    ]
 
-pub returns-then-not-is_left-2 : goal.returns-then-not-is_left-2
-returns-then-not-is_left-2 c =
-    rw (← c.is_left-2.ensures, not-true c.is_left-2.result c.if-not-is_left-2.true-raw, ← c.is_left.ensures, not-false c.is_left.result c.if-not-is_left.false-raw) at (corners (goal.at.returns-then-not-is_left-2 c).After-way-ca)
-
-pub returns-then-not-is_left-3 : goal.returns-then-not-is_left-3
-returns-then-not-is_left-3 c =
-    rw (
-      ← c.is_left-3.ensures,
-      not-true c.is_left-3.result c.if-not-is_left-3.true-raw,
-      ← c.is_left-2.ensures,
-      not-false c.is_left-2.result c.if-not-is_left-2.false-raw,
-      ← c.is_left.ensures,
-      not-false c.is_left.result c.if-not-is_left.false-raw,
-    ) at (corners (goal.at.returns-then-not-is_left-3 c).After-way-ca)
-
-pub returns : goal.returns
-returns c =
-    rw (
-      ← c.is_left-4.ensures,
-      ← c.is_left-3.ensures,
-      not-false c.is_left-3.result c.if-not-is_left-3.false-raw,
-      ← c.is_left-2.ensures,
-      not-false c.is_left-2.result c.if-not-is_left-2.false-raw,
-      ← c.is_left.ensures,
-      not-false c.is_left.result c.if-not-is_left.false-raw,
-    ) at (corners (goal.at.returns c).After-way-ca)
+pub returns-else-is_left-3 : goal.returns-else-is_left-3
+returns-else-is_left-3 c =
+    c.if-is_left-3.false
+    ∙ elim c.if-is_left-2.branch [
+      | then-is_left-2 w ↦ elim c.if-is_left.branch [
+        | then-is_left v ↦
+            passes (sym c.is_left.ensures ∙ v.if-is_left.true)
+            (passes (sym v.is_left-then-is_left.ensures ∙ sym v.value-is ∙ w.if-is_left-2.true)
+            (fails _ (sym w.is_left-then-is_left-2.ensures ∙ sym w.value-is ∙ c.if-is_left-3.false)))
+            ∙ corners (goal.at.returns-else-is_left-3 c).After-way-ca
+        | else-is_left v ↦ cc
+      ]
+      | else-is_left-2 w ↦ elim c.if-is_left.branch [
+        | then-is_left v ↦
+            passes (sym c.is_left.ensures ∙ v.if-is_left.true) (fails _ (sym v.is_left-then-is_left.ensures ∙ sym v.value-is ∙ w.if-is_left-2.false))
+            ∙ corners (goal.at.returns-else-is_left-3 c).After-way-ca
+        | else-is_left v ↦ fails _ (sym c.is_left.ensures ∙ v.if-is_left.false) ∙ corners (goal.at.returns-else-is_left-3 c).After-way-ca
+      ]
+    ]

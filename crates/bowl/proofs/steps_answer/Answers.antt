@@ -1,10 +1,15 @@
 -- `bowl::steps_answer` meets its contract: `answer_mesh`, `answer_places` and `answer_quads`.
-use mathlib.Core.Path.{sym, ◌∙◌}
+use Rattle.std.proofs.Common.{◌≡◌, true, false, Result, Ok, Err, refl, sym, ap, ◌∙◌}
+use Rattle.std.specs.Result.{is_err}
+use Rattle.domain.specs.declared.Refusal.{Refusal}
+use Rattle.domain.specs.Refusals.{refused}
+use Rattle.domain.proofs.Refused.{refusal_some}
+use Rattle.bowl.specs.Steps.{hidden_answer}
 use Rattle.front.specs.State.{State}
 use Rattle.mesh_check.specs.Check.{lent_state}
 use Rattle.bowl.specs.GivenLaws.{quads_within, answer_mesh, answer_places, answer_quads}
 use Rattle.bowl.proofs.steps_answer.Goals as goal
-use Rattle.bowl.proofs.steps_answer.Goals.{Start}
+use Rattle.bowl.proofs.steps_answer.Goals.{Start, then-is_err-via-then-is_err, then-is_err-via-else-is_err+then-places-k}
 
 -- the mesh as lent
 abbrev lent : Start → State
@@ -12,21 +17,38 @@ lent c =
     lent_state c.args.xs.now c.args.ys.now c.args.next.now c.args.prev.now c.args.origins.now c.args.quads.now
     c.args.edges.now c.args.k
 
-pub returns-then-mesh_refusal-ne0 : goal.returns-then-mesh_refusal-ne0
-returns-then-mesh_refusal-ne0 c =
-    answer_mesh (lent (goal.at.returns-then-mesh_refusal-ne0 c).Start) c.args.places _ c.mesh_refusal.ensures c.if-mesh_refusal-ne0.true
+-- what `is_err` tells of a check
+err_some : {A : Type 0} (r : Result A Refusal) → true ≡ is_err r → refused r ≡ 0 → ⊥
+err_some (Ok a) e = cc
+err_some (Err r) e = refusal_some r
 
-pub returns-then-places-k : goal.returns-then-places-k
-returns-then-places-k c =
-    answer_places (lent (goal.at.returns-then-places-k c).Start) c.args.places _ c.mesh_refusal.ensures c.if-mesh_refusal-ne0.false c.if-places-k.true
+ok_none : {A : Type 0} (r : Result A Refusal) → false ≡ is_err r → refused r ≡ 0
+ok_none (Ok a) e = refl
+ok_none (Err r) e = cc
+
+pub returns-then-is_err : goal.returns-then-is_err
+returns-then-is_err c =
+    let s = lent (goal.at.returns-then-is_err c).Start in
+    let r = c.check_mesh.result in
+    rw c.from.ensures
+    (elim c.then-is_err.branch [
+      | then-is_err-via-then-is_err w ↦ answer_mesh s c.args.places _ c.check_mesh.ensures (err_some r w.if-is_err.ensures.value)
+      | then-is_err-via-else-is_err+then-places-k w ↦ answer_places s c.args.places _ c.check_mesh.ensures (ok_none r w.if-is_err.ensures.value) w.if-places-k.true
+    ])
 
 pub lowest_hidden-requires : goal.lowest_hidden-requires
 lowest_hidden-requires c =
     quads_within c.args.xs.now c.args.ys.now c.args.next.now c.args.prev.now c.args.origins.now
-    c.args.quads.now c.args.edges.now c.args.k (λ i h. c.shared_slice_known-1.given i) (λ i h. c.shared_slice_known-2-1.given i)
-    (sym c.mesh_refusal.ensures ∙ c.if-mesh_refusal-ne0.false)
+    c.args.quads.now c.args.edges.now c.args.k (λ i h. c.type_inv.xs i) (λ i h. c.type_inv.ys i)
+    (sym c.check_mesh.ensures ∙ ok_none c.check_mesh.result c.if-is_err.ensures.value)
 
-pub returns : goal.returns
-returns c =
-    c.lowest_hidden.ensures
-    ∙ answer_quads (lent (goal.at.returns c).Start) c.args.places _ c.mesh_refusal.ensures c.if-mesh_refusal-ne0.false c.if-places-k.false
+pub returns-in-Some : goal.returns-in-Some
+returns-in-Some c =
+    rw c.from-in-Some.ensures
+    (ap hidden_answer (sym c.in-Some.is) ∙ c.lowest_hidden.ensures
+    ∙ answer_quads (lent (goal.at.returns-in-Some c).Start) c.args.places _ c.check_mesh.ensures (ok_none c.check_mesh.result c.if-is_err.ensures.value) c.if-places-k.false)
+
+pub returns-in-None : goal.returns-in-None
+returns-in-None c =
+    ap hidden_answer (sym c.in-None.is) ∙ c.lowest_hidden.ensures
+    ∙ answer_quads (lent (goal.at.returns-in-None c).Start) c.args.places _ c.check_mesh.ensures (ok_none c.check_mesh.result c.if-is_err.ensures.value) c.if-places-k.false

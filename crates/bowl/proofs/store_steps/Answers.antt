@@ -21,8 +21,8 @@ bounds-xs-i c =
     let node = c.requires.0 c.loop-i.i c.loop-i-test.true in
     node.x_lent
 
-pub nearest_step-x-requires : goal.nearest_step-x-requires
-nearest_step-x-requires c =
+pub nearest_step-requires : goal.nearest_step-requires
+nearest_step-requires c =
     let node = c.requires.0 c.loop-i.i c.loop-i-test.true in
     node.x
 
@@ -36,8 +36,8 @@ bounds-ys-i c =
     let node = c.requires.0 c.loop-i.i c.loop-i-test.true in
     node.y_lent
 
-pub nearest_step-y-requires : goal.nearest_step-y-requires
-nearest_step-y-requires c =
+pub nearest_step-requires-in-loop-i : goal.nearest_step-requires-in-loop-i
+nearest_step-requires-in-loop-i c =
     let node = c.requires.0 c.loop-i.i c.loop-i-test.true in
     node.y
 
@@ -58,7 +58,7 @@ bounds-steps-i-in-loop-i c =
 pub loop-i-preserved : goal.loop-i-preserved
 loop-i-preserved c =
     let less = c.loop-i-test.true in
-    store_next_lem _ _ _ _ _ _ c.loop-i.invariant less (c.requires.0 c.loop-i.i less) _ _ c.nearest_step-x.ensures c.nearest_step-y.ensures
+    store_next_lem _ _ _ _ _ _ c.loop-i.invariant less (c.requires.0 c.loop-i.i less) _ _ c.nearest_step.ensures c.nearest_step-in-loop-i.ensures
 
 pub shape_of-steps : goal.shape_of-steps
 shape_of-steps c = store_length _ _ _ _ _ _ c.loop-i.invariant

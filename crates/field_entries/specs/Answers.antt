@@ -1,21 +1,18 @@
 -- The answers of the field and the direction query as they cross to the host: document 01's number and the values, for each case of an answer.
 -- Definitions only. The number 0 says that nothing is refused; the values of a refusal are 0.0 or 0.
-use Rattle.std.specs.Prelude.{List, ℕ, Float}
+use Rattle.std.specs.Prelude.{List, Result, Ok, Err, ℕ, Float}
 use Rattle.numbers.specs.Float.{zero_f}
+use Rattle.domain.specs.declared.Point.{Point}
 use Rattle.direction.specs.declared.Grid.{Grid}
-use Rattle.direction.specs.declared.Direction.{Direction}
-use Rattle.direction.specs.declared.Direction.TheVariants as direction-is
 use Rattle.direction.specs.Record.{FieldLists, field_lists}
-use Rattle.crossfield.specs.declared.FieldAnswer.{FieldAnswer}
-use Rattle.crossfield.specs.declared.FieldAnswer.TheVariants as field_is
 use Rattle.crossfield.specs.Field.{FieldResult}
 use Rattle.field_entries.specs.declared.FieldRecordAnswer.{FieldRecordAnswer}
 use Rattle.field_entries.specs.declared.DirectionAnswer.{DirectionAnswer}
 
 -- of `field`: the record's floats and counts
-unfoldable pub record_numbers : FieldAnswer → FieldRecordAnswer
-record_numbers (field_is.Refused n) = record { refusal = n; xmin = zero_f; ymin = zero_f; h = zero_f; nx = 0; ny = 0 }
-record_numbers (field_is.Made g) = record { refusal = 0; xmin = g.xmin; ymin = g.ymin; h = g.h; nx = g.nx; ny = g.ny }
+unfoldable pub record_numbers : Result Grid ℕ → FieldRecordAnswer
+record_numbers (Err n) = record { refusal = n; xmin = zero_f; ymin = zero_f; h = zero_f; nx = 0; ny = 0 }
+record_numbers (Ok g) = record { refusal = 0; xmin = g.xmin; ymin = g.ymin; h = g.h; nx = g.nx; ny = g.ny }
 
 -- the numbers of `field`, and the lists lent as it leaves them
 pub record FieldExit : Type 0 where
@@ -33,6 +30,6 @@ abbrev pub grid_lent : Float → Float → Float → ℕ → ℕ → Grid
 grid_lent xmin ymin h nx ny = record { xmin = xmin; ymin = ymin; h = h; nx = nx; ny = ny }
 
 -- of `direction`
-unfoldable pub direction_numbers : Direction → DirectionAnswer
-direction_numbers (direction-is.Refused n) = record { refusal = n; x = zero_f; y = zero_f }
-direction_numbers (direction-is.Toward d) = record { refusal = 0; x = d.x; y = d.y }
+unfoldable pub direction_numbers : Result Point ℕ → DirectionAnswer
+direction_numbers (Err n) = record { refusal = n; x = zero_f; y = zero_f }
+direction_numbers (Ok d) = record { refusal = 0; x = d.x; y = d.y }

@@ -9,8 +9,7 @@ ghost use Rattle.direction.specs.Direction.{direction_answer};
 ghost use Rattle.crossfield.specs.Field.{field_answer};
 ghost use Rattle.field_entries.specs.Answers.{grid_lent, field_exit, field_numbers, direction_numbers};
 
-use crossfield::FieldAnswer;
-use direction::{Direction, Grid};
+use direction::Grid;
 use domain::{Domain, Point};
 
 // A field record's floats and counts; its values and marks are in the lists lent. `refusal` is document 01's number, 0 where nothing is refused; on a
@@ -53,17 +52,16 @@ pub extern "C" fn sitjorbe_field<'a>(
         × ((result.refusal ≡ 0 → ⊥) → blocks.new ≡ blocks.old) }
 {
     let domain = Domain { outer, holes, lens };
-    let answer = crossfield::field(domain, size, sweeps, values, marks, blocks);
-    match answer {
-        FieldAnswer::Refused(refusal) => FieldRecordAnswer {
-            refusal,
+    match crossfield::field(domain, size, sweeps, values, marks, blocks) {
+        Err(refusal) => FieldRecordAnswer {
+            refusal: u32::from(refusal),
             xmin: 0.0,
             ymin: 0.0,
             h: 0.0,
             nx: 0,
             ny: 0,
         },
-        FieldAnswer::Made(grid) => FieldRecordAnswer {
+        Ok(grid) => FieldRecordAnswer {
             refusal: 0,
             xmin: grid.xmin,
             ymin: grid.ymin,
@@ -100,20 +98,15 @@ pub extern "C" fn sitjorbe_direction(
         nx,
         ny,
     };
-    let answer = direction::query_direction(
-        grid,
-        values,
-        marks,
-        Point { x, y },
-        Point { x: tx, y: ty },
-    );
-    match answer {
-        Direction::Refused(refusal) => DirectionAnswer {
-            refusal,
+    let p = Point { x, y };
+    let target = Point { x: tx, y: ty };
+    match direction::query_direction(grid, values, marks, p, target) {
+        Err(refusal) => DirectionAnswer {
+            refusal: u32::from(refusal),
             x: 0.0,
             y: 0.0,
         },
-        Direction::Toward(direction) => DirectionAnswer {
+        Ok(direction) => DirectionAnswer {
             refusal: 0,
             x: direction.x,
             y: direction.y,

@@ -3,11 +3,11 @@ use Rattle.field_entries.specs.Answers.{direction_numbers}
 use Rattle.field_entries.proofs.sitjorbe_direction.Goals as goal
 
 -- refused
-pub returns-in-Refused : goal.returns-in-Refused
+pub returns-in-Err : goal.returns-in-Err
 unfolding direction_numbers
-returns-in-Refused c = rw (← c.query_direction-answer.ensures, c.in-Refused.is)
+returns-in-Err c = rw (← c.in-Err.ensures, c.from.ensures)
 
 -- answered
-pub returns-in-Toward : goal.returns-in-Toward
+pub returns-in-Ok : goal.returns-in-Ok
 unfolding direction_numbers
-returns-in-Toward c = rw (← c.query_direction-answer.ensures, c.in-Toward.is)
+returns-in-Ok c = rw (← c.in-Ok.ensures)

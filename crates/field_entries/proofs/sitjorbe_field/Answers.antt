@@ -4,15 +4,11 @@ use Rattle.field_entries.specs.Answers.{field_numbers, record_numbers}
 use Rattle.field_entries.proofs.sitjorbe_field.Goals as goal
 
 -- refused
-pub returns-in-Refused : goal.returns-in-Refused
+pub returns-in-Err : goal.returns-in-Err
 unfolding field_numbers record_numbers
-returns-in-Refused c =
-    let both = c.field-answer.ensures in
-    (rw (← both.marks_after, c.in-Refused.is), λ refused. rw c.in-Refused.is at both.field_draws)
+returns-in-Err c = (rw (← c.in-Err.ensures.marks_after, c.from.ensures), λ refused. c.in-Err.ensures.field_draws)
 
 -- answered
-pub returns-in-Made : goal.returns-in-Made
+pub returns-in-Ok : goal.returns-in-Ok
 unfolding field_numbers record_numbers
-returns-in-Made c =
-    let both = c.field-answer.ensures in
-    (rw (← both.marks_after, c.in-Made.is), λ refused. absurd (refused refl))
+returns-in-Ok c = (rw (← c.in-Ok.ensures.marks_after), λ refused. absurd (refused refl))

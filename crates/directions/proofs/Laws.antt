@@ -1,5 +1,5 @@
 -- What holds of the definitions of specs/Laws.antt.
-use Rattle.std.specs.Prelude.{true, false, not, cond, ◌≡◌, ltb, eqb, Float}
+use Rattle.std.specs.Prelude.{Result, true, false, not, cond, ◌≡◌, ltb, eqb, Float}
 use mathlib.Core.List.{List, [], ◌++◌, append_assoc}
 use Rattle.std.proofs.Common.{⊎_elim, sym, ◌∙◌, eq-or-lt_of_le, le_of_suc-le-suc, arith, take_at}
 use Rattle.std.proofs.Math.Path.{refl, ap}
@@ -13,7 +13,6 @@ use Rattle.domain.specs.declared.Point.{Point}
 use Rattle.domain.specs.Outline.{points, point_at}
 use Rattle.domain.specs.Accepted.{cond_zero, first_zero}
 use Rattle.domain.specs.RefusalLaws.{answer_refused}
-use Rattle.direction.specs.declared.Direction.{Direction}
 use Rattle.direction.specs.Record.{FieldRecord}
 use Rattle.direction.specs.Direction.{record_refusal, nearest_direction, direction_refusal, direction_answer}
 use Rattle.directions.specs.Directions.{direction_floats, floats_at, strung, lists_unfit, directions_refusal, directions_exit}
@@ -31,7 +30,7 @@ answered_same : (r : FieldRecord) (ps targets answers : List Float) → record_r
 unfolding points_answered strung
 answered_same r ps targets answers e =
     ap (λ (l : List Float). l ++ drop (3 * points ps) answers)
-    (for_up_same (points ps) _ _ [] (λ i l h. ap (λ (d : Direction). l ++ direction_floats d) (answer_same r (point_at ps i) (point_at targets i) e)))
+    (for_up_same (points ps) _ _ [] (λ i l h. ap (λ (d : Result Point ℕ). l ++ direction_floats d) (answer_same r (point_at ps i) (point_at targets i) e)))
 
 -- ---- three floats a point
 
@@ -57,7 +56,7 @@ module _ (f : ℕ → List Float) (three : (i : ℕ) → length (f i) ≡ 3) whe
 
 -- ---- the refusals
 
-third_of : (a n : ℕ) → ltb (a / 3) n ≡ ltb a (3 * n)
+pub third_of : (a n : ℕ) → ltb (a / 3) n ≡ ltb a (3 * n)
 third_of a n =
     same_truth (ltb (a / 3) n) (ltb a (3 * n)) (λ e. lt-ltb a (3 * n) (omega (arith, ltb-true (a / 3) n e)))
     (λ e. lt-ltb (a / 3) n (omega (arith, ltb-true a (3 * n) e)))

@@ -1,11 +1,10 @@
 -- Paper 1: the direction query over a whole list of points and targets, its answers as floats, and refusal 14. Definitions only.
-use Rattle.std.specs.Prelude.{Bool, not, ◌||◌, cond, List, [], ◌∷◌, ◌++◌, ◌≡◌, ℕ, ◌*◌, ◌%◌, ◌<◌, ltb, eqb, length, take, drop, Float}
+use Rattle.std.specs.Prelude.{Bool, not, ◌||◌, cond, List, Result, Ok, Err, [], ◌∷◌, ◌++◌, ◌≡◌, ℕ, ◌*◌, ◌%◌, ◌<◌, ltb, eqb, length, take, drop, Float}
 use Rattle.laws.specs.Loop.{for_up}
 use Rattle.numbers.specs.Float.{zero_f, to_float}
+use Rattle.domain.specs.declared.Point.{Point}
 use Rattle.domain.specs.Outline.{points, point_at, first_of}
 use Rattle.domain.specs.Queries.{answer_by}
-use Rattle.direction.specs.declared.Direction.{Direction}
-use Rattle.direction.specs.declared.Direction.TheVariants as direction-is
 use Rattle.direction.specs.Record.{FieldRecord, field_record}
 use Rattle.direction.specs.Direction.{record_refusal, direction_answer}
 
@@ -16,9 +15,9 @@ record_lent xmin ymin h nx ny values marks = field_record (record { xmin = xmin;
 -- ---- the answers
 
 -- an answer as three floats: 0 and the direction, or the refusal's number and two zeros
-unfoldable pub direction_floats : Direction → List Float
-direction_floats (direction-is.Refused n) = to_float n ∷ zero_f ∷ zero_f ∷ []
-direction_floats (direction-is.Toward d) = zero_f ∷ d.x ∷ d.y ∷ []
+unfoldable pub direction_floats : Result Point ℕ → List Float
+direction_floats (Err n) = to_float n ∷ zero_f ∷ zero_f ∷ []
+direction_floats (Ok d) = zero_f ∷ d.x ∷ d.y ∷ []
 
 -- point i's: those of the single query, `direction_answer`, for point i and target i
 abbrev pub floats_at : FieldRecord → List Float → List Float → ℕ → List Float

@@ -1,5 +1,5 @@
 -- The laws of the code, and what a host gets. Assumes nothing.
-use Rattle.std.specs.Prelude.{◌≡◌, set, Float}
+use Rattle.std.specs.Prelude.{◌≡◌, Result, Ok, Err, set, Float}
 use mathlib.Core.List.{List, [], ◌∷◌, ◌++◌}
 use Rattle.std.proofs.Common.{sym, ap₂, ◌∙◌, le_antisymm, add-one, arith, length-drop, take_at, drop-drop}
 use Rattle.std.proofs.Math.Path.{refl, ap}
@@ -11,16 +11,14 @@ use Rattle.laws.specs.Loop.{for_up}
 use Rattle.domain.specs.declared.Point.{Point}
 use Rattle.domain.specs.Outline.{points, point_at, point_refusal}
 use Rattle.domain.specs.Queries.{answer_by}
-use Rattle.direction.specs.declared.Direction.{Direction}
-use Rattle.direction.specs.declared.Direction.TheVariants as direction-is
 use Rattle.direction.specs.declared.Grid.{Grid}
 use Rattle.direction.specs.Direction.{direction_at}
 use Rattle.directions.specs.Directions.{direction_floats, strung}
 
 -- ---- the single query where 11 doesn't refuse the record
 
-unfoldable pub point_answer : Grid → List Float → Point → Point → Direction
-point_answer g values p target = answer_by direction-is.Refused (direction-is.Toward (direction_at g values p target)) (point_refusal p)
+unfoldable pub point_answer : Grid → List Float → Point → Point → Result Point ℕ
+point_answer g values p target = answer_by Err (Ok (direction_at g values p target)) (point_refusal p)
 
 -- the floats of point i, and the answer list with those of all points
 abbrev pub code_at : Grid → List Float → List Float → List Float → ℕ → List Float
@@ -37,10 +35,10 @@ three_stores s k a b c =
     let second : k + 2 ≡ suc (suc k) = omega arith in
     ap₂ (λ (i j : ℕ). set (set (set s k a) i b) j c) first second
 
-pub floats_three : (d : Direction) → length (direction_floats d) ≡ 3
+pub floats_three : (d : Result Point ℕ) → length (direction_floats d) ≡ 3
 unfolding direction_floats
-floats_three (direction-is.Refused n) = refl
-floats_three (direction-is.Toward p) = refl
+floats_three (Err n) = refl
+floats_three (Ok p) = refl
 
 -- the first i of n points are written in s, which was s₀
 pub record FillingPoints (f : ℕ → List Float) (n : ℕ) (s₀ : List Float) (i : ℕ) (s : List Float) : Type 0 where
@@ -119,11 +117,11 @@ module _ (g : Grid) (values ps targets s₀ : List Float) where
     pub points_answered_room : i < points ps → 3 * i + 3 ≤ length s
     points_answered_room h = omega (arith, fit.room, points_answered_long)
 
-    pub points_answered_next : {p target : Point} {d : Direction} {t : List Float} → i < points ps → p ≡ point_at ps i → target ≡ point_at targets i
+    pub points_answered_next : {p target : Point} {d : Result Point ℕ} {t : List Float} → i < points ps → p ≡ point_at ps i → target ≡ point_at targets i
         → d ≡ point_answer g values p target → t ≡ sets s (3 * i) (direction_floats d) → PointsAnswered g values ps targets s₀ (i + 1) t
     points_answered_next h e u a b =
         filling_next f three w fit.room h
-        (b ∙ ap (λ (d : Direction). sets s (3 * i) (direction_floats d)) (a ∙ ap₂ (point_answer g values) e u))
+        (b ∙ ap (λ (d : Result Point ℕ). sets s (3 * i) (direction_floats d)) (a ∙ ap₂ (point_answer g values) e u))
 
     pub points_answered_end : points ps ≤ i → s ≡ points_answered g values ps targets s₀
     unfolding points_answered

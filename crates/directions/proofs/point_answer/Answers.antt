@@ -1,14 +1,15 @@
 -- `directions::point_answer` meets its contract. Assumes nothing.
-use Rattle.directions.specs.Laws.{point_answer}
-use Rattle.direction.specs.declared.Direction.TheVariants.{Refused, Toward}
+use Rattle.std.proofs.Common.{arith}
+use Rattle.std.proofs.lemmas.Grind.{common_steps}
+use Rattle.domain.proofs.Refused.{refusal_some}
 use Rattle.domain.specs.RefusalLaws.{answer_refused}
-use mathlib.Core.Path.{sym, ap, ◌∙◌}
+use Rattle.directions.specs.Laws.{point_answer}
 use Rattle.directions.proofs.point_answer.Goals as goal
 
-pub returns-then-refusal-ne0 : goal.returns-then-refusal-ne0
+pub returns-in_err-check_point : goal.returns-in_err-check_point
 unfolding point_answer
-returns-then-refusal-ne0 c = rw (← c.point_refusal-refusal.ensures) (sym (answer_refused Refused _ _ c.if-refusal-ne0.true))
+returns-in_err-check_point c = grind (arith, common_steps, refusal_some, answer_refused)
 
 pub returns : goal.returns
 unfolding point_answer
-returns c = rw (sym c.point_refusal-refusal.ensures ∙ c.if-refusal-ne0.false) (ap Toward c.nearest_direction.ensures)
+returns c = rw (← c.in_ok-check_point.ensures, ← c.nearest_direction.ensures)

@@ -1,16 +1,15 @@
 -- `directions::sitjorbe_directions` meets its contract: `given_refused` and `given_answered`. Assumes nothing.
+use Rattle.std.proofs.Common.{sym, ◌∙◌}
+use Rattle.domain.proofs.Refused.{refusal_some}
 use Rattle.directions.proofs.Laws.{directions_unrefused, given_refused, given_answered}
 use Rattle.direction.specs.RecordLaws.{record_lent_lem}
-use mathlib.Core.Path.{sym, ◌∙◌}
 use Rattle.directions.proofs.sitjorbe_directions.Goals as goal
 
-pub returns-then-refusal-ne0 : goal.returns-then-refusal-ne0
-returns-then-refusal-ne0 c = given_refused _ _ _ _ c.directions_refusal-refusal.ensures c.if-refusal-ne0.true
+pub returns-in-Err : goal.returns-in-Err
+returns-in-Err c = given_refused _ _ _ _ (c.from.ensures ∙ c.in-Err.ensures) (λ e. refusal_some c.in-Err.refusal (sym c.from.ensures ∙ e))
 
 pub write_answers-requires : goal.write_answers-requires
-write_answers-requires c = let parts = directions_unrefused _ _ _ _ (sym c.directions_refusal-refusal.ensures ∙ c.if-refusal-ne0.false) in
-    (record_lent_lem _ parts.1, parts.0)
+write_answers-requires c = let parts = directions_unrefused _ _ _ _ (sym c.in-Ok.ensures) in (record_lent_lem _ parts.1, parts.0)
 
-pub returns : goal.returns
-returns c =
-    given_answered _ _ _ _ (sym c.directions_refusal-refusal.ensures ∙ c.if-refusal-ne0.false) c.write_answers.ensures
+pub returns-in-Ok : goal.returns-in-Ok
+returns-in-Ok c = given_answered _ _ _ _ (sym c.in-Ok.ensures) c.write_answers.ensures

@@ -20,12 +20,6 @@ pub write_answer-requires : goal.write_answer-requires
 write_answer-requires c =
     points_answered_room _ _ _ _ _ c.loop-i.invariant c.requires.1 c.loop-i-test.true
 
-pub overflow_add-i : goal.overflow_add-i
-overflow_add-i c = omega (arith, c.loop-i-test.true)
-
-pub loop-i-smaller : goal.loop-i-smaller
-loop-i-smaller c = omega (arith, c.loop-i-test.true)
-
 pub loop-i-preserved : goal.loop-i-preserved
 loop-i-preserved c =
     points_answered_next _ _ _ _ _ c.loop-i.invariant c.requires.1 c.loop-i-test.true

@@ -1,10 +1,6 @@
 -- `directions::write_answers` meets its contract: the invariant is `PointsAnswered`, i points answered. Assumes nothing.
 use Rattle.directions.specs.Laws.{PointsAnswered}
-use Prim.Native.Nat.{◌-◌}
 use Rattle.directions.proofs.write_answers.Given as goal
 
 abbrev pub invariant-loop-i : goal.invariant-loop-i
 invariant-loop-i l = PointsAnswered l.g l.values l.points l.targets l.initial.answers l.i l.answers
-
-abbrev pub decreases-loop-i : goal.decreases-loop-i
-decreases-loop-i l = l.n - l.i

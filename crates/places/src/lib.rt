@@ -3,6 +3,7 @@
 
 ghost use Rattle.std.specs.Prelude.{◌≡◌};
 ghost use Rattle.domain.specs.Outline.{outline, outline_of};
+ghost use Rattle.domain.specs.Accepted.{OutlineFits};
 ghost use Rattle.crossfield.specs.Field.{drawn_refusal};
 ghost use Rattle.places.specs.Needed.{places_answer, PlacesGiven};
 
@@ -19,7 +20,8 @@ pub struct PlacesAnswer {
 
 // Of an outline and a size that 1 to 7 let pass.
 fn count_places(domain: Domain<'_>, size: f64) -> PlacesAnswer
-    requires { drawn_refusal (outline_of domain) size ≡ 0 }
+    requires drawn { drawn_refusal (outline_of domain) size ≡ 0 }
+    requires doubles { OutlineFits (outline_of domain) }
     ensures { result ≡ places_answer (outline_of domain.entry) size }
 {
     let grid = crossfield::grid_of(crossfield::bounds_of(domain), size);
@@ -43,18 +45,12 @@ pub extern "C" fn sitjorbe_places<'a>(
 {
     let domain = Domain { outer, holes, lens };
     // Neither 8 nor 9: no sweeps are asked for, and no field has more nodes.
-    let refusal = crossfield::field_refusal(
-        domain,
-        size,
-        0,
-        Settings::MOST_FIELD_NODES,
-    );
-    if refusal != 0 {
-        return PlacesAnswer {
-            refusal,
+    match crossfield::check_field(domain, size, 0, Settings::MOST_FIELD_NODES) {
+        Err(refusal) => PlacesAnswer {
+            refusal: u32::from(refusal),
             field_nodes: 0,
             sampled_nodes: 0,
-        };
+        },
+        Ok(()) => count_places(domain, size),
     }
-    count_places(domain, size)
 }

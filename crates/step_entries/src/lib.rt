@@ -4,6 +4,7 @@
 
 ghost use Rattle.std.specs.Prelude.{◌≡◌};
 ghost use Rattle.domain.specs.Outline.{outline, outline_of};
+ghost use Rattle.domain.specs.Refusals.{refused};
 ghost use Rattle.direction.specs.Record.{field_record};
 ghost use Rattle.crossfield.specs.Field.{drawn_refusal};
 ghost use Rattle.front.specs.State.{counted};
@@ -11,7 +12,7 @@ ghost use Rattle.mesh_check.specs.Check.{lent_state};
 ghost use Rattle.step_entries.specs.Entries.{grid_given, given_refusal, counts_given, HostSteps, HostPreviews};
 
 use direction::Grid;
-use domain::{Domain, Settings};
+use domain::{Domain, Refusal, Settings};
 use front::Counts;
 use previews::Sight;
 use step_answers::{PreviewAnswer, StepAnswer};
@@ -19,26 +20,24 @@ use step_answers::{PreviewAnswer, StepAnswer};
 // ---- refusals 1 to 7 and 11
 
 // 1 to 7: those of a run with no sweeps and room for every field.
-fn drawn_refusal(domain: Domain<'_>, size: f64) -> u32
-    ensures { result ≡ drawn_refusal (outline_of domain.entry) size }
+fn check_drawn(domain: Domain<'_>, size: f64) -> Result<(), Refusal>
+    ensures { refused result ≡ drawn_refusal (outline_of domain.entry) size }
 {
-    crossfield::field_refusal(domain, size, 0, Settings::MOST_FIELD_NODES)
+    crossfield::check_field(domain, size, 0, Settings::MOST_FIELD_NODES)
 }
 
-fn given_refusal(
-    domain: Domain<'_>, size: f64,
+fn check_given(
+    domain: Domain<'_>,
+    size: f64,
     grid: Grid,
     values: &[f64],
     marks: &[u8],
-) -> u32
-    ensures { result ≡ given_refusal (outline_of domain.entry) size
+) -> Result<(), Refusal>
+    ensures { refused result ≡ given_refusal (outline_of domain.entry) size
         (field_record grid values.now marks.now) }
 {
-    let r = drawn_refusal(domain, size);
-    if r != 0 {
-        return r;
-    }
-    direction::record_refusal(grid, values, marks)
+    check_drawn(domain, size)?;
+    direction::check_record(grid, values, marks)
 }
 
 // ---- the entries
@@ -87,9 +86,8 @@ pub extern "C" fn sitjorbe_step<'a>(
         nx,
         ny,
     };
-    let number = given_refusal(domain, size, grid, values, marks);
-    if number != 0 {
-        return step_answers::refused_step(number);
+    if let Err(refusal) = check_given(domain, size, grid, values, marks) {
+        return step_answers::refused_step(u32::from(refusal));
     }
     let k = Counts {
         nodes: node_count,
@@ -146,9 +144,8 @@ pub extern "C" fn sitjorbe_preview<'a>(
         nx,
         ny,
     };
-    let number = given_refusal(domain, size, grid, values, marks);
-    if number != 0 {
-        return step_answers::refused_preview(number);
+    if let Err(refusal) = check_given(domain, size, grid, values, marks) {
+        return step_answers::refused_preview(u32::from(refusal));
     }
     let k = Counts {
         nodes: node_count,
@@ -157,8 +154,7 @@ pub extern "C" fn sitjorbe_preview<'a>(
         front: front_count,
     };
     let sight = previews::preview(
-        domain, size, grid, values, xs, ys, next, prev, origins, quads, edges, k, a, b,
-        list,
+        domain, size, grid, values, xs, ys, next, prev, origins, quads, edges, k, a, b, list,
     );
     match sight {
         Sight::Refused(refusal) => step_answers::refused_preview(refusal),

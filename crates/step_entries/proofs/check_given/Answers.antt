@@ -1,15 +1,12 @@
--- `step_entries::given_refusal` meets its contract.
-use Rattle.direction.specs.Record.{field_record}
+-- `step_entries::check_given` meets its contract.
+use Rattle.std.proofs.Common.{refl, arith, rules}
+use Rattle.std.proofs.lemmas.Grind.{common_steps}
+use Rattle.domain.proofs.Refused.{refusal_some}
 use Rattle.step_entries.specs.EntryLaws.{given_drawn, given_record}
-use Rattle.step_entries.proofs.given_refusal.Goals as goal
+use Rattle.step_entries.proofs.check_given.Goals as goal
 
-pub returns-then-r-ne0 : goal.returns-then-r-ne0
-returns-then-r-ne0 c =
-    let v = c.args in
-    given_drawn _ _ (field_record v.grid v.values.now v.marks.now) c.drawn_refusal-r.ensures c.if-r-ne0.true
+pub returns-in_err-check_drawn : goal.returns-in_err-check_drawn
+returns-in_err-check_drawn c = given_drawn _ _ _ (search rules) (grind (arith, common_steps, refusal_some))
 
 pub returns : goal.returns
-returns c =
-    let v = c.args in
-    given_record _ _ (field_record v.grid v.values.now v.marks.now) c.drawn_refusal-r.ensures c.if-r-ne0.false
-    c.record_refusal.ensures
+returns c = given_record _ _ _ c.in_ok-check_drawn.ensures refl c.check_record.ensures

@@ -1,6 +1,8 @@
 -- `step_entries::sitjorbe_preview` meets its contract.
-use mathlib.Core.Path.{sym, ◌∙◌}
+use mathlib.Core.Path.{sym, ap, ◌∙◌}
 use Rattle.domain.specs.Outline.{Outline, outline}
+use Rattle.domain.specs.Refusals.{refused}
+use Rattle.domain.proofs.Refused.{refusal_some}
 use Rattle.direction.specs.Record.{FieldRecord, field_record}
 use Rattle.front.specs.declared.Counts.{Counts}
 use Rattle.front.specs.State.{State, counted}
@@ -26,11 +28,11 @@ lent s =
     lent_state s.args.xs.now s.args.ys.now s.args.next.now s.args.prev.now s.args.origins.now s.args.quads.now
     s.args.edges.now (counts s)
 
-pub returns-then-number-ne0 : goal.returns-then-number-ne0
-returns-then-number-ne0 c =
+pub returns-in-Err : goal.returns-in-Err
+returns-in-Err c =
     rw c.refused_preview.ensures
-    (sight_refused (around (goal.at.returns-then-number-ne0 c).Start) c.args.size (field (goal.at.returns-then-number-ne0 c).Start) c.args.a c.args.b (lent (goal.at.returns-then-number-ne0 c).Start) _ c.given_refusal-number.ensures
-    c.if-number-ne0.true)
+    (sight_refused (around (goal.at.returns-in-Err c).Start) c.args.size (field (goal.at.returns-in-Err c).Start) c.args.a c.args.b (lent (goal.at.returns-in-Err c).Start) _ (c.from.ensures ∙ (sym (ap refused c.in-Err.is) ∙ c.check_given.ensures))
+    (λ z. refusal_some _ (sym c.from.ensures ∙ z)))
 
 pub preview-sight-requires : goal.preview-sight-requires
 preview-sight-requires c =
@@ -39,24 +41,24 @@ preview-sight-requires c =
       outer = λ i h. c.shared_slice_known-1.given i;
       holes = λ i h. c.shared_slice_known-2-1.given i;
     })
-    (sym c.given_refusal-number.ensures ∙ c.if-number-ne0.false)
+    (sym c.check_given.ensures ∙ ap refused c.in_default.is)
 
 pub view_numbers-requires : goal.view_numbers-requires
 view_numbers-requires c =
     shown_few (around (goal.at.view_numbers-requires c).Start) c.args.size (field (goal.at.view_numbers-requires c).Start) c.args.a c.args.b _ _ _ _ c.args.origins.now _ _ (counts (goal.at.view_numbers-requires c).Start) _
-    c.given_refusal-number.ensures
-    c.if-number-ne0.false c.preview-sight.result _ (c.preview-sight.ensures c.args.marks.now) c.in-Shown.is
+    c.check_given.ensures
+    (ap refused c.in_default.is) c.preview-sight.result _ (c.preview-sight.ensures c.args.marks.now) c.in-Shown.is
 
 pub returns-in-Refused : goal.returns-in-Refused
 returns-in-Refused c =
     rw c.refused_preview-in-Refused.ensures
-    (sight_mesh (around (goal.at.returns-in-Refused c).Start) c.args.size (field (goal.at.returns-in-Refused c).Start) c.args.a c.args.b (lent (goal.at.returns-in-Refused c).Start) _ c.given_refusal-number.ensures
-    c.if-number-ne0.false c.preview-sight.result _
+    (sight_mesh (around (goal.at.returns-in-Refused c).Start) c.args.size (field (goal.at.returns-in-Refused c).Start) c.args.a c.args.b (lent (goal.at.returns-in-Refused c).Start) _ c.check_given.ensures
+    (ap refused c.in_default.is) c.preview-sight.result _
     (c.preview-sight.ensures c.args.marks.now) c.in-Refused.is)
 
 pub returns-in-Shown : goal.returns-in-Shown
 returns-in-Shown c =
     sight_shown (around (goal.at.returns-in-Shown c).Start) c.args.size (field (goal.at.returns-in-Shown c).Start) c.args.a c.args.b _ _ _ _ c.args.origins.now _ _ (counts (goal.at.returns-in-Shown c).Start) _
-    c.given_refusal-number.ensures
-    c.if-number-ne0.false c.preview-sight.result _ (c.preview-sight.ensures c.args.marks.now) c.in-Shown.is _
+    c.check_given.ensures
+    (ap refused c.in_default.is) c.preview-sight.result _ (c.preview-sight.ensures c.args.marks.now) c.in-Shown.is _
     c.view_numbers.ensures

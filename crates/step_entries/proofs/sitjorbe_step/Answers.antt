@@ -1,6 +1,8 @@
 -- `step_entries::sitjorbe_step` meets its contract.
-use mathlib.Core.Path.{sym, ◌∙◌}
+use mathlib.Core.Path.{sym, ap, ◌∙◌}
 use Rattle.domain.specs.Outline.{Outline, outline}
+use Rattle.domain.specs.Refusals.{refused}
+use Rattle.domain.proofs.Refused.{refusal_some}
 use Rattle.direction.specs.Record.{FieldRecord, field_record}
 use Rattle.front.specs.declared.Counts.{Counts}
 use Rattle.front.specs.State.{counted}
@@ -20,10 +22,10 @@ field s = field_record (grid_given s.args.xmin s.args.ymin s.args.h s.args.nx s.
 abbrev counts : Start → Counts
 counts s = counted s.args.node_count s.args.quad_count s.args.edge_count s.args.front_count
 
-pub returns-then-number-ne0 : goal.returns-then-number-ne0
-returns-then-number-ne0 c =
-    step_lists_refused (around (goal.at.returns-then-number-ne0 c).Start) c.args.size (field (goal.at.returns-then-number-ne0 c).Start) c.args.a c.args.b _ _ _ _ _ _ _ (counts (goal.at.returns-then-number-ne0 c).Start) c.given_refusal-number.ensures _
-    c.if-number-ne0.true
+pub returns-in-Err : goal.returns-in-Err
+returns-in-Err c =
+    step_lists_refused (around (goal.at.returns-in-Err c).Start) c.args.size (field (goal.at.returns-in-Err c).Start) c.args.a c.args.b _ _ _ _ _ _ _ (counts (goal.at.returns-in-Err c).Start) (c.from.ensures ∙ (sym (ap refused c.in-Err.is) ∙ c.check_given.ensures)) _
+    (λ z. refusal_some _ (sym c.from.ensures ∙ z))
     c.refused_step.ensures
 
 pub step-step-requires : goal.step-step-requires
@@ -33,10 +35,10 @@ step-step-requires c =
       outer = λ i h. c.shared_slice_known-1.given i;
       holes = λ i h. c.shared_slice_known-2-1.given i;
     })
-    (sym c.given_refusal-number.ensures ∙ c.if-number-ne0.false)
+    (sym c.check_given.ensures ∙ ap refused c.in_default.is)
 
 pub returns : goal.returns
 returns c =
-    lists_stepped (around (goal.at.returns c).Start) c.args.size (field (goal.at.returns c).Start) c.args.a c.args.b _ _ _ _ _ _ _ (counts (goal.at.returns c).Start) c.given_refusal-number.ensures _
-    c.if-number-ne0.false
+    lists_stepped (around (goal.at.returns c).Start) c.args.size (field (goal.at.returns c).Start) c.args.a c.args.b _ _ _ _ _ _ _ (counts (goal.at.returns c).Start) c.check_given.ensures _
+    (ap refused c.in_default.is)
     c.step-step.result _ _ _ _ _ _ _ (c.step-step.ensures c.args.marks.now) c.step_numbers.ensures

@@ -1,7 +1,7 @@
 // Number routines that Rattle lacks, each equal to a definition of specs/ on every input (`to_f64`: on every count below 2^32).
 #![tactic(auto)]
 
-ghost use Rattle.std.specs.Prelude.{◌≡◌, ◌+◌, ◌*◌, ◌/◌, ◌%◌, ◌^◌, ◌<◌, ◌≤◌, min, max, T};
+ghost use Rattle.std.specs.Prelude.{◌≡◌, ◌+◌, ◌*◌, ◌/◌, ◌%◌, ◌^◌, ◌<◌, ◌≤◌, T};
 ghost use Rattle.std.specs.Float.Ieee.{to_bits};
 ghost use Rattle.std.specs.Float.{binary64};
 ghost use Rattle.numbers.specs.Root.{NearRoot, RootBits, root_units, root};
@@ -269,34 +269,6 @@ pub fn to_f64(n: usize) -> f64
 {
     let m = n as u32;
     m as f64
-}
-
-// `a.min(b)`
-pub fn min_u32(a: u32, b: u32) -> u32
-    ensures { result ≡ min a b }
-{
-    if a < b { a } else { b }
-}
-
-// `a.max(b)`
-pub fn max_u32(a: u32, b: u32) -> u32
-    ensures { result ≡ max a b }
-{
-    if a < b { b } else { a }
-}
-
-// `a.min(b)`
-pub fn min_usize(a: usize, b: usize) -> usize
-    ensures { result ≡ min a b }
-{
-    if b < a { b } else { a }
-}
-
-// `a.max(b)`
-pub fn max_usize(a: usize, b: usize) -> usize
-    ensures { result ≡ max a b }
-{
-    if b < a { a } else { b }
 }
 
 // `x.min(y)`; of equal zeros, which Rust leaves open, x.

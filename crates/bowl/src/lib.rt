@@ -176,7 +176,8 @@ pub extern "C" fn sitjorbe_steps(
         front: front_count,
     };
     let r = steps_answer(xs, ys, next, prev, origins, quads, edges, k, steps.len());
-    if r.refusal == 0 {
+    let given = r.refusal == 0;
+    if given {
         store_steps(xs, ys, node_count as usize, steps);
     }
     r

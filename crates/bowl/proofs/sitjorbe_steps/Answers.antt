@@ -19,17 +19,17 @@ lent c =
 
 pub store_steps-requires : goal.store_steps-requires
 store_steps-requires c =
-    let given = given_passes (lent (goal.at.store_steps-requires c).Start) _ (ap (λ (r : StepsAnswer). r.refusal) (sym c.steps_answer-r.ensures) ∙ c.if-r-eq0.true) in (
+    let given = given_passes (lent (goal.at.store_steps-requires c).Start) _ (ap (λ (r : StepsAnswer). r.refusal) (sym c.steps_answer-r.ensures) ∙ c.if-given.true) in (
       nodes_within c.args.xs.now c.args.ys.now c.args.next.now c.args.prev.now c.args.origins.now
           c.args.quads.now c.args.edges.now (counts_of (goal.at.store_steps-requires c).Start) (λ i h. c.shared_slice_known-1.given i)
           (λ i h. c.shared_slice_known-2-1.given i) given.0,
       given.1,
     )
 
-pub returns-then-r-eq0 : goal.returns-then-r-eq0
-returns-then-r-eq0 c =
-    mesh_stored (lent (goal.at.returns-then-r-eq0 c).Start) _ _ c.steps_answer-r.ensures c.if-r-eq0.true _ c.store_steps.ensures
+pub returns-then-given : goal.returns-then-given
+returns-then-given c =
+    mesh_stored (lent (goal.at.returns-then-given c).Start) _ _ c.steps_answer-r.ensures c.if-given.true _ c.store_steps.ensures
 
-pub returns-else-r-eq0 : goal.returns-else-r-eq0
-returns-else-r-eq0 c =
-    mesh_refused (lent (goal.at.returns-else-r-eq0 c).Start) _ _ c.steps_answer-r.ensures c.if-r-eq0.false
+pub returns-else-given : goal.returns-else-given
+returns-else-given c =
+    mesh_refused (lent (goal.at.returns-else-given c).Start) _ _ c.steps_answer-r.ensures c.if-given.false

@@ -25,9 +25,14 @@ pub extern "C" fn sitjorbe_sound<'a>(
     ensures { result ≡ sound_answer (outline outer.now holes.now lens.now) }
 {
     let domain = Domain { outer, holes, lens };
-    let checked = outlines::check_outline(domain);
-    SoundAnswer {
-        refusal: domain::number_of(checked),
-        sound: checked.is_ok() && soundness::is_sound(domain),
+    match outlines::check_outline(domain) {
+        Err(refusal) => SoundAnswer {
+            refusal: u32::from(refusal),
+            sound: false,
+        },
+        Ok(()) => SoundAnswer {
+            refusal: 0,
+            sound: soundness::is_sound(domain),
+        },
     }
 }

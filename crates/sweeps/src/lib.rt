@@ -31,7 +31,7 @@ fn relax(g: Grid, values: &mut [f64], quiet: bool, j: usize, i: usize, id: usize
     values[k] = v.x;
     values[k + 1] = v.y;
     let moved = 1.0e-7 <= change(old, v);
-    if quiet { !moved } else { false }
+    quiet && !moved
 }
 
 fn sweep_node(
@@ -62,12 +62,9 @@ fn sweep_row(g: Grid, marks: &[u8], values: &mut [f64], quiet: bool, j: usize, b
     requires nx_in_bounds { base + g.nx ≤ length marks.now }
     ensures { swept values.new result ≡ sweep_row g marks.now j (swept values.old quiet) }
 {
-    let nx = g.nx;
     let mut still = quiet;
-    let mut i = 0;
-    while i < nx {
+    for i in 0..g.nx {
         still = sweep_node(g, marks, values, still, j, i, base + i);
-        i += 1;
     }
     still
 }
@@ -94,11 +91,9 @@ fn sweep_two_rows(
     let above = j + 1;
     let up = base + nx;
     let mut still = sweep_node(g, marks, values, quiet, j, 0, base);
-    let mut i = 0;
-    while i < last {
+    for i in 0..last {
         still = sweep_node(g, marks, values, still, j, i + 1, base + (i + 1));
         still = sweep_node(g, marks, values, still, above, i, up + i);
-        i += 1;
     }
     sweep_node(g, marks, values, still, above, last, up + last)
 }
@@ -108,18 +103,13 @@ fn sweep(g: Grid, marks: &[u8], values: &mut [f64]) -> bool
     requires { FieldRoom g.nx g.ny (length values.old) (length marks.now) }
     ensures { swept values.new result ≡ sweep g marks.now values.old }
 {
-    let nx = g.nx;
-    let ny = g.ny;
     let mut quiet = true;
-    let mut base = 0;
-    let mut j = 0;
-    while 1 < ny - j {
-        quiet = sweep_two_rows(g, marks, values, quiet, j, base);
-        base = base + nx + nx;
-        j += 2;
+    for k in 0..g.ny / 2 {
+        quiet = sweep_two_rows(g, marks, values, quiet, 2 * k, 2 * k * g.nx);
     }
-    if j < ny {
-        sweep_row(g, marks, values, quiet, j, base)
+    if g.ny % 2 == 1 {
+        let j = g.ny - 1;
+        sweep_row(g, marks, values, quiet, j, j * g.nx)
     } else {
         quiet
     }
@@ -130,11 +120,9 @@ pub fn sweeps(n: usize, g: Grid, marks: &[u8], values: &mut [f64])
     requires { FieldRoom g.nx g.ny (length values.old) (length marks.now) }
     ensures { values.new ≡ sweeps n g marks.now values.old }
 {
-    let mut k = 0;
-    while k < n {
+    for _ in 0..n {
         if sweep(g, marks, values) {
             return;
         }
-        k += 1;
     }
 }

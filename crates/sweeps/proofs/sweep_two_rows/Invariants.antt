@@ -1,6 +1,5 @@
 -- `sweeps::sweep_two_rows` meets its contract. Assumes nothing.
 use mathlib.Core.Path.{◌≡◌}
-use Prim.Native.Nat.{◌-◌}
 use lib.ListN.{length}
 use Rattle.laws.specs.Loop.{Loop}
 use Rattle.sweeps.specs.Sweeps.{swept}
@@ -10,6 +9,3 @@ use Rattle.sweeps.proofs.sweep_two_rows.Given as goal
 abbrev pub invariant-loop-i : goal.invariant-loop-i
 invariant-loop-i l =
     (length l.values ≡ length l.initial.values) × Loop (rows_turn l.g l.marks l.j) (swept l.initial.values l.initial.still) l.last l.i (swept l.values l.still)
-
-abbrev pub decreases-loop-i : goal.decreases-loop-i
-decreases-loop-i l = l.last - l.i

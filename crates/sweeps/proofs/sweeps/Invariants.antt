@@ -1,16 +1,12 @@
 -- `sweeps::sweeps` meets its contract. Assumes nothing.
 use mathlib.Core.List.{List}
 use mathlib.Core.Path.{◌≡◌}
-use Prim.Native.Nat.{◌-◌}
 use lib.Ieee.{Float}
 use lib.ListN.{length}
 use Rattle.laws.specs.Loop.{Run}
 use Rattle.sweeps.specs.Sweeps.{sweep_turn}
 use Rattle.sweeps.proofs.sweeps.Given as goal
 
-abbrev pub invariant-loop-k : goal.invariant-loop-k
-invariant-loop-k l = (length l.values ≡ length l.initial.values) × Run (sweep_turn l.g l.marks) (λ (last : List Float). last) l.initial.values l.n
-    l.k l.values
-
-abbrev pub decreases-loop-k : goal.decreases-loop-k
-decreases-loop-k l = l.n - l.k
+abbrev pub invariant-loop : goal.invariant-loop
+invariant-loop l = (length l.values ≡ length l.initial.values) × Run (sweep_turn l.g l.marks) (λ (last : List Float). last) l.initial.values l.n
+    l.counter l.values

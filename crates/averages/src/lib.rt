@@ -9,36 +9,19 @@ ghost use Rattle.averages.specs.Average.{plus_if, one_if, neighbour_sum, neighbo
 use direction::Grid;
 use domain::{Point, Settings};
 
-// The sum with the value of the node d places before, where there is one.
-fn plus_before(there: bool, values: &[f64], id: usize, d: usize, sum: Point) -> Point
-    requires d_le_id { there ≡ true → d ≤ id }
-    requires id_in_bounds { 2 * id + 1 < length values.now }
-    ensures { result ≡ plus_if there (point_at values.now (id - d)) sum }
+// The sum with the value of node k, where there is one.
+#[tactic(auto, unfolding(crate::specs::Average::plus_if))]
+fn plus_if(there: bool, values: &[f64], k: usize, sum: Point) -> Point
+    requires { there ≡ true → 2 * k + 1 < length values.now }
+    ensures { result ≡ plus_if there (point_at values.now k) sum }
 {
-    if there {
-        let v = outlines::point_at(values, id - d);
-        Point {
-            x: sum.x + v.x,
-            y: sum.y + v.y,
-        }
-    } else {
-        sum
+    if !there {
+        return sum;
     }
-}
-
-// The sum with the value of the node d places after, where there is one.
-fn plus_after(there: bool, values: &[f64], id: usize, d: usize, sum: Point) -> Point
-    requires { there ≡ true → 2 * (id + d) + 1 < length values.now }
-    ensures { result ≡ plus_if there (point_at values.now (id + d)) sum }
-{
-    if there {
-        let v = outlines::point_at(values, id + d);
-        Point {
-            x: sum.x + v.x,
-            y: sum.y + v.y,
-        }
-    } else {
-        sum
+    let v = outlines::point_at(values, k);
+    Point {
+        x: sum.x + v.x,
+        y: sum.y + v.y,
     }
 }
 
@@ -48,11 +31,15 @@ fn neighbour_sum(g: Grid, values: &[f64], j: usize, i: usize, id: usize) -> Poin
     ensures { result ≡ neighbour_sum g values.now j i }
 {
     let nx = g.nx;
-    let ny = g.ny;
-    let left = plus_before(0 < i, values, id, 1, Point { x: 0.0, y: 0.0 });
-    let right = plus_after(i + 1 < nx, values, id, 1, left);
-    let under = plus_before(0 < j, values, id, nx, right);
-    plus_after(j + 1 < ny, values, id, nx, under)
+    let left = plus_if(
+        0 < i,
+        values,
+        id.saturating_sub(1),
+        Point { x: 0.0, y: 0.0 },
+    );
+    let right = plus_if(i + 1 < nx, values, id + 1, left);
+    let under = plus_if(0 < j, values, id.saturating_sub(nx), right);
+    plus_if(j + 1 < g.ny, values, id + nx, under)
 }
 
 fn one_if(there: bool) -> u32

@@ -12,13 +12,7 @@ use pools::Rect;
 fn shifted(k: i64) -> u32
     ensures { result ≡ shifted k }
 {
-    if k <= -1048576 {
-        return 2;
-    }
-    if 1048576 <= k {
-        return 2097154;
-    }
-    (k + 1048578) as u32
+    (k.clamp(-1048576, 1048576) + 1048578) as u32
 }
 
 // The rectangle with the opposite corners k and l, either first.

@@ -14,7 +14,7 @@ ghost use Rattle.previews.specs.Preview.{remove_link, take_link, put_link, bare_
 ghost use Rattle.previews.specs.Preview.{foreseen, foreseen_on, preview_refusal, PreviewTaken};
 
 use direction::Grid;
-use domain::{Domain, Refusal, Settings};
+use domain::{Domain, Refusal};
 use front::{Corner, Counts, OFF};
 use hand_steps::StepOutcome;
 use paving::Attempt;
@@ -252,7 +252,7 @@ fn foresee_on(
         (lent_state xs.now ys.now next.now prev.now origins.now quads.now
         edges.now k) }
 {
-    if k.quads >= Settings::MOST_QUADS {
+    if stepping::is_capped(k) {
         return Foreseen {
             outcome: StepOutcome::Cap,
             quad: Attempt::Nothing,

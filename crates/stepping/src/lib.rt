@@ -1,12 +1,13 @@
 // A front stepped by hand: one named edge, one quad placed or none. Any mesh may be lent.
 #![tactic(auto)]
 
-ghost use Rattle.std.specs.Prelude.{◌≡◌, List, [], ℕ, ◌<◌, ◌≤◌, length};
+ghost use Rattle.std.specs.Prelude.{◌≡◌, List, [], ℕ, ◌<◌, ◌≤◌, leb, length};
 ghost use Rattle.domain.specs.Outline.{outline_of};
 ghost use Rattle.domain.specs.Refusals.{refused};
 ghost use Rattle.direction.specs.Record.{field_record};
 ghost use Rattle.front.specs.State.{state_of};
 ghost use Rattle.paving.specs.Attempt.{try_edge};
+ghost use Rattle.paving.specs.Advance.{most_quads};
 ghost use Rattle.attempts.specs.Seen.{seen_state, TryLent};
 ghost use Rattle.mesh_check.specs.Check.{lent_state, all_off};
 ghost use Rattle.hand_steps.specs.Hand.{hand_refusal, handled, settled_on, place_on, new_origins, counts_left, StepTaken};
@@ -111,6 +112,13 @@ fn settle(
     }
 }
 
+// Whether as many quads stand as a run may lay.
+pub fn is_capped(k: Counts) -> bool
+    ensures { result ≡ leb most_quads k.quads }
+{
+    k.quads >= Settings::MOST_QUADS
+}
+
 // One placing on the front edge a to b; none at all where 250,000 quads stand.
 fn place_on(
     domain: Domain<'_>,
@@ -137,7 +145,7 @@ fn place_on(
         (lent_state xs.old ys.old next.old prev.old origins.now quads.old
         edges.old k) }
 {
-    if k.quads >= Settings::MOST_QUADS {
+    if is_capped(k) {
         return HandPlacing {
             outcome: StepOutcome::Cap,
             counts: k,

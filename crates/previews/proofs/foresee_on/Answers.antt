@@ -1,6 +1,7 @@
 -- `previews::foresee_on` meets its contract.
 use mathlib.Core.List.{[]}
-use mathlib.Core.Path.{refl}
+use mathlib.Core.Path.{refl, sym, ◌∙◌}
+use Rattle.std.proofs.lemmas.Bool.{leb-true, leb-false}
 use Rattle.domain.specs.Outline.{Outline, outline_of}
 use Rattle.front.specs.State.{State}
 use Rattle.mesh_check.specs.Check.{lent_state}
@@ -18,9 +19,9 @@ lent s =
     lent_state s.args.xs.now s.args.ys.now s.args.next.now s.args.prev.now s.args.origins.now s.args.quads.now
     s.args.edges.now s.args.k
 
-pub returns-then-k-ge-MOST_QUADS : goal.returns-then-k-ge-MOST_QUADS
-returns-then-k-ge-MOST_QUADS c =
-    λ marks. foreseen_cap (around (goal.at.returns-then-k-ge-MOST_QUADS c).Start) c.args.size c.args.grid c.args.values.now marks c.args.a c.args.b (lent (goal.at.returns-then-k-ge-MOST_QUADS c).Start) c.if-k-ge-MOST_QUADS.true
+pub returns-then-is_capped : goal.returns-then-is_capped
+returns-then-is_capped c =
+    λ marks. foreseen_cap (around (goal.at.returns-then-is_capped c).Start) c.args.size c.args.grid c.args.values.now marks c.args.a c.args.b (lent (goal.at.returns-then-is_capped c).Start) (leb-true _ _ (sym c.is_capped.ensures ∙ c.if-is_capped.true))
 
 pub attempt_on-attempt-requires : goal.attempt_on-attempt-requires
 attempt_on-attempt-requires c =
@@ -33,5 +34,5 @@ foresee-requires c =
 pub returns : goal.returns
 returns c =
     λ marks.
-    foreseen_tried (around (goal.at.returns c).Start) c.args.size c.args.grid c.args.values.now marks c.args.a c.args.b (lent (goal.at.returns c).Start) c.if-k-ge-MOST_QUADS.false
+    foreseen_tried (around (goal.at.returns c).Start) c.args.size c.args.grid c.args.values.now marks c.args.a c.args.b (lent (goal.at.returns c).Start) (leb-false _ _ (sym c.is_capped.ensures ∙ c.if-is_capped.false))
     c.attempt_on-attempt.ensures c.foresee.ensures

@@ -16,6 +16,7 @@ pub const DECISIVE: usize = outline_file::LONGEST_FILE + 1;
 
 pub const LONGEST_LISTING: usize = 117681;
 
+#[tactic(auto, unfolding(crate::specs::Program::heading_of))]
 fn heading(r: Paved) -> Heading
     ensures { result ≡ heading_of r }
 {

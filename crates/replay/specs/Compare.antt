@@ -1,16 +1,14 @@
 -- Two lists of bytes compared, and the lines of a text. Definitions only.
-use Rattle.std.specs.Prelude.{cond, List, [], ◌∷◌, ◌≡◌, ℕ, suc, ◌+◌, ◌≤◌, eqb, length, drop}
-use Rattle.replay.specs.declared.Compared.{Compared}
-use Rattle.replay.specs.declared.Compared.TheVariants.{Same, DiffersAt}
+use Rattle.std.specs.Prelude.{cond, List, [], ◌∷◌, ◌≡◌, ℕ, suc, ◌+◌, ◌≤◌, eqb, length, drop, Option, Some, None}
 
 -- the first place at which two lists differ, places counted from i on; one may end there
-unfoldable pub compared_from : ℕ → List ℕ → List ℕ → Compared
-compared_from i [] [] = Same
-compared_from i [] (y ∷ m) = DiffersAt i
-compared_from i (x ∷ l) [] = DiffersAt i
-compared_from i (x ∷ l) (y ∷ m) = cond (eqb x y) (compared_from (suc i) l m) (DiffersAt i)
+unfoldable pub compared_from : ℕ → List ℕ → List ℕ → Option ℕ
+compared_from i [] [] = None
+compared_from i [] (y ∷ m) = Some i
+compared_from i (x ∷ l) [] = Some i
+compared_from i (x ∷ l) (y ∷ m) = cond (eqb x y) (compared_from (suc i) l m) (Some i)
 
-abbrev pub compared : List ℕ → List ℕ → Compared
+abbrev pub compared : List ℕ → List ℕ → Option ℕ
 compared = compared_from 0
 
 -- how many bytes there are before the first line feed, or in all

@@ -1,18 +1,16 @@
 -- Laws of Compare: `same_equal` and `equal_same` (two lists compare the same exactly if they are equal), and what the loops cite. Assumes nothing.
-use Rattle.std.specs.Prelude.{◌≡◌, refl, Bool, true, false, ℕ, zero, suc, ◌+◌, ◌≤◌, ◌<◌, eqb, T, length, get_or, drop}
+use Rattle.std.specs.Prelude.{◌≡◌, refl, Bool, true, false, ℕ, zero, suc, ◌+◌, ◌≤◌, ◌<◌, eqb, T, length, get_or, drop, Option, Some, None}
 use Rattle.std.proofs.Math.Path.{sym, ap}
 use Rattle.std.proofs.Common.{ap₂, ◌∙◌, subst, add-one, arith, eq-eqb, ne_eqb, eqb→eq, drop_of_length-le, drop-cons}
 use Rattle.std.proofs.Math.Bool.{cond}
 use mathlib.Core.List.{List, [], ◌∷◌}
-use Rattle.replay.specs.declared.Compared.{Compared}
-use Rattle.replay.specs.declared.Compared.TheVariants.{Same, DiffersAt}
 use Rattle.replay.specs.Compare.{compared_from, compared, line_length, EndsAt}
 
 -- ---- what a comparison says
 
-abbrev Equal : List ℕ → List ℕ → Compared → Type 0
-Equal l m Same = l ≡ m
-Equal l m (DiffersAt i) = Unit {0}
+abbrev Equal : List ℕ → List ℕ → Option ℕ → Type 0
+Equal l m None = l ≡ m
+Equal l m (Some i) = Unit {0}
 
 told : (i : ℕ) (l m : List ℕ) → Equal l m (compared_from i l m)
 unfolding compared_from
@@ -21,26 +19,26 @@ told i [] (y ∷ m) = tt
 told i (x ∷ l) [] = tt
 told i (x ∷ l) (y ∷ m) = head (eqb x y) refl (told (suc i) l m)
   where
-    longer : (c : Compared) → x ≡ y → Equal l m c → Equal (x ∷ l) (y ∷ m) c
-    longer Same e f = ap₂ ◌∷◌ e f
-    longer (DiffersAt j) e f = tt
+    longer : (c : Option ℕ) → x ≡ y → Equal l m c → Equal (x ∷ l) (y ∷ m) c
+    longer None e f = ap₂ ◌∷◌ e f
+    longer (Some j) e f = tt
 
-    head : (b : Bool) → eqb x y ≡ b → Equal l m (compared_from (suc i) l m) → Equal (x ∷ l) (y ∷ m) (cond b (compared_from (suc i) l m) (DiffersAt i))
+    head : (b : Bool) → eqb x y ≡ b → Equal l m (compared_from (suc i) l m) → Equal (x ∷ l) (y ∷ m) (cond b (compared_from (suc i) l m) (Some i))
     head true e f = longer (compared_from (suc i) l m) (eqb→eq x y (subst T (sym e) tt)) f
     head false e f = tt
 
-pub same_equal : (l m : List ℕ) → compared l m ≡ Same → l ≡ m
+pub same_equal : (l m : List ℕ) → compared l m ≡ None → l ≡ m
 same_equal l m e = subst (Equal l m) e (told 0 l m)
 
-same_from : (i : ℕ) (l : List ℕ) → compared_from i l l ≡ Same
+same_from : (i : ℕ) (l : List ℕ) → compared_from i l l ≡ None
 unfolding compared_from
 same_from i [] = refl
-same_from i (x ∷ l) = ap (λ (b : Bool). cond b (compared_from (suc i) l l) (DiffersAt i)) (eq-eqb x x refl) ∙ same_from (suc i) l
+same_from i (x ∷ l) = ap (λ (b : Bool). cond b (compared_from (suc i) l l) (Some i)) (eq-eqb x x refl) ∙ same_from (suc i) l
 
-pub equal_same : (l m : List ℕ) → l ≡ m → compared l m ≡ Same
-equal_same l m e = subst (λ (k : List ℕ). compared l k ≡ Same) e (same_from 0 l)
+pub equal_same : (l m : List ℕ) → l ≡ m → compared l m ≡ None
+equal_same l m e = subst (λ (k : List ℕ). compared l k ≡ None) e (same_from 0 l)
 
-pub compared_as : {l m : List ℕ} (k : List ℕ) {r : Compared} → l ≡ m → r ≡ compared l k → r ≡ compared m k
+pub compared_as : {l m : List ℕ} (k : List ℕ) {r : Option ℕ} → l ≡ m → r ≡ compared l k → r ≡ compared m k
 compared_as {l} {m} k {r} e = subst (λ (n : List ℕ). r ≡ compared n k) e
 
 -- ---- the loop that compares
@@ -59,29 +57,29 @@ module _ (l m : List ℕ) where
     left e f = a.same ∙ ap₂ (compared_from i) e f
 
     heads : i < length l → i < length m
-        → compared l m ≡ cond (eqb (get_or l i 0) (get_or m i 0)) (compared_from (suc i) (drop (suc i) l) (drop (suc i) m)) (DiffersAt i)
+        → compared l m ≡ cond (eqb (get_or l i 0) (get_or m i 0)) (compared_from (suc i) (drop (suc i) l) (drop (suc i) m)) (Some i)
     unfolding compared_from
     heads h k = left (drop-cons l i 0 h) (drop-cons m i 0 k)
 
     headed : {b : Bool} → i < length l → i < length m → eqb (get_or l i 0) (get_or m i 0) ≡ b
-        → compared l m ≡ cond b (compared_from (suc i) (drop (suc i) l) (drop (suc i) m)) (DiffersAt i)
-    headed h k e = heads h k ∙ ap (λ (b : Bool). cond b (compared_from (suc i) (drop (suc i) l) (drop (suc i) m)) (DiffersAt i)) e
+        → compared l m ≡ cond b (compared_from (suc i) (drop (suc i) l) (drop (suc i) m)) (Some i)
+    headed h k e = heads h k ∙ ap (λ (b : Bool). cond b (compared_from (suc i) (drop (suc i) l) (drop (suc i) m)) (Some i)) e
 
     pub alike_next : i < length l → i < length m → get_or l i 0 ≡ get_or m i 0 → AlikeBelow l m (i + 1)
     alike_next h k e = record { same = rw add-one (headed h k (eq-eqb _ _ e)) }
 
-    pub alike_out : i < length l → i < length m → (get_or l i 0 ≡ get_or m i 0 → ⊥) → DiffersAt i ≡ compared l m
+    pub alike_out : i < length l → i < length m → (get_or l i 0 ≡ get_or m i 0 → ⊥) → Some i ≡ compared l m
     alike_out h k e = sym (headed h k (ne_eqb _ _ e))
 
-    pub alike_short : i < length l → length m ≤ i → DiffersAt i ≡ compared l m
+    pub alike_short : i < length l → length m ≤ i → Some i ≡ compared l m
     unfolding compared_from
     alike_short h k = sym (left (drop-cons l i 0 h) (drop_of_length-le m k))
 
-    pub alike_long : length l ≤ i → i < length m → DiffersAt i ≡ compared l m
+    pub alike_long : length l ≤ i → i < length m → Some i ≡ compared l m
     unfolding compared_from
     alike_long h k = sym (left (drop_of_length-le l h) (drop-cons m i 0 k))
 
-    pub alike_end : length l ≤ i → length m ≤ i → Same ≡ compared l m
+    pub alike_end : length l ≤ i → length m ≤ i → None ≡ compared l m
     unfolding compared_from
     alike_end h k = sym (left (drop_of_length-le l h) (drop_of_length-le m k))
 

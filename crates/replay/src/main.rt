@@ -2,10 +2,10 @@
 // differs, and last how many there are.
 #![tactic(auto)]
 
-ghost use Rattle.std.specs.Prelude.{◌≡◌, ◌+◌, ◌≤◌, min, length, IfOk};
-ghost use Rattle.file_reading.specs.Counts.{IsPrefixLen};
+ghost use Rattle.std.specs.Prelude.{◌≡◌, ◌+◌, ◌≤◌, ◌==◌, not, length, take, drop};
+ghost use Rattle.std.specs.List.{position, zip};
 ghost use Rattle.file_listing.specs.Program.{program_listing};
-ghost use Rattle.replay.specs.Compare.{compared, EndsAt};
+ghost use Rattle.replay.specs.Compare.{compared, line_length};
 
 use file_listing::list_file;
 use file_reading::read_full;
@@ -14,90 +14,68 @@ use std::{fs, io, str};
 
 // ---- on slices
 
-// Whether two texts are the same, or the first place at which they differ; one may end there.
-#[derive(Clone, Copy)]
-enum Compared {
-    Same,
-    DiffersAt(usize),
+fn first_unlike(a: &[u8], b: &[u8]) -> Option<usize>
+    ensures { result ≡ position (λ p. not (p.0 == p.1)) (zip a.now b.now) }
+{
+    a.iter().zip(b.iter()).position(|(x, y)| x != y)
 }
 
-fn compare(a: &[u8], b: &[u8]) -> Compared
+// The first place at which two texts differ, if any; one may end there.
+fn compare(a: &[u8], b: &[u8]) -> Option<usize>
     ensures { result ≡ compared a.now b.now }
 {
-    let mut i = 0;
-    while i < a.len() {
-        if b.len() <= i {
-            return Compared::DiffersAt(i);
-        }
-        if a[i] != b[i] {
-            return Compared::DiffersAt(i);
-        }
-        i += 1;
+    let place = first_unlike(a, b);
+    if place.is_none() && a.len() != b.len() {
+        return Some(a.len().min(b.len()));
     }
-    if i < b.len() {
-        return Compared::DiffersAt(i);
-    }
-    Compared::Same
+    place
 }
 
-// The place of the first line feed from `from` on, or the text's length.
-fn line_end(text: &[u8], from: usize) -> usize
-    requires { from ≤ length text.now }
-    ensures { EndsAt text.now from result }
+// How many bytes there are before the first line feed, or in all.
+fn line_length(text: &[u8]) -> usize
+    ensures value { result ≡ line_length text.now }
+    ensures within { result ≤ length text.now }
 {
-    let mut i = from;
-    while i < text.len() {
-        if text[i] == b'\n' {
-            return i;
-        }
-        i += 1;
-    }
-    i
+    text.iter().position(|&b| b == b'\n').unwrap_or(text.len())
+}
+
+// A text's first line, and what follows it.
+fn split_line(text: &[u8]) -> (&[u8], &[u8])
+    ensures front { result.0.now ≡ take (line_length text.now) text.now }
+    ensures back { result.1.now ≡ drop (line_length text.now + 1) text.now }
+{
+    let end = line_length(text);
+    (&text[..end], &text[(end + 1).min(text.len())..])
 }
 
 // A file's listing beside the stored one.
-fn check(file: &[u8], stored: &[u8]) -> Compared
+fn check(file: &[u8], stored: &[u8]) -> Option<usize>
     ensures { result ≡ compared (program_listing file.now) stored.now }
 {
-    let mut listing = [0u8; 117681];
+    let mut listing = [0u8; file_listing::LONGEST_LISTING];
     let n = list_file(file, &mut listing);
     compare(&listing[..n], stored)
 }
 
 // ---- files
 
-#[derive(Clone, Copy)]
-struct Input {
-    found: bool,
-    length: usize,
-}
-
-// Puts a file at the start of `bytes`, as far as they go, and answers its length.
-fn read_bytes(files: &impl Files, path: &[u8], bytes: &mut [u8]) -> io::Result<usize>
-    ensures { IfOk result (λ n. IsPrefixLen n bytes.new) }
-{
+// Puts a file at the start of `bytes`, as far as they go.
+fn read_bytes<'a>(files: &impl Files, path: &[u8], bytes: &'a mut [u8]) -> io::Result<&'a [u8]> {
     let Ok(name) = str::from_utf8(path) else {
         return Err(io::Error::from(io::ErrorKind::InvalidFilename));
     };
     let mut file = fs::open(files, name)?;
-    read_full(&mut file, bytes)
+    let length = read_full(&mut file, bytes)?;
+    Ok(&bytes[..length])
 }
 
 // Puts a file at the start of `bytes`, as far as they go: 65,536 for an outline, of which 4,609 decide, and more for a listing than any has.
-fn read_file(rt: &(impl Files + Eprint), path: &[u8], bytes: &mut [u8]) -> Input
-    ensures { IsPrefixLen result.length bytes.new }
-{
+fn read_file<'a>(rt: &(impl Files + Eprint), path: &[u8], bytes: &'a mut [u8]) -> Option<&'a [u8]> {
     match read_bytes(rt, path, bytes) {
-        Ok(length) => Input {
-            found: true,
-            length,
-        },
+        Ok(read) => Some(read),
         Err(error) => {
             say_failure(rt, path, error);
-            Input {
-                found: false,
-                length: 0,
-            }
+            None
         }
     }
 }
@@ -126,58 +104,46 @@ fn say_counts(rt: &impl Print, files: usize, differences: usize) -> io::Result<(
 
 // ---- the list
 
-// Runs one file, and answers how many differences there are: 0, or 1 and a line is printed. A file that is missing is one. That a line can't be
-// written changes no count.
-fn replay(rt: &(impl Files + Print + Eprint), outline: &[u8], listing: &[u8]) -> usize
-    ensures { result ≤ 1 }
-{
+// Runs one file, and answers whether it differs: then a line is printed. A file that is missing does. That a line can't be written changes no
+// answer.
+fn differs(rt: &(impl Files + Print + Eprint), outline: &[u8], listing: &[u8]) -> bool {
     let mut file = [0u8; 65536];
-    let read = read_file(rt, outline, &mut file);
-    if !read.found {
+    let Some(read) = read_file(rt, outline, &mut file) else {
         let _ = say_missing(rt, outline);
-        return 1;
-    }
+        return true;
+    };
     let mut stored = [0u8; 120000];
-    let kept = read_file(rt, listing, &mut stored);
-    if !kept.found {
+    let Some(kept) = read_file(rt, listing, &mut stored) else {
         let _ = say_missing(rt, listing);
-        return 1;
-    }
-    let n = read.length;
-    let m = kept.length;
-    let Compared::DiffersAt(at) = check(&file[..n], &stored[..m]) else {
-        return 0;
+        return true;
+    };
+    let Some(at) = check(read, kept) else {
+        return false;
     };
     let _ = say_difference(rt, listing, at);
-    1
-}
-
-// The place after a line that ends at `end`.
-fn after(end: usize, length: usize) -> usize
-    ensures { result ≡ min (end + 1) length }
-{
-    if end < length { end + 1 } else { length }
+    true
 }
 
 // Runs every file of a list, in which an outline's line and its listing's follow each other.
 fn replay_all(rt: &(impl Files + Print + Eprint), list: &[u8]) -> io::Result<()> {
     let mut files = 0;
     let mut differences = 0;
-    let mut at = 0;
-    while at < list.len() {
-        let end = line_end(list, at);
-        let from = after(end, list.len());
-        let last = line_end(list, from);
-        differences += replay(rt, &list[at..end], &list[from..last]);
+    let mut rest = list;
+    // Stays a `while`: a turn takes two lines, of which the second may be missing.
+    while !rest.is_empty() {
+        let (outline, after) = split_line(rest);
+        let (listing, others) = split_line(after);
+        if differs(rt, outline, listing) {
+            differences += 1;
+        }
         files += 1;
-        at = after(last, list.len());
+        rest = others;
     }
     say_counts(rt, files, differences)
 }
 
 fn main(rt: HostRuntime) -> io::Result<()> {
     let mut list = [0u8; 65536];
-    let read = read_file(&rt, b"list", &mut list);
-    let n = read.length;
-    replay_all(&rt, &list[..n])
+    let lines = read_file(&rt, b"list", &mut list).unwrap_or(&[]);
+    replay_all(&rt, lines)
 }

@@ -1,24 +1,17 @@
--- `replay::compare` meets its contract: the loop's invariant is that the first i places are alike.
-use native.Mathlib.Omega.{arith}
-use Rattle.replay.specs.Laws.{alike_start, alike_next, alike_out, alike_short, alike_long, alike_end}
+-- `replay::compare` meets its contract: where the common part doesn't differ, the lengths decide.
+use Rattle.std.proofs.Common.{◌≡◌, sym, ap, ◌∙◌, not, true, false, true≢false, length}
+use Rattle.std.specs.Prelude.{is_some}
+use Rattle.replay.proofs.Places.{place_found, place_cut}
 use Rattle.replay.proofs.compare.Goals as goal
+use Rattle.replay.proofs.compare.Goals.{else-is_none-via-then-is_none+else-a-b, else-is_none-via-else-is_none}
 
-pub loop-i-init : goal.loop-i-init
-loop-i-init c = alike_start _ _
-
-pub returns-then-b-i : goal.returns-then-b-i
-returns-then-b-i c = alike_short _ _ c.loop-i.invariant c.loop-i-test.true c.if-b-i.true
-
-pub returns-then-a-i : goal.returns-then-a-i
-returns-then-a-i c =
-    alike_out _ _ c.loop-i.invariant c.loop-i-test.true (omega arith) c.if-a-i.true
-
-pub loop-i-preserved : goal.loop-i-preserved
-loop-i-preserved c =
-    alike_next _ _ c.loop-i.invariant c.loop-i-test.true (omega arith) c.if-a-i.false
-
-pub returns-then-i-b : goal.returns-then-i-b
-returns-then-i-b c = alike_long _ _ c.loop-i.invariant c.loop-i-test.false c.if-i-b.true
+pub returns-then-a-b : goal.returns-then-a-b
+returns-then-a-b c = place_cut _ _ c.first_unlike-place.ensures (c.is_none.ensures ∙ ap not c.if-is_none.true) c.if-a-b.true c.min.ensures
 
 pub returns : goal.returns
-returns c = alike_end _ _ c.loop-i.invariant c.loop-i-test.false c.if-i-b.false
+returns c =
+    let even : is_some c.first_unlike-place.result ≡ false → length c.args.a.now ≡ length c.args.b.now = elim c.else-is_none.branch [
+      | else-is_none-via-then-is_none+else-a-b w ↦ λ none. w.if-a-b.false
+      | else-is_none-via-else-is_none w ↦ λ none. absurd (true≢false (ap not (sym w.if-is_none.false) ∙ sym c.is_none.ensures ∙ none))
+    ] in
+    place_found _ _ c.first_unlike-place.ensures even

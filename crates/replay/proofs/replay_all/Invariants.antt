@@ -1,10 +1,9 @@
--- `replay::replay_all` is safe and ends: each turn goes on to a later line, and the counts don't exceed the place.
-use Prim.Native.Nat.{◌-◌, ◌≤◌}
-use lib.ListN.{length}
+-- `replay::replay_all` is safe and ends: each turn takes a line at least, and the counts don't exceed what was taken.
+use Rattle.std.proofs.Common.{◌+◌, ◌≤◌, length}
 use Rattle.replay.proofs.replay_all.Given as goal
 
-abbrev pub invariant-loop-at : goal.invariant-loop-at
-invariant-loop-at g l = (l.files ≤ l.at) × (l.differences ≤ l.files) × (l.at ≤ length l.list)
+abbrev pub invariant-loop-rest : goal.invariant-loop-rest
+invariant-loop-rest g l = (l.files + length l.rest ≤ length l.list) × (l.differences ≤ l.files)
 
-abbrev pub decreases-loop-at : goal.decreases-loop-at
-decreases-loop-at g l = length l.list - l.at
+abbrev pub decreases-loop-rest : goal.decreases-loop-rest
+decreases-loop-rest g l = length l.rest

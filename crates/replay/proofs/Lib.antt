@@ -1,0 +1,2 @@
+-- What the code's comparison and its lines rest on: Places.
+pub mod Places

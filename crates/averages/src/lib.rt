@@ -4,7 +4,7 @@
 ghost use Rattle.std.specs.Prelude.{◌≡◌, true, ◌+◌, ◌-◌, ◌*◌, ◌≤◌, ◌<◌, length};
 ghost use Rattle.domain.specs.Outline.{point_at};
 ghost use Rattle.averages.specs.Places.{Node};
-ghost use Rattle.averages.specs.Average.{plus_if, one_if, neighbour_sum, neighbour_count, normalised, divided, average};
+ghost use Rattle.averages.specs.Average.{plus_if, neighbour_sum, neighbour_count, normalised, divided, average};
 
 use direction::Grid;
 use domain::{Point, Settings};
@@ -42,20 +42,11 @@ fn neighbour_sum(g: Grid, values: &[f64], j: usize, i: usize, id: usize) -> Poin
     plus_if(j + 1 < g.ny, values, id + nx, under)
 }
 
-fn one_if(there: bool) -> u32
-    ensures value { result ≡ one_if there }
-    ensures upper_bound { result ≤ 1 }
-{
-    if there { 1 } else { 0 }
-}
-
 fn neighbour_count(g: Grid, j: usize, i: usize) -> u32
     requires { (i < g.nx) × (j < g.ny) }
     ensures { result ≡ neighbour_count g j i }
 {
-    let nx = g.nx;
-    let ny = g.ny;
-    one_if(0 < i) + one_if(i + 1 < nx) + one_if(0 < j) + one_if(j + 1 < ny)
+    u32::from(0 < i) + u32::from(i + 1 < g.nx) + u32::from(0 < j) + u32::from(j + 1 < g.ny)
 }
 
 // Divided by its norm where that is above 1e-12, else (1, 0).

@@ -2,7 +2,7 @@
 // places. That what it has of an edge spares the try is the law `vain_fails` in specs/VainLaws.antt.
 #![tactic(auto)]
 
-ghost use Rattle.std.specs.Prelude.{◌≡◌, [], ◌≤◌, length};
+ghost use Rattle.std.specs.Prelude.{◌≡◌, []};
 ghost use Rattle.topology.specs.Links.{link_of};
 ghost use Rattle.domain.specs.Outline.{outline_of};
 ghost use Rattle.direction.specs.Record.{field_record};
@@ -13,7 +13,7 @@ ghost use Rattle.retries.specs.Untried.{Untried};
 
 use direction::Grid;
 use domain::Domain;
-use front::{Counts, OFF};
+use front::Counts;
 use paving::Attempt;
 
 // ---- the list
@@ -51,15 +51,6 @@ pub fn note(tried: &mut [u32], a: u32, b: u32, p: u32, q: u32)
 
 // ---- a try
 
-// The link of node u, where the first `nodes` places are in use: OFF for a node that isn't there.
-#[tactic(auto, using(topology::specs::Links::link_out, topology::specs::Links::link_read))]
-fn link_id(links: &[u32], nodes: u32, u: u32) -> u32
-    requires { nodes ≤ length links.now }
-    ensures { result ≡ link_of nodes links.now u }
-{
-    if u < nodes { links[u as usize] } else { OFF }
-}
-
 // What `attempts::try_edge` answers on the front edge a to b. It isn't asked where the edge was tried in vain between the same neighbours, and what it
 // answers in vain is noted.
 pub fn try_untried(
@@ -92,8 +83,8 @@ pub fn try_untried(
         × (tried.new ≡ tried_after result tried.old a b (link_of counts.nodes prev.now a)
         (link_of counts.nodes next.now b)) }
 {
-    let p = link_id(prev, counts.nodes, a);
-    let q = link_id(next, counts.nodes, b);
+    let p = front::link_of(prev, counts.nodes, a);
+    let q = front::link_of(next, counts.nodes, b);
     if is_vain(tried, a, b, p, q) {
         return Attempt::Nothing;
     }

@@ -1,5 +1,5 @@
 -- `file_loop` meets its contract: the loop's invariant is that the blocks before the next are filed.
-use Rattle.std.specs.Prelude.{◌≡◌, ℕ, ◌+◌}
+use Rattle.std.specs.Prelude.{◌≡◌, ◌+◌}
 use Rattle.std.proofs.Common.{sym, ◌∙◌, arith, ltb-true, ltb-false}
 use Rattle.blocks.specs.BetweenLaws.{place_of}
 use Rattle.blocks.specs.FilingLaws.{filed_none, filed_next, filed_over, filed_end}

@@ -1,5 +1,5 @@
 -- `search_loop` meets its contract: the loop's invariant is `ByBlocks` of the search's turn, and a block that is passed over changes nothing.
-use Rattle.std.specs.Prelude.{◌<◌, ◌*◌, ◌/◌, length}
+use Rattle.std.specs.Prelude.{◌<◌, ◌*◌}
 use Rattle.std.proofs.Common.{sym, ◌∙◌, arith}
 use Rattle.std.proofs.lemmas.Bool.{not-false}
 use Rattle.domain.specs.Outline.{points}

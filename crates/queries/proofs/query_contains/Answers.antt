@@ -1,6 +1,6 @@
 -- `query_contains` meets its contract: answered by `contains_point`, with no blocks.
 use Rattle.std.specs.Prelude.{refl}
-use Rattle.std.proofs.Common.{rules, sym}
+use Rattle.std.proofs.Common.{rules}
 use Rattle.domain.specs.Outline.{outline_of}
 use Rattle.queries.specs.Laws.{query_drawn}
 use Rattle.queries.proofs.query_contains.Goals as goal

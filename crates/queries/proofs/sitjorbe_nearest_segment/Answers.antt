@@ -1,6 +1,6 @@
 -- `sitjorbe_nearest_segment` meets its contract: the answer is that of `query_nearest`, and each arm is a line of `nearest_numbers`;
 -- the segment is named (`nearest_given`).
-use Rattle.std.specs.Prelude.{refl, T}
+use Rattle.std.specs.Prelude.{T}
 use Rattle.std.proofs.Common.{sym, subst, rules}
 use Rattle.domain.specs.Outline.{outline, point}
 use Rattle.domain.specs.Accepted.{OutlineFits, PointFits}

@@ -1,6 +1,6 @@
 -- `clashes_before` meets its contract: the loop is a search that has found nothing yet.
 use Rattle.std.specs.Prelude.{suc}
-use Rattle.std.proofs.Common.{arith, sym, le_of_eq, ◌∙◌}
+use Rattle.std.proofs.Common.{arith, sym, le_of_eq}
 use Rattle.std.proofs.lemmas.List.{length_push}
 use Rattle.std.proofs.lemmas.Iterator.{YieldsList-from_take}
 use Rattle.laws.specs.Loop.{scan_start, scan_next, scan_hit, scan_none}

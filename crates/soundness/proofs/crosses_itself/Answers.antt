@@ -1,5 +1,5 @@
 -- `crosses_itself` meets its contract: both loops are searches that have found nothing yet.
-use Rattle.std.proofs.Common.{sym, ◌∙◌, arith}
+use Rattle.std.proofs.Common.{sym, ◌∙◌}
 use Rattle.laws.specs.Loop.{scan_start, scan_next, scan_hit, scan_none}
 use Rattle.sound_outlines.specs.Sound.{crosses_itself}
 use Rattle.soundness.proofs.crosses_itself.Goals as goal

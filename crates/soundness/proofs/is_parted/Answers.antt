@@ -1,5 +1,5 @@
 -- `is_parted` meets its contract: `parted_line` and `parted_rest`.
-use Rattle.std.specs.Prelude.{◌≡◌, Bool, true, false, refl, ℕ}
+use Rattle.std.specs.Prelude.{◌≡◌, true, false, refl}
 use Rattle.std.proofs.Common.{◌∙◌}
 use Rattle.std.specs.declared.cmp.Ordering.{Ordering}
 use Rattle.std.specs.declared.cmp.Ordering.TheVariants.{Less, Equal, Greater}

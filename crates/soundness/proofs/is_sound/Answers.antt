@@ -1,6 +1,6 @@
 -- `is_sound` meets its contract: `sound_walk`: the loop is a search that has found nothing yet.
 use Rattle.std.specs.Prelude.{suc}
-use Rattle.std.proofs.Common.{arith, sym, le_of_eq, ◌∙◌}
+use Rattle.std.proofs.Common.{arith, sym, le_of_eq}
 use Rattle.std.proofs.lemmas.List.{length_push}
 use Rattle.laws.specs.Loop.{scan_start, scan_next, scan_hit, scan_none}
 use Rattle.domain.specs.Outline.{outline_of, loop_at}

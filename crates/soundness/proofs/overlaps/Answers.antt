@@ -1,5 +1,5 @@
 -- `overlaps` meets its contract: `overlap_below` where one stretch is below the other, `overlap_rest` elsewhere.
-use Rattle.std.proofs.Common.{arith, ◌∙◌}
+use Rattle.std.proofs.Common.{arith}
 use Rattle.std.proofs.lemmas.Grind.{common_steps}
 use Rattle.soundness.specs.SegmentLaws.{overlap_below, overlap_rest}
 use Rattle.soundness.proofs.overlaps.Goals as goal

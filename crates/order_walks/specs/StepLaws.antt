@@ -4,7 +4,7 @@ use Rattle.std.proofs.Math.Path.{sym, ap}
 use Rattle.std.proofs.Common.{◌∙◌, ⊎_elim, arith, eqb-true}
 use Rattle.std.proofs.Math.Bool.{false}
 use Rattle.laws.specs.Loop.{any_up, any_found, any_none, any_true, any_false, Unfound, found_before}
-use Rattle.laws.specs.Tests.{both, and_both, or_cases, or_left, or_right, same_truth}
+use Rattle.laws.specs.Tests.{both, neither, and_both, or_cases, or_left, or_right, same_truth}
 use Rattle.key_rects.specs.Rects.{Meets}
 use Rattle.lent_mesh.specs.declared.QuadIds.{QuadIds}
 use Rattle.lent_mesh.specs.Mesh.{quad_in}
@@ -188,3 +188,16 @@ module _ (quads order : List ℕ) (p : ℕ) {j : ℕ} {q : QuadIds} (ej : j ≡ 
       where
         fewer : (u v : ℕ) → walked m u v ≡ false → walked (3 * from) u v ≡ false
         fewer u v none = any_false (keeps_back quads order p j u v) (3 * from) (λ i h. any_none (keeps_back quads order p j u v) m none i (omega arith))
+
+    -- by the three walks' answers together
+    pub walks_some : (walked m q.a q.b || walked m q.b q.d) || walked m q.c q.a ≡ true → true ≡ too_early quads n order p
+    walks_some e =
+        ⊎_elim (λ f. ⊎_elim (λ g. walks_first (sym g)) (λ g. walks_second (sym g)) (or_cases (walked m q.a q.b) _ f)) (λ f. walks_third (sym f))
+        (or_cases (walked m q.a q.b || walked m q.b q.d) _ e)
+
+    pub walks_nothing : {from : ℕ} → from ≡ m / 3 → (walked m q.a q.b || walked m q.b q.d) || walked m q.c q.a ≡ false
+        → Unfound (waits_for quads order p (get_or order p 0)) from n
+    walks_nothing at e =
+        let last = neither (walked m q.a q.b || walked m q.b q.d) (walked m q.c q.a) e in
+        let first = neither (walked m q.a q.b) (walked m q.b q.d) last.0 in
+        walks_none at first.0 first.1 last.1

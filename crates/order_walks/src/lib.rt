@@ -115,17 +115,11 @@ fn is_early(
 {
     let j = lent_mesh::entry_at(order, p) as usize;
     let q = lent_mesh::quad_at(quads, j);
-    if any_back(pool, quads, n, order, places, p, j, q.a, q.b) {
-        return true;
-    }
-    if any_back(pool, quads, n, order, places, p, j, q.b, q.d) {
-        return true;
-    }
-    if any_back(pool, quads, n, order, places, p, j, q.c, q.a) {
-        return true;
-    }
     let from = pools::filed(pool) as usize / 3;
-    order_checks::early_from(quads, from, n, order, places, p)
+    any_back(pool, quads, n, order, places, p, j, q.a, q.b)
+        || any_back(pool, quads, n, order, places, p, j, q.b, q.d)
+        || any_back(pool, quads, n, order, places, p, j, q.c, q.a)
+        || order_checks::early_from(quads, from, n, order, places, p)
 }
 
 // ---- the answer

@@ -1,41 +1,40 @@
 -- `order_walks::is_early` meets its contract: the three walks answer for the quads whose steps are all filed, and a scan for the others.
-use mathlib.Core.Path.{sym, ap, ◌∙◌}
-use Prim.Native.Nat.{ℕ, ◌/◌}
-use Rattle.order_walks.specs.StepLaws.{walks_first, walks_second, walks_third, walks_none}
+use Rattle.std.specs.Prelude.{Bool, ◌||◌, ◌≡◌, ℕ, ◌/◌}
+use Rattle.std.proofs.Common.{sym, ap, ◌∙◌}
+use Rattle.laws.specs.Loop.{any_up}
+use Rattle.pools.specs.Pool.{filed}
+use Rattle.order_walks.specs.Steps.{keeps_back}
+use Rattle.order_walks.specs.StepLaws.{walks_some, walks_nothing}
 use Rattle.order_walks.proofs.is_early.Goals as goal
+use Rattle.order_walks.proofs.is_early.Goals.{Joined-any_back-2, then-any_back, else-any_back, then-any_back-2, else-any_back-2}
 
-pub any_back-requires : goal.any_back-requires
-any_back-requires c = c.requires
+-- what the walk of the key (u, v) answers
+abbrev walk : Joined-any_back-2 → ℕ → ℕ → Bool
+walk c u v = any_up (filed c.args.pool.now) (keeps_back c.args.quads.now c.args.order.now c.args.p c.entry_at-j.result u v)
 
-pub returns-then-any_back : goal.returns-then-any_back
-returns-then-any_back c =
-    walks_first _ _ _ c.entry_at-j.ensures c.quad_at-q.ensures _ c.requires.0.within
-    (sym c.if-any_back.true ∙ c.any_back.ensures)
+two : (c : Joined-any_back-2) → let q = c.quad_at-q.result in c.if-any_back.value ≡ walk c q.a q.b || walk c q.b q.d
+two c =
+    elim c.if-any_back.branch [
+      | then-any_back w ↦ rw (sym c.any_back.ensures ∙ w.if-any_back.true) (w.value-is ∙ w.if-any_back.true)
+      | else-any_back w ↦ rw (sym c.any_back.ensures ∙ w.if-any_back.false) (w.value-is ∙ w.any_back-else-any_back.ensures)
+    ]
 
-pub any_back-requires-2 : goal.any_back-requires-2
-any_back-requires-2 c = c.requires
+three : (c : Joined-any_back-2) → let q = c.quad_at-q.result in c.if-any_back-2.value ≡ (walk c q.a q.b || walk c q.b q.d) || walk c q.c q.a
+three c =
+    elim c.if-any_back-2.branch [
+      | then-any_back-2 w ↦ rw (sym (two c) ∙ w.if-any_back-2.true) (w.value-is ∙ w.if-any_back-2.true)
+      | else-any_back-2 w ↦ rw (sym (two c) ∙ w.if-any_back-2.false) (w.value-is ∙ w.any_back-else-any_back-2.ensures)
+    ]
 
-pub returns-then-any_back-2 : goal.returns-then-any_back-2
-returns-then-any_back-2 c =
-    walks_second _ _ _ c.entry_at-j.ensures c.quad_at-q.ensures _ c.requires.0.within
-    (sym c.if-any_back-2.true ∙ c.any_back-2.ensures)
-
-pub any_back-requires-3 : goal.any_back-requires-3
-any_back-requires-3 c = c.requires
+pub early_from-requires : goal.early_from-requires
+early_from-requires c = (
+  walks_nothing _ _ _ c.entry_at-j.ensures c.quad_at-q.ensures _ c.requires.0.within (ap (λ (k : ℕ). k / 3) c.filed.ensures)
+      (sym (three (goal.at.early_from-requires c).Joined-any_back-2) ∙ c.if-any_back-3.false),
+  c.requires.1,
+)
 
 pub returns-then-any_back-3 : goal.returns-then-any_back-3
 returns-then-any_back-3 c =
-    walks_third _ _ _ c.entry_at-j.ensures c.quad_at-q.ensures _ c.requires.0.within
-    (sym c.if-any_back-3.true ∙ c.any_back-3.ensures)
-
-pub early_from-requires : goal.early_from-requires
-early_from-requires c =
-    let pre = c.requires in (
-      walks_none _ _ _ c.entry_at-j.ensures c.quad_at-q.ensures _ pre.0.within (ap (λ (k : ℕ). k / 3) c.filed.ensures)
-          (sym c.any_back.ensures ∙ c.if-any_back.false) (sym c.any_back-2.ensures ∙ c.if-any_back-2.false)
-          (sym c.any_back-3.ensures ∙ c.if-any_back-3.false),
-      pre.1,
-    )
-
-pub returns : goal.returns
-returns c = c.early_from.ensures
+    c.if-any_back-3.true
+    ∙ walks_some _ _ _ c.entry_at-j.ensures c.quad_at-q.ensures _ c.requires.0.within
+    (sym (three (goal.at.returns-then-any_back-3 c).Joined-any_back-2) ∙ c.if-any_back-3.true)

@@ -5,7 +5,6 @@ ghost use Rattle.std.specs.Prelude.{◌≡◌, false, ◌+◌, ◌≤◌, ◌<�
 ghost use Rattle.numbers.specs.Float.{◌⊘◌};
 ghost use Rattle.numbers.specs.Whole.{ceil_count};
 ghost use Rattle.domain.specs.Outline.{outline_of, misshapen};
-ghost use Rattle.domain.specs.Accepted.{AllFit};
 ghost use Rattle.domain.specs.Queries.{nearest_segment};
 ghost use Rattle.domain.specs.Refusals.{refused, numbered};
 ghost use Rattle.blocks.specs.Blocks.{Drawn};
@@ -294,11 +293,6 @@ fn seed_all(domain: Domain<'_>, blocks: &[u32], g: Grid, values: &mut [f64], mar
 
 // ---- the field
 
-// What lent floats are. A proof is told it of a list that is a parameter, and not of one in a struct.
-fn are_doubles(outer: &[f64], holes: &[f64])
-    ensures { AllFit outer.now × AllFit holes.now }
-{}
-
 // Refusals 1 to 9.
 pub fn check_field(
     domain: Domain<'_>,
@@ -310,7 +304,6 @@ pub fn check_field(
 {
     outlines::check_outline(domain)?;
     check_size(size)?;
-    are_doubles(domain.outer, domain.holes);
     let b = bounds_of(domain);
     check_bounds(b)?;
     check_sweeps(sweeps)?;
@@ -332,7 +325,6 @@ pub fn make_field(
         (field_lists values.old marks.old)
         × Drawn (outline_of domain.entry) blocks.new }
 {
-    are_doubles(domain.outer, domain.holes);
     let g = grid_of(bounds_of(domain), size);
     blocks::file(domain, blocks);
     seed_all(domain, blocks, g, values, marks);

@@ -3,7 +3,6 @@
 
 ghost use Rattle.std.specs.Prelude.{◌≡◌};
 ghost use Rattle.domain.specs.Outline.{outline, outline_of};
-ghost use Rattle.domain.specs.Accepted.{OutlineFits};
 ghost use Rattle.crossfield.specs.Field.{drawn_refusal};
 ghost use Rattle.places.specs.Needed.{places_answer, PlacesGiven};
 
@@ -20,8 +19,7 @@ pub struct PlacesAnswer {
 
 // Of an outline and a size that 1 to 7 let pass.
 fn count_places(domain: Domain<'_>, size: f64) -> PlacesAnswer
-    requires drawn { drawn_refusal (outline_of domain) size ≡ 0 }
-    requires doubles { OutlineFits (outline_of domain) }
+    requires { drawn_refusal (outline_of domain) size ≡ 0 }
     ensures { result ≡ places_answer (outline_of domain.entry) size }
 {
     let grid = crossfield::grid_of(crossfield::bounds_of(domain), size);

@@ -14,7 +14,7 @@ bounds_of-requires c = (accepted _ (field_unrefused _ _ _ _ c.requires).outline)
 pub grid_of-g-requires : goal.grid_of-g-requires
 unfolding field_refusal
 grid_of-g-requires c =
-    few_made _ _ _ _ (record { outer = c.are_doubles.ensures.0; holes = c.are_doubles.ensures.1 })
+    few_made _ _ _ _ (record { outer = λ i h. c.args.domain.doubles.outer i; holes = λ i h. c.args.domain.doubles.holes i })
     (subst T (sym c.well_formed.1.0.1) tt) c.requires c.bounds_of.ensures
 
 pub file-requires : goal.file-requires
@@ -24,7 +24,7 @@ file-requires c = (field_unrefused _ _ _ _ c.requires).outline
 pub seed_all-requires : goal.seed_all-requires
 unfolding field_refusal
 seed_all-requires c =
-    let asked = seeds_ask _ _ _ _ _ (record { outer = c.are_doubles.ensures.0; holes = c.are_doubles.ensures.1 })
+    let asked = seeds_ask _ _ _ _ _ (record { outer = λ i h. c.args.domain.doubles.outer i; holes = λ i h. c.args.domain.doubles.holes i })
     (subst T (sym c.well_formed.1.0.1) tt) c.requires
     c.bounds_of.ensures c.grid_of-g.ensures in
     record {

@@ -12,11 +12,8 @@ returns-in-Err c =
 
 pub count_places-requires : goal.count_places-requires
 count_places-requires c =
-    record {
-      doubles = record { outer = λ i h. c.type_inv.outer i; holes = λ i h. c.type_inv.holes i };
-      drawn = drawn_unrefused _ _ (record { outer = λ i h. c.type_inv.outer i; holes = λ i h. c.type_inv.holes i })
-          (subst T (sym c.well_formed.1.1.1.0.1) tt) c.in-Ok.ensures refl;
-    }
+    drawn_unrefused _ _ (record { outer = λ i h. c.type_inv.outer i; holes = λ i h. c.type_inv.holes i })
+    (subst T (sym c.well_formed.1.1.1.0.1) tt) c.in-Ok.ensures refl
 
 pub returns-in-Ok : goal.returns-in-Ok
 returns-in-Ok c =

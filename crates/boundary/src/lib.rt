@@ -230,6 +230,7 @@ fn ring_of(k: usize, xs: &[f64], ys: &[f64], base: usize, n: usize) -> Ring
 }
 
 // How many ids the ring has.
+// Stays a function, as the others of a ring: the struct is of the crate `front`, which has no need of them, so methods there are no plainer.
 fn ring_count(r: Ring) -> usize
     ensures { result ≡ ring_count r }
 {

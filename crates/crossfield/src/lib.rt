@@ -217,6 +217,7 @@ fn is_fixed(domain: Domain<'_>, blocks: &[u32], h: f64, p: Point, found: Near) -
     found.distance <= Settings::BAND * h && blocks::contains_point(domain, blocks, p)
 }
 
+// Stays with five lists and the grid: both written lists would be `&mut` fields, and each contract would say that they stay the same, so a struct is no plainer.
 // Node (i, j), whose number is id: one search serves its value and its mark. The answer is the nearest segment, which is a guess of the next node's.
 fn seed_node(
     domain: Domain<'_>,

@@ -78,6 +78,7 @@ fn grid_sound(g: Grid) -> bool
 }
 
 // Refusal 11.
+// Stays three parameters: the paving lends the grid and the values alone, so a record of all three would serve only the two entries.
 #[tactic(auto, unfolding(crate::specs::Direction::record_refusal))]
 pub fn check_record(g: Grid, values: &[f64], marks: &[u8]) -> Result<(), Refusal>
     ensures { refused result ≡ record_refusal (field_record g values.now marks.now) }

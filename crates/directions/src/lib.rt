@@ -72,6 +72,7 @@ fn write_answer(answers: &mut [f64], k: usize, answer: Result<Point, Refusal>)
 }
 
 // The answers of all points, where none of 14 and 11 refuses.
+// Stays indexed: zipped chunks of two, two and three floats are no plainer than one index.
 fn write_answers(g: Grid, values: &[f64], points: &[f64], targets: &[f64], answers: &mut [f64])
     requires { FieldLent g values.now × Fit points.now targets.now answers.old }
     ensures { answers.new ≡ points_answered g values.now points.now targets.now answers.old }

@@ -11,20 +11,18 @@ use Rattle.paving.specs.declared.End.{End}
 use Rattle.paving.specs.Advance.{EndedPaving, paved, Passed, passes_turn, all_used, advance}
 use Rattle.paving.specs.ReachLaws.{Reached, AtEnd, pass_kept}
 use Rattle.paving.specs.Reach.{begin}
-use Rattle.ends.specs.declared.Swept.{Swept}
-use Rattle.ends.specs.declared.Swept.TheVariants.{On}
-use Rattle.ends.specs.declared.Swept.TheVariants as swept-is
-use Rattle.ends.specs.Answers.{passed, passed_counts}
+use Rattle.std.specs.declared.ops.ControlFlow.{ControlFlow}
+use Rattle.std.specs.declared.ops.ControlFlow.TheVariants.{Continue, Break}
+use Rattle.ends.specs.Answers.{passed}
 use Rattle.settling.specs.Paveable.{Paveable, Later}
 use Rattle.passes.specs.Laws.{run_has, later}
 
 -- what a pass answered, once it is known which
-module _ {xs ys : List Float} {next prev snapshot quads edges : List ℕ} (r : Swept) {T : Passed}
-    (E : passed r (state_of xs ys next prev snapshot quads edges (passed_counts r)) ≡ T) where
-  pub pass_on : {m : Counts} → r ≡ On m → T ≡ go (state_of xs ys next prev snapshot quads edges m)
+module _ {s : State} (r : ControlFlow End (Unit {0})) {T : Passed} (E : passed r s ≡ T) where
+  pub pass_on : {u : Unit {0}} → r ≡ Continue u → T ≡ go s
   pass_on q = sym (rw q at E)
 
-  pub pass_over : {e : End} {m : Counts} → r ≡ swept-is.Over e m → T ≡ out (paved (state_of xs ys next prev snapshot quads edges m) e)
+  pub pass_over : {e : End} → r ≡ Break e → T ≡ out (paved s e)
   pass_over q = sym (rw q at E)
 
 -- the passes are as many as asked for, at most 600

@@ -1,69 +1,38 @@
-// `advance` of the paving (src/alt_crossfield.rs): pass after pass, with its four ends. The lists lent are those of `passes`.
+// `advance` of the paving (src/alt_crossfield.rs): pass after pass, with its four ends.
 #![tactic(auto)]
 
-ghost use Rattle.std.specs.Prelude.{◌≡◌, []};
-ghost use Rattle.domain.specs.Outline.{outline_of};
-ghost use Rattle.direction.specs.Record.{field_record};
-ghost use Rattle.front.specs.State.{state_of};
+ghost use Rattle.std.specs.Prelude.{◌≡◌};
+ghost use Rattle.front.specs.Lent.{paving_state, SameLists};
 ghost use Rattle.paving.specs.Advance.{paved, advance};
-ghost use Rattle.settling.specs.Paveable.{Paveable};
+ghost use Rattle.paving.specs.Lent.{outline_in, field_in, SameScratch};
+ghost use Rattle.settling.specs.Paveable.{PaveableIn};
 
-use direction::Grid;
-use domain::{Domain, Settings};
-use ends::Swept;
-use front::Counts;
-use paving::End;
+use domain::Settings;
+use front::Paving;
+use paving::{End, Scratch, Surroundings};
+use std::ops::ControlFlow;
 
-// How `advance` ended, and the counts then.
-#[derive(Clone, Copy)]
-pub struct Advanced {
-    pub end: End,
-    pub counts: Counts,
-}
-
-// The pools and `tried` are scratch of any length: nothing is said of what they hold, before or after.
-// Pass after pass, until one places nothing, the cap is reached, the places lent are full, or as many are done as asked for, at most 600.
+// The scratch may have any length: nothing is said of what it holds, before or after.
+// Pass after pass, until one places nothing, the cap is reached, the places lent are full, or as many are done as asked for, at most 600: how it ended.
 pub fn advance(
-    domain: Domain<'_>,
-    blocks: &[u32],
-    size: f64,
-    grid: Grid,
-    values: &[f64],
-    xs: &mut [f64],
-    ys: &mut [f64],
-    next: &mut [u32],
-    prev: &mut [u32],
+    around: &Surroundings<'_>,
+    paving: &mut Paving<'_>,
     snapshot: &mut [u32],
-    quads: &mut [u32],
-    edges: &mut [u32],
-    node_pool: &mut [u32],
-    edge_pool: &mut [u32],
-    tried: &mut [u32],
-    k: Counts,
+    scratch: &mut Scratch<'_>,
     passes: usize,
-) -> Advanced
-    requires { Paveable (outline_of domain) blocks.now grid values.now
-        (state_of xs.old ys.old next.old prev.old snapshot.old quads.old edges.old k) }
-    ensures { paved
-        (state_of xs.new ys.new next.new prev.new snapshot.new quads.new edges.new
-        result.counts) result.end
-        ≡ advance (outline_of domain.entry) size (field_record grid values.now []) passes
-        (state_of xs.old ys.old next.old prev.old snapshot.old quads.old
-        edges.old k) }
+) -> End
+    requires { PaveableIn around.now (paving_state paving.old snapshot.old) }
+    ensures same_lists { SameLists paving.old paving.new }
+    ensures same_scratch { SameScratch scratch.old scratch.new }
+    ensures advances { paved (paving_state paving.new snapshot.new) result
+        ≡ advance (outline_in around.now) around.now.size (field_in around.now) passes (paving_state paving.old snapshot.old) }
 {
-    settling::file_all(size, xs, ys, edges, node_pool, edge_pool, tried, k);
-    let mut counts = k;
-    for _ in 0..passes.min(Settings::MOST_PASSES) {
-        match passes::pass(
-            domain, blocks, size, grid, values, xs, ys, next, prev, snapshot, quads, edges,
-            node_pool, edge_pool, tried, counts,
-        ) {
-            Swept::On(m) => counts = m,
-            Swept::Over(end, m) => return Advanced { end, counts: m },
+    let most = passes.min(Settings::MOST_PASSES);
+    settling::file_all(around.size, &paving.mesh(), scratch);
+    for _ in 0..most {
+        if let ControlFlow::Break(end) = passes::pass(around, paving, snapshot, scratch) {
+            return end;
         }
     }
-    Advanced {
-        end: End::Passes,
-        counts,
-    }
+    End::Passes
 }

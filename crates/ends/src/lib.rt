@@ -1,65 +1,53 @@
-// What is decided in a pass of the paving (src/alt_crossfield.rs) without trying an edge: which edges its snapshot has, and where the paving ends.
+// What is decided in a pass of the paving (src/alt_crossfield.rs) without trying an edge: which edges its snapshot has, and where the paving ends. A step
+// breaks with the end of the paving, or goes on: an edge with whether it placed a quad.
 #![tactic(auto)]
 
 ghost use Rattle.std.specs.Prelude.{◌≡◌, ◌<◌, length, get_or};
 ghost use Rattle.ends.specs.Answers.{snapshot_edge, quad_settled, pass_answer};
 
 use domain::Settings;
-use front::{Counts, Neighbour, OFF};
+use front::OFF;
 use paving::End;
-
-// What became of one edge of a pass: nothing; a quad, with the counts after it; or the end of the paving, with the counts there.
-#[derive(Clone, Copy)]
-pub enum Settled {
-    Same,
-    Put(Counts),
-    Over(End, Counts),
-}
-
-// What a pass answers: the counts with which the next one begins, or the end of the paving, with the counts there.
-#[derive(Clone, Copy)]
-pub enum Swept {
-    On(Counts),
-    Over(End, Counts),
-}
+use std::ops::ControlFlow;
 
 // ---- the snapshot
 
 // Where the snapshot's edge from node a leads; nowhere if it is on the front no more.
 #[tactic(auto, unfolding(crate::specs::Answers::snapshot_edge))]
-pub fn snapshot_edge(next: &[u32], snapshot: &[u32], a: u32) -> Neighbour
+pub fn snapshot_edge(next: &[u32], snapshot: &[u32], a: u32) -> Option<u32>
     requires { (a < length next.now) × (a < length snapshot.now) }
     ensures { result ≡ snapshot_edge (get_or next.now a 0) (get_or snapshot.now a 0) }
 {
-    let b = snapshot[a as usize];
-    if b != OFF && next[a as usize] == b {
-        Neighbour::At(b)
+    let i = a as usize;
+    let b = snapshot[i];
+    if b != OFF && next[i] == b {
+        Some(b)
     } else {
-        Neighbour::Off
+        None
     }
 }
 
 // ---- the ends
 
-// After a quad: on, or the end at the cap.
+// After a quad, where there are so many: on, or the end at the cap.
 #[tactic(auto, unfolding(crate::specs::Answers::quad_settled))]
-pub fn after_quad(m: Counts) -> Settled
-    ensures { result ≡ quad_settled m }
+pub fn after_quad(quads: usize) -> ControlFlow<End, bool>
+    ensures { result ≡ quad_settled quads }
 {
-    if m.quads >= Settings::MOST_QUADS {
-        Settled::Over(End::Cap, m)
+    if quads >= Settings::MOST_QUADS {
+        ControlFlow::Break(End::Cap)
     } else {
-        Settled::Put(m)
+        ControlFlow::Continue(true)
     }
 }
 
 // After the last edge: on with the next pass, or still where this one placed nothing.
-pub fn after_pass(placed: bool, k: Counts) -> Swept
-    ensures { result ≡ pass_answer placed k }
+pub fn after_pass(placed: bool) -> ControlFlow<End>
+    ensures { result ≡ pass_answer placed }
 {
     if placed {
-        Swept::On(k)
+        ControlFlow::Continue(())
     } else {
-        Swept::Over(End::Still, k)
+        ControlFlow::Break(End::Still)
     }
 }

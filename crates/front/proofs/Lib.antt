@@ -1,3 +1,4 @@
--- What the code writes into a slice's part, and how it searches.
+-- The lists of a paving; what the code writes into a slice's part, and how it searches.
+pub mod Lent
 pub mod Parts
 pub mod Searches

@@ -1,6 +1,6 @@
 -- The mesh edges stay known: where nodes are pushed, where two are joined, and where a quad is placed, every front edge is still a mesh edge, and
 -- every mesh edge joins nodes, the smaller stored first. The theorem, `known_placed`, and what the answer of `place` says to its caller.
-use Rattle.std.specs.Prelude.{ℕ, zero, suc, ◌+◌, ◌*◌, ◌<◌, ◌≤◌, min, max, List, [], ◌∷◌, Bool, ◌≢◌, length}
+use Rattle.std.specs.Prelude.{ℕ, zero, suc, ◌+◌, ◌*◌, ◌<◌, ◌≤◌, min, max, List, [], ◌∷◌, Bool, ◌≢◌, length, Result, Ok, Err}
 use Rattle.std.proofs.Math.Path.{◌≡◌, refl, ap}
 use Rattle.std.proofs.Common.{sym, ◌∙◌, subst, ⊎_elim, eq-or-lt_of_le, arith}
 use Rattle.std.proofs.Math.Bool.{true, false, cond}
@@ -14,7 +14,7 @@ use Rattle.topology.specs.Placing.{placing}
 use Rattle.front.specs.declared.Counts.{Counts}
 use Rattle.front.specs.declared.Corner.{Corner}
 use Rattle.front.specs.declared.Corner.TheVariants.{Reused, Fresh}
-use Rattle.front.specs.declared.Placed.TheVariants.{Full, Done}
+use Rattle.front.specs.declared.Full.{Full}
 use Rattle.front.specs.State.{State, next_of, edge_from, edge_to, has_edge, add_front, push_edge, push_quad, add_edge, edge_places}
 use Rattle.front.specs.Place.{id_c, id_d, add_edges, is_full, place}
 use Rattle.front.specs.Sound.{Sound}
@@ -222,21 +222,21 @@ known_placed n s ls a b c d S K H full =
 
 module _ (a b : ℕ) (c d : Corner) (s t : State) where
   -- full: the lists are as they were
-  pub placed_full : PlacesQuad a b c d s Full t → (is_full s a b c d ≡ true) × (t ≡ s)
+  pub placed_full : (e : Full) → PlacesQuad a b c d s (Err e) t → (is_full s a b c d ≡ true) × (t ≡ s)
   unfolding place_answer place_if_room
-  placed_full P = by (is_full s a b c d) refl P.answer P.state
+  placed_full e P = by (is_full s a b c d) refl P.answer P.state
     where
-      by : (f : Bool) → is_full s a b c d ≡ f → Full ≡ cond f Full (Done (place a b c d s).counts) → t ≡ cond f s (place a b c d s)
+      by : (f : Bool) → is_full s a b c d ≡ f → ◌≡◌ {A = Result (Unit {0}) Full} (Err e) (cond f (Err (record {})) (Ok tt)) → t ≡ cond f s (place a b c d s)
           → (is_full s a b c d ≡ true) × (t ≡ s)
       by true h e same = (h, same)
       by false h e same = absurd (let z : ◌≡◌ {A = ℕ} 0 1 = cc in omega arith)
 
   -- done: they are those of the state after the quad
-  pub placed_done : (k : Counts) → PlacesQuad a b c d s (Done k) t → (is_full s a b c d ≡ false) × (t ≡ place a b c d s)
+  pub placed_done : (u : Unit {0}) → PlacesQuad a b c d s (Ok u) t → (is_full s a b c d ≡ false) × (t ≡ place a b c d s)
   unfolding place_answer place_if_room
-  placed_done k P = by (is_full s a b c d) refl P.answer P.state
+  placed_done u P = by (is_full s a b c d) refl P.answer P.state
     where
-      by : (f : Bool) → is_full s a b c d ≡ f → Done k ≡ cond f Full (Done (place a b c d s).counts) → t ≡ cond f s (place a b c d s)
+      by : (f : Bool) → is_full s a b c d ≡ f → ◌≡◌ {A = Result (Unit {0}) Full} (Ok u) (cond f (Err (record {})) (Ok tt)) → t ≡ cond f s (place a b c d s)
           → (is_full s a b c d ≡ false) × (t ≡ place a b c d s)
       by true h e same = absurd (let z : ◌≡◌ {A = ℕ} 0 1 = cc in omega arith)
       by false h e same = (h, same)

@@ -16,4 +16,5 @@ pub mod Step
 pub mod Stores
 pub mod StoreLaws
 pub mod KnownLaws
+pub mod Lent
 pub mod Reads

@@ -1,5 +1,5 @@
 -- What the code of `place` stores is the state that `place` leaves: `quad_stored`, at the end.
-use Rattle.std.specs.Prelude.{ℕ, ◌+◌, ◌-◌, ◌*◌, ◌<◌, ◌≤◌, min, max, ◌≡◌, Bool, true, false, ◌≢◌, ltb, eqb, length, Float}
+use Rattle.std.specs.Prelude.{ℕ, ◌+◌, ◌-◌, ◌*◌, ◌<◌, ◌≤◌, min, max, ◌≡◌, Bool, true, false, ◌≢◌, ltb, eqb, length, Float, Result, Ok, Err}
 use mathlib.Core.List.{List}
 use Rattle.std.proofs.Math.Path.{refl, sym, ap}
 use Rattle.std.proofs.Common.{◌∙◌, add_assoc, add-zero, length-set}
@@ -16,7 +16,6 @@ use Rattle.topology.specs.Changes.{reversed, removed_sum}
 use Rattle.topology.specs.Changes as changes
 use Rattle.topology.specs.Placing.{placing}
 use Rattle.front.specs.declared.Counts.{Counts}
-use Rattle.front.specs.declared.Placed.TheVariants.{Full, Done}
 use Rattle.front.specs.declared.Corner.{Corner}
 use Rattle.front.specs.declared.Corner.TheVariants.{Reused, Fresh}
 use Rattle.front.specs.State.{State, state_of, Quad, counted, node_places, quad_places, edge_places, next_of, prev_of, edge_from, edge_to}
@@ -354,7 +353,7 @@ module _ (s : State) (a b : ℕ) (c d : Corner) (R : Ready s a b c d) (mc md C D
   beyond_full = rw (pw, pk, pmc, pmd, ← edges_added_lem s a b c d R) (sym (full_beyond s a b c d))
 
   -- nothing is written
-  pub when_full : is_beyond s (mc + md) w ≡ true → PlacesQuad a b c d s Full s
+  pub when_full : is_beyond s (mc + md) w ≡ true → PlacesQuad a b c d s (Err (record {})) s
   unfolding place_answer place_if_room
   when_full h = let e = sym beyond_full ∙ h in record { answer = rw e; state = rw e }
 
@@ -395,7 +394,7 @@ pub when_stored : (s : State) (a b : ℕ) (c d : Corner) (C D : ℕ) (across : B
     → quads ≡ store_quad s.counts.quads a b D C s.quads
     → (next ≡ store_next c d a b C D s.next) × (prev ≡ store_prev c d a b C D s.prev)
     → k ≡ counts_with_quad s.counts c d w
-    → PlacesQuad a b c d s (Done k) (state_of xs ys next prev s.snapshot quads edges k)
+    → PlacesQuad a b c d s (Ok tt) (state_of xs ys next prev s.snapshot quads edges k)
 unfolding place_answer place_if_room
 when_stored s a b c d C D across w F px pe pq pn pk =
-    record { answer = rw (F.room, F.is, pk); state = rw (F.room, F.is, px.0, px.1, pe, pq, pn.0, pn.1, pk) }
+    record { answer = rw F.room; state = rw (F.room, F.is, px.0, px.1, pe, pq, pn.0, pn.1, pk) }

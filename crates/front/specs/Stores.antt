@@ -1,33 +1,27 @@
 -- What the code of `place` stores, list by list. StoreLaws has the theorem that these stores are the state that `place` leaves. Definitions only.
-use Rattle.std.specs.Prelude.{ℕ, ◌+◌, ◌-◌, ◌*◌, ◌<◌, ◌≤◌, min, max, List, ◌≡◌, Bool, true, false, ◌||◌, cond, ltb, set, Float}
+use Rattle.std.specs.Prelude.{ℕ, ◌+◌, ◌-◌, ◌*◌, ◌<◌, ◌≤◌, min, max, List, ◌≡◌, Bool, true, false, ◌||◌, cond, ltb, set, Float, Result, Ok, Err}
 use Rattle.topology.specs.Links.{off}
 use Rattle.front.specs.declared.Counts.{Counts}
 use Rattle.front.specs.declared.Corner.{Corner}
 use Rattle.front.specs.declared.Corner.TheVariants.{Reused, Fresh}
-use Rattle.front.specs.declared.Placed.{Placed}
-use Rattle.front.specs.declared.Placed.TheVariants.{Full, Done}
+use Rattle.front.specs.declared.Full.{Full}
 use Rattle.front.specs.State.{State, counted, node_places, quad_places, edge_places, edge_in}
 use Rattle.front.specs.Place.{added, place, is_full}
 
 -- ---- the whole
 
--- what `place` answers: that it is full, or the counts after the quad
-unfoldable pub place_answer : ℕ → ℕ → Corner → Corner → State → Placed
-place_answer a b c d s = cond (is_full s a b c d) Full (Done (place a b c d s).counts)
+-- what `place` answers: whether it is full
+unfoldable pub place_answer : ℕ → ℕ → Corner → Corner → State → Result (Unit {0}) Full
+place_answer a b c d s = cond (is_full s a b c d) (Err (record {})) (Ok tt)
 
 -- the state that it leaves: as it was, where it is full
 unfoldable pub place_if_room : ℕ → ℕ → Corner → Corner → State → State
 place_if_room a b c d s = cond (is_full s a b c d) s (place a b c d s)
 
 -- what `place` ensures: of a quad in s it answers r, and leaves t
-pub record PlacesQuad (a b : ℕ) (c d : Corner) (s : State) (r : Placed) (t : State) : Type 0 where
+pub record PlacesQuad (a b : ℕ) (c d : Corner) (s : State) (r : Result (Unit {0}) Full) (t : State) : Type 0 where
   pub answer : r ≡ place_answer a b c d s
   pub state : t ≡ place_if_room a b c d s
-
--- the counts after an answer, of k before
-abbrev pub counts_after : Counts → Placed → Counts
-counts_after k Full = k
-counts_after k (Done m) = m
 
 -- ---- the counts
 

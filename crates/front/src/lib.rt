@@ -1,13 +1,14 @@
 // The state of a paving (src/alt_crossfield.rs: `Paving`), lists lent and counts by value, and the placing of a quad.
 #![tactic(auto)]
 
-ghost use Rattle.std.specs.Prelude.{◌≡◌, ◌+◌, ◌*◌, ◌^◌, ◌≤◌, ◌<◌, min, max, length, get_or, set};
+ghost use Rattle.std.specs.Prelude.{◌≡◌, [], ◌+◌, ◌*◌, ◌^◌, ◌≤◌, ◌<◌, min, max, length, get_or, set};
 ghost use Rattle.std.specs.Float.{nan};
 ghost use Rattle.topology.specs.Links.{off, link_of};
 ghost use Rattle.front.specs.State.{state_of, node_in, fewest, most_nodes};
+ghost use Rattle.front.specs.Lent.{mesh_state, paving_state, SameLists};
 ghost use Rattle.front.specs.Place.{added, corner_id};
 ghost use Rattle.front.specs.Ready.{Ready};
-ghost use Rattle.front.specs.Stores.{PlacesQuad, counts_after, counts_with_quad, is_beyond, store_x, store_y, reuses_node, known_across, unless, new_edges};
+ghost use Rattle.front.specs.Stores.{PlacesQuad, counts_with_quad, is_beyond, store_x, store_y, reuses_node, known_across, unless, new_edges};
 ghost use Rattle.front.specs.Stores.{store_edge, store_edges, store_quad, store_side, store_next, store_prev, Ids, Countable};
 
 use domain::Point;
@@ -46,11 +47,32 @@ pub struct Ring {
     pub longest: u32,
 }
 
-// What placing a quad answers: that the places lent are full, or the counts after it.
+// The places lent are full.
 #[derive(Clone, Copy)]
-pub enum Placed {
-    Full,
-    Done(Counts),
+pub struct Full;
+
+// A mesh as it is read: its lists, and how much of them is in use.
+#[derive(Clone, Copy)]
+pub struct Mesh<'a> {
+    pub xs: &'a [f64],
+    pub ys: &'a [f64],
+    pub next: &'a [u32],
+    pub prev: &'a [u32],
+    pub quads: &'a [u32],
+    pub edges: &'a [u32],
+    pub counts: Counts,
+}
+
+// A paving (src/alt_crossfield.rs: `Paving`): its lists as they are lent, and how much of them is in use. The snapshot of a pass is lent beside it.
+#[derive(Drop)]
+pub struct Paving<'a> {
+    pub xs: &'a mut [f64],
+    pub ys: &'a mut [f64],
+    pub next: &'a mut [u32],
+    pub prev: &'a mut [u32],
+    pub quads: &'a mut [u32],
+    pub edges: &'a mut [u32],
+    pub counts: Counts,
 }
 
 // The link of a node off the front.
@@ -312,44 +334,76 @@ fn is_beyond(
         || k.edges + e > edges.len() / 2
 }
 
-// Places the quad a, b, d, c on the front edge a to b; or says that it is full, and writes nothing. `across` says whether c and d are joined already.
-pub fn place(
-    xs: &mut [f64],
-    ys: &mut [f64],
-    next: &mut [u32],
-    prev: &mut [u32],
-    snapshot: &[u32],
-    quads: &mut [u32],
-    edges: &mut [u32],
-    k: Counts,
-    a: u32,
-    b: u32,
-    c: Corner,
-    d: Corner,
-    across: bool,
-) -> Placed
-    requires { Ready (state_of xs.old ys.old next.old prev.old snapshot.now quads.old edges.old k) a b c d
-        × (across ≡ known_across edges.old k.edges c d) }
-    ensures { PlacesQuad a b c d
-        (state_of xs.old ys.old next.old prev.old snapshot.now quads.old
-        edges.old k)
-        result (state_of xs.new ys.new next.new prev.new snapshot.now quads.new
-        edges.new (counts_after k result)) }
-{
-    let n = k.nodes;
-    let q = k.quads;
-    let e = k.edges;
-    let more_c = c.added();
-    let more = more_c + d.added();
-    let id_c = c.id(n);
-    let id_d = d.id(n + more_c);
-    let w = new_edges(across, c, d);
-    if is_beyond(xs, ys, next, prev, snapshot, quads, edges, k, more, w) {
-        return Placed::Full;
+impl<'a> Paving<'a> {
+    // What is read of it.
+    pub fn mesh(&self) -> Mesh<'_>
+        ensures { mesh_state result ≡ paving_state self.now [] }
+    {
+        Mesh {
+            xs: self.xs,
+            ys: self.ys,
+            next: self.next,
+            prev: self.prev,
+            quads: self.quads,
+            edges: self.edges,
+            counts: self.counts,
+        }
     }
-    put_corners(c, d, xs, ys, n);
-    put_edges(edges, e, across, c, d, a, b, id_c, id_d);
-    put_quad(quads, q, a, b, id_d, id_c);
-    move_front(c, d, next, prev, a, b, id_c, id_d);
-    Placed::Done(k.after_quad(c, d, w))
+
+    // Each node's link forward.
+    pub fn next(&self) -> &[u32]
+        ensures { result.now ≡ self.now.next.now }
+    {
+        self.next
+    }
+
+    // The quads, four ids each.
+    pub fn quads(&self) -> &[u32]
+        ensures { result.now ≡ self.now.quads.now }
+    {
+        self.quads
+    }
+
+    // Whether m nodes, a quad and e mesh edges more are beyond those lent.
+    fn is_beyond(&self, snapshot: &[u32], m: u32, e: usize) -> bool
+        requires { (self.now.counts.quads + 1 < 2 ^ 64) × (self.now.counts.edges + e < 2 ^ 64) }
+        ensures { result ≡ is_beyond (paving_state self.now snapshot.now) m e }
+    {
+        let k = self.counts;
+        is_beyond(
+            self.xs, self.ys, self.next, self.prev, snapshot, self.quads, self.edges, k, m, e,
+        )
+    }
+
+    // Places the quad a, b, d, c on the front edge a to b; or says that it is full, and writes nothing. `across` says whether c and d are joined already.
+    // Of the snapshot only its places count.
+    pub fn place(
+        &mut self,
+        snapshot: &[u32],
+        a: u32,
+        b: u32,
+        c: Corner,
+        d: Corner,
+        across: bool,
+    ) -> Result<(), Full>
+        requires { Ready (paving_state self.old snapshot.now) a b c d × (across ≡ known_across self.old.edges.now self.old.counts.edges c d) }
+        ensures same { SameLists self.old self.new }
+        ensures placed { PlacesQuad a b c d (paving_state self.old snapshot.now) result (paving_state self.new snapshot.now) }
+    {
+        let k = self.counts;
+        let n = k.nodes;
+        let more_c = c.added();
+        let id_c = c.id(n);
+        let id_d = d.id(n + more_c);
+        let w = new_edges(across, c, d);
+        if self.is_beyond(snapshot, more_c + d.added(), w) {
+            return Err(Full);
+        }
+        put_corners(c, d, self.xs, self.ys, n);
+        put_edges(self.edges, k.edges, across, c, d, a, b, id_c, id_d);
+        put_quad(self.quads, k.quads, a, b, id_d, id_c);
+        move_front(c, d, self.next, self.prev, a, b, id_c, id_d);
+        self.counts = k.after_quad(c, d, w);
+        Ok(())
+    }
 }

@@ -1,5 +1,5 @@
 -- The turns of a pass in the code. Assumes nothing.
-use Rattle.std.specs.Prelude.{◌≡◌, refl, Bool, true, false, List, ℕ, ◌≤◌, ◌<◌, get_or, Float}
+use Rattle.std.specs.Prelude.{◌≡◌, refl, Bool, true, false, List, ℕ, ◌≤◌, ◌<◌, get_or, Float, ◌||◌}
 use Rattle.std.proofs.Common.{sym, ◌∙◌, subst, arith}
 use Rattle.laws.specs.Loop.{Loop, Turn, go, out, onwards, for_up_keeps, Run, run_go, run_end, Kept, run}
 use Rattle.topology.specs.Links.{off}
@@ -16,23 +16,23 @@ use Rattle.paving.specs.Reach.{begin}
 use Rattle.snapshots.specs.Stretches.{node_after, Stretches}
 use Rattle.snapshots.specs.StretchLaws.{after_more, after_few, after_off}
 use Rattle.snapshots.specs.Taking.{loop_over}
-use Rattle.ends.specs.declared.Settled.{Settled}
-use Rattle.ends.specs.declared.Settled.TheVariants.{Same, Put}
-use Rattle.ends.specs.declared.Settled.TheVariants as settled_is
-use Rattle.ends.specs.declared.Swept.{Swept}
-use Rattle.ends.specs.Answers.{settled, settled_counts, passed, passed_counts, pass_answer}
+use Rattle.ends.specs.Answers.{settled, passed, pass_answer}
+use Rattle.std.specs.declared.ops.ControlFlow.{ControlFlow}
+use Rattle.std.specs.declared.ops.ControlFlow.TheVariants.{Continue, Break}
 use Rattle.settling.specs.Paveable.{Paveable, Later, snapshot_paveable, reached_later}
 
 -- what an answer says, once it is known which
-module _ {xs ys : List Float} {next prev snapshot quads edges : List ℕ} (k : Counts) (some : Bool) (r : Settled) {T : Turn Passing Passed}
-    (E : settled r some (state_of xs ys next prev snapshot quads edges (settled_counts k r)) ≡ T) where
-  pub went_same : r ≡ Same → T ≡ go (passing (state_of xs ys next prev snapshot quads edges k) some)
-  went_same q = sym (rw q at E)
+module _ {s : State} (some : Bool) (r : ControlFlow End Bool) {T : Turn Passing Passed} (E : settled r some s ≡ T) where
+  pub went_on : (placed : Bool) → r ≡ Continue placed → T ≡ go (passing s (some || placed))
+  went_on placed q = rw (swapped some placed) (sym (rw q at E))
+    where
+      swapped : (a b : Bool) → (a || b) ≡ (b || a)
+      swapped true true = refl
+      swapped true false = refl
+      swapped false true = refl
+      swapped false false = refl
 
-  pub went_put : {m : Counts} → r ≡ Put m → T ≡ go (passing (state_of xs ys next prev snapshot quads edges m) true)
-  went_put q = sym (rw q at E)
-
-  pub went_over : {e : End} {m : Counts} → r ≡ settled_is.Over e m → T ≡ out (out (paved (state_of xs ys next prev snapshot quads edges m) e))
+  pub went_over : {e : End} → r ≡ Break e → T ≡ out (out (paved s e))
   went_over q = sym (rw q at E)
 
 -- ---- a pass
@@ -68,14 +68,11 @@ pass_goes o size field {p} {a = a} t some L less e G =
     G.high (λ j low high. turn_gone o size field t some j (G.gone j (omega arith) high))
 
 -- after the last edge
-pub pass_ends : (turn : ℕ → Passing → Turn Passing Passed) {p : Passing} {n i : ℕ} {xs ys : List Float} {next prev snapshot quads edges : List ℕ}
-    {k : Counts} {some : Bool} → Run turn after_pass p n i (passing (state_of xs ys next prev snapshot quads edges k) some) → n ≤ i
-    → {r : Swept} → r ≡ pass_answer some k → passed r (state_of xs ys next prev snapshot quads edges (passed_counts r)) ≡ run n turn after_pass p
-pass_ends turn {p} {n} {i} {xs} {ys} {next} {prev} {snapshot} {quads} {edges} {k} {some} L h e = rw e (by some ∙ run_end turn after_pass p L h)
+pub pass_ends : (turn : ℕ → Passing → Turn Passing Passed) {p : Passing} {n i : ℕ} {s : State} {some : Bool} → Run turn after_pass p n i (passing s some)
+    → n ≤ i → {r : ControlFlow End (Unit {0})} → r ≡ pass_answer some → passed r s ≡ run n turn after_pass p
+pass_ends turn {p} {n} {i} {s} {some} L h e = rw e (by some ∙ run_end turn after_pass p L h)
   where
-    by : (some : Bool)
-        → passed (pass_answer some k) (state_of xs ys next prev snapshot quads edges (passed_counts (pass_answer some k)))
-        ≡ after_pass (passing (state_of xs ys next prev snapshot quads edges k) some)
+    by : (some : Bool) → passed (pass_answer some) s ≡ after_pass (passing s some)
     by true = refl
     by false = refl
 

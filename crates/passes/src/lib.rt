@@ -1,73 +1,43 @@
-// A pass of the paving (src/alt_crossfield.rs) over the front edges present at its start. The lists lent are those of `settling`; the counts go in and come
-// back by value.
+// A pass of the paving (src/alt_crossfield.rs) over the front edges present at its start.
 #![tactic(auto)]
 
-ghost use Rattle.std.specs.Prelude.{◌≡◌, []};
-ghost use Rattle.domain.specs.Outline.{outline_of};
-ghost use Rattle.direction.specs.Record.{field_record};
-ghost use Rattle.front.specs.State.{state_of};
+ghost use Rattle.std.specs.Prelude.{◌≡◌};
+ghost use Rattle.front.specs.Lent.{paving_state, SameLists};
 ghost use Rattle.paving.specs.Advance.{pass};
-ghost use Rattle.ends.specs.Answers.{passed, passed_counts};
-ghost use Rattle.settling.specs.Paveable.{Paveable};
-ghost use Rattle.settling.specs.Searchable.{Helped};
+ghost use Rattle.paving.specs.Lent.{outline_in, field_in, SameScratch};
+ghost use Rattle.ends.specs.Answers.{passed};
+ghost use Rattle.settling.specs.Paveable.{PaveableIn};
+ghost use Rattle.settling.specs.Searchable.{HelpedIn};
 
-use direction::Grid;
-use domain::Domain;
-use ends::{Settled, Swept};
-use front::Counts;
+use front::Paving;
+use paving::{End, Scratch, Surroundings};
+use std::ops::ControlFlow;
 
-// A pass: the snapshot is taken, and its edges are tried in the order of their first nodes.
+// A pass: the snapshot is taken, and its edges are tried in the order of their first nodes. It breaks with the end of the paving.
 pub fn pass(
-    domain: Domain<'_>,
-    blocks: &[u32],
-    size: f64,
-    grid: Grid,
-    values: &[f64],
-    xs: &mut [f64],
-    ys: &mut [f64],
-    next: &mut [u32],
-    prev: &mut [u32],
+    around: &Surroundings<'_>,
+    paving: &mut Paving<'_>,
     snapshot: &mut [u32],
-    quads: &mut [u32],
-    edges: &mut [u32],
-    node_pool: &mut [u32],
-    edge_pool: &mut [u32],
-    tried: &mut [u32],
-    k: Counts,
-) -> Swept
-    requires { Paveable (outline_of domain) blocks.now grid values.now
-        (state_of xs.old ys.old next.old prev.old snapshot.old quads.old edges.old k)
-        × Helped (outline_of domain) size (field_record grid values.now []) xs.old ys.old next.old snapshot.old
-        edges.old k node_pool.old edge_pool.old tried.old }
-    ensures { (passed result
-        (state_of xs.new ys.new next.new prev.new snapshot.new quads.new edges.new
-        (passed_counts result))
-        ≡ pass (outline_of domain.entry) size (field_record grid values.now [])
-        (state_of xs.old ys.old next.old prev.old snapshot.old quads.old
-        edges.old k))
-        × Helped (outline_of domain.entry) size (field_record grid values.now [])
-        xs.new ys.new next.new snapshot.new edges.new (passed_counts result) node_pool.new edge_pool.new tried.new }
+    scratch: &mut Scratch<'_>,
+) -> ControlFlow<End>
+    requires paveable { PaveableIn around.now (paving_state paving.old snapshot.old) }
+    requires helped { HelpedIn around.now (paving_state paving.old snapshot.old) scratch.old }
+    ensures same_lists { SameLists paving.old paving.new }
+    ensures same_scratch { SameScratch scratch.old scratch.new }
+    ensures passes { passed result (paving_state paving.new snapshot.new)
+        ≡ pass (outline_in around.now) around.now.size (field_in around.now) (paving_state paving.old snapshot.old) }
+    ensures helped { HelpedIn around.now (paving_state paving.new snapshot.new) scratch.new }
 {
-    snapshots::copy_links(next, snapshot, tried, k.nodes);
-    let n = k.nodes;
-    let mut j = k;
+    let n = paving.counts.nodes;
+    snapshots::copy_links(paving.next(), snapshot, scratch.tried, n);
     let mut some = false;
     let mut a: u32 = 0;
-    // Stays a `while`: the next node is where a stretch ends that an edge may have changed, so no range has it.
+    // Stays a `while`: the next node is where a stretch of those off the front ends, which the list of tries says.
     while a < n {
         let i = a;
-        a = snapshots::node_after(tried, i, n);
-        match settling::settle(
-            domain, blocks, size, grid, values, xs, ys, next, prev, snapshot, quads, edges,
-            node_pool, edge_pool, tried, j, i,
-        ) {
-            Settled::Same => {}
-            Settled::Put(m) => {
-                j = m;
-                some = true;
-            }
-            Settled::Over(e, m) => return Swept::Over(e, m),
-        }
+        a = snapshots::node_after(scratch.tried(), i, n);
+        let placed = settling::settle(around, paving, snapshot, scratch, i)?;
+        some |= placed;
     }
-    ends::after_pass(some, j)
+    ends::after_pass(some)
 }

@@ -6,3 +6,4 @@ pub mod Ends
 pub mod Loops
 pub mod Reach
 pub mod ReachLaws
+pub mod Lent

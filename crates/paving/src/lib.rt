@@ -4,6 +4,8 @@
 ghost use Rattle.std.specs.Prelude.{◌≡◌};
 ghost use Rattle.paving.specs.Ends.{end_number};
 
+use direction::Grid;
+use domain::Domain;
 use front::Corner;
 
 // What an attempt answers: no quad, or one with the far corners c and d.
@@ -33,5 +35,43 @@ impl From<End> for u32 {
             End::Cap => 2,
             End::Full => 3,
         }
+    }
+}
+
+// What is only read round a paving: the outline with its blocks, the size, and the field.
+#[derive(Clone, Copy)]
+pub struct Surroundings<'a> {
+    pub domain: Domain<'a>,
+    pub blocks: &'a [u32],
+    pub size: f64,
+    pub grid: Grid,
+    pub values: &'a [f64],
+}
+
+// Lists lent for scratch: the pools in which nodes and edges are filed, so that searches go by them, and the edges that were tried in vain.
+#[derive(Drop)]
+pub struct Scratch<'a> {
+    pub node_pool: &'a mut [u32],
+    pub edge_pool: &'a mut [u32],
+    pub tried: &'a mut [u32],
+}
+
+impl<'a> Scratch<'a> {
+    pub fn node_pool(&self) -> &[u32]
+        ensures { result.now ≡ self.now.node_pool.now }
+    {
+        self.node_pool
+    }
+
+    pub fn edge_pool(&self) -> &[u32]
+        ensures { result.now ≡ self.now.edge_pool.now }
+    {
+        self.edge_pool
+    }
+
+    pub fn tried(&self) -> &[u32]
+        ensures { result.now ≡ self.now.tried.now }
+    {
+        self.tried
     }
 }

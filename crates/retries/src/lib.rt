@@ -4,17 +4,15 @@
 
 ghost use Rattle.std.specs.Prelude.{◌≡◌, []};
 ghost use Rattle.topology.specs.Links.{link_of};
-ghost use Rattle.domain.specs.Outline.{outline_of};
-ghost use Rattle.direction.specs.Record.{field_record};
+ghost use Rattle.front.specs.Lent.{mesh_state};
+ghost use Rattle.paving.specs.Lent.{outline_in, field_in};
 ghost use Rattle.paving.specs.Attempt.{try_edge};
-ghost use Rattle.attempts.specs.Seen.{seen_state, seen_edges, TryLent};
+ghost use Rattle.attempts.specs.Seen.{seen_of, seen_edges, TryLent};
 ghost use Rattle.retries.specs.Vain.{is_vain, noted, tried_after, forgotten, Remembers};
 ghost use Rattle.retries.specs.Untried.{Untried};
 
-use direction::Grid;
-use domain::Domain;
-use front::Counts;
-use paving::Attempt;
+use front::Mesh;
+use paving::{Attempt, Scratch, Surroundings};
 
 // ---- the list
 
@@ -54,47 +52,48 @@ pub fn note(tried: &mut [u32], a: u32, b: u32, p: u32, q: u32)
 // What `attempts::try_edge` answers on the front edge a to b. It isn't asked where the edge was tried in vain between the same neighbours, and what it
 // answers in vain is noted.
 pub fn try_untried(
-    domain: Domain<'_>,
-    blocks: &[u32],
-    size: f64,
-    grid: Grid,
-    values: &[f64],
-    xs: &[f64],
-    ys: &[f64],
-    next: &[u32],
-    prev: &[u32],
-    edges: &[u32],
-    node_pool: &[u32],
-    edge_pool: &[u32],
-    tried: &mut [u32],
-    counts: Counts,
+    around: &Surroundings<'_>,
+    mesh: &Mesh<'_>,
+    scratch: &mut Scratch<'_>,
     a: u32,
     b: u32,
 ) -> Attempt
-    requires { TryLent (outline_of domain) blocks.now grid values.now size xs.now ys.now next.now prev.now
-        edges.now node_pool.now edge_pool.now counts
-        × Untried (outline_of domain) size (field_record grid values.now [])
-        (seen_state xs.now ys.now next.now prev.now edges.now counts) tried.old a b }
-    ensures { (result ≡ try_edge (outline_of domain.entry) size
-        (field_record grid values.now [])
-        (seen_state xs.now ys.now next.now prev.now edges.now counts) a b)
-        × Remembers (outline_of domain.entry) size (field_record grid values.now [])
-        tried.new (seen_edges xs.now ys.now edges.now counts)
-        × (tried.new ≡ tried_after result tried.old a b (link_of counts.nodes prev.now a)
-        (link_of counts.nodes next.now b)) }
+    requires lent { TryLent (outline_in around.now) around.now.blocks.now around.now.grid around.now.values.now around.now.size mesh.now.xs.now
+        mesh.now.ys.now mesh.now.next.now mesh.now.prev.now mesh.now.edges.now scratch.old.node_pool.now scratch.old.edge_pool.now mesh.now.counts }
+    requires untried { Untried (outline_in around.now) around.now.size (field_in around.now) (seen_of (mesh_state mesh.now)) scratch.old.tried.now a b }
+    ensures pools { (scratch.new.node_pool ≡ scratch.old.node_pool) × (scratch.new.edge_pool ≡ scratch.old.edge_pool) }
+    ensures same { scratch.new.tried.ghost_name ≡ scratch.old.tried.ghost_name }
+    ensures answer { result ≡ try_edge (outline_in around.now) around.now.size (field_in around.now) (seen_of (mesh_state mesh.now)) a b }
+    ensures remembers { Remembers (outline_in around.now) around.now.size (field_in around.now) scratch.new.tried.now
+        (seen_edges mesh.now.xs.now mesh.now.ys.now mesh.now.edges.now mesh.now.counts) }
+    ensures tried { scratch.new.tried.now ≡ tried_after result scratch.old.tried.now a b (link_of mesh.now.counts.nodes mesh.now.prev.now a)
+        (link_of mesh.now.counts.nodes mesh.now.next.now b) }
 {
-    let p = front::link_of(prev, counts.nodes, a);
-    let q = front::link_of(next, counts.nodes, b);
-    if is_vain(tried, a, b, p, q) {
+    let nodes = mesh.counts.nodes;
+    let p = front::link_of(mesh.prev, nodes, a);
+    let q = front::link_of(mesh.next, nodes, b);
+    if is_vain(scratch.tried(), a, b, p, q) {
         return Attempt::Nothing;
     }
     let attempt = attempts::try_edge(
-        domain, blocks, size, grid, values, xs, ys, next, prev, edges, node_pool, edge_pool,
-        counts, a, b,
+        around.domain,
+        around.blocks,
+        around.size,
+        around.grid,
+        around.values,
+        mesh.xs,
+        mesh.ys,
+        mesh.next,
+        mesh.prev,
+        mesh.edges,
+        scratch.node_pool(),
+        scratch.edge_pool(),
+        mesh.counts,
+        a,
+        b,
     );
-    let Attempt::Quad(c, d) = attempt else {
-        note(tried, a, b, p, q);
-        return Attempt::Nothing;
-    };
-    Attempt::Quad(c, d)
+    if let Attempt::Nothing = attempt {
+        note(scratch.tried, a, b, p, q);
+    }
+    attempt
 }

@@ -7,11 +7,11 @@ ghost use Rattle.domain.specs.Refusals.{refusal_number};
 ghost use Rattle.run.specs.Run.{settings, lent, scratch, ran, refused_answer, paved_answer, accepted_in, Paves, Spares};
 ghost use Rattle.run.specs.Asked.{CanRun};
 
-use advance::Advanced;
 use direction::Grid;
 use domain::{Domain, Refusal};
-use front::Counts;
+use front::{Counts, Paving};
 use loops::Listed;
+use paving::{End, Scratch, Surroundings};
 
 // `refusal` is document 01's number, 0 where nothing is refused; `end` is 0 for still, 1 for passes, 2 for cap and 3 for full. All is 0 or false on a
 // refusal.
@@ -48,14 +48,14 @@ fn refused(refusal: Refusal) -> Paved
     }
 }
 
-fn answer(grid: Grid, a: Advanced, listed: Listed, whole: bool) -> Paved
-    ensures { result ≡ paved_answer grid a.end a.counts listed whole }
+fn answer(grid: Grid, end: End, counts: Counts, listed: Listed, whole: bool) -> Paved
+    ensures { result ≡ paved_answer grid end counts listed whole }
 {
     Paved {
         refusal: 0,
-        end: u32::from(a.end),
+        end: u32::from(end),
         grid,
-        counts: a.counts,
+        counts,
         listed,
         whole,
     }
@@ -97,14 +97,39 @@ fn pave_in(
         snapshot.old origins.old quads.old edges.old loops.old lengths.old) }
 {
     let grid = crossfield::make_field(domain, size, sweeps, values, marks, blocks);
-    let a = sampled_advance::sample_and_advance(
-        domain, blocks, size, grid, values, xs, ys, next, prev, snapshot, quads, edges, node_pool,
-        edge_pool, tried, passes,
+    let around = Surroundings {
+        domain,
+        blocks,
+        size,
+        grid,
+        values,
+    };
+    let mut paving = Paving {
+        xs,
+        ys,
+        next,
+        prev,
+        quads,
+        edges,
+        counts: Counts::default(),
+    };
+    let mut spare = Scratch {
+        node_pool,
+        edge_pool,
+        tried,
+    };
+    let end = sampled_advance::sample_and_advance(
+        &around,
+        &mut paving,
+        snapshot,
+        &mut spare,
+        passes,
     );
-    origins::number_nodes(domain, size, quads, a.counts.quads, origins);
-    let listed = loops::front_loops(a.counts, next, snapshot, loops, lengths);
+    let counts = paving.counts;
+    origins::number_nodes(domain, size, paving.quads(), counts.quads, origins);
+    let listed = loops::front_loops(counts, paving.next(), snapshot, loops, lengths);
     let whole = soundness::is_whole(domain, listed.count);
-    answer(grid, a, listed, whole)
+    answer(grid, end, counts, listed, whole)
 }
 
 // ---- the run

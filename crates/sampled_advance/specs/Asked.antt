@@ -5,12 +5,17 @@ use Rattle.blocks.specs.Blocks.{Drawn}
 use Rattle.direction.specs.declared.Grid.{Grid}
 use Rattle.direction.specs.Cells.{FieldLent}
 use Rattle.front.specs.declared.Counts.{Counts}
-use Rattle.front.specs.State.{State, counted}
+use Rattle.front.specs.declared.Paving.{Paving}
+use Rattle.front.specs.State.{State, state_of, counted}
 use Rattle.front.specs.Sampling.{front_refusal}
 
 -- no node, quad or edge yet
 abbrev pub unused : Counts
 unused = counted 0 0 0 0
+
+-- the state that the lists hold before it is sampled
+abbrev pub unsampled : Paving → List ℕ → State
+unsampled p snapshot = state_of p.xs.now p.ys.now p.next.now p.prev.now snapshot p.quads.now p.edges.now unused
 
 -- neither the outline nor the places lent are refused, the outline's blocks are filed, and the field is lent
 pub record CanPave (o : Outline) (blocks : List ℕ) (size : Float) (g : Grid) (values : List Float) (lent : State) : Type 0 where

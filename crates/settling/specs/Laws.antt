@@ -1,7 +1,10 @@
 -- The turn of the code at an edge of a pass. Assumes nothing.
 use Rattle.std.proofs.Math.Path.{◌≡◌, refl}
 use Rattle.std.proofs.Common.{sym, ◌∙◌, ap, ap₂, arith}
-use Rattle.std.specs.Prelude.{Bool, not, ◌&&◌, List, [], ◌≢◌, ℕ, ◌<◌, eqb, get_or, Float}
+use Rattle.std.specs.Prelude.{Bool, not, ◌&&◌, List, [], ◌≢◌, ℕ, ◌<◌, eqb, get_or, Float, Option, Some, None, Ok, Err}
+use Rattle.std.specs.declared.ops.ControlFlow.{ControlFlow}
+use Rattle.std.specs.declared.ops.ControlFlow.TheVariants.{Continue, Break}
+use Rattle.paving.specs.declared.End.{End}
 use Rattle.std.proofs.Math.Bool.{true, false, cond}
 use Rattle.std.proofs.Math.Dec.{leb}
 use Rattle.laws.specs.Loop.{go, out}
@@ -11,13 +14,10 @@ use Rattle.direction.specs.declared.Grid.{Grid}
 use Rattle.direction.specs.Record.{FieldRecord, field_record}
 use Rattle.front.specs.declared.Corner.{Corner}
 use Rattle.front.specs.declared.Counts.{Counts}
-use Rattle.front.specs.declared.Neighbour.{Neighbour}
-use Rattle.front.specs.declared.Neighbour.TheVariants.{At, Off}
-use Rattle.front.specs.declared.Placed.{Placed}
-use Rattle.front.specs.declared.Placed.TheVariants as placed-is
+use Rattle.front.specs.declared.Full.{Full as NoPlaces}
 use Rattle.front.specs.State.{State, state_of, next_of}
 use Rattle.front.specs.Place.{place}
-use Rattle.front.specs.Stores.{PlacesQuad, counts_after}
+use Rattle.front.specs.Stores.{PlacesQuad}
 use Rattle.front.specs.KnownLaws.{placed_full, placed_done}
 use Rattle.front.specs.Ready.{Ready}
 use Rattle.paving.specs.declared.Attempt.{Attempt}
@@ -32,10 +32,7 @@ use Rattle.attempts.specs.SeenLaws.{try_seen}
 use Rattle.retries.specs.Vain.{Remembers}
 use Rattle.retries.specs.VainLaws.{there_is}
 use Rattle.retries.specs.Untried.{seen_mesh, Untried}
-use Rattle.ends.specs.declared.Settled.{Settled}
-use Rattle.ends.specs.declared.Settled.TheVariants.{Put}
-use Rattle.ends.specs.declared.Settled.TheVariants as settled_is
-use Rattle.ends.specs.Answers.{snapshot_edge, settled, settled_counts, quad_settled}
+use Rattle.ends.specs.Answers.{snapshot_edge, settled, quad_settled}
 use Rattle.settling.specs.Paveable.{Paveable, Held, ready}
 
 -- ---- an edge of the snapshot
@@ -45,26 +42,26 @@ module _ (next b : ℕ) where
   there = not (eqb b off) && eqb next b
 
   -- what the code's answer says
-  pub snapshot_edge_gone : {e : Neighbour} → e ≡ snapshot_edge next b → e ≡ Off → there ≡ false
+  pub snapshot_edge_gone : {e : Option ℕ} → e ≡ snapshot_edge next b → e ≡ None → there ≡ false
   unfolding snapshot_edge
   snapshot_edge_gone {e} f g = by there (sym g ∙ f)
     where
-      by : (t : Bool) → Off ≡ cond t (At b) Off → t ≡ false
+      by : (t : Bool) → None ≡ cond t (Some b) None → t ≡ false
       by true q = absurd (let z : ◌≡◌ {A = ℕ} 0 1 = cc in omega arith)
       by false q = refl
 
-  pub snapshot_edge_there : {e : Neighbour} {v : ℕ} → e ≡ snapshot_edge next b → e ≡ At v → (there ≡ true) × (b ≡ v)
+  pub snapshot_edge_there : {e : Option ℕ} {v : ℕ} → e ≡ snapshot_edge next b → e ≡ Some v → (there ≡ true) × (b ≡ v)
   unfolding snapshot_edge
   snapshot_edge_there {e} {v} f g = by there (sym g ∙ f)
     where
-      by : (t : Bool) → At v ≡ cond t (At b) Off → (t ≡ true) × (b ≡ v)
+      by : (t : Bool) → Some v ≡ cond t (Some b) None → (t ≡ true) × (b ≡ v)
       by true q = (refl, cc)
       by false q = absurd (let z : ◌≡◌ {A = ℕ} 0 1 = cc in omega arith)
 
 -- ---- one edge of a pass
 
 module _ (o : Outline) (size : Float) (g : Grid) (values : List Float) (s : State) (a : ℕ) (less : a < s.counts.nodes) (L : Held s)
-    {edge : Neighbour} (e : edge ≡ snapshot_edge (get_or s.next a 0) (get_or s.snapshot a 0)) where
+    {edge : Option ℕ} (e : edge ≡ snapshot_edge (get_or s.next a 0) (get_or s.snapshot a 0)) where
   abbrev field : FieldRecord
   field = field_record g values []
 
@@ -74,11 +71,11 @@ module _ (o : Outline) (size : Float) (g : Grid) (values : List Float) (s : Stat
   link_now : get_or s.next a 0 ≡ next_of s a
   link_now = link_read s.counts.nodes s.next a less L.next
 
-  pub settle_gone : edge ≡ Off → (some : Bool) → go (passing s some) ≡ pass_turn o size field a (passing s some)
+  pub settle_gone : edge ≡ None → (some : Bool) → go (passing s some) ≡ pass_turn o size field a (passing s some)
   unfolding pass_turn
   settle_gone q some = rw (ap (λ (n : ℕ). there n b) (sym link_now) ∙ snapshot_edge_gone (get_or s.next a 0) b e q)
 
-  module _ {to : ℕ} (f : edge ≡ At to) where
+  module _ {to : ℕ} (f : edge ≡ Some to) where
     on : is_there s a to ≡ true
     on =
         let h = snapshot_edge_there (get_or s.next a 0) b e f in
@@ -123,33 +120,20 @@ module _ (o : Outline) (size : Float) (g : Grid) (values : List Float) (s : Stat
         quad_turned : (some : Bool) → settle a to (Quad c d) (passing s some) ≡ pass_turn o size field a (passing s some)
         quad_turned some = rw q at (turned some)
 
-        full_turned : (s' : State) → PlacesQuad a to c d s placed-is.Full s' → (some : Bool)
-            → out (out (paved s' Full)) ≡ pass_turn o size field a (passing s some)
-        full_turned s' P some =
-            let f = placed_full a to c d s s' P in
+        pub settle_full : (e : NoPlaces) (t : State) → PlacesQuad a to c d s (Err e) t → (some : Bool)
+            → out (out (paved t Full)) ≡ pass_turn o size field a (passing s some)
+        settle_full e t P some =
+            let f = placed_full a to c d s t e P in
             rw f.1 (rw f.0 at (quad_turned some))
 
-        done_turned : (m : Counts) (s' : Counts → State) → (s' m).counts ≡ m → PlacesQuad a to c d s (placed-is.Done m) (s' m)
-            → (k : Counts) (w : Settled) → w ≡ quad_settled m
-            → (some : Bool) → settled w some (s' (settled_counts k w)) ≡ pass_turn o size field a (passing s some)
+        pub settle_done : (u : Unit {0}) (t : State) → PlacesQuad a to c d s (Ok u) t → {w : ControlFlow End Bool} → w ≡ quad_settled t.counts.quads
+            → (some : Bool) → settled w some t ≡ pass_turn o size field a (passing s some)
         unfolding after_quad quad_settled
-        done_turned m s' counts P k w v some =
-            let f = placed_done a to c d s (s' m) m P in
+        settle_done u t P {w} v some =
+            let f = placed_done a to c d s t u P in
             let turn : after_quad (place a to c d s) ≡ pass_turn o size field a (passing s some) = rw f.0 at (quad_turned some) in
-            rw v (by (leb most_quads m.quads) refl ∙ (ap after_quad f.1 ∙ turn))
+            rw v (by (leb most_quads t.counts.quads) refl ∙ (ap after_quad f.1 ∙ turn))
           where
-            by : (cap : Bool) → leb most_quads m.quads ≡ cap
-                → settled (cond cap (settled_is.Over Cap m) (Put m)) some (s' (settled_counts k (cond cap (settled_is.Over Cap m) (Put m)))) ≡ after_quad (s' m)
-            by true e = rw (counts, e)
-            by false e = rw (counts, e)
-
-        module _ {xs ys : List Float} {next prev snapshot quads edges : List ℕ} {r : Placed} (k : Counts)
-            (P : PlacesQuad a to c d s r (state_of xs ys next prev snapshot quads edges (counts_after k r))) where
-          pub settle_full : r ≡ placed-is.Full → (some : Bool)
-              → out (out (paved (state_of xs ys next prev snapshot quads edges k) Full)) ≡ pass_turn o size field a (passing s some)
-          settle_full e some = full_turned _ (rw e at P) some
-
-          pub settle_done : {m : Counts} {w : Settled} → r ≡ placed-is.Done m → w ≡ quad_settled m → (some : Bool)
-              → settled w some (state_of xs ys next prev snapshot quads edges (settled_counts k w)) ≡ pass_turn o size field a (passing s some)
-          settle_done {m} {w} e f some =
-              done_turned m (λ (j : Counts). state_of xs ys next prev snapshot quads edges j) refl (rw e at P) k w f some
+            by : (cap : Bool) → leb most_quads t.counts.quads ≡ cap → settled (cond cap (Break Cap) (Continue true)) some t ≡ after_quad t
+            by true e = rw e
+            by false e = rw e

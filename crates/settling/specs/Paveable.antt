@@ -13,6 +13,8 @@ use Rattle.front.specs.FrameLaws.{frame_same, frame_trans}
 use Rattle.front.specs.Ready.{Known, Choice, Ready}
 use Rattle.front.specs.Step.{step}
 use Rattle.front.specs.KnownLaws.{known_placed}
+use Rattle.paving.specs.declared.Surroundings.{Surroundings}
+use Rattle.paving.specs.Lent.{outline_in}
 use Rattle.paving.specs.Advance.{with_snapshot}
 use Rattle.paving.specs.Reach.{Reaches, begin, snapshot, placed}
 use Rattle.books.specs.Answered.{answered}
@@ -31,6 +33,9 @@ pub record Paveable (o : Outline) (blocks : List ℕ) (g : Grid) (values : List 
   pub loops : List (List ℕ)
   pub sound : Sound sampled s loops
   pub known : Known s
+
+abbrev pub PaveableIn : Surroundings → State → Type 0
+PaveableIn a s = Paveable (outline_in a) a.blocks.now a.grid a.values.now s
 
 -- t comes after s in one run
 pub record Later (o : Outline) (blocks : List ℕ) (g : Grid) (values : List Float) (s t : State) : Type 0 where

@@ -1,5 +1,5 @@
 -- What the pools of a paving have filed and the list of tries remembers, and that a placing keeps it.
-use Rattle.std.specs.Prelude.{Bool, true, false, cond, List, ◌≡◌, refl, ℕ, ◌+◌, ◌*◌, ◌/◌, ◌<◌, ◌≤◌, leb, ltb, length, get_or, Float}
+use Rattle.std.specs.Prelude.{Bool, true, false, cond, List, ◌≡◌, refl, ℕ, ◌+◌, ◌*◌, ◌/◌, ◌<◌, ◌≤◌, leb, ltb, length, get_or, Float, Ok, Err}
 use Rattle.std.proofs.Common.{sym, ◌∙◌, ap, subst, arith, ltb-true, ltb-false}
 use Rattle.pools.specs.Pool.{cleared_pool, Indexed}
 use Rattle.key_rects.specs.Rects.{node_rect}
@@ -10,18 +10,18 @@ use Rattle.direction.specs.declared.Grid.{Grid}
 use Rattle.direction.specs.Record.{FieldRecord}
 use Rattle.front.specs.declared.Corner.{Corner}
 use Rattle.front.specs.declared.Counts.{Counts}
-use Rattle.front.specs.declared.Placed.{Placed}
-use Rattle.front.specs.declared.Placed.TheVariants as placed-is
+use Rattle.front.specs.declared.Full.{Full}
 use Rattle.topology.specs.Links.{off, link_read}
 use Rattle.front.specs.State.{State, state_of, next_of, edge_from, edge_to}
 use Rattle.front.specs.Place.{place}
-use Rattle.front.specs.Stores.{PlacesQuad, counts_after}
+use Rattle.front.specs.Stores.{PlacesQuad}
 use Rattle.front.specs.Sound.{Frame}
 use Rattle.front.specs.FrameLaws.{extends_at, frame_node}
 use Rattle.front.specs.Ready.{Joined, Ready}
 use Rattle.front.specs.KnownLaws.{placed_full, placed_done}
-use Rattle.paving.specs.declared.End.TheVariants.{Cap}
-use Rattle.paving.specs.Advance.{most_quads}
+use Rattle.paving.specs.declared.Scratch.{Scratch}
+use Rattle.paving.specs.declared.Surroundings.{Surroundings}
+use Rattle.paving.specs.Lent.{outline_in, field_in}
 use Rattle.indexed.specs.Rects.{node_rects, edge_rects, NodesFiled, EdgesFiled}
 use Rattle.attempts.specs.Seen.{seen_edges}
 use Rattle.retries.specs.Vain.{forgotten, Remembers}
@@ -30,11 +30,6 @@ use Rattle.snapshots.specs.OffLaws.{off_stays}
 use Rattle.retries.specs.VainLaws.{Forgets, forgets}
 use Rattle.retries.proofs.VainLaws.{forgotten_remembers, remembers_later, remembers_same, remembers_fewer}
 use Rattle.retries.specs.Untried.{seen_mesh}
-use Rattle.ends.specs.declared.Settled.{Settled}
-use Rattle.ends.specs.declared.Settled.TheVariants.{Put}
-use Rattle.ends.specs.declared.Settled.TheVariants as settled_is
-use Rattle.ends.specs.declared.Swept.{Swept}
-use Rattle.ends.specs.Answers.{settled_counts, quad_settled, passed_counts, pass_answer}
 use Rattle.settling.specs.Paveable.{Paveable, held, later_placed}
 
 -- ---- definitions
@@ -58,6 +53,10 @@ pub record Helped (o : Outline) (size : Float) (field : FieldRecord) (xs ys : Li
   pub search : Searchable size xs ys edges counts node_pool edge_pool
   pub remembers : Remembers o size field tried (seen_edges xs ys edges counts)
   pub stretches : Stretches tried counts.nodes next snapshot
+
+abbrev pub HelpedIn : Surroundings → State → Scratch → Type 0
+HelpedIn a s t =
+    Helped (outline_in a) a.size (field_in a) s.xs s.ys s.next s.snapshot s.edges s.counts t.node_pool.now t.edge_pool.now t.tried.now
 
 -- in a loop: the pools and the list are as long as they were
 pub record Pools (o : Outline) (size : Float) (field : FieldRecord) (xs ys : List Float) (next snapshot edges : List ℕ) (counts : Counts)
@@ -120,33 +119,29 @@ stretches_later l s t more fit_s fit_t stays S a room node none i low high = by 
 
 module _ (o : Outline) (blocks : List ℕ) (g : Grid) (values : List Float) (size : Float) (s : State) (P : Paveable o blocks g values s)
     (a b : ℕ) (c d : Corner) (R : Ready s a b c d) {node_pool edge_pool : List ℕ} (S : SearchableIn size s node_pool edge_pool) where
-  done_adds : (m : Counts) (t : State) → PlacesQuad a b c d s (placed-is.Done m) t → Addable size s t node_pool edge_pool
-  done_adds m t D =
-      let f = placed_done a b c d s t m D in
-      let L = later_placed o blocks g values s P a b c d R.choice f.0 in
-      subst (λ (t : State). Addable size s t node_pool edge_pool) (sym f.1)
-      (addable size s (place a b c d s) L.frame P.known.joined (held o blocks g values (place a b c d s) L.paveable).edges S)
-
-  module _ {xs ys : List Float} {next prev snapshot quads edges : List ℕ} {r : Placed}
-      (Q : PlacesQuad a b c d s r (state_of xs ys next prev snapshot quads edges (counts_after s.counts r))) where
+  module _ {u : Unit {0}} (t : State) (D : PlacesQuad a b c d s (Ok u) t) where
     -- what it adds can be filed
-    pub placed_adds : {m : Counts} → r ≡ placed-is.Done m → Addable size s (state_of xs ys next prev snapshot quads edges m) node_pool edge_pool
-    placed_adds {m} e = done_adds m _ (rw e at Q)
+    pub placed_adds : Addable size s t node_pool edge_pool
+    placed_adds =
+        let f = placed_done a b c d s t u D in
+        let L = later_placed o blocks g values s P a b c d R.choice f.0 in
+        subst (λ (t : State). Addable size s t node_pool edge_pool) (sym f.1)
+        (addable size s (place a b c d s) L.frame P.known.joined (held o blocks g values (place a b c d s) L.paveable).edges S)
 
-  -- where it is full, nothing changes
   module _ (field : FieldRecord) (tried : List ℕ) (M : Remembers o size field tried (seen_mesh s))
-      (T : Stretches tried s.counts.nodes s.next s.snapshot) {xs ys : List Float} {next prev snapshot quads edges : List ℕ} {r : Placed}
-      (Q : PlacesQuad a b c d s r (state_of xs ys next prev snapshot quads edges (counts_after s.counts r))) where
-    pub full_helped : r ≡ placed-is.Full → Helped o size field xs ys next snapshot edges s.counts node_pool edge_pool tried
-    full_helped e =
-        let f = placed_full a b c d s (state_of xs ys next prev snapshot quads edges s.counts) (rw e at Q) in
+      (T : Stretches tried s.counts.nodes s.next s.snapshot) where
+    -- where it is full, nothing changes
+    pub full_helped : (e : Full) (t : State) → PlacesQuad a b c d s (Err e) t
+        → Helped o size field t.xs t.ys t.next t.snapshot t.edges t.counts node_pool edge_pool tried
+    full_helped e t Q =
+        let f = placed_full a b c d s t e Q in
         subst (λ (t : State). Helped o size field t.xs t.ys t.next t.snapshot t.edges t.counts node_pool edge_pool tried) (sym f.1)
         (record { search = S; remembers = M; stretches = T })
 
-    done_remembers : (m : Counts) (t : State) → PlacesQuad a b c d s (placed-is.Done m) t
+    done_remembers : (u : Unit {0}) (t : State) → PlacesQuad a b c d s (Ok u) t
         → Remembers o size field (forgotten s.counts.nodes t.counts.nodes tried) (seen_mesh t)
-    done_remembers m t D =
-        let f = placed_done a b c d s t m D in
+    done_remembers u t D =
+        let f = placed_done a b c d s t u D in
         let L = later_placed o blocks g values s P a b c d R.choice f.0 in
         let u = place a b c d s in
         let l = forgotten s.counts.nodes u.counts.nodes tried in
@@ -155,10 +150,10 @@ module _ (o : Outline) (blocks : List ℕ) (g : Grid) (values : List Float) (siz
         (remembers_same o size field l u (seen_mesh u) refl refl refl refl
         (remembers_later o size field tried s u L.frame few (remembers_same o size field tried (seen_mesh s) s refl refl refl refl M)))
 
-    done_stretches : (m : Counts) (t : State) → PlacesQuad a b c d s (placed-is.Done m) t
+    done_stretches : (u : Unit {0}) (t : State) → PlacesQuad a b c d s (Ok u) t
         → Stretches (forgotten s.counts.nodes t.counts.nodes tried) t.counts.nodes t.next s.snapshot
-    done_stretches m t D =
-        let f = placed_done a b c d s t m D in
+    done_stretches u t D =
+        let f = placed_done a b c d s t u D in
         let L = later_placed o blocks g values s P a b c d R.choice f.0 in
         let u = place a b c d s in
         subst (λ (t : State). Stretches (forgotten s.counts.nodes t.counts.nodes tried) t.counts.nodes t.next s.snapshot) (sym f.1)
@@ -166,15 +161,14 @@ module _ (o : Outline) (blocks : List ℕ) (g : Grid) (values : List Float) (siz
         (off_stays P.sampled s P.loops a b c d P.sound R.choice f.0) T)
 
     -- where it is done, new nodes and edges are filed, and nothing was tried from the nodes
-    pub done_helped : {m : Counts} → r ≡ placed-is.Done m → {node_pool₁ edge_pool₁ tried₁ : List ℕ}
-        → Searchable size xs ys edges m node_pool₁ edge_pool₁ → tried₁ ≡ forgotten s.counts.nodes m.nodes tried
-        → Helped o size field xs ys next s.snapshot edges m node_pool₁ edge_pool₁ tried₁
-    done_helped {m} e found left =
-        let t = state_of xs ys next prev snapshot quads edges m in
+    pub done_helped : (u : Unit {0}) (t : State) → PlacesQuad a b c d s (Ok u) t → {node_pool₁ edge_pool₁ tried₁ : List ℕ}
+        → Searchable size t.xs t.ys t.edges t.counts node_pool₁ edge_pool₁ → tried₁ ≡ forgotten s.counts.nodes t.counts.nodes tried
+        → Helped o size field t.xs t.ys t.next s.snapshot t.edges t.counts node_pool₁ edge_pool₁ tried₁
+    done_helped u t D found left =
         record {
           search = found;
-          remembers = rw left (done_remembers m t (rw e at Q));
-          stretches = rw left (done_stretches m t (rw e at Q));
+          remembers = rw left (done_remembers u t D);
+          stretches = rw left (done_stretches u t D);
         }
 
 -- ---- the start
@@ -209,27 +203,3 @@ pub helped_taken : (o : Outline) (size : Float) (field : FieldRecord) (xs ys : L
     → Helped o size field xs ys next snapshot₁ edges k node_pool edge_pool tried₁
 helped_taken o size field xs ys next snapshot edges k node_pool edge_pool tried H {tried₁ = tried₁} S F =
     record { search = H.search; remembers = remembers_fewer o size field tried tried₁ (seen_edges xs ys edges k) F H.remembers; stretches = S }
-
--- ---- the counts that an answer gives
-
-module _ {o : Outline} {size : Float} {field : FieldRecord} {xs ys : List Float} {next snapshot edges node_pool edge_pool tried : List ℕ} where
-  pub helped_at : {k m : Counts} → k ≡ m → Helped o size field xs ys next snapshot edges k node_pool edge_pool tried
-      → Helped o size field xs ys next snapshot edges m node_pool edge_pool tried
-  helped_at e H = subst (λ (n : Counts). Helped o size field xs ys next snapshot edges n node_pool edge_pool tried) e H
-
--- the counts after a quad
-pub counts_settled : (k m : Counts) {w : Settled} → w ≡ quad_settled m → settled_counts k w ≡ m
-unfolding quad_settled
-counts_settled k m e = rw e (by (leb most_quads m.quads))
-  where
-    by : (cap : Bool) → settled_counts k (cond cap (settled_is.Over Cap m) (Put m)) ≡ m
-    by true = refl
-    by false = refl
-
--- and those after the last edge of a pass
-pub counts_passed : (some : Bool) (k : Counts) {r : Swept} → r ≡ pass_answer some k → passed_counts r ≡ k
-counts_passed some k e = rw e (by some)
-  where
-    by : (some : Bool) → passed_counts (pass_answer some k) ≡ k
-    by true = refl
-    by false = refl

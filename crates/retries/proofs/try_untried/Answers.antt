@@ -1,41 +1,37 @@
 -- `retries::try_untried` meets its contract: the list has the edge, or it is tried, and noted where that is in vain. Assumes nothing.
-use mathlib.Core.Path.{sym, ◌∙◌, refl}
-use Rattle.retries.proofs.Untried.{untried_vain, untried_kept, untried_left, untried_noted}
+use Rattle.std.specs.Prelude.{List, ℕ}
+use Rattle.std.proofs.Common.{◌∙◌, ap}
+use Rattle.retries.specs.Vain.{is_vain}
+use Rattle.retries.proofs.Untried.{untried_vain, untried_kept, untried_noted}
 use Rattle.front.specs.State.{State}
-use Rattle.domain.specs.Outline.{Outline, outline_of}
-use Rattle.attempts.specs.Seen.{seen_state}
+use Rattle.front.specs.Lent.{mesh_state}
+use Rattle.domain.specs.Outline.{Outline}
+use Rattle.paving.specs.Lent.{outline_in}
+use Rattle.attempts.specs.Seen.{seen_of}
 use Rattle.retries.proofs.try_untried.Goals as goal
 use Rattle.retries.proofs.try_untried.Goals.{Start}
 
 -- the outline and what an attempt reads, as they are lent
 abbrev around : Start → Outline
-around s = outline_of s.args.domain
+around s = outline_in s.args.around.now
 
 abbrev lent : Start → State
-lent s = seen_state s.args.xs.now s.args.ys.now s.args.next.now s.args.prev.now s.args.edges.now s.args.counts
+lent s = seen_of (mesh_state s.args.mesh.now)
 
-pub link_of-p-requires : goal.link_of-p-requires
-link_of-p-requires c = c.requires.0.attempt.prev_fit
+pub returns-then-is_vain-clause-answer : goal.returns-then-is_vain-clause-answer
+returns-then-is_vain-clause-answer c =
+    let s = (goal.at.returns-then-is_vain-clause-answer c).Start in
+    untried_vain (around s) c.args.around.now.size c.args.around.now.grid c.args.around.now.values.now (lent s) _ _ _ c.requires.untried c.link_of-p.ensures
+    c.link_of-q.ensures (c.is_vain.ensures ∙ ap (λ (l : List ℕ). is_vain l c.args.a c.args.b c.link_of-p.result c.link_of-q.result) c.tried.ensures) c.if-is_vain.true
 
-pub link_of-q-requires : goal.link_of-q-requires
-link_of-q-requires c = c.requires.0.attempt.next_fit
+pub returns-then-is_vain-clause-tried : goal.returns-then-is_vain-clause-tried
+returns-then-is_vain-clause-tried c =
+    let s = (goal.at.returns-then-is_vain-clause-tried c).Start in
+    untried_kept (around s) c.args.around.now.size c.args.around.now.grid c.args.around.now.values.now (lent s) _ _ _ c.requires.untried c.link_of-p.ensures
+    c.link_of-q.ensures (c.is_vain.ensures ∙ ap (λ (l : List ℕ). is_vain l c.args.a c.args.b c.link_of-p.result c.link_of-q.result) c.tried.ensures) c.if-is_vain.true
 
-pub returns-then-is_vain : goal.returns-then-is_vain
-returns-then-is_vain c = (
-  untried_vain (around (goal.at.returns-then-is_vain c).Start) c.args.size c.args.grid c.args.values.now (lent (goal.at.returns-then-is_vain c).Start) _ _ _ c.requires.1 c.link_of-p.ensures c.link_of-q.ensures c.is_vain.ensures c.if-is_vain.true,
-  c.requires.1.remembers,
-  untried_kept (around (goal.at.returns-then-is_vain c).Start) c.args.size c.args.grid c.args.values.now (lent (goal.at.returns-then-is_vain c).Start) _ _ _ c.requires.1 c.link_of-p.ensures c.link_of-q.ensures c.is_vain.ensures c.if-is_vain.true,
-)
-
-pub try_edge-attempt-requires : goal.try_edge-attempt-requires
-try_edge-attempt-requires c = c.requires.0
-
-pub returns-in_default : goal.returns-in_default
-returns-in_default c = (
-  sym c.in_default.is ∙ c.try_edge-attempt.ensures,
-  untried_noted (around (goal.at.returns-in_default c).Start) c.args.size c.args.grid c.args.values.now (lent (goal.at.returns-in_default c).Start) _ _ _ c.requires.1 c.link_of-p.ensures c.link_of-q.ensures c.try_edge-attempt.ensures c.in_default.is c.note.ensures,
-  untried_left (around (goal.at.returns-in_default c).Start) c.args.size c.args.grid c.args.values.now (lent (goal.at.returns-in_default c).Start) _ _ _ c.requires.1 c.link_of-p.ensures c.link_of-q.ensures c.note.ensures,
-)
-
-pub returns : goal.returns
-returns c = (sym c.in-Quad.is ∙ c.try_edge-attempt.ensures, c.requires.1.remembers, refl)
+pub returns-in-Nothing-clause-remembers : goal.returns-in-Nothing-clause-remembers
+returns-in-Nothing-clause-remembers c =
+    let s = (goal.at.returns-in-Nothing-clause-remembers c).Start in
+    untried_noted (around s) c.args.around.now.size c.args.around.now.grid c.args.around.now.values.now (lent s) _ _ _ c.requires.untried c.link_of-p.ensures
+    c.link_of-q.ensures c.try_edge-attempt.ensures c.in-Nothing.is c.note.ensures

@@ -1,6 +1,7 @@
 -- `run::pave_in` meets its contract: each stage gives what the next one asks, and together they are the run. Assumes nothing.
 use mathlib.Core.Path.{◌∙◌, sym, subst}
 use lib.Dec.{T}
+use Rattle.std.proofs.Common.{arith}
 use Rattle.domain.specs.Outline.{Outline, outline_of}
 use Rattle.domain.specs.declared.Settings.{Settings}
 use Rattle.sampled_advance.specs.Asked.{CanPave}
@@ -32,19 +33,21 @@ paves s =
 pub make_field-grid-requires : goal.make_field-grid-requires
 make_field-grid-requires c = none_field _ _ _ c.requires
 
-pub sample_and_advance-a-requires : goal.sample_and_advance-a-requires
-sample_and_advance-a-requires c = paves (goal.at.sample_and_advance-a-requires c).After-make_field-grid
+pub sample_and_advance-end-requires : goal.sample_and_advance-end-requires
+sample_and_advance-end-requires c = paves (goal.at.sample_and_advance-end-requires c).After-make_field-grid
 
 -- what the paving left, as the numbers and the loops ask for it
 pub number_nodes-requires : goal.number_nodes-requires
 number_nodes-requires c =
-    can_number _ _ _ _ _ _ (paves (goal.at.number_nodes-requires c).After-make_field-grid) _ c.args.passes _
-    c.sample_and_advance-a.ensures _ c.requires.origins
+    rw c.quads.ensures
+    (can_number _ _ _ _ _ _ (paves (goal.at.number_nodes-requires c).After-make_field-grid) _ c.args.passes _
+    c.sample_and_advance-end.ensures.advances _ c.requires.origins)
 
 pub front_loops-listed-requires : goal.front_loops-listed-requires
 front_loops-listed-requires c =
-    can_list _ _ _ _ _ _ (paves (goal.at.front_loops-listed-requires c).After-make_field-grid) _ c.args.passes _
-    c.sample_and_advance-a.ensures _ _ c.requires.loops c.requires.lengths
+    rw c.next.ensures
+    (can_list _ _ _ _ _ _ (paves (goal.at.front_loops-listed-requires c).After-make_field-grid) _ c.args.passes _
+    c.sample_and_advance-end.ensures.advances _ _ c.requires.loops c.requires.lengths)
 
 pub is_whole-whole-requires : goal.is_whole-whole-requires
 is_whole-whole-requires c = c.make_field-grid.ensures.1.taken
@@ -52,5 +55,13 @@ is_whole-whole-requires c = c.make_field-grid.ensures.1.taken
 pub returns : goal.returns
 returns c =
     let s = (goal.at.returns c).After-make_field-grid in
-    run_whole (around s) (set s) (given s) _ _ _ c.make_field-grid.ensures.0 _ c.sample_and_advance-a.ensures _
-    c.number_nodes.ensures _ c.front_loops-listed.ensures _ c.is_whole-whole.ensures _ c.answer.ensures
+    let whole = run_whole (around s) (set s) (given s) _ _ _ c.make_field-grid.ensures.0 _ c.sample_and_advance-end.ensures.advances _
+    (rw c.quads.ensures at c.number_nodes.ensures) _ (rw c.next.ensures at c.front_loops-listed.ensures) _ c.is_whole-whole.ensures _ c.answer.ensures in
+    let lists = c.sample_and_advance-end.ensures.same_lists in
+    let xs = lists.xs in
+    let ys = lists.ys in
+    let next = lists.next in
+    let prev = lists.prev in
+    let quads = lists.quads in
+    let edges = lists.edges in
+    grind arith

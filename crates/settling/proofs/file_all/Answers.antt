@@ -2,12 +2,12 @@
 use Rattle.settling.specs.Searchable.{all_addable}
 use Rattle.settling.proofs.file_all.Goals as goal
 
-pub file_added-requires : goal.file_added-requires
-file_added-requires c =
-    let args = c.args in
-    rw (c.default.ensures.0, c.default.ensures.1.1.0)
-    (all_addable args.size args.xs.now args.ys.now args.edges.now args.k c.requires args.node_pool.now args.edge_pool.now
-    c.clear.ensures c.clear-2.ensures)
+pub file_added-requires-clause-nodes : goal.file_added-requires-clause-nodes
+file_added-requires-clause-nodes c =
+    let m = c.args.mesh.now in
+    (all_addable c.args.size m.xs.now m.ys.now m.edges.now m.counts c.requires _ _ c.clear.ensures c.clear-2.ensures).0
 
-pub returns : goal.returns
-returns c = rw c.default.ensures.0 at c.file_added.ensures
+pub file_added-requires-clause-edges : goal.file_added-requires-clause-edges
+file_added-requires-clause-edges c =
+    let m = c.args.mesh.now in
+    (all_addable c.args.size m.xs.now m.ys.now m.edges.now m.counts c.requires _ _ c.clear.ensures c.clear-2.ensures).1

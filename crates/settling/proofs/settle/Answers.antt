@@ -1,104 +1,196 @@
 -- `settling::settle` meets its contract: the edge is gone, the attempt answers nothing, a quad that is full, or a quad that is placed.
-use mathlib.Core.List.{[]}
+use Rattle.std.specs.Prelude.{◌≡◌, List, ℕ, ◌*◌, ◌≤◌, length, get_or, Option}
+use Rattle.std.proofs.Common.{◌∙◌, ap, sym, subst, arith}
+use Rattle.domain.specs.Outline.{Outline}
+use Rattle.direction.specs.Record.{FieldRecord}
+use Rattle.front.specs.State.{State}
+use Rattle.front.specs.Lent.{paving_state, mesh_state}
+use Rattle.paving.specs.Lent.{outline_in, field_in}
+use Rattle.paving.specs.Attempt.{try_edge}
+use Rattle.attempts.specs.Seen.{TryLent, seen_of, seen_edges}
+use Rattle.front.specs.Stores.{known_across}
+use Rattle.retries.specs.Vain.{Remembers, forgotten}
+use Rattle.indexed.specs.Rects.{NodesFiled, EdgesFiled, edge_rects}
+use Rattle.pools.specs.Pool.{Indexed}
+use Rattle.retries.specs.Untried.{Untried}
 use Rattle.retries.specs.VainLaws.{stretches_tried}
-use Rattle.settling.specs.Searchable.{placed_adds, full_helped, done_helped, helped_at, counts_settled}
+use Rattle.ends.specs.Answers.{snapshot_edge}
+use Rattle.settling.specs.Searchable.{SearchableIn, placed_adds, full_helped, done_helped}
 use Rattle.settling.specs.Paveable.{held, state_try_lent}
 use Rattle.settling.specs.Laws.{settle_gone, settle_untried, settle_same, settle_node, settle_ready, settle_full, settle_done}
-use Rattle.front.specs.State.{State, state_of}
-use Rattle.direction.specs.Record.{FieldRecord, field_record}
-use Rattle.domain.specs.Outline.{Outline, outline_of}
-use native.Mathlib.Omega.{arith}
-use mathlib.Core.Path.{◌∙◌, sym}
 use Rattle.settling.proofs.settle.Goals as goal
 use Rattle.settling.proofs.settle.Goals.{Start}
 
 -- the outline, the field and the state as they are lent
 abbrev around : Start → Outline
-around s = outline_of s.args.domain
+around s = outline_in s.args.around.now
 
 abbrev field : Start → FieldRecord
-field s = field_record s.args.grid s.args.values.now []
+field s = field_in s.args.around.now
 
 abbrev lent : Start → State
-lent s =
-    state_of s.args.xs.now s.args.ys.now s.args.next.now s.args.prev.now s.args.snapshot.now s.args.quads.now
-    s.args.edges.now s.args.k
+lent s = paving_state s.args.paving.now s.args.snapshot.now
+
+-- the snapshot's edge by the links of the state
+edge_of : {e : Option ℕ} {l m : List ℕ} (snapshot : List ℕ) (a : ℕ) → e ≡ snapshot_edge (get_or l a 0) (get_or snapshot a 0) → l ≡ m
+    → e ≡ snapshot_edge (get_or m a 0) (get_or snapshot a 0)
+edge_of snapshot a h e = rw (← e) h
 
 pub snapshot_edge-requires : goal.snapshot_edge-requires
 snapshot_edge-requires c =
-    let L = held _ _ _ _ _ c.requires.0 in
-    (omega (arith, L.next, c.requires.1), omega (arith, L.snapshot, c.requires.1))
+    let L = held _ _ _ _ _ c.requires.paveable in
+    rw c.next.ensures (omega (arith, L.next, c.requires.node), omega (arith, L.snapshot, c.requires.node))
 
-pub returns-in_default : goal.returns-in_default
-returns-in_default c = (
-  settle_gone (around (goal.at.returns-in_default c).Start) c.args.size c.args.grid c.args.values.now (lent (goal.at.returns-in_default c).Start) c.args.a c.requires.1
-      (held _ _ _ _ _ c.requires.0) c.snapshot_edge.ensures c.in_default.is,
-  c.requires.2,
-)
+pub returns-in_default-clause-settles : goal.returns-in_default-clause-settles
+returns-in_default-clause-settles c =
+    let s = (goal.at.returns-in_default-clause-settles c).Start in
+    let a = c.args.around.now in
+    settle_gone (around s) a.size a.grid a.values.now (lent s) c.args.a c.requires.node (held _ _ _ _ _ c.requires.paveable)
+    (edge_of _ _ c.snapshot_edge.ensures c.next.ensures) c.in_default.is
 
-pub try_untried-attempt-requires : goal.try_untried-attempt-requires
-try_untried-attempt-requires c = (
-  state_try_lent _ _ _ _ _ c.requires.0 _ c.requires.2.search.nodes_filed c.requires.2.search.edges_filed,
-  settle_untried (around (goal.at.try_untried-attempt-requires c).Start) c.args.size c.args.grid c.args.values.now (lent (goal.at.try_untried-attempt-requires c).Start) c.args.a c.requires.1
-      (held _ _ _ _ _ c.requires.0) c.snapshot_edge.ensures c.in-At.is _ c.requires.0 c.requires.2.remembers,
-)
+pub try_untried-attempt-requires-clause-lent : goal.try_untried-attempt-requires-clause-lent
+try_untried-attempt-requires-clause-lent c =
+    let a = c.args.around.now in
+    let t = c.args.scratch.now in
+    subst
+    (λ (m : State).
+    TryLent (outline_in a) a.blocks.now a.grid a.values.now a.size m.xs m.ys m.next m.prev m.edges t.node_pool.now t.edge_pool.now m.counts)
+    (sym c.mesh.ensures)
+    (state_try_lent _ _ _ _ _ c.requires.paveable _ c.requires.helped.search.nodes_filed c.requires.helped.search.edges_filed)
 
-pub returns-in_default-attempt : goal.returns-in_default-attempt
-returns-in_default-attempt c = (
-  settle_same (around (goal.at.returns-in_default-attempt c).Start) c.args.size c.args.grid c.args.values.now (lent (goal.at.returns-in_default-attempt c).Start) c.args.a c.requires.1
-      (held _ _ _ _ _ c.requires.0) c.snapshot_edge.ensures c.in-At.is _ c.try_untried-attempt.ensures.0 c.in_default-attempt.is,
-  record {
-    search = c.requires.2.search;
-    remembers = c.try_untried-attempt.ensures.1;
-    stretches = stretches_tried c.try_untried-attempt.result c.args.tried.now c.args.a _ _ _ c.args.k.nodes c.args.next.now
-        c.args.snapshot.now (settle_node (around (goal.at.returns-in_default-attempt c).Start) c.args.size c.args.grid c.args.values.now (lent (goal.at.returns-in_default-attempt c).Start) c.args.a c.requires.1
-        (held _ _ _ _ _ c.requires.0) c.snapshot_edge.ensures c.in-At.is) c.try_untried-attempt.ensures.2 c.requires.2.stretches;
-  },
-)
+pub try_untried-attempt-requires-clause-untried : goal.try_untried-attempt-requires-clause-untried
+try_untried-attempt-requires-clause-untried c =
+    let s = (goal.at.try_untried-attempt-requires-clause-untried c).Start in
+    let a = c.args.around.now in
+    subst (λ (m : State). Untried (outline_in a) a.size (field_in a) (seen_of m) c.args.scratch.now.tried.now c.args.a c.in-Some.b) (sym c.mesh.ensures)
+    (settle_untried (around s) a.size a.grid a.values.now (lent s) c.args.a c.requires.node (held _ _ _ _ _ c.requires.paveable)
+    (edge_of _ _ c.snapshot_edge.ensures c.next.ensures) c.in-Some.is _ c.requires.paveable c.requires.helped.remembers)
 
-pub is_known_across-across-requires : goal.is_known_across-across-requires
-is_known_across-across-requires c =
-    ((held _ _ _ _ _ c.requires.0).edges, c.requires.2.search.edges_filed)
+pub returns-in_default-attempt-clause-settles : goal.returns-in_default-attempt-clause-settles
+returns-in_default-attempt-clause-settles c =
+    let s = (goal.at.returns-in_default-attempt-clause-settles c).Start in
+    let a = c.args.around.now in
+    settle_same (around s) a.size a.grid a.values.now (lent s) c.args.a c.requires.node (held _ _ _ _ _ c.requires.paveable)
+    (edge_of _ _ c.snapshot_edge.ensures c.next.ensures) c.in-Some.is _
+    (c.try_untried-attempt.ensures.answer ∙ ap (λ (m : State). try_edge (outline_in a) a.size (field_in a) (seen_of m) c.args.a c.in-Some.b) c.mesh.ensures)
+    c.in_default-attempt.is
+
+pub returns-in_default-attempt-clause-helped : goal.returns-in_default-attempt-clause-helped
+returns-in_default-attempt-clause-helped c =
+    let s = (goal.at.returns-in_default-attempt-clause-helped c).Start in
+    let a = c.args.around.now in
+    let r = c.try_untried-attempt in
+    record {
+      search = rw (r.ensures.pools.0, r.ensures.pools.1) c.requires.helped.search;
+      remembers = subst
+          (λ (m : State). Remembers (outline_in a) a.size (field_in a) r.new.scratch.tried.now (seen_edges m.xs m.ys m.edges m.counts)) c.mesh.ensures
+          r.ensures.remembers;
+      stretches = stretches_tried r.result c.args.scratch.now.tried.now c.args.a _ _ _ c.args.paving.now.counts.nodes c.args.paving.now.next.now
+          c.args.snapshot.now
+          (settle_node (around s) a.size a.grid a.values.now (lent s) c.args.a c.requires.node (held _ _ _ _ _ c.requires.paveable)
+          (edge_of _ _ c.snapshot_edge.ensures c.next.ensures) c.in-Some.is) r.ensures.tried c.requires.helped.stretches;
+    }
+
+pub knows_across-across-requires-clause-fit : goal.knows_across-across-requires-clause-fit
+knows_across-across-requires-clause-fit c =
+    subst (λ (m : State). 2 * m.counts.edges ≤ length m.edges) (sym c.mesh-2.ensures) (held _ _ _ _ _ c.requires.paveable).edges
 
 pub place-requires : goal.place-requires
-place-requires c = (
-  settle_ready (around (goal.at.place-requires c).Start) c.args.size c.args.grid c.args.values.now (lent (goal.at.place-requires c).Start) c.args.a c.requires.1
-      (held _ _ _ _ _ c.requires.0) c.snapshot_edge.ensures c.in-At.is _ c.try_untried-attempt.ensures.0 _ _ c.in-Quad.is _ c.requires.0,
-  c.is_known_across-across.ensures,
-)
-
-pub file_added-requires : goal.file_added-requires
-file_added-requires c =
-    let ready = settle_ready (around (goal.at.file_added-requires c).Start) c.args.size c.args.grid c.args.values.now (lent (goal.at.file_added-requires c).Start) c.args.a c.requires.1
-    (held _ _ _ _ _ c.requires.0) c.snapshot_edge.ensures c.in-At.is _ c.try_untried-attempt.ensures.0 _ _ c.in-Quad.is _ c.requires.0 in
-    let adds = placed_adds (around (goal.at.file_added-requires c).Start) _ _ _ c.args.size (lent (goal.at.file_added-requires c).Start) c.requires.0 c.args.a _ _ _ ready c.requires.2.search c.place.ensures c.in-Done.is in
-    (adds.nodes, adds.edges)
-
-pub returns-in-Full : goal.returns-in-Full
-returns-in-Full c =
-    let ready = settle_ready (around (goal.at.returns-in-Full c).Start) c.args.size c.args.grid c.args.values.now (lent (goal.at.returns-in-Full c).Start) c.args.a c.requires.1
-    (held _ _ _ _ _ c.requires.0) c.snapshot_edge.ensures c.in-At.is _ c.try_untried-attempt.ensures.0 _ _ c.in-Quad.is _ c.requires.0 in
-    let T = stretches_tried c.try_untried-attempt.result c.args.tried.now c.args.a _ _ _ c.args.k.nodes c.args.next.now
-    c.args.snapshot.now (settle_node (around (goal.at.returns-in-Full c).Start) c.args.size c.args.grid c.args.values.now (lent (goal.at.returns-in-Full c).Start) c.args.a c.requires.1
-    (held _ _ _ _ _ c.requires.0) c.snapshot_edge.ensures c.in-At.is) c.try_untried-attempt.ensures.2 c.requires.2.stretches in (
-      settle_full (around (goal.at.returns-in-Full c).Start) c.args.size c.args.grid c.args.values.now (lent (goal.at.returns-in-Full c).Start) c.args.a c.requires.1
-          (held _ _ _ _ _ c.requires.0) c.snapshot_edge.ensures c.in-At.is _ c.try_untried-attempt.ensures.0 _ _ c.in-Quad.is c.args.k c.place.ensures c.in-Full.is,
-      full_helped (around (goal.at.returns-in-Full c).Start) _ _ _ c.args.size (lent (goal.at.returns-in-Full c).Start) c.requires.0 c.args.a _ _ _ ready c.requires.2.search (field (goal.at.returns-in-Full c).Start) _ c.try_untried-attempt.ensures.1 T c.place.ensures c.in-Full.is,
+place-requires c =
+    let s = (goal.at.place-requires c).Start in
+    let a = c.args.around.now in (
+      settle_ready (around s) a.size a.grid a.values.now (lent s) c.args.a c.requires.node (held _ _ _ _ _ c.requires.paveable)
+          (edge_of _ _ c.snapshot_edge.ensures c.next.ensures) c.in-Some.is _
+          (c.try_untried-attempt.ensures.answer
+          ∙ ap (λ (m : State). try_edge (outline_in a) a.size (field_in a) (seen_of m) c.args.a c.in-Some.b) c.mesh.ensures) _ _ c.in-Quad.is _
+          c.requires.paveable,
+      c.knows_across-across.ensures ∙ ap (λ (m : State). known_across m.edges m.counts.edges c.in-Quad.c c.in-Quad.d) c.mesh-2.ensures,
     )
 
-pub shape_of-tried-in-Done : goal.shape_of-tried-in-Done
-shape_of-tried-in-Done c =
-    c.file_added.auto.tried ∙ c.try_untried-attempt.auto.tried
+pub returns-in-Err-clause-settles : goal.returns-in-Err-clause-settles
+returns-in-Err-clause-settles c =
+    let s = (goal.at.returns-in-Err-clause-settles c).Start in
+    let a = c.args.around.now in
+    settle_full (around s) a.size a.grid a.values.now (lent s) c.args.a c.requires.node (held _ _ _ _ _ c.requires.paveable)
+    (edge_of _ _ c.snapshot_edge.ensures c.next.ensures) c.in-Some.is _
+    (c.try_untried-attempt.ensures.answer ∙ ap (λ (m : State). try_edge (outline_in a) a.size (field_in a) (seen_of m) c.args.a c.in-Some.b) c.mesh.ensures)
+    _ _ c.in-Quad.is _ _ (rw (← c.in-Err.is) c.place.ensures.placed)
 
-pub returns-in-Done : goal.returns-in-Done
-returns-in-Done c =
-    let ready = settle_ready (around (goal.at.returns-in-Done c).Start) c.args.size c.args.grid c.args.values.now (lent (goal.at.returns-in-Done c).Start) c.args.a c.requires.1
-    (held _ _ _ _ _ c.requires.0) c.snapshot_edge.ensures c.in-At.is _ c.try_untried-attempt.ensures.0 _ _ c.in-Quad.is _ c.requires.0 in
-    let T = stretches_tried c.try_untried-attempt.result c.args.tried.now c.args.a _ _ _ c.args.k.nodes c.args.next.now
-    c.args.snapshot.now (settle_node (around (goal.at.returns-in-Done c).Start) c.args.size c.args.grid c.args.values.now (lent (goal.at.returns-in-Done c).Start) c.args.a c.requires.1
-    (held _ _ _ _ _ c.requires.0) c.snapshot_edge.ensures c.in-At.is) c.try_untried-attempt.ensures.2 c.requires.2.stretches in (
-      settle_done (around (goal.at.returns-in-Done c).Start) c.args.size c.args.grid c.args.values.now (lent (goal.at.returns-in-Done c).Start) c.args.a c.requires.1
-          (held _ _ _ _ _ c.requires.0) c.snapshot_edge.ensures c.in-At.is _ c.try_untried-attempt.ensures.0 _ _ c.in-Quad.is c.args.k c.place.ensures c.in-Done.is c.after_quad.ensures,
-      helped_at (sym (counts_settled c.args.k _ c.after_quad.ensures))
-          (done_helped (around (goal.at.returns-in-Done c).Start) _ _ _ c.args.size (lent (goal.at.returns-in-Done c).Start) c.requires.0 c.args.a _ _ _ ready c.requires.2.search (field (goal.at.returns-in-Done c).Start) _ c.try_untried-attempt.ensures.1 T c.place.ensures c.in-Done.is c.file_added.ensures.0 c.file_added.ensures.1),
-    )
+pub returns-in-Err-clause-helped : goal.returns-in-Err-clause-helped
+returns-in-Err-clause-helped c =
+    let s = (goal.at.returns-in-Err-clause-helped c).Start in
+    let a = c.args.around.now in
+    let r = c.try_untried-attempt in
+    let ready = settle_ready (around s) a.size a.grid a.values.now (lent s) c.args.a c.requires.node (held _ _ _ _ _ c.requires.paveable)
+    (edge_of _ _ c.snapshot_edge.ensures c.next.ensures) c.in-Some.is _
+    (c.try_untried-attempt.ensures.answer
+    ∙ ap (λ (m : State). try_edge (outline_in a) a.size (field_in a) (seen_of m) c.args.a c.in-Some.b) c.mesh.ensures) _ _ c.in-Quad.is _ c.requires.paveable in
+    let M = subst (λ (m : State). Remembers (outline_in a) a.size (field_in a) r.new.scratch.tried.now (seen_edges m.xs m.ys m.edges m.counts)) c.mesh.ensures
+    r.ensures.remembers in
+    let T = stretches_tried r.result c.args.scratch.now.tried.now c.args.a _ _ _ c.args.paving.now.counts.nodes c.args.paving.now.next.now c.args.snapshot.now
+    (settle_node (around s) a.size a.grid a.values.now (lent s) c.args.a c.requires.node (held _ _ _ _ _ c.requires.paveable)
+    (edge_of _ _ c.snapshot_edge.ensures c.next.ensures) c.in-Some.is) r.ensures.tried c.requires.helped.stretches in
+    rw (r.ensures.pools.0, r.ensures.pools.1)
+    (full_helped (around s) _ _ _ a.size (lent s) c.requires.paveable c.args.a _ _ _ ready c.requires.helped.search (field s) _ M T _
+    (paving_state c.place.new.self c.args.snapshot.now)
+    (rw (← c.in-Err.is) c.place.ensures.placed))
+
+pub file_added-requires-clause-nodes : goal.file_added-requires-clause-nodes
+file_added-requires-clause-nodes c =
+    let s = (goal.at.file_added-requires-clause-nodes c).Start in
+    let a = c.args.around.now in
+    let ready = settle_ready (around s) a.size a.grid a.values.now (lent s) c.args.a c.requires.node (held _ _ _ _ _ c.requires.paveable)
+    (edge_of _ _ c.snapshot_edge.ensures c.next.ensures) c.in-Some.is _
+    (c.try_untried-attempt.ensures.answer
+    ∙ ap (λ (m : State). try_edge (outline_in a) a.size (field_in a) (seen_of m) c.args.a c.in-Some.b) c.mesh.ensures) _ _ c.in-Quad.is _ c.requires.paveable in
+    let adds = placed_adds (around s) _ _ _ a.size (lent s) c.requires.paveable c.args.a _ _ _ ready c.requires.helped.search
+    (paving_state c.place.new.self c.args.snapshot.now) (rw (← c.in_default-place.is) c.place.ensures.placed) in
+    rw c.try_untried-attempt.ensures.pools.0
+    (subst (λ (m : State). NodesFiled c.args.scratch.now.node_pool.now a.size m.xs m.ys c.args.paving.now.counts.nodes m.counts.nodes) (sym c.mesh-3.ensures)
+    adds.nodes)
+
+pub file_added-requires-clause-edges : goal.file_added-requires-clause-edges
+file_added-requires-clause-edges c =
+    let s = (goal.at.file_added-requires-clause-edges c).Start in
+    let a = c.args.around.now in
+    let ready = settle_ready (around s) a.size a.grid a.values.now (lent s) c.args.a c.requires.node (held _ _ _ _ _ c.requires.paveable)
+    (edge_of _ _ c.snapshot_edge.ensures c.next.ensures) c.in-Some.is _
+    (c.try_untried-attempt.ensures.answer
+    ∙ ap (λ (m : State). try_edge (outline_in a) a.size (field_in a) (seen_of m) c.args.a c.in-Some.b) c.mesh.ensures) _ _ c.in-Quad.is _ c.requires.paveable in
+    let adds = placed_adds (around s) _ _ _ a.size (lent s) c.requires.paveable c.args.a _ _ _ ready c.requires.helped.search
+    (paving_state c.place.new.self c.args.snapshot.now) (rw (← c.in_default-place.is) c.place.ensures.placed) in
+    rw c.try_untried-attempt.ensures.pools.1
+    (subst
+    (λ (m : State). EdgesFiled c.args.scratch.now.edge_pool.now a.size m.xs m.ys m.edges c.args.paving.now.counts.edges m.counts.edges)
+    (sym c.mesh-3.ensures) adds.edges)
+
+pub returns-clause-settles : goal.returns-clause-settles
+returns-clause-settles c =
+    let s = (goal.at.returns-clause-settles c).Start in
+    let a = c.args.around.now in
+    settle_done (around s) a.size a.grid a.values.now (lent s) c.args.a c.requires.node (held _ _ _ _ _ c.requires.paveable)
+    (edge_of _ _ c.snapshot_edge.ensures c.next.ensures) c.in-Some.is _
+    (c.try_untried-attempt.ensures.answer
+    ∙ ap (λ (m : State). try_edge (outline_in a) a.size (field_in a) (seen_of m) c.args.a c.in-Some.b) c.mesh.ensures) _ _ c.in-Quad.is _ (paving_state c.place.new.self c.args.snapshot.now) (rw (← c.in_default-place.is) c.place.ensures.placed) c.after_quad.ensures
+
+pub returns-clause-helped : goal.returns-clause-helped
+returns-clause-helped c =
+    let s = (goal.at.returns-clause-helped c).Start in
+    let a = c.args.around.now in
+    let r = c.try_untried-attempt in
+    let ready = settle_ready (around s) a.size a.grid a.values.now (lent s) c.args.a c.requires.node (held _ _ _ _ _ c.requires.paveable)
+    (edge_of _ _ c.snapshot_edge.ensures c.next.ensures) c.in-Some.is _
+    (c.try_untried-attempt.ensures.answer
+    ∙ ap (λ (m : State). try_edge (outline_in a) a.size (field_in a) (seen_of m) c.args.a c.in-Some.b) c.mesh.ensures) _ _ c.in-Quad.is _ c.requires.paveable in
+    let M = subst (λ (m : State). Remembers (outline_in a) a.size (field_in a) r.new.scratch.tried.now (seen_edges m.xs m.ys m.edges m.counts)) c.mesh.ensures
+    r.ensures.remembers in
+    let T = stretches_tried r.result c.args.scratch.now.tried.now c.args.a _ _ _ c.args.paving.now.counts.nodes c.args.paving.now.next.now c.args.snapshot.now
+    (settle_node (around s) a.size a.grid a.values.now (lent s) c.args.a c.requires.node (held _ _ _ _ _ c.requires.paveable)
+    (edge_of _ _ c.snapshot_edge.ensures c.next.ensures) c.in-Some.is) r.ensures.tried c.requires.helped.stretches in
+    let t = paving_state c.place.new.self c.args.snapshot.now in
+    done_helped (around s) _ _ _ a.size (lent s) c.requires.paveable c.args.a _ _ _ ready c.requires.helped.search (field s) _ M T _ t
+    (rw (← c.in_default-place.is) c.place.ensures.placed)
+    (subst (λ (m : State). SearchableIn a.size m c.file_added.new.scratch.node_pool.now c.file_added.new.scratch.edge_pool.now) c.mesh-3.ensures
+    c.file_added.ensures.filed)
+    (c.file_added.ensures.tried
+    ∙ ap (λ (m : State). forgotten c.args.paving.now.counts.nodes m.counts.nodes r.new.scratch.tried.now) c.mesh-3.ensures)

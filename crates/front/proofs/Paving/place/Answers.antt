@@ -2,7 +2,7 @@
 use Rattle.std.proofs.Common.{sym, ◌∙◌, arith}
 use Rattle.front.specs.StoreLaws.{when_full, when_fits, when_stored}
 use Rattle.front.specs.State.{node_places, quad_places, edge_places}
-use Rattle.front.proofs.place.Goals as goal
+use Rattle.front.proofs.Paving.place.Goals as goal
 
 pub overflow_add-n : goal.overflow_add-n
 unfolding node_places
@@ -14,8 +14,8 @@ is_beyond-requires c =
     let S = c.requires.0.sound in
     (omega (arith, S.quads_fit), omega (arith, S.edges_fit, c.new_edges-w.ensures))
 
-pub returns-then-is_beyond : goal.returns-then-is_beyond
-returns-then-is_beyond c =
+pub returns-then-is_beyond-clause-placed : goal.returns-then-is_beyond-clause-placed
+returns-then-is_beyond-clause-placed c =
     when_full _ _ _ _ _ c.requires.0 _ _ _ _ _ _ c.added-more_c.ensures.0 c.added.ensures.0 c.id-id_c.ensures c.id-id_d.ensures
     c.requires.1 c.new_edges-w.ensures.0 (sym c.is_beyond.ensures ∙ c.if-is_beyond.true)
 
@@ -43,9 +43,9 @@ move_front-requires c =
     c.id-id_d.ensures c.requires.1 c.new_edges-w.ensures.0 (sym c.is_beyond.ensures ∙ c.if-is_beyond.false) in
     F.ids
 
-pub after_quad-requires : goal.after_quad-requires
+pub after_quad-self-requires : goal.after_quad-self-requires
 unfolding quad_places edge_places node_places
-after_quad-requires c =
+after_quad-self-requires c =
     let F = when_fits _ _ _ _ _ c.requires.0 _ _ _ _ _ _ c.added-more_c.ensures.0 c.added.ensures.0 c.id-id_c.ensures
     c.id-id_d.ensures c.requires.1 c.new_edges-w.ensures.0 (sym c.is_beyond.ensures ∙ c.if-is_beyond.false) in
     let S = c.requires.0.sound in
@@ -57,9 +57,9 @@ after_quad-requires c =
       fronts = omega (arith, S.counts, F.corners);
     }
 
-pub returns : goal.returns
-returns c =
+pub returns-clause-placed : goal.returns-clause-placed
+returns-clause-placed c =
     let F = when_fits _ _ _ _ _ c.requires.0 _ _ _ _ _ _ c.added-more_c.ensures.0 c.added.ensures.0 c.id-id_c.ensures
     c.id-id_d.ensures c.requires.1 c.new_edges-w.ensures.0 (sym c.is_beyond.ensures ∙ c.if-is_beyond.false) in
     when_stored _ _ _ _ _ _ _ _ _ F c.put_corners.ensures c.put_edges.ensures c.put_quad.ensures c.move_front.ensures
-    c.after_quad.ensures
+    c.after_quad-self.ensures

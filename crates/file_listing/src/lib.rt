@@ -2,7 +2,7 @@
 #![tactic(auto)]
 
 ghost use Rattle.std.specs.Prelude.{◌≡◌};
-ghost use Rattle.domain.specs.Outline.{outline_of};
+ghost use Rattle.domain.specs.Outline.{outline, outline_of};
 ghost use Rattle.file_listing.specs.Program.{heading_of, outline_listing, program_listing, ListingGiven};
 ghost use Rattle.file_listing.specs.Laws.{RequestHeld, held_outline};
 
@@ -89,6 +89,12 @@ fn list_outline(domain: Domain<'_>, settings: Settings, out: &mut [u8]) -> usize
     )
 }
 
+fn domain_of<'a>(outer: &'a [f64], holes: &'a [f64], lens: &'a [usize]) -> Domain<'a>
+    ensures { outline_of result ≡ outline outer.now holes.now lens.now }
+{
+    Domain { outer, holes, lens }
+}
+
 // The listing of what was read from a file.
 fn list_request(points: &[f64], lens: &[usize], head: Head, out: &mut [u8]) -> usize
     requires { RequestHeld points.now lens.now head }
@@ -98,11 +104,7 @@ fn list_request(points: &[f64], lens: &[usize], head: Head, out: &mut [u8]) -> u
     let loops = head.loops;
     let outer = 2 * head.outer;
     let all = 2 * head.points;
-    let domain = Domain {
-        outer: &points[..outer],
-        holes: &points[outer..all],
-        lens: &lens[1..loops],
-    };
+    let domain = domain_of(&points[..outer], &points[outer..all], &lens[1..loops]);
     list_outline(domain, head.settings, out)
 }
 

@@ -15,7 +15,7 @@ import crates
 # The types that cross, and their sizes in bytes, which are their alignments too: x86-64.
 SIZES = {"bool": 1, "u8": 1, "u16": 2, "u32": 4, "u64": 8, "usize": 8, "i8": 1, "i16": 2, "i32": 4, "i64": 8, "f64": 8}
 
-FUNCTION = re.compile(r'(?P<exported>#\[unsafe\(no_mangle\)\]\s*pub\s+)?\bextern\s+"C"\s+fn\s+(?P<name>\w+)\s*(?:<[^>]*>)?\s*'
+FUNCTION = re.compile(r'(?P<exported>#\[unsafe\(no_mangle\)\]\s*(?:#\[tactic\([^\]]*\)\]\s*)?pub\s+)?\bextern\s+"C"\s+fn\s+(?P<name>\w+)\s*(?:<[^>]*>)?\s*'
                       r'\((?P<parameters>[^)]*)\)(?:\s*->\s*(?P<answer>[^\s{;]+))?')
 STRUCT = re.compile(r"#\[repr\(C\)\](?:\s*#\[derive\([^)]*\)\])?(?:\s*pub\s+struct\s+(?P<name>\w+)\s*\{(?P<fields>[^}]*)\})?")
 TYPED = re.compile(r"(?:pub\s+)?(?P<name>\w+)\s*:\s*(?P<kind>.+)", re.DOTALL)
@@ -61,12 +61,12 @@ class Struct(NamedTuple):
 
 
 def comment_above(text, place):
-    """The comment whose last line stands just above the line of a place."""
+    """The comment whose last line stands just above the line of a place; a line of it that begins "Stays" is for the code's readers alone."""
     lines = text[:place].split("\n")[:-1]
     told = []
     while lines and lines[-1].lstrip().startswith("//"):
         told.append(lines.pop().strip().lstrip("/").strip())
-    return " ".join(reversed(told))
+    return " ".join(line for line in reversed(told) if not line.startswith("Stays "))
 
 
 def listed(text):

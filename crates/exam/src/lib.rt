@@ -57,7 +57,8 @@ pub enum ExamReply {
     Estimate(u32),
 }
 
-// Stays a struct: C reads it. The reply as it crosses: `refusal` is 0 where nothing is refused; what isn't asked for is 0.
+// Stays a struct: C reads it.
+// The reply as it crosses: `refusal` is 0 where nothing is refused; what isn't asked for is 0.
 #[repr(C)]
 #[derive(Clone, Copy)]
 pub struct ExamAnswer {

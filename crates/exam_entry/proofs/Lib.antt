@@ -1,0 +1,2 @@
+-- What a host gets, by what the role may and what the request does: Asked.
+pub mod Asked

@@ -1,0 +1,2 @@
+-- That a reply made of what was read is the definition's: Replies.
+pub mod Replies

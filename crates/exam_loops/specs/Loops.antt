@@ -41,6 +41,11 @@ pub record LoopReading : Type 0 where
 abbrev pub loop_reading : Result ℕ ℕ → List ℕ → LoopReading
 loop_reading r list = record { read = r; list = list }
 
+-- how many ids the loop has, unless it is refused with a number other than 0
+abbrev pub loop_read : ℕ → ℕ → Result ℕ ℕ
+loop_read zero length = Ok length
+loop_read (suc n) length = Err (suc n)
+
 -- l on the first places of the list; 14 where there are too few, and the list as it was
 unfoldable pub read_into : List ℕ → List ℕ → LoopReading
 read_into l list = cond (ltb (length list) (length l)) (loop_reading (Err 14) list) (loop_reading (Ok (length l)) (overlay l list))

@@ -2,7 +2,7 @@
 use Rattle.std.specs.Prelude.{List, ◌≡◌, ℕ, ◌≤◌, ◌<◌, Result, Ok, Err}
 use borrow.Author.Tests.{le-leb, lt-leb}
 use Rattle.lent_mesh.specs.declared.QuadIds.{QuadIds}
-use Rattle.lent_mesh.specs.Mesh.{Mesh, mesh, quad_count_of, quad_in}
+use Rattle.lent_mesh.specs.Mesh.{Mesh, quad_count_of, quad_in}
 use Rattle.thresholds.specs.Figures.{threshold_at, refusal_at}
 use Rattle.estimates.specs.Estimate.{estimate_answer}
 use Rattle.exam_loops.specs.Loops.{loop_reading, read_loop}

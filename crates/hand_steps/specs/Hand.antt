@@ -1,5 +1,5 @@
 -- Paper 11: a single placing on a named edge, and what a step answers and leaves. Definitions only.
-use Rattle.std.specs.Prelude.{cond, List, ◌≡◌, ℕ, ◌+◌, ◌-◌, leb, eqb, get_or, set, Float}
+use Rattle.std.specs.Prelude.{cond, List, Result, Ok, Err, ◌≡◌, ℕ, ◌+◌, ◌-◌, leb, eqb, get_or, set, Float}
 use Rattle.laws.specs.Loop.{for_up}
 use Rattle.domain.specs.Outline.{Outline, first_of}
 use Rattle.direction.specs.Record.{FieldRecord}
@@ -11,8 +11,7 @@ use Rattle.paving.specs.declared.Attempt.TheVariants.{Nothing, Quad}
 use Rattle.paving.specs.Attempt.{try_edge}
 use Rattle.paving.specs.Advance.{most_quads}
 use Rattle.mesh_check.specs.Check.{mesh_refusal, edge_refusal}
-use Rattle.hand_steps.specs.declared.HandStep.{HandStep}
-use Rattle.hand_steps.specs.declared.HandStep.TheVariants.{Refused, Done}
+use Rattle.hand_steps.specs.declared.HandPlacing.{HandPlacing}
 use Rattle.hand_steps.specs.declared.StepOutcome.{StepOutcome}
 use Rattle.hand_steps.specs.declared.StepOutcome.TheVariants.{Placed, None, Full, Cap}
 
@@ -47,15 +46,15 @@ unfoldable pub step_on : Outline → Float → FieldRecord → ℕ → ℕ → S
 step_on o size field a b s = cond (eqb (hand_refusal s a b) 0) (place_on o size field a b s).state s
 
 -- what a step answers: the refusal, or what became of the edge, with the counts after it
-unfoldable pub step_answer : Outline → Float → FieldRecord → ℕ → ℕ → State → HandStep
+unfoldable pub step_answer : Outline → Float → FieldRecord → ℕ → ℕ → State → Result HandPlacing ℕ
 step_answer o size field a b s =
     let h = place_on o size field a b s in
-    cond (eqb (hand_refusal s a b) 0) (Done h.outcome h.state.counts) (Refused (hand_refusal s a b))
+    cond (eqb (hand_refusal s a b) 0) (Ok (record { outcome = h.outcome; counts = h.state.counts })) (Err (hand_refusal s a b))
 
 -- the counts after an answer, of k before
-abbrev pub counts_left : Counts → HandStep → Counts
-counts_left k (Refused r) = k
-counts_left k (Done o m) = m
+abbrev pub counts_left : Counts → Result HandPlacing ℕ → Counts
+counts_left k (Err r) = k
+counts_left k (Ok h) = h.counts
 
 -- ---- the numbers of the nodes' loops (paper 9)
 
@@ -71,7 +70,7 @@ abbrev pub origins_on : Outline → Float → FieldRecord → ℕ → ℕ → St
 origins_on o size field a b s l = new_origins a s.counts.nodes (step_on o size field a b s).counts.nodes l
 
 -- what `step` ensures: of the edge a to b in s, with the numbers `before`, it answers r, and leaves t and the numbers `after`
-pub record StepTaken (o : Outline) (size : Float) (field : FieldRecord) (a b : ℕ) (s : State) (before : List ℕ) (r : HandStep) (t : State)
+pub record StepTaken (o : Outline) (size : Float) (field : FieldRecord) (a b : ℕ) (s : State) (before : List ℕ) (r : Result HandPlacing ℕ) (t : State)
     (after : List ℕ) : Type 0 where
   pub answer : r ≡ step_answer o size field a b s
   pub state : t ≡ step_on o size field a b s

@@ -1,5 +1,5 @@
 -- What the code of a step answers, case by case. Assumes nothing.
-use Rattle.std.specs.Prelude.{Bool, true, false, List, [], ◌≡◌, ◌≢◌, get_or, set, Float}
+use Rattle.std.specs.Prelude.{Bool, true, false, List, Result, Ok, Err, [], ◌≡◌, ◌≢◌, get_or, set, Float}
 use Rattle.std.proofs.Math.Path.{refl, ap}
 use Rattle.std.proofs.Common.{sym, ◌∙◌, arith, length-set}
 use Prim.Native.Nat.{ℕ, zero, suc, ◌+◌, ◌-◌, ◌<◌, ◌≤◌}
@@ -22,7 +22,6 @@ use Rattle.attempts.specs.SeenLaws.{try_seen}
 use Rattle.mesh_check.specs.Check.{all_off, lent_state, mesh_refusal, links_of, edge_refusal}
 use Rattle.mesh_check.specs.CheckLaws.{off_same}
 use Rattle.mesh_check.specs.Passed.{room, mesh_passes}
-use Rattle.hand_steps.specs.declared.HandStep.TheVariants.{Refused, Done}
 use Rattle.hand_steps.specs.declared.StepOutcome.{StepOutcome}
 use Rattle.hand_steps.specs.declared.StepOutcome.TheVariants.{Placed, Full, Cap}
 use Rattle.hand_steps.specs.Hand.{hand_refusal, Handled, handled, settled_on, place_on, step_on, step_answer, origin_turn, new_origins, StepTaken}
@@ -115,7 +114,7 @@ module _ (o : Outline) (size : Float) (field : FieldRecord) (a b : ℕ) (xs ys :
   s = lent_state xs ys next prev origins quads edges k
 
   module _ {r : ℕ} (e : r ≡ hand_refusal s a b) where
-    pub step_refused : r ≢ 0 → StepTaken o size field a b s origins (Refused r) s origins
+    pub step_refused : r ≢ 0 → StepTaken o size field a b s origins (Err r) s origins
     unfolding step_answer step_on
     step_refused h =
         record {
@@ -127,7 +126,7 @@ module _ (o : Outline) (size : Float) (field : FieldRecord) (a b : ℕ) (xs ys :
     pub step_done : r ≡ 0 → (xs' ys' : List Float) (next' prev' quads' edges' : List ℕ) (m : Counts) (w : StepOutcome)
         → handled (state_of xs' ys' next' prev' (all_off origins) quads' edges' m) w ≡ place_on o size field a b s → (after : List ℕ)
         → after ≡ new_origins a k.nodes m.nodes origins
-        → StepTaken o size field a b s origins (Done w m) (lent_state xs' ys' next' prev' after quads' edges' m) after
+        → StepTaken o size field a b s origins (Ok (record { outcome = w; counts = m })) (lent_state xs' ys' next' prev' after quads' edges' m) after
     unfolding step_answer step_on
     step_done z xs' ys' next' prev' quads' edges' m w p after n =
         let long : length after ≡ length origins = ap length n ∙ origins_length a k.nodes m.nodes origins in

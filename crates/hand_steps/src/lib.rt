@@ -12,9 +12,9 @@ pub enum StepOutcome {
     Cap,
 }
 
-// What a step answers: the refusal, or what became of the edge, with the counts after it.
+// What became of the edge, with the counts after it.
 #[derive(Clone, Copy)]
-pub enum HandStep {
-    Refused(u32),
-    Done(StepOutcome, Counts),
+pub struct HandPlacing {
+    pub outcome: StepOutcome,
+    pub counts: Counts,
 }

@@ -1,5 +1,5 @@
 -- Paper 11: the front after a quad, read from the front before it, and what a preview answers and writes. Definitions only.
-use Rattle.std.specs.Prelude.{cond, List, ◌≡◌, ℕ, ◌+◌, ◌*◌, ◌/◌, leb, ltb, eqb, length, set, Float}
+use Rattle.std.specs.Prelude.{cond, List, Result, Ok, Err, ◌≡◌, ℕ, ◌+◌, ◌*◌, ◌/◌, leb, ltb, eqb, length, set, Float}
 use Rattle.laws.specs.Loop.{for_up}
 use Rattle.topology.specs.Links.{off, update}
 use Rattle.domain.specs.Outline.{Outline, first_of}
@@ -18,8 +18,6 @@ use Rattle.hand_steps.specs.declared.StepOutcome.TheVariants.{Placed, None, Full
 use Rattle.hand_steps.specs.Hand.{place_on}
 use Rattle.previews.specs.declared.Foreseen.{Foreseen}
 use Rattle.previews.specs.declared.View.{View}
-use Rattle.previews.specs.declared.Sight.{Sight}
-use Rattle.previews.specs.declared.Sight.TheVariants.{Refused, Shown}
 
 -- ---- the list of front edges, by their first node
 
@@ -65,10 +63,10 @@ view_on o size field a b s =
     record { outcome = h.outcome; quad = (foreseen_on o size field a b s).quad; front = h.state.counts.front }
 
 -- what a preview answers; an edge takes two numbers of the list
-unfoldable pub preview_answer : Outline → Float → FieldRecord → ℕ → ℕ → State → List ℕ → Sight
+unfoldable pub preview_answer : Outline → Float → FieldRecord → ℕ → ℕ → State → List ℕ → Result View ℕ
 preview_answer o size field a b s list =
     let refusal = preview_refusal s (length list / 2) a b in
-    cond (eqb refusal 0) (Shown (view_on o size field a b s)) (Refused refusal)
+    cond (eqb refusal 0) (Ok (view_on o size field a b s)) (Err refusal)
 
 -- the list after it: the front edges that the placing leaves, u then v, by their first node; places past them, and a refused preview's, keep their contents
 unfoldable pub preview_list : Outline → Float → FieldRecord → ℕ → ℕ → State → List ℕ → List ℕ
@@ -77,7 +75,7 @@ preview_list o size field a b s list =
     cond (eqb (preview_refusal s (length list / 2) a b) 0) (front_listed t.counts.nodes (next_of t) list).list list
 
 -- what `preview` ensures: of the edge a to b in s it answers r, and leaves the list as `after`
-pub record PreviewTaken (o : Outline) (size : Float) (field : FieldRecord) (a b : ℕ) (s : State) (before : List ℕ) (r : Sight) (after : List ℕ)
+pub record PreviewTaken (o : Outline) (size : Float) (field : FieldRecord) (a b : ℕ) (s : State) (before : List ℕ) (r : Result View ℕ) (after : List ℕ)
     : Type 0 where
   pub answer : r ≡ preview_answer o size field a b s before
   pub list : after ≡ preview_list o size field a b s before

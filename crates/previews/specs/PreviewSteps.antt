@@ -1,5 +1,5 @@
 -- What the code of a preview has at hand makes the preview: the front that it lists is that of the mesh after the placing. Assumes nothing.
-use Rattle.std.specs.Prelude.{Bool, true, false, cond, List, [], ◌≢◌, leb, ltb, eqb, length, set, Float}
+use Rattle.std.specs.Prelude.{Bool, true, false, cond, List, Result, Ok, Err, [], ◌≢◌, leb, ltb, eqb, length, set, Float}
 use Rattle.std.proofs.Math.Path.{◌≡◌, refl}
 use Rattle.std.proofs.Common.{sym, ap, ◌∙◌, subst, arith}
 use Prim.Native.Nat.{ℕ, zero, suc, ◌+◌, ◌*◌, ◌/◌, ◌<◌, ◌≤◌}
@@ -30,7 +30,6 @@ use Rattle.hand_steps.specs.Lent.{OnFront}
 use Rattle.hand_steps.specs.UseLaws.{front_room, quad_fits_lem}
 use Rattle.previews.specs.declared.Foreseen.{Foreseen}
 use Rattle.previews.specs.declared.View.{View}
-use Rattle.previews.specs.declared.Sight.TheVariants.{Refused, Shown}
 use Rattle.previews.specs.Preview.{EdgeList, edge_list, edge_turn, front_listed, foresight, foreseen, foreseen_on, preview_refusal, view_on}
 use Rattle.previews.specs.Preview.{preview_answer, preview_list, PreviewTaken, is_on, shown_links, shown_nodes}
 use Rattle.previews.specs.FrontAfter.{Shows, placed_shows}
@@ -167,16 +166,16 @@ module _ (xs ys : List Float) (next prev origins quads edges : List ℕ) (k : Co
   module _ (before : List ℕ) {r : ℕ} (e : r ≡ preview_refusal s (length before / 2) a b) where
     pub preview_shown : r ≡ 0 → (w : Foreseen) → w ≡ foreseen_on o size field a b s → (left : List ℕ) (n : ℕ)
         → edge_list left n ≡ front_listed (shown_nodes w.quad k.nodes) (shown_links w.quad a b k.nodes (link_of k.nodes next)) before
-        → PreviewTaken o size field a b s before (Shown (record { outcome = w.outcome; quad = w.quad; front = n })) left
+        → PreviewTaken o size field a b s before (Ok (record { outcome = w.outcome; quad = w.quad; front = n })) left
     unfolding preview_answer preview_list
     preview_shown z w q left n l =
         let F = front_written w q before left n l in
-        record { answer = rw (← e, eq-eqb r 0 z) (ap Shown F.0); list = rw (← e, eq-eqb r 0 z) F.1 }
+        record { answer = rw (← e, eq-eqb r 0 z) (ap Ok F.0); list = rw (← e, eq-eqb r 0 z) F.1 }
 
 -- ---- the refusal
 
 pub preview_refused : (o : Outline) (size : Float) (field : FieldRecord) (a b : ℕ) (s : State) (before : List ℕ) {r : ℕ}
-    → r ≡ preview_refusal s (length before / 2) a b → r ≢ 0 → PreviewTaken o size field a b s before (Refused r) before
+    → r ≡ preview_refusal s (length before / 2) a b → r ≢ 0 → PreviewTaken o size field a b s before (Err r) before
 unfolding preview_answer preview_list
 preview_refused o size field a b s before {r} e h = record { answer = rw (← e, ne_eqb r 0 h); list = rw (← e, ne_eqb r 0 h) }
 

@@ -5,7 +5,7 @@ ghost use Rattle.std.specs.Prelude.{◌≡◌, List, cond, ℕ, ◌*◌, ◌/◌
 ghost use Rattle.laws.specs.Loop.{sum_up};
 ghost use Rattle.topology.specs.Links.{off, link_of};
 ghost use Rattle.domain.specs.Outline.{outline_of};
-ghost use Rattle.domain.specs.Refusals.{refused};
+ghost use Rattle.domain.specs.Refusals.{refused, numbered};
 ghost use Rattle.direction.specs.Record.{field_record};
 ghost use Rattle.mesh_check.specs.Check.{lent_state};
 ghost use Rattle.mesh_check.specs.Passed.{MeshRoom};
@@ -32,13 +32,6 @@ pub struct View {
     pub outcome: StepOutcome,
     pub quad: Attempt,
     pub front: usize,
-}
-
-// What a preview answers: the refusal, or the preview.
-#[derive(Clone, Copy)]
-pub enum Sight {
-    Refused(u32),
-    Shown(View),
 }
 
 // ---- the front after a quad, from the links before it
@@ -309,19 +302,17 @@ pub fn preview(
     a: u32,
     b: u32,
     list: &mut [u32],
-) -> Sight
+) -> Result<View, Refusal>
     requires { Around (outline_of domain) grid values.now }
     ensures { (marks : List ℕ) → PreviewTaken (outline_of domain.entry) size
         (field_record grid values.now marks) a b
         (lent_state xs.now ys.now next.now prev.now origins.now quads.now
-        edges.now k) list.old result list.new }
+        edges.now k) list.old (numbered result) list.new }
 {
     let places = list.len() / 2;
-    if let Err(refusal) = check_preview(
+    check_preview(
         xs, ys, next, prev, origins, quads, edges, k, places, a, b,
-    ) {
-        return Sight::Refused(u32::from(refusal));
-    }
+    )?;
     let foreseen = foresee_on(
         domain, size, grid, values, xs, ys, next, prev, origins, quads, edges, k, a, b,
     );
@@ -329,7 +320,7 @@ pub fn preview(
     let n = k.nodes;
     let m = nodes_shown(quad, n);
     let front = list_front(quad, n, next, a, b, m, list);
-    Sight::Shown(View {
+    Ok(View {
         outcome,
         quad,
         front,

@@ -1,5 +1,5 @@
 -- The answers of hand stepping as they cross to the host: the numbers of each case. Definitions only.
-use Rattle.std.specs.Prelude.{ℕ, ◌+◌, Float}
+use Rattle.std.specs.Prelude.{ℕ, ◌+◌, Result, Ok, Err, Float}
 use Rattle.numbers.specs.Float.{zero_f}
 use Rattle.front.specs.declared.Counts.{Counts}
 use Rattle.front.specs.declared.Corner.{Corner}
@@ -7,8 +7,7 @@ use Rattle.front.specs.declared.Corner.TheVariants.{Reused, Fresh}
 use Rattle.front.specs.Place.{added, corner_id}
 use Rattle.paving.specs.declared.Attempt.{Attempt}
 use Rattle.paving.specs.declared.Attempt.TheVariants.{Nothing, Quad}
-use Rattle.hand_steps.specs.declared.HandStep.{HandStep}
-use Rattle.hand_steps.specs.declared.HandStep.TheVariants.{Refused, Done}
+use Rattle.hand_steps.specs.declared.HandPlacing.{HandPlacing}
 use Rattle.hand_steps.specs.declared.StepOutcome.{StepOutcome}
 use Rattle.hand_steps.specs.declared.StepOutcome.TheVariants.{Placed, None, Full, Cap}
 use Rattle.previews.specs.declared.View.{View}
@@ -29,9 +28,9 @@ refused_step n = record { refusal = n; outcome = 0; nodes = 0; quads = 0; edges 
 abbrev pub done_step : StepOutcome → Counts → StepAnswer
 done_step w k = record { refusal = 0; outcome = outcome_number w; nodes = k.nodes; quads = k.quads; edges = k.edges; front = k.front }
 
-abbrev pub step_numbers : HandStep → StepAnswer
-step_numbers (Refused n) = refused_step n
-step_numbers (Done w k) = done_step w k
+abbrev pub step_numbers : Result HandPlacing ℕ → StepAnswer
+step_numbers (Err n) = refused_step n
+step_numbers (Ok h) = done_step h.outcome h.counts
 
 -- ---- a preview
 

@@ -2,10 +2,12 @@
 #![tactic(auto)]
 
 ghost use Rattle.std.specs.Prelude.{◌≡◌, ◌≤◌};
+ghost use Rattle.domain.specs.Refusals.{refusal_number, numbered};
 ghost use Rattle.step_answers.specs.Answers.{outcome_number, refused_step, step_numbers, refused_preview, fresh_x, fresh_y, view_numbers};
 
+use domain::Refusal;
 use front::Corner;
-use hand_steps::{HandStep, StepOutcome};
+use hand_steps::{HandPlacing, StepOutcome};
 use paving::Attempt;
 use previews::View;
 
@@ -53,36 +55,36 @@ fn outcome_number(w: StepOutcome) -> u32
     }
 }
 
-pub fn refused_step(number: u32) -> StepAnswer
-    ensures { result ≡ refused_step number }
+pub fn refused_step(refusal: Refusal) -> StepAnswer
+    ensures { result ≡ refused_step (refusal_number refusal) }
 {
     StepAnswer {
-        refusal: number,
+        refusal: u32::from(refusal),
         ..StepAnswer::default()
     }
 }
 
-pub fn step_numbers(step: HandStep) -> StepAnswer
-    ensures { result ≡ step_numbers step }
+pub fn step_numbers(step: Result<HandPlacing, Refusal>) -> StepAnswer
+    ensures { result ≡ step_numbers (numbered step) }
 {
     match step {
-        HandStep::Refused(number) => refused_step(number),
-        HandStep::Done(w, k) => StepAnswer {
+        Err(refusal) => refused_step(refusal),
+        Ok(h) => StepAnswer {
             refusal: 0,
-            outcome: outcome_number(w),
-            nodes: k.nodes,
-            quads: k.quads,
-            edges: k.edges,
-            front: k.front,
+            outcome: outcome_number(h.outcome),
+            nodes: h.counts.nodes,
+            quads: h.counts.quads,
+            edges: h.counts.edges,
+            front: h.counts.front,
         },
     }
 }
 
-pub fn refused_preview(number: u32) -> PreviewAnswer
-    ensures { result ≡ refused_preview number }
+pub fn refused_preview(refusal: Refusal) -> PreviewAnswer
+    ensures { result ≡ refused_preview (refusal_number refusal) }
 {
     PreviewAnswer {
-        refusal: number,
+        refusal: u32::from(refusal),
         ..PreviewAnswer::default()
     }
 }

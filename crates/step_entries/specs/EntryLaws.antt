@@ -1,5 +1,5 @@
 -- What the calls of an entry give makes what it promises. Assumes nothing.
-use Rattle.std.specs.Prelude.{Bool, List, ◌≢◌, length, Float}
+use Rattle.std.specs.Prelude.{Bool, List, Result, Ok, Err, ◌≢◌, length, Float}
 use Rattle.std.proofs.Math.Bool.{true, false, cond}
 use Rattle.std.proofs.Math.Path.{◌≡◌, refl, ap}
 use Rattle.std.proofs.Common.{sym, ◌∙◌, arith}
@@ -16,14 +16,11 @@ use Rattle.crossfield.specs.Field.{drawn_refusal}
 use Rattle.front.specs.declared.Counts.{Counts}
 use Rattle.front.specs.State.{State, counted, next_of}
 use Rattle.mesh_check.specs.Check.{lent_state}
-use Rattle.hand_steps.specs.declared.HandStep.{HandStep}
-use Rattle.hand_steps.specs.declared.HandStep.TheVariants.{Refused, Done}
+use Rattle.hand_steps.specs.declared.HandPlacing.{HandPlacing}
 use Rattle.hand_steps.specs.Hand.{hand_refusal, Handled, place_on, step_on, step_answer, counts_left, new_origins, StepTaken}
 use Rattle.hand_steps.specs.Lent.{Around, OnFront}
 use Rattle.hand_steps.specs.UseLaws.{on_front_lem, front_room}
 use Rattle.hand_steps.specs.StepLaws.{origins_same}
-use Rattle.previews.specs.declared.Sight.{Sight}
-use Rattle.previews.specs.declared.Sight.TheVariants.{Refused as RefusedSight, Shown}
 use Rattle.previews.specs.declared.View.{View}
 use Rattle.previews.specs.Preview.{preview_refusal, view_on, preview_answer, preview_list, front_listed, PreviewTaken}
 use Rattle.previews.specs.PreviewSteps.{preview_passes}
@@ -74,7 +71,7 @@ module _ (o : Outline) (size : Float) (field : FieldRecord) (a b : ℕ) (s : Sta
       first (suc r) q h = refl
 
   -- where nothing of it is refused, it is the step of a sequence
-  pub host_stepped : r ≡ 0 → (w : HandStep) (t : State) (after : List ℕ) → StepTaken o size field a b s before w t after
+  pub host_stepped : r ≡ 0 → (w : Result HandPlacing ℕ) (t : State) (after : List ℕ) → StepTaken o size field a b s before w t after
       → HostSteps o size field a b s before (step_numbers w) t after
   unfolding step_reply step_left step_refusal step_answer step_on
   host_stepped z w t after T =
@@ -87,13 +84,13 @@ module _ (o : Outline) (size : Float) (field : FieldRecord) (a b : ℕ) (s : Sta
       h : Handled
       h = place_on o size field a b s
 
-      by : (done : Bool) → step_numbers (cond done (Done h.outcome h.state.counts) (Refused (hand_refusal s a b)))
+      by : (done : Bool) → step_numbers (cond done (Ok (record { outcome = h.outcome; counts = h.state.counts })) (Err (hand_refusal s a b)))
           ≡ cond done (done_step h.outcome h.state.counts) (refused_step (hand_refusal s a b))
       by true = refl
       by false = refl
 
 -- the counts that a host reads off the answer
-pub counts_read : (k : Counts) (o : Outline) (size : Float) (field : FieldRecord) (a b : ℕ) (s : State) (w : HandStep)
+pub counts_read : (k : Counts) (o : Outline) (size : Float) (field : FieldRecord) (a b : ℕ) (s : State) (w : Result HandPlacing ℕ)
     → w ≡ step_answer o size field a b s → counts_left k w ≡ counts_given k (step_numbers w)
 unfolding step_answer
 counts_read k o size field a b s w e = by (eqb (hand_refusal s a b) 0) refl w e
@@ -101,8 +98,8 @@ counts_read k o size field a b s w e = by (eqb (hand_refusal s a b) 0) refl w e
     h : Handled
     h = place_on o size field a b s
 
-    by : (done : Bool) → eqb (hand_refusal s a b) 0 ≡ done → (w : HandStep)
-        → w ≡ cond done (Done h.outcome h.state.counts) (Refused (hand_refusal s a b)) → counts_left k w ≡ counts_given k (step_numbers w)
+    by : (done : Bool) → eqb (hand_refusal s a b) 0 ≡ done → (w : Result HandPlacing ℕ)
+        → w ≡ cond done (Ok (record { outcome = h.outcome; counts = h.state.counts })) (Err (hand_refusal s a b)) → counts_left k w ≡ counts_given k (step_numbers w)
     by true z w e = rw e refl
     by false z w e = rw (e, z) refl
 
@@ -116,7 +113,7 @@ module _ (o : Outline) (size : Float) (field : FieldRecord) (a b : ℕ) (xs ys :
       → HostSteps o size field a b lent origins r (lent_state xs ys next prev origins quads edges (counts_given k r)) origins
   step_lists_refused h q = rw (q, ne_eqb n 0 h) (host_refused o size field a b lent origins e h)
 
-  pub lists_stepped : n ≡ 0 → (w : HandStep) (xs' ys' : List Float) (next' prev' after quads' edges' : List ℕ)
+  pub lists_stepped : n ≡ 0 → (w : Result HandPlacing ℕ) (xs' ys' : List Float) (next' prev' after quads' edges' : List ℕ)
       → StepTaken o size field a b lent origins w (lent_state xs' ys' next' prev' after quads' edges' (counts_left k w)) after → r ≡ step_numbers w
       → HostSteps o size field a b lent origins r (lent_state xs' ys' next' prev' after quads' edges' (counts_given k r)) after
   lists_stepped z w xs' ys' next' prev' after quads' edges' T q =
@@ -136,12 +133,12 @@ module _ (o : Outline) (size : Float) (field : FieldRecord) (a b : ℕ) (s : Sta
       first zero q h = absurd (h refl)
       first (suc r) q h = refl
 
-  module _ (z : r ≡ 0) (w : Sight) (after : List ℕ) (T : PreviewTaken o size field a b s before w after) where
+  module _ (z : r ≡ 0) (w : Result View ℕ) (after : List ℕ) (T : PreviewTaken o size field a b s before w after) where
     pub list_is : after ≡ preview_left o size field a b s before
     unfolding preview_left sight_refusal preview_list
     list_is = rw (sym e ∙ z) T.list
 
-    pub sight_mesh : {n : ℕ} → w ≡ RefusedSight n → HostPreviews o size field a b s before (refused_preview n) after
+    pub sight_mesh : {n : ℕ} → w ≡ Err n → HostPreviews o size field a b s before (refused_preview n) after
     unfolding preview_reply sight_refusal preview_answer
     sight_mesh {n} q =
         let m = preview_refusal s (length before / 2) a b in
@@ -150,26 +147,26 @@ module _ (o : Outline) (size : Float) (field : FieldRecord) (a b : ℕ) (s : Sta
         h : Handled
         h = place_on o size field a b s
 
-        by : (m : ℕ) (passes : Bool) → RefusedSight n ≡ cond passes (Shown (view_on o size field a b s)) (RefusedSight m)
+        by : (m : ℕ) (passes : Bool) → Err n ≡ cond passes (Ok (view_on o size field a b s)) (Err m)
             → refused_preview n ≡ cond passes (copy_numbers s h.outcome h.state) (refused_preview m)
         by m true e = absurd (let z : ◌≡◌ {A = ℕ} 0 1 = cc in omega arith)
         by m false e = let p : n ≡ m = cc in ap refused_preview p
 
     -- what is shown isn't refused
-    pub shown_passes : {v : View} → w ≡ Shown v → (preview_refusal s (length before / 2) a b ≡ 0) × (v ≡ view_on o size field a b s)
+    pub shown_passes : {v : View} → w ≡ Ok v → (preview_refusal s (length before / 2) a b ≡ 0) × (v ≡ view_on o size field a b s)
     unfolding preview_answer
     shown_passes {v} q =
         let m = preview_refusal s (length before / 2) a b in by m (eqb m 0) refl (sym q ∙ T.answer)
       where
-        by : (m : ℕ) (passes : Bool) → eqb m 0 ≡ passes → Shown v ≡ cond passes (Shown (view_on o size field a b s)) (RefusedSight m)
+        by : (m : ℕ) (passes : Bool) → eqb m 0 ≡ passes → Ok v ≡ cond passes (Ok (view_on o size field a b s)) (Err m)
             → (m ≡ 0) × (v ≡ view_on o size field a b s)
         by m true z e = (eqb-true m 0 z, cc)
         by m false z e = absurd (let z : ◌≡◌ {A = ℕ} 0 1 = cc in omega arith)
 
 -- the same over the lists as they are lent
 module _ (o : Outline) (size : Float) (field : FieldRecord) (a b : ℕ) (xs ys : List Float) (next prev origins quads edges : List ℕ) (k : Counts)
-    (before : List ℕ) {n : ℕ} (e : n ≡ given_refusal o size field) (z : n ≡ 0) (w : Sight) (after : List ℕ)
-    (T : PreviewTaken o size field a b (lent_state xs ys next prev origins quads edges k) before w after) {v : View} (q : w ≡ Shown v) where
+    (before : List ℕ) {n : ℕ} (e : n ≡ given_refusal o size field) (z : n ≡ 0) (w : Result View ℕ) (after : List ℕ)
+    (T : PreviewTaken o size field a b (lent_state xs ys next prev origins quads edges k) before w after) {v : View} (q : w ≡ Ok v) where
   abbrev seen : State
   seen = lent_state xs ys next prev origins quads edges k
 

@@ -14,7 +14,6 @@ ghost use Rattle.step_entries.specs.Entries.{grid_given, given_refusal, counts_g
 use direction::Grid;
 use domain::{Domain, Refusal, Settings};
 use front::Counts;
-use previews::Sight;
 use step_answers::{PreviewAnswer, StepAnswer};
 
 // ---- refusals 1 to 7 and 11
@@ -87,7 +86,7 @@ pub extern "C" fn sitjorbe_step<'a>(
         ny,
     };
     if let Err(refusal) = check_given(domain, size, grid, values, marks) {
-        return step_answers::refused_step(u32::from(refusal));
+        return step_answers::refused_step(refusal);
     }
     let k = Counts {
         nodes: node_count,
@@ -145,7 +144,7 @@ pub extern "C" fn sitjorbe_preview<'a>(
         ny,
     };
     if let Err(refusal) = check_given(domain, size, grid, values, marks) {
-        return step_answers::refused_preview(u32::from(refusal));
+        return step_answers::refused_preview(refusal);
     }
     let k = Counts {
         nodes: node_count,
@@ -157,7 +156,7 @@ pub extern "C" fn sitjorbe_preview<'a>(
         domain, size, grid, values, xs, ys, next, prev, origins, quads, edges, k, a, b, list,
     );
     match sight {
-        Sight::Refused(refusal) => step_answers::refused_preview(refusal),
-        Sight::Shown(v) => step_answers::view_numbers(v, node_count, a, b),
+        Err(refusal) => step_answers::refused_preview(refusal),
+        Ok(v) => step_answers::view_numbers(v, node_count, a, b),
     }
 }

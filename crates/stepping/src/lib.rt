@@ -3,7 +3,7 @@
 
 ghost use Rattle.std.specs.Prelude.{◌≡◌, List, [], ℕ, ◌<◌, ◌≤◌, leb, length};
 ghost use Rattle.domain.specs.Outline.{outline_of};
-ghost use Rattle.domain.specs.Refusals.{refused};
+ghost use Rattle.domain.specs.Refusals.{refused, numbered};
 ghost use Rattle.direction.specs.Record.{field_record};
 ghost use Rattle.front.specs.State.{state_of};
 ghost use Rattle.paving.specs.Attempt.{try_edge};
@@ -16,15 +16,8 @@ ghost use Rattle.hand_steps.specs.Lent.{Around, OnFront, Settleable};
 use direction::Grid;
 use domain::{Domain, Refusal, Settings};
 use front::Counts;
-use hand_steps::{HandStep, StepOutcome};
+use hand_steps::{HandPlacing, StepOutcome};
 use paving::Attempt;
-
-// A single placing: what it answers, and the counts after it.
-#[derive(Clone, Copy)]
-pub struct HandPlacing {
-    pub outcome: StepOutcome,
-    pub counts: Counts,
-}
 
 // Refusal 23, then 24: on every input.
 pub fn check_hand(
@@ -182,23 +175,19 @@ pub fn step(
     k: Counts,
     a: u32,
     b: u32,
-) -> HandStep
+) -> Result<HandPlacing, Refusal>
     requires { Around (outline_of domain) grid values.now }
     ensures { (marks : List ℕ) → StepTaken (outline_of domain.entry) size
         (field_record grid values.now marks) a b
         (lent_state xs.old ys.old next.old prev.old origins.old quads.old
-        edges.old k) origins.old result
+        edges.old k) origins.old (numbered result)
         (lent_state xs.new ys.new next.new prev.new origins.new quads.new
-        edges.new (counts_left k result)) origins.new }
+        edges.new (counts_left k (numbered result))) origins.new }
 {
-    if let Err(refusal) = check_hand(xs, ys, next, prev, origins, quads, edges, k, a, b) {
-        return HandStep::Refused(u32::from(refusal));
-    }
+    check_hand(xs, ys, next, prev, origins, quads, edges, k, a, b)?;
     let h = place_on(
         domain, size, grid, values, xs, ys, next, prev, origins, quads, edges, k, a, b,
     );
-    let outcome = h.outcome;
-    let m = h.counts;
-    number_new(origins, a, k.nodes, m.nodes);
-    HandStep::Done(outcome, m)
+    number_new(origins, a, k.nodes, h.counts.nodes);
+    Ok(h)
 }

@@ -1,7 +1,7 @@
 -- `step_entries::sitjorbe_preview` meets its contract.
 use mathlib.Core.Path.{sym, ap, ◌∙◌}
 use Rattle.domain.specs.Outline.{Outline, outline}
-use Rattle.domain.specs.Refusals.{refused}
+use Rattle.domain.specs.Refusals.{refused, numbered}
 use Rattle.domain.proofs.Refused.{refusal_some}
 use Rattle.direction.specs.Record.{FieldRecord, field_record}
 use Rattle.front.specs.declared.Counts.{Counts}
@@ -31,8 +31,8 @@ lent s =
 pub returns-in-Err : goal.returns-in-Err
 returns-in-Err c =
     rw c.refused_preview.ensures
-    (sight_refused (around (goal.at.returns-in-Err c).Start) c.args.size (field (goal.at.returns-in-Err c).Start) c.args.a c.args.b (lent (goal.at.returns-in-Err c).Start) _ (c.from.ensures ∙ (sym (ap refused c.in-Err.is) ∙ c.check_given.ensures))
-    (λ z. refusal_some _ (sym c.from.ensures ∙ z)))
+    (sight_refused (around (goal.at.returns-in-Err c).Start) c.args.size (field (goal.at.returns-in-Err c).Start) c.args.a c.args.b (lent (goal.at.returns-in-Err c).Start) _ (sym (ap refused c.in-Err.is) ∙ c.check_given.ensures)
+    (refusal_some _))
 
 pub preview-sight-requires : goal.preview-sight-requires
 preview-sight-requires c =
@@ -47,18 +47,18 @@ pub view_numbers-requires : goal.view_numbers-requires
 view_numbers-requires c =
     shown_few (around (goal.at.view_numbers-requires c).Start) c.args.size (field (goal.at.view_numbers-requires c).Start) c.args.a c.args.b _ _ _ _ c.args.origins.now _ _ (counts (goal.at.view_numbers-requires c).Start) _
     c.check_given.ensures
-    (ap refused c.in_default.is) c.preview-sight.result _ (c.preview-sight.ensures c.args.marks.now) c.in-Shown.is
+    (ap refused c.in_default.is) (numbered c.preview-sight.result) _ (c.preview-sight.ensures c.args.marks.now) (ap numbered c.in-Ok.is)
 
-pub returns-in-Refused : goal.returns-in-Refused
-returns-in-Refused c =
-    rw c.refused_preview-in-Refused.ensures
-    (sight_mesh (around (goal.at.returns-in-Refused c).Start) c.args.size (field (goal.at.returns-in-Refused c).Start) c.args.a c.args.b (lent (goal.at.returns-in-Refused c).Start) _ c.check_given.ensures
-    (ap refused c.in_default.is) c.preview-sight.result _
-    (c.preview-sight.ensures c.args.marks.now) c.in-Refused.is)
+pub returns-in-Err-sight : goal.returns-in-Err-sight
+returns-in-Err-sight c =
+    rw c.refused_preview-in-Err-sight.ensures
+    (sight_mesh (around (goal.at.returns-in-Err-sight c).Start) c.args.size (field (goal.at.returns-in-Err-sight c).Start) c.args.a c.args.b (lent (goal.at.returns-in-Err-sight c).Start) _ c.check_given.ensures
+    (ap refused c.in_default.is) (numbered c.preview-sight.result) _
+    (c.preview-sight.ensures c.args.marks.now) (ap numbered c.in-Err-sight.is))
 
-pub returns-in-Shown : goal.returns-in-Shown
-returns-in-Shown c =
-    sight_shown (around (goal.at.returns-in-Shown c).Start) c.args.size (field (goal.at.returns-in-Shown c).Start) c.args.a c.args.b _ _ _ _ c.args.origins.now _ _ (counts (goal.at.returns-in-Shown c).Start) _
+pub returns-in-Ok : goal.returns-in-Ok
+returns-in-Ok c =
+    sight_shown (around (goal.at.returns-in-Ok c).Start) c.args.size (field (goal.at.returns-in-Ok c).Start) c.args.a c.args.b _ _ _ _ c.args.origins.now _ _ (counts (goal.at.returns-in-Ok c).Start) _
     c.check_given.ensures
-    (ap refused c.in_default.is) c.preview-sight.result _ (c.preview-sight.ensures c.args.marks.now) c.in-Shown.is _
+    (ap refused c.in_default.is) (numbered c.preview-sight.result) _ (c.preview-sight.ensures c.args.marks.now) (ap numbered c.in-Ok.is) _
     c.view_numbers.ensures

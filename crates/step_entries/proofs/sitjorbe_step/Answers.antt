@@ -1,7 +1,7 @@
 -- `step_entries::sitjorbe_step` meets its contract.
 use mathlib.Core.Path.{sym, ap, ◌∙◌}
 use Rattle.domain.specs.Outline.{Outline, outline}
-use Rattle.domain.specs.Refusals.{refused}
+use Rattle.domain.specs.Refusals.{refused, numbered}
 use Rattle.domain.proofs.Refused.{refusal_some}
 use Rattle.direction.specs.Record.{FieldRecord, field_record}
 use Rattle.front.specs.declared.Counts.{Counts}
@@ -24,8 +24,7 @@ counts s = counted s.args.node_count s.args.quad_count s.args.edge_count s.args.
 
 pub returns-in-Err : goal.returns-in-Err
 returns-in-Err c =
-    step_lists_refused (around (goal.at.returns-in-Err c).Start) c.args.size (field (goal.at.returns-in-Err c).Start) c.args.a c.args.b _ _ _ _ _ _ _ (counts (goal.at.returns-in-Err c).Start) (c.from.ensures ∙ (sym (ap refused c.in-Err.is) ∙ c.check_given.ensures)) _
-    (λ z. refusal_some _ (sym c.from.ensures ∙ z))
+    step_lists_refused (around (goal.at.returns-in-Err c).Start) c.args.size (field (goal.at.returns-in-Err c).Start) c.args.a c.args.b _ _ _ _ _ _ _ (counts (goal.at.returns-in-Err c).Start) (sym (ap refused c.in-Err.is) ∙ c.check_given.ensures) _ (refusal_some _)
     c.refused_step.ensures
 
 pub step-step-requires : goal.step-step-requires
@@ -41,4 +40,4 @@ pub returns : goal.returns
 returns c =
     lists_stepped (around (goal.at.returns c).Start) c.args.size (field (goal.at.returns c).Start) c.args.a c.args.b _ _ _ _ _ _ _ (counts (goal.at.returns c).Start) c.check_given.ensures _
     (ap refused c.in_default.is)
-    c.step-step.result _ _ _ _ _ _ _ (c.step-step.ensures c.args.marks.now) c.step_numbers.ensures
+    (numbered c.step-step.result) _ _ _ _ _ _ _ (c.step-step.ensures c.args.marks.now) c.step_numbers.ensures

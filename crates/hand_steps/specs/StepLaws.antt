@@ -1,5 +1,5 @@
 -- What the code of a step answers, case by case. Assumes nothing.
-use Rattle.std.specs.Prelude.{Bool, true, false, List, Result, Ok, Err, [], ◌≡◌, ◌≢◌, get_or, set, Float}
+use Rattle.std.specs.Prelude.{Bool, true, false, List, Ok, Err, [], ◌≡◌, ◌≢◌, get_or, set, Float}
 use Rattle.std.proofs.Math.Path.{refl, ap}
 use Rattle.std.proofs.Common.{sym, ◌∙◌, arith, length-set}
 use Prim.Native.Nat.{ℕ, zero, suc, ◌+◌, ◌-◌, ◌<◌, ◌≤◌}

@@ -1,5 +1,5 @@
 -- What the code of a preview has at hand makes the preview: the front that it lists is that of the mesh after the placing. Assumes nothing.
-use Rattle.std.specs.Prelude.{Bool, true, false, cond, List, Result, Ok, Err, [], ◌≢◌, leb, ltb, eqb, length, set, Float}
+use Rattle.std.specs.Prelude.{Bool, true, false, cond, List, Ok, Err, [], ◌≢◌, leb, ltb, eqb, length, set, Float}
 use Rattle.std.proofs.Math.Path.{◌≡◌, refl}
 use Rattle.std.proofs.Common.{sym, ap, ◌∙◌, subst, arith}
 use Prim.Native.Nat.{ℕ, zero, suc, ◌+◌, ◌*◌, ◌/◌, ◌<◌, ◌≤◌}

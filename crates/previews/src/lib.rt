@@ -310,9 +310,7 @@ pub fn preview(
         edges.now k) list.old (numbered result) list.new }
 {
     let places = list.len() / 2;
-    check_preview(
-        xs, ys, next, prev, origins, quads, edges, k, places, a, b,
-    )?;
+    check_preview(xs, ys, next, prev, origins, quads, edges, k, places, a, b)?;
     let foreseen = foresee_on(
         domain, size, grid, values, xs, ys, next, prev, origins, quads, edges, k, a, b,
     );

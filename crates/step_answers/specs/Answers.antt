@@ -98,3 +98,7 @@ quad_numbers (Quad c d) outcome front n a b =
 
 abbrev pub view_numbers : View → ℕ → ℕ → ℕ → PreviewAnswer
 view_numbers v n a b = quad_numbers v.quad (outcome_number v.outcome) v.front n a b
+
+abbrev pub preview_numbers : Result View ℕ → ℕ → ℕ → ℕ → PreviewAnswer
+preview_numbers (Err r) n a b = refused_preview r
+preview_numbers (Ok v) n a b = view_numbers v n a b

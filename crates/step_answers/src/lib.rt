@@ -1,9 +1,9 @@
 // The answers of hand stepping as they cross to the host.
 #![tactic(auto)]
 
-ghost use Rattle.std.specs.Prelude.{◌≡◌, ◌≤◌};
+ghost use Rattle.std.specs.Prelude.{◌≡◌, ◌≤◌, Ok};
 ghost use Rattle.domain.specs.Refusals.{refusal_number, numbered};
-ghost use Rattle.step_answers.specs.Answers.{outcome_number, refused_step, step_numbers, refused_preview, fresh_x, fresh_y, view_numbers};
+ghost use Rattle.step_answers.specs.Answers.{outcome_number, refused_step, step_numbers, refused_preview, fresh_x, fresh_y, view_numbers, preview_numbers};
 
 use domain::Refusal;
 use front::Corner;
@@ -100,7 +100,7 @@ fn fresh(c: Corner) -> (f64, f64)
 }
 
 // A preview on the edge a to b, where there are n nodes.
-pub fn view_numbers(v: View, n: u32, a: u32, b: u32) -> PreviewAnswer
+fn view_numbers(v: View, n: u32, a: u32, b: u32) -> PreviewAnswer
     requires { n ≤ 4294967294 }
     ensures { result ≡ view_numbers v n a b }
 {
@@ -129,5 +129,16 @@ pub fn view_numbers(v: View, n: u32, a: u32, b: u32) -> PreviewAnswer
         dx,
         dy,
         front,
+    }
+}
+
+// What a preview on the edge a to b answers, where there are n nodes.
+pub fn preview_numbers(preview: Result<View, Refusal>, n: u32, a: u32, b: u32) -> PreviewAnswer
+    requires { (v : View) → preview ≡ Ok v → n ≤ 4294967294 }
+    ensures { result ≡ preview_numbers (numbered preview) n a b }
+{
+    match preview {
+        Err(refusal) => refused_preview(refusal),
+        Ok(v) => view_numbers(v, n, a, b),
     }
 }

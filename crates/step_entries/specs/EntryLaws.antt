@@ -26,7 +26,7 @@ use Rattle.previews.specs.Preview.{preview_refusal, view_on, preview_answer, pre
 use Rattle.previews.specs.PreviewSteps.{preview_passes}
 use Rattle.step_answers.specs.declared.StepAnswer.{StepAnswer}
 use Rattle.step_answers.specs.declared.PreviewAnswer.{PreviewAnswer}
-use Rattle.step_answers.specs.Answers.{refused_step, done_step, refused_preview, step_numbers, view_numbers}
+use Rattle.step_answers.specs.Answers.{refused_step, done_step, refused_preview, step_numbers, view_numbers, preview_numbers}
 use Rattle.step_entries.specs.Entries.{given_refusal, step_refusal, sight_refusal, step_reply, step_left, counts_given, HostSteps, copy_numbers, preview_reply, preview_left, HostPreviews}
 use Rattle.step_entries.specs.ViewLaws.{view_is}
 
@@ -186,3 +186,17 @@ module _ (o : Outline) (size : Float) (field : FieldRecord) (a b : ℕ) (xs ys :
         answer = rw (sym e ∙ z, P.0) (p ∙ (ap (λ (x : View). view_numbers x k.nodes a b) P.1 ∙ same));
         list = list_is o size field a b seen before e z w after T;
       }
+
+-- refused or shown, the answer's numbers are what the entry promises
+module _ (o : Outline) (size : Float) (field : FieldRecord) (a b : ℕ) (xs ys : List Float) (next prev origins quads edges : List ℕ) (k : Counts)
+    (before : List ℕ) {n : ℕ} (e : n ≡ given_refusal o size field) (z : n ≡ 0) (w : Result View ℕ) (after : List ℕ)
+    (T : PreviewTaken o size field a b (lent_state xs ys next prev origins quads edges k) before w after) where
+  pub sight_answered : (r : PreviewAnswer) → r ≡ preview_numbers w k.nodes a b
+      → HostPreviews o size field a b (lent_state xs ys next prev origins quads edges k) before r after
+  sight_answered r p = by w refl
+    where
+      by : (x : Result View ℕ) → w ≡ x → HostPreviews o size field a b (lent_state xs ys next prev origins quads edges k) before r after
+      by (Err m) q = rw (p, q) (sight_mesh o size field a b (lent_state xs ys next prev origins quads edges k) before e z w after T q)
+      by (Ok v) q =
+          sight_shown o size field a b xs ys next prev origins quads edges k before e z w after T q r
+          (p ∙ ap (λ (x : Result View ℕ). preview_numbers x k.nodes a b) q)

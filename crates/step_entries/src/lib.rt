@@ -152,11 +152,8 @@ pub extern "C" fn sitjorbe_preview<'a>(
         edges: edge_count,
         front: front_count,
     };
-    let sight = previews::preview(
+    let preview = previews::preview(
         domain, size, grid, values, xs, ys, next, prev, origins, quads, edges, k, a, b, list,
     );
-    match sight {
-        Err(refusal) => step_answers::refused_preview(refusal),
-        Ok(v) => step_answers::view_numbers(v, node_count, a, b),
-    }
+    step_answers::preview_numbers(preview, node_count, a, b)
 }

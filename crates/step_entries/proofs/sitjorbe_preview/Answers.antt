@@ -8,7 +8,7 @@ use Rattle.front.specs.declared.Counts.{Counts}
 use Rattle.front.specs.State.{State, counted}
 use Rattle.mesh_check.specs.Check.{lent_state}
 use Rattle.step_entries.specs.Entries.{grid_given}
-use Rattle.step_entries.specs.EntryLaws.{given_around, sight_refused, sight_mesh, shown_few, sight_shown}
+use Rattle.step_entries.specs.EntryLaws.{given_around, sight_refused, shown_few, sight_answered}
 use Rattle.step_entries.proofs.sitjorbe_preview.Goals as goal
 use Rattle.step_entries.proofs.sitjorbe_preview.Goals.{Start}
 
@@ -34,31 +34,25 @@ returns-in-Err c =
     (sight_refused (around (goal.at.returns-in-Err c).Start) c.args.size (field (goal.at.returns-in-Err c).Start) c.args.a c.args.b (lent (goal.at.returns-in-Err c).Start) _ (sym (ap refused c.in-Err.is) ∙ c.check_given.ensures)
     (refusal_some _))
 
-pub preview-sight-requires : goal.preview-sight-requires
-preview-sight-requires c =
-    given_around (around (goal.at.preview-sight-requires c).Start) c.args.size (field (goal.at.preview-sight-requires c).Start)
+pub preview-preview-requires : goal.preview-preview-requires
+preview-preview-requires c =
+    given_around (around (goal.at.preview-preview-requires c).Start) c.args.size (field (goal.at.preview-preview-requires c).Start)
     (record {
       outer = λ i h. c.shared_slice_known-1.given i;
       holes = λ i h. c.shared_slice_known-2-1.given i;
     })
     (sym c.check_given.ensures ∙ ap refused c.in_default.is)
 
-pub view_numbers-requires : goal.view_numbers-requires
-view_numbers-requires c =
-    shown_few (around (goal.at.view_numbers-requires c).Start) c.args.size (field (goal.at.view_numbers-requires c).Start) c.args.a c.args.b _ _ _ _ c.args.origins.now _ _ (counts (goal.at.view_numbers-requires c).Start) _
+pub preview_numbers-requires : goal.preview_numbers-requires
+preview_numbers-requires c =
+    λ v q.
+    shown_few (around (goal.at.preview_numbers-requires c).Start) c.args.size (field (goal.at.preview_numbers-requires c).Start) c.args.a c.args.b _ _ _ _ c.args.origins.now _ _ (counts (goal.at.preview_numbers-requires c).Start) _
     c.check_given.ensures
-    (ap refused c.in_default.is) (numbered c.preview-sight.result) _ (c.preview-sight.ensures c.args.marks.now) (ap numbered c.in-Ok.is)
+    (ap refused c.in_default.is) (numbered c.preview-preview.result) _ (c.preview-preview.ensures c.args.marks.now) (ap numbered q)
 
-pub returns-in-Err-sight : goal.returns-in-Err-sight
-returns-in-Err-sight c =
-    rw c.refused_preview-in-Err-sight.ensures
-    (sight_mesh (around (goal.at.returns-in-Err-sight c).Start) c.args.size (field (goal.at.returns-in-Err-sight c).Start) c.args.a c.args.b (lent (goal.at.returns-in-Err-sight c).Start) _ c.check_given.ensures
-    (ap refused c.in_default.is) (numbered c.preview-sight.result) _
-    (c.preview-sight.ensures c.args.marks.now) (ap numbered c.in-Err-sight.is))
-
-pub returns-in-Ok : goal.returns-in-Ok
-returns-in-Ok c =
-    sight_shown (around (goal.at.returns-in-Ok c).Start) c.args.size (field (goal.at.returns-in-Ok c).Start) c.args.a c.args.b _ _ _ _ c.args.origins.now _ _ (counts (goal.at.returns-in-Ok c).Start) _
+pub returns : goal.returns
+returns c =
+    sight_answered (around (goal.at.returns c).Start) c.args.size (field (goal.at.returns c).Start) c.args.a c.args.b _ _ _ _ c.args.origins.now _ _ (counts (goal.at.returns c).Start) _
     c.check_given.ensures
-    (ap refused c.in_default.is) (numbered c.preview-sight.result) _ (c.preview-sight.ensures c.args.marks.now) (ap numbered c.in-Ok.is) _
-    c.view_numbers.ensures
+    (ap refused c.in_default.is) (numbered c.preview-preview.result) _ (c.preview-preview.ensures c.args.marks.now) _
+    c.preview_numbers.ensures

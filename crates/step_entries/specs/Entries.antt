@@ -10,7 +10,7 @@ use Rattle.front.specs.declared.Counts.{Counts}
 use Rattle.front.specs.State.{State, counted, node, next_of, quad_at}
 use Rattle.hand_steps.specs.declared.StepOutcome.{StepOutcome}
 use Rattle.hand_steps.specs.declared.StepOutcome.TheVariants.{Placed, None, Full, Cap}
-use Rattle.hand_steps.specs.Hand.{hand_refusal, Handled, place_on, new_origins}
+use Rattle.hand_steps.specs.Hand.{hand_refusal, place_on, new_origins}
 use Rattle.previews.specs.Preview.{preview_refusal, front_listed}
 use Rattle.step_answers.specs.declared.StepAnswer.{StepAnswer}
 use Rattle.step_answers.specs.declared.PreviewAnswer.{PreviewAnswer}

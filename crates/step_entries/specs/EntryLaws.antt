@@ -5,7 +5,7 @@ use Rattle.std.proofs.Math.Path.{◌≡◌, refl, ap}
 use Rattle.std.proofs.Common.{sym, ◌∙◌, arith}
 use Prim.Native.Nat.{ℕ, zero, suc, ◌/◌, ◌≤◌}
 use Rattle.std.proofs.Math.Dec.{eqb}
-use borrow.Author.Tests.{eq-eqb, ne_eqb, eqb-true}
+use borrow.Author.Tests.{ne_eqb, eqb-true}
 use Rattle.domain.specs.Outline.{Outline, first_of, outline_refusal}
 use Rattle.domain.specs.Accepted.{OutlineFits, first_zero}
 use Rattle.direction.specs.Record.{FieldRecord}
@@ -14,15 +14,15 @@ use Rattle.direction.specs.RecordLaws.{record_lent_lem}
 use Rattle.crossfield.specs.Grid.{bounds, size_refusal, bounds_refusal}
 use Rattle.crossfield.specs.Field.{drawn_refusal}
 use Rattle.front.specs.declared.Counts.{Counts}
-use Rattle.front.specs.State.{State, counted, next_of}
+use Rattle.front.specs.State.{State}
 use Rattle.mesh_check.specs.Check.{lent_state}
 use Rattle.hand_steps.specs.declared.HandPlacing.{HandPlacing}
-use Rattle.hand_steps.specs.Hand.{hand_refusal, Handled, place_on, step_on, step_answer, counts_left, new_origins, StepTaken}
+use Rattle.hand_steps.specs.Hand.{hand_refusal, Handled, place_on, step_on, step_answer, counts_left, StepTaken}
 use Rattle.hand_steps.specs.Lent.{Around, OnFront}
 use Rattle.hand_steps.specs.UseLaws.{on_front_lem, front_room}
 use Rattle.hand_steps.specs.StepLaws.{origins_same}
 use Rattle.previews.specs.declared.View.{View}
-use Rattle.previews.specs.Preview.{preview_refusal, view_on, preview_answer, preview_list, front_listed, PreviewTaken}
+use Rattle.previews.specs.Preview.{preview_refusal, view_on, preview_answer, preview_list, PreviewTaken}
 use Rattle.previews.specs.PreviewSteps.{preview_passes}
 use Rattle.step_answers.specs.declared.StepAnswer.{StepAnswer}
 use Rattle.step_answers.specs.declared.PreviewAnswer.{PreviewAnswer}

@@ -1,9 +1,9 @@
 -- The quad and its new nodes, as a preview answers them, are those of the mesh after the placing. Assumes nothing.
 use Rattle.std.proofs.Math.Bool.{Bool, cond}
-use Rattle.std.specs.Prelude.{true, false, ◌≡◌, ℕ, ◌+◌, ◌-◌, ◌*◌, ◌<◌, ◌≤◌, leb, length, get_or, set, Float}
+use Rattle.std.specs.Prelude.{true, false, ◌≡◌, ℕ, ◌+◌, ◌-◌, ◌*◌, ◌≤◌, leb, length, get_or, set, Float}
 use mathlib.Core.List.{List}
 use Rattle.std.proofs.Math.Path.{refl, ap}
-use Rattle.std.proofs.Common.{sym, ◌∙◌, arith, length-set, get_or-set_same, get_or-set_other, le-leb}
+use Rattle.std.proofs.Common.{◌∙◌, arith, length-set, get_or-set_same, get_or-set_other, le-leb}
 use Rattle.std.specs.Float.{nan}
 use Rattle.std.proofs.lemmas.Bool.{lt-leb}
 use Rattle.numbers.specs.Float.{zero_f}
@@ -12,23 +12,20 @@ use Rattle.direction.specs.Record.{FieldRecord}
 use Rattle.front.specs.declared.Counts.{Counts}
 use Rattle.front.specs.declared.Corner.{Corner}
 use Rattle.front.specs.declared.Corner.TheVariants.{Reused, Fresh}
-use Rattle.front.specs.State.{State, node_in, node, Quad as QuadIn, quad_at}
+use Rattle.front.specs.State.{State, node_in, quad_at}
 use Rattle.front.specs.Place.{added, corner_id, id_c, id_d, place, is_full}
-use Rattle.front.specs.Stores.{store_x, store_y, store_quad}
+use Rattle.front.specs.Stores.{store_x, store_y}
 use Rattle.front.specs.StateAfter.{quad_reads}
 use Rattle.paving.specs.declared.Attempt.{Attempt}
 use Rattle.paving.specs.declared.Attempt.TheVariants.{Nothing, Quad}
 use Rattle.paving.specs.Attempt.{try_edge}
 use Rattle.paving.specs.Advance.{most_quads}
 use Rattle.mesh_check.specs.Check.{lent_state}
-use Rattle.hand_placing.specs.Room.{QuadRoom}
 use Rattle.hand_placing.specs.Local.{placed_nodes, placed_quads, placed_xs, placed_ys}
-use Rattle.hand_steps.specs.declared.StepOutcome.{StepOutcome}
-use Rattle.hand_steps.specs.declared.StepOutcome.TheVariants.{Placed, None, Full, Cap}
-use Rattle.hand_steps.specs.Hand.{Handled, handled, settled_on, place_on}
+use Rattle.hand_steps.specs.declared.StepOutcome.TheVariants.{Placed, Cap}
+use Rattle.hand_steps.specs.Hand.{handled, settled_on, place_on}
 use Rattle.hand_steps.specs.Lent.{OnFront}
 use Rattle.hand_steps.specs.UseLaws.{Below, quad_below, quad_fits_lem}
-use Rattle.previews.specs.declared.View.{View}
 use Rattle.previews.specs.Preview.{foresight, foreseen, foreseen_on, view_on}
 use Rattle.step_answers.specs.declared.PreviewAnswer.{PreviewAnswer}
 use Rattle.step_answers.specs.Answers.{fresh_x, fresh_y, view_numbers}

@@ -1,6 +1,6 @@
 -- An attempt by the far corners that were chosen: it keeps those that pass the other checks. Assumes nothing.
 use Rattle.std.proofs.Common.{◌≡◌, ℕ, Bool, not, ◌&&◌, refl, sym}
-use Rattle.std.specs.Prelude.{Float}
+use Rattle.std.specs.Prelude.{Float, Option, Some, None}
 use Rattle.laws.specs.Loop.{any_up}
 use Rattle.domain.specs.declared.Point.{Point}
 use Rattle.domain.specs.Outline.{Outline}
@@ -9,8 +9,7 @@ use Rattle.geometry.specs.Plane.{convex_ccw, centroid}
 use Rattle.front.specs.declared.Corner.{Corner}
 use Rattle.front.specs.State.{State}
 use Rattle.front.specs.Place.{id_c, id_d}
-use Rattle.paving.specs.declared.Attempt.{Attempt}
-use Rattle.paving.specs.declared.Attempt.TheVariants.{Nothing, Quad}
+use Rattle.paving.specs.declared.FarCorners.{FarCorners}
 use Rattle.indexed.specs.Rects.{inside_at}
 use Rattle.paving.specs.Checks.{corner_free, node_inside, edges_free, corners_of}
 use Rattle.paving.specs.Attempt.{quad_if, attempt_quad}
@@ -27,16 +26,16 @@ module _ (o : Outline) (size : Float) (s : State) (a b : ℕ) where
       corner_free o size seen c && (corner_free o size seen d && (convex_ccw p && (contains o (centroid p)
       && (not (any_up s.counts.nodes (inside_at size s.xs s.ys p a b (id_d s c d) (id_c s c))) && edges_free size (seen_edges s.xs s.ys s.edges s.counts) a b c d))))
 
-  abbrev pub kept : Attempt → Attempt
-  kept Nothing = Nothing
-  kept (Quad c d) = quad_if (passes_rest c d) c d
+  abbrev pub kept : Option FarCorners → Option FarCorners
+  kept None = None
+  kept (Some q) = quad_if (passes_rest q.c q.d) q.c q.d
 
   module _ (da db : Point) where
-    kept_of : (t : Attempt) → t ≡ far_corners size (seen_links s.xs s.ys s.next s.prev s.counts.nodes) a b da db
+    kept_of : (t : Option FarCorners) → t ≡ far_corners size (seen_links s.xs s.ys s.next s.prev s.counts.nodes) a b da db
         → kept t ≡ attempt_quad o size s a b da db
     unfolding node_inside
-    kept_of Nothing e = attempt_none s o size a b da db e
-    kept_of (Quad c d) e = attempt_is s o size a b da db (passes_rest c d) e refl refl refl refl
+    kept_of None e = attempt_none s o size a b da db e
+    kept_of (Some q) e = attempt_is s o size a b da db (passes_rest q.c q.d) e refl refl refl refl
 
     pub attempt_kept : attempt_quad o size s a b da db
         ≡ kept (far_corners size (seen_links s.xs s.ys s.next s.prev s.counts.nodes) a b da db)

@@ -1,5 +1,5 @@
 -- Each check reads only the lists that its function is lent; so an attempt on a state is that on what `seen_of` keeps of it. Assumes nothing.
-use Rattle.std.specs.Prelude.{◌≡◌, [], ℕ, Float}
+use Rattle.std.specs.Prelude.{◌≡◌, [], ℕ, Float, Option, Some, None}
 use Rattle.std.proofs.Math.Path.{refl}
 use Rattle.std.proofs.Common.{sym, ◌∙◌}
 use Rattle.numbers.specs.Float.{◌⊖◌}
@@ -11,8 +11,6 @@ use Rattle.direction.specs.Record.{FieldRecord, field_record}
 use Rattle.direction.specs.Direction.{nearest_direction}
 use Rattle.front.specs.declared.Corner.{Corner}
 use Rattle.front.specs.declared.Corner.TheVariants.{Reused, Fresh}
-use Rattle.front.specs.declared.Neighbour.{Neighbour}
-use Rattle.front.specs.declared.Neighbour.TheVariants.{At, Off}
 use Rattle.front.specs.State.{State, node}
 use Rattle.front.specs.Neighbours.{next_at, prev_at}
 use Rattle.front.specs.Place.{corner_point}
@@ -50,11 +48,11 @@ module _ (s : State) where
   edges_free_seen size a b (Fresh x y) (Reused v) = refl
   edges_free_seen size a b (Fresh x y) (Fresh z w) = refl
 
-  pub corner_at_seen : (size : Float) (other : ℕ) (n : Neighbour) (p : Point)
+  pub corner_at_seen : (size : Float) (other : ℕ) (n : Option ℕ) (p : Point)
       → corner_at size (seen_points s.xs s.ys) other n p ≡ corner_at size s other n p
   unfolding corner_at is_reused
-  corner_at_seen size other Off p = refl
-  corner_at_seen size other (At v) p = refl
+  corner_at_seen size other None p = refl
+  corner_at_seen size other (Some v) p = refl
 
   quad_fits_seen : (o : Outline) (size : Float) (a b : ℕ) (c d : Corner) → quad_fits o size (seen_of s) a b c d ≡ quad_fits o size s a b c d
   unfolding quad_fits corner_free node_ok too_close quad_ok node_inside edges_free edge_crosses
@@ -64,7 +62,7 @@ module _ (s : State) where
   quad_fits_seen o size a b (Fresh x y) (Fresh z w) = refl
 
 -- a corner depends on no more of a state than its points
-pub corner_same : (s t : State) (size : Float) (other : ℕ) (n : Neighbour) (p : Point)
+pub corner_same : (s t : State) (size : Float) (other : ℕ) (n : Option ℕ) (p : Point)
     → corner_at size (seen_points s.xs s.ys) other n p ≡ corner_at size (seen_points t.xs t.ys) other n p
     → corner_at size s other n p ≡ corner_at size t other n p
 corner_same s t size other n p e = sym (corner_at_seen s size other n p) ∙ e ∙ corner_at_seen t size other n p

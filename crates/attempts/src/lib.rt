@@ -18,24 +18,24 @@ ghost use Rattle.attempts.specs.FarCorners.{far_corners};
 
 use direction::Grid;
 use domain::{Domain, Point, Settings};
-use front::{Corner, Counts, Neighbour, OFF};
+use front::{Corner, Counts, OFF};
 use geometry::Corners;
-use paving::Attempt;
+use paving::FarCorners;
 
 // ---- reading
 
 // The neighbour of node u by its link, where the first `nodes` places are in use: none for a node that isn't there.
 #[tactic(auto, using(topology::specs::Links::link_out, topology::specs::Links::link_read), unfolding(front::specs::Neighbours::neighbour_of))]
-pub fn link_at(links: &[u32], nodes: u32, u: u32) -> Neighbour
+pub fn link_at(links: &[u32], nodes: u32, u: u32) -> Option<u32>
     requires { nodes ≤ length links.now }
     ensures { result ≡ neighbour_of (link_of nodes links.now u) }
 {
     if u >= nodes {
-        return Neighbour::Off;
+        return None;
     }
     match links[u as usize] {
-        OFF => Neighbour::Off,
-        v => Neighbour::At(v),
+        OFF => None,
+        v => Some(v),
     }
 }
 
@@ -226,7 +226,7 @@ fn corner_at(
 {
     let p = ideal(size, front::node_at(xs, ys, u), toward);
     match link_at(links, nodes, u) {
-        Neighbour::At(v) if is_reused(size, xs, ys, other, v, p) => Corner::Reused(v),
+        Some(v) if is_reused(size, xs, ys, other, v, p) => Corner::Reused(v),
         _ => Corner::Fresh(p.x, p.y),
     }
 }
@@ -245,7 +245,7 @@ fn far_corners(
     b: u32,
     da: Point,
     db: Point,
-) -> Attempt
+) -> Option<FarCorners>
     requires { LinksLent next.now prev.now nodes }
     ensures { result ≡ far_corners size
         (seen_links xs.now ys.now next.now prev.now nodes) a b da db }
@@ -254,13 +254,10 @@ fn far_corners(
     let d = corner_at(size, xs, ys, next, nodes, b, a, db);
     let id_c = c.id(nodes);
     let id_d = second_id(nodes, c, d);
-    if id_c == id_d
-        || !corners_apart(size, c, d)
-        || matches!(link_at(next, nodes, id_c), Neighbour::At(v) if v == id_d)
-    {
-        Attempt::Nothing
+    if id_c == id_d || !corners_apart(size, c, d) || link_at(next, nodes, id_c) == Some(id_d) {
+        None
     } else {
-        Attempt::Quad(c, d)
+        Some(FarCorners { c, d })
     }
 }
 
@@ -284,16 +281,13 @@ fn attempt_quad(
     b: u32,
     da: Point,
     db: Point,
-) -> Attempt
+) -> Option<FarCorners>
     requires { AttemptLent (outline_of domain) blocks.now size xs.now ys.now next.now prev.now
         edges.now node_pool.now edge_pool.now counts }
     ensures { result ≡ attempt_quad (outline_of domain.entry) size
         (seen_state xs.now ys.now next.now prev.now edges.now counts) a b da db }
 {
-    let chosen = far_corners(size, xs, ys, next, prev, counts.nodes, a, b, da, db);
-    let Attempt::Quad(c, d) = chosen else {
-        return Attempt::Nothing;
-    };
+    let FarCorners { c, d } = far_corners(size, xs, ys, next, prev, counts.nodes, a, b, da, db)?;
     let p = corners_of(xs, ys, a, b, c, d);
     let id_c = c.id(counts.nodes);
     let id_d = second_id(counts.nodes, c, d);
@@ -304,9 +298,9 @@ fn attempt_quad(
         && !indexed::any_inside(node_pool, size, xs, ys, counts.nodes, p, a, b, id_d, id_c)
         && edges_free(size, xs, ys, edges, edge_pool, counts, a, b, c, d)
     {
-        Attempt::Quad(c, d)
+        Some(FarCorners { c, d })
     } else {
-        Attempt::Nothing
+        None
     }
 }
 
@@ -340,7 +334,7 @@ pub fn try_edge(
     counts: Counts,
     a: u32,
     b: u32,
-) -> Attempt
+) -> Option<FarCorners>
     requires { TryLent (outline_of domain) blocks.now grid values.now size xs.now ys.now next.now prev.now
         edges.now node_pool.now edge_pool.now counts }
     ensures { result ≡ try_edge (outline_of domain.entry) size
@@ -353,7 +347,7 @@ pub fn try_edge(
     let by = q.y - p.y;
     let length = geometry::norm(bx, by);
     if length <= Settings::TOLERANCE {
-        return Attempt::Nothing;
+        return None;
     }
     let normal = normal_of(bx, by, length);
     let da = direction::nearest_direction(grid, values, p, normal);
@@ -362,7 +356,7 @@ pub fn try_edge(
         domain, blocks, size, xs, ys, next, prev, edges, node_pool, edge_pool, counts, a, b, da, db,
     );
     match first {
-        Attempt::Nothing => attempt_quad(
+        None => attempt_quad(
             domain, blocks, size, xs, ys, next, prev, edges, node_pool, edge_pool, counts, a, b,
             normal, normal,
         ),

@@ -1,5 +1,5 @@
 -- What a placement says: its front edge is there, its corners are chosen as the reference chooses them, every check was passed, and there is room.
-use Rattle.std.specs.Prelude.{ℕ, ◌≡◌, refl, Bool, true, false, not, cond, ◌≢◌, eqb, Float}
+use Rattle.std.specs.Prelude.{ℕ, ◌≡◌, refl, Bool, true, false, not, cond, ◌≢◌, eqb, Float, Some, None}
 use Rattle.std.proofs.Common.{◌∙◌, arith, eqb-true}
 use Rattle.std.proofs.lemmas.Bool.{eqb-false, not-true}
 use Rattle.laws.specs.Tests.{both}
@@ -8,14 +8,12 @@ use Rattle.domain.specs.Outline.{Outline}
 use Rattle.topology.specs.Links.{off}
 use Rattle.front.specs.declared.Corner.{Corner}
 use Rattle.front.specs.declared.Corner.TheVariants.{Reused, Fresh}
-use Rattle.front.specs.declared.Neighbour.TheVariants.{At, Off}
 use Rattle.front.specs.State.{State, next_of, prev_of}
 use Rattle.front.specs.Neighbours.{neighbour_of}
 use Rattle.front.specs.Place.{id_c, id_d}
 use Rattle.front.specs.Ready.{Chosen, Choice, Fits, room_fits}
-use Rattle.paving.specs.declared.Attempt.TheVariants.{Quad}
 use Rattle.paving.specs.Checks.{quad_fits}
-use Rattle.paving.specs.Attempt.{is_reused, corner_at, corner_c, corner_d, attempt_quad}
+use Rattle.paving.specs.Attempt.{is_reused, corner_at, corner_c, corner_d, attempt_quad, far}
 use Rattle.paving.specs.Advance.{is_there}
 use Rattle.paving.specs.AttemptLaws.{quad_chosen}
 use Rattle.paving.specs.Reach.{Placement}
@@ -49,7 +47,7 @@ chosen size s other v p c = by (eqb v off) refl c
     at on false e (Reused id) h = absurd (let z : ◌≡◌ {A = ℕ} 0 1 = cc in omega arith)
     at on false e (Fresh x y) h = tt
 
-    by : (b : Bool) → eqb v off ≡ b → (c : Corner) → corner_at size s other (cond b Off (At v)) p ≡ c → Chosen c other v
+    by : (b : Bool) → eqb v off ≡ b → (c : Corner) → corner_at size s other (cond b None (Some v)) p ≡ c → Chosen c other v
     by true e (Reused id) h = absurd (let z : ◌≡◌ {A = ℕ} 0 1 = cc in omega arith)
     by true e (Fresh x y) h = tt
     by false e c h = at (eqb-false v off e) (is_reused size s other v p) refl c h
@@ -58,7 +56,7 @@ chosen size s other v p c = by (eqb v off) refl c
 
 -- an attempt on a front edge that is there answered a quad: its corners are chosen
 pub choice : (o : Outline) (size : Float) (s : State) (a b : ℕ) (da db : Point) (c d : Corner) → is_there s a b ≡ true
-    → attempt_quad o size s a b da db ≡ Quad c d → Choice s a b c d
+    → attempt_quad o size s a b da db ≡ Some (far c d) → Choice s a b c d
 unfolding corner_c corner_d quad_fits
 choice o size s a b da db c d there answer =
     let A = quad_chosen o size s a b da db c d answer in

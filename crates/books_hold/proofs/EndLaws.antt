@@ -1,5 +1,5 @@
 -- What holds of the definitions of specs/EndLaws.antt.
-use Rattle.std.specs.Prelude.{◌≡◌, Bool, cond, List, ◌≢◌, ℕ, suc, min, ◌<◌, ◌≤◌, get_or, Float}
+use Rattle.std.specs.Prelude.{◌≡◌, Bool, cond, List, ◌≢◌, ℕ, suc, min, ◌<◌, ◌≤◌, get_or, Float, Option, Some, None}
 use Rattle.std.proofs.Math.Path.{refl, sym}
 use Rattle.std.proofs.Common.{◌∙◌, ap, subst, true≢false, arith}
 use Rattle.std.proofs.Math.Bool.{true, false}
@@ -12,8 +12,7 @@ use Rattle.direction.specs.Record.{FieldRecord}
 use Rattle.front.specs.State.{State, next_of, node_places}
 use Rattle.front.specs.Place.{place, is_full}
 use Rattle.front.specs.Sampling.{sampled_count}
-use Rattle.paving.specs.declared.Attempt.{Attempt}
-use Rattle.paving.specs.declared.Attempt.TheVariants.{Nothing, Quad}
+use Rattle.paving.specs.declared.FarCorners.{FarCorners}
 use Rattle.paving.specs.declared.End.{End}
 use Rattle.paving.specs.declared.End.TheVariants.{Still, Passes, Cap, Full}
 use Rattle.paving.specs.Attempt.{try_edge}
@@ -54,7 +53,7 @@ module _ (o : Outline) (size : Float) (field : FieldRecord) (s : State) (ls : Li
     -- the edges from the first i nodes, tried in `first`, answered nothing
     abbrev Tried : ℕ → Type 0
     Tried i =
-        (a : ℕ) → a < i → is_there first a (follower first a) ≡ true → try_edge o size field first a (follower first a) ≡ Nothing
+        (a : ℕ) → a < i → is_there first a (follower first a) ≡ true → try_edge o size field first a (follower first a) ≡ None
 
     -- what the pass has done before turn i: it has placed something, or the state is still the first
     abbrev PassProgress : ℕ → State → Bool → Type 0
@@ -80,13 +79,13 @@ module _ (o : Outline) (size : Float) (field : FieldRecord) (s : State) (ls : Li
 
     -- one turn more that placed nothing
     one_more : (a : ℕ) (u : State) (some : Bool) → PassProgress a u some
-        → (is_there u a (follower u a) ≡ true → try_edge o size field u a (follower u a) ≡ Nothing) → PassProgress (suc a) u some
+        → (is_there u a (follower u a) ≡ true → try_edge o size field u a (follower u a) ≡ None) → PassProgress (suc a) u some
     one_more a u true g nothing = g
     one_more a u false g nothing = (
       g.0,
       λ i h there.
           last_or_less i a h
-          (λ e. rw e (subst (λ (v : State). try_edge o size field v a (follower v a) ≡ Nothing) g.0
+          (λ e. rw e (subst (λ (v : State). try_edge o size field v a (follower v a) ≡ None) g.0
           (nothing (subst (λ (v : State). is_there v a (follower v a) ≡ true) (sym g.0) (rw e at there)))))
           (λ l. g.1 i l there),
     )
@@ -104,23 +103,23 @@ module _ (o : Outline) (size : Float) (field : FieldRecord) (s : State) (ls : Li
             record { between = record { reached = r; below = leb-false most_quads u.counts.quads e }; progress = more }
 
     -- the front edge a to b was tried
-    settled : (a b : ℕ) (p : Passing) → InPass a p → is_there p.state a b ≡ true → (t : Attempt) → try_edge o size field p.state a b ≡ t
-        → (t ≡ Nothing → PassProgress (suc a) p.state p.placed) → Kept (InPass (suc a)) Leaves (settle a b t p)
-    settled a b p I there Nothing e on = record { between = I.between; progress = on refl }
-    settled a b p I there (Quad c d) e on = choose (is_full p.state a b c d) refl
+    settled : (a b : ℕ) (p : Passing) → InPass a p → is_there p.state a b ≡ true → (t : Option FarCorners) → try_edge o size field p.state a b ≡ t
+        → (t ≡ None → PassProgress (suc a) p.state p.placed) → Kept (InPass (suc a)) Leaves (settle a b t p)
+    settled a b p I there None e on = record { between = I.between; progress = on refl }
+    settled a b p I there (Some q) e on = choose (is_full p.state a b q.c q.d) refl
       where
-        choose : (full : Bool) → is_full p.state a b c d ≡ full
-            → Kept (InPass (suc a)) Leaves (cond full (out (out (paved p.state Full))) (after_quad (place a b c d p.state)))
+        choose : (full : Bool) → is_full p.state a b q.c q.d ≡ full
+            → Kept (InPass (suc a)) Leaves (cond full (out (out (paved p.state Full))) (after_quad (place a b q.c q.d p.state)))
         choose true f =
-            record { below = I.between.below; a = a; b = b; c = c; d = d; there = there; answered = e; full = f }
+            record { below = I.between.below; a = a; b = b; c = q.c; d = q.d; there = there; answered = e; full = f }
         choose false f =
-            let A = tried o size field p.state a b c d e in
+            let A = tried o size field p.state a b q.c q.d e in
             let r = I.between.reached in
-            let P : Placement o size p.state a b c d = record { there = there; da = A.da; db = A.db; answered = A.answered; fits = f } in
+            let P : Placement o size p.state a b q.c q.d = record { there = there; da = A.da; db = A.db; answered = A.answered; fits = f } in
             let Y = standing S.sound r.by in
-            let X = answered_step (sampled_count o size) p.state Y.loops o size a b c d Y.sound P in
+            let X = answered_step (sampled_count o size) p.state Y.loops o size a b q.c q.d Y.sound P in
             let more = no_fewer a p.state p.placed I.progress in
-            quad_placed a (place a b c d p.state) (record { quads = suc r.quads; by = placed r.by P })
+            quad_placed a (place a b q.c q.d p.state) (record { quads = suc r.quads; by = placed r.by P })
             (omega (arith, X.quads)) (omega (arith, X.quads, I.between.below))
 
     turn_kept : (a : ℕ) (p : Passing) → a < t.counts.nodes → InPass a p → Kept (InPass (suc a)) Leaves (pass_turn o size field a p)
@@ -154,7 +153,7 @@ module _ (o : Outline) (size : Float) (field : FieldRecord) (s : State) (ls : Li
     still : Tried t.counts.nodes → first.counts.quads < most_quads → StillAt o size field first
     still nothing below = record { below = below; nothing = each }
       where
-        each : (a : ℕ) → next_of first a ≢ off → try_edge o size field first a (next_of first a) ≡ Nothing
+        each : (a : ℕ) → next_of first a ≢ off → try_edge o size field first a (next_of first a) ≡ None
         each a on =
             let f = follower_next a on in
             rw (← f.1) (nothing a f.0 (rw (f.1, ne_eqb (next_of first a) off on, eq-eqb (next_of first a) (next_of first a) refl)))

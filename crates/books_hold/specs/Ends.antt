@@ -1,5 +1,5 @@
 -- The four ends of a run of passes, each described exactly by the state that is left. Definitions only.
-use Rattle.std.specs.Prelude.{◌≡◌, true, ◌≢◌, ℕ, suc, min, ◌<◌, Float}
+use Rattle.std.specs.Prelude.{◌≡◌, true, ◌≢◌, ℕ, suc, min, ◌<◌, Float, Some, None}
 use Rattle.laws.specs.Loop.{go, out}
 use Rattle.domain.specs.Outline.{Outline}
 use Rattle.topology.specs.Links.{off}
@@ -7,17 +7,16 @@ use Rattle.direction.specs.Record.{FieldRecord}
 use Rattle.front.specs.declared.Corner.{Corner}
 use Rattle.front.specs.State.{State, next_of}
 use Rattle.front.specs.Place.{is_full}
-use Rattle.paving.specs.declared.Attempt.TheVariants.{Nothing, Quad}
 use Rattle.paving.specs.declared.End.{End}
 use Rattle.paving.specs.declared.End.TheVariants.{Still, Passes, Cap, Full}
-use Rattle.paving.specs.Attempt.{try_edge}
+use Rattle.paving.specs.Attempt.{try_edge, far}
 use Rattle.paving.specs.Advance.{paved, most_quads, most_passes, is_there, pass}
 
 module _ (o : Outline) (size : Float) (field : FieldRecord) where
   -- still: no front edge of t, tried in t, answers a quad
   pub record StillAt (t : State) : Type 0 where
     pub below : t.counts.quads < most_quads
-    pub nothing : (a : ℕ) → next_of t a ≢ off → try_edge o size field t a (next_of t a) ≡ Nothing
+    pub nothing : (a : ℕ) → next_of t a ≢ off → try_edge o size field t a (next_of t a) ≡ None
 
   -- full: t is the state just before the reference's next quad, which needs a node, quad or distinct edge beyond those lent
   pub record FullAt (t : State) : Type 0 where
@@ -27,7 +26,7 @@ module _ (o : Outline) (size : Float) (field : FieldRecord) where
     pub c : Corner
     pub d : Corner
     pub there : is_there t a b ≡ true
-    pub answered : try_edge o size field t a b ≡ Quad c d
+    pub answered : try_edge o size field t a b ≡ Some (far c d)
     pub full : is_full t a b c d ≡ true
 
   -- n passes lead from s to t, and each placed something

@@ -1,6 +1,6 @@
 -- A placing keeps every node bounded, since a new corner is inside the outline: `place_bounded`, and along a run `reaches_bounded`. And the quad
 -- placed holds in a book that has its corners: `placement_holds`, and `matched_holds` for a book that matches a later state. Assumes nothing.
-use Rattle.std.specs.Prelude.{◌≡◌, refl, Bool, true, false, not, cond, List, ℕ, ◌+◌, ◌<◌, eqb, get_or, Float}
+use Rattle.std.specs.Prelude.{◌≡◌, refl, Bool, true, false, not, cond, List, ℕ, ◌+◌, ◌<◌, eqb, get_or, Float, Option, Some, None}
 use Rattle.std.proofs.Common.{sym, ap, ap₂, ◌∙◌, subst, arith, get_or-take}
 use borrow.Author.Tests.{ltb-false}
 use Rattle.std.specs.Float.{nan, binary64}
@@ -15,8 +15,6 @@ use Rattle.domain.proofs.Inside.{inside}
 use Rattle.geometry.specs.Plane.{convex_ccw}
 use Rattle.front.specs.declared.Corner.{Corner}
 use Rattle.front.specs.declared.Corner.TheVariants.{Reused, Fresh}
-use Rattle.front.specs.declared.Neighbour.{Neighbour}
-use Rattle.front.specs.declared.Neighbour.TheVariants.{At, Off}
 use Rattle.front.specs.State.{State, node_in, node, node_places}
 use Rattle.front.specs.Neighbours.{next_at, prev_at, is_at}
 use Rattle.front.specs.Place.{added, id_c, id_d, place, is_full}
@@ -64,7 +62,7 @@ matched_node t book M id l =
 -- ---- a new corner
 
 -- a new corner is computed as a sum, so it is a double
-corner_fits : (size : Float) (s : State) (other : ℕ) (n : Neighbour) (p d : Point) → IfNew PointFits (corner_at size s other n (ideal size p d))
+corner_fits : (size : Float) (s : State) (other : ℕ) (n : Option ℕ) (p d : Point) → IfNew PointFits (corner_at size s other n (ideal size p d))
 unfolding corner_at ideal
 corner_fits size s other n p d = by n
   where
@@ -75,9 +73,9 @@ corner_fits size s other n p d = by n
     go v true = tt
     go v false = sums
 
-    by : (n : Neighbour) → IfNew PointFits (corner_at size s other n (ideal size p d))
-    by Off = sums
-    by (At v) = go v (is_reused size s other v (ideal size p d))
+    by : (n : Option ℕ) → IfNew PointFits (corner_at size s other n (ideal size p d))
+    by None = sums
+    by (Some v) = go v (is_reused size s other v (ideal size p d))
 
 module _ (o : Outline) (fits : OutlineFits o) (taken : outline_refusal o ≡ 0) where
   node_bounded : (size : Float) (s : State) (p : Point) → PointFits p → node_ok o size s p ≡ true → Bounded p

@@ -1,5 +1,5 @@
 -- What holds of the definitions of specs/Lockstep.antt.
-use Rattle.std.specs.Prelude.{ℕ, zero, suc, min, ◌<◌, Bool, cond, leb, Float}
+use Rattle.std.specs.Prelude.{ℕ, zero, suc, min, ◌<◌, Bool, cond, leb, Float, Option, Some, None}
 use Rattle.std.proofs.Math.Path.{◌≡◌, refl, subst}
 use Rattle.std.proofs.Common.{sym, ap, arith}
 use Rattle.std.proofs.Math.Bool.{true, false}
@@ -9,8 +9,7 @@ use Rattle.domain.specs.Outline.{Outline}
 use Rattle.direction.specs.Record.{FieldRecord}
 use Rattle.front.specs.State.{State}
 use Rattle.front.specs.Place.{place, is_full}
-use Rattle.paving.specs.declared.Attempt.{Attempt}
-use Rattle.paving.specs.declared.Attempt.TheVariants.{Nothing, Quad}
+use Rattle.paving.specs.declared.FarCorners.{FarCorners}
 use Rattle.paving.specs.declared.End.TheVariants.{Still, Cap, Full}
 use Rattle.paving.specs.Attempt.{try_edge}
 use Rattle.paving.specs.Advance.{EndedPaving, paved, Passing, passing, Passed, most_quads, after_quad, settle, is_there, pass_turn, after_pass, pass}
@@ -87,43 +86,43 @@ module _ (o : Outline) (size : Float) (field : FieldRecord) (n : ℕ) where
       by false true e = absurd (let z : ◌≡◌ {A = ℕ} 0 1 = cc in omega arith)
 
   -- what the second run comes to by one try
-  settle_on : (a b : ℕ) (q : Passing) → is_there q.state a b ≡ true → (x : Attempt) → try_edge o size field q.state a b ≡ x
+  settle_on : (a b : ℕ) (q : Passing) → is_there q.state a b ≡ true → (x : Option FarCorners) → try_edge o size field q.state a b ≡ x
       → Reached o size q.state (state_in (settle a b x q))
   unfolding after_quad
-  settle_on a b q th Nothing e = record { quads = 0; by = begin }
-  settle_on a b q th (Quad c d) e = by (is_full q.state a b c d) refl (leb most_quads (place a b c d q.state).counts.quads)
+  settle_on a b q th None e = record { quads = 0; by = begin }
+  settle_on a b q th (Some w) e = by (is_full q.state a b w.c w.d) refl (leb most_quads (place a b w.c w.d q.state).counts.quads)
     where
-      one : is_full q.state a b c d ≡ false → Reached o size q.state (place a b c d q.state)
+      one : is_full q.state a b w.c w.d ≡ false → Reached o size q.state (place a b w.c w.d q.state)
       one k =
-          let A = tried o size field q.state a b c d e in
+          let A = tried o size field q.state a b w.c w.d e in
           record { quads = 1; by = placed begin (record { there = th; da = A.da; db = A.db; answered = A.answered; fits = k }) }
 
-      by : (k : Bool) → is_full q.state a b c d ≡ k → (l : Bool) → Reached o size q.state
+      by : (k : Bool) → is_full q.state a b w.c w.d ≡ k → (l : Bool) → Reached o size q.state
           (state_in (cond k (out (out (paved q.state Full)))
-          (cond l (out (out (paved (place a b c d q.state) Cap))) (go (passing (place a b c d q.state) true)))))
+          (cond l (out (out (paved (place a b w.c w.d q.state) Cap))) (go (passing (place a b w.c w.d q.state) true)))))
       by true k l = record { quads = 0; by = begin }
       by false k true = one k
       by false k false = one k
 
   module _ (m a : ℕ) (p q : Passing) (same : q.placed ≡ p.placed) (W : Twins n p.state q.state)
       (N : SnapshotsAgree m p.state q.state) where
-    settle_step : (b : ℕ) → is_there p.state a b ≡ true → is_there q.state a b ≡ true → (x : Attempt) → try_edge o size field p.state a b ≡ x
+    settle_step : (b : ℕ) → is_there p.state a b ≡ true → is_there q.state a b ≡ true → (x : Option FarCorners) → try_edge o size field p.state a b ≡ x
         → try_edge o size field q.state a b ≡ x → Reached o size q.state (state_in (settle a b x q)) → InStep m (settle a b x p) (settle a b x q)
-    settle_step b th th' Nothing e f r = both same W N
-    settle_step b th th' (Quad c d) e f r = by (is_full p.state a b c d) refl
+    settle_step b th th' None e f r = both same W N
+    settle_step b th th' (Some w) e f r = by (is_full p.state a b w.c w.d) refl
       where
-        by : (k : Bool) → is_full p.state a b c d ≡ k
-            → InStep m (cond k (out (out (paved p.state Full))) (after_quad (place a b c d p.state))) (settle a b (Quad c d) q)
+        by : (k : Bool) → is_full p.state a b w.c w.d ≡ k
+            → InStep m (cond k (out (out (paved p.state Full))) (after_quad (place a b w.c w.d p.state))) (settle a b (Some w) q)
         by true k = full refl (record { there = q.state; twins = W; onward = r })
         by false k =
-            let A = tried o size field p.state a b c d e in
-            let B = tried o size field q.state a b c d f in
-            let fits = fits_too n p.state q.state W a b c d k in
-            let P : Placement o size p.state a b c d = record { there = th; da = A.da; db = A.db; answered = A.answered; fits = k } in
-            let Q : Placement o size q.state a b c d = record { there = th'; da = B.da; db = B.db; answered = B.answered; fits = fits } in
+            let A = tried o size field p.state a b w.c w.d e in
+            let B = tried o size field q.state a b w.c w.d f in
+            let fits = fits_too n p.state q.state W a b w.c w.d k in
+            let P : Placement o size p.state a b w.c w.d = record { there = th; da = A.da; db = A.db; answered = A.answered; fits = k } in
+            let Q : Placement o size q.state a b w.c w.d = record { there = th'; da = B.da; db = B.db; answered = B.answered; fits = fits } in
             rw fits
-            (quad_step m (place a b c d p.state) (place a b c d q.state) (place_twins n p.state q.state W o size a b c d P Q)
-            (λ i h. rw (place_snapshot a b c d p.state, place_snapshot a b c d q.state) (N i h)))
+            (quad_step m (place a b w.c w.d p.state) (place a b w.c w.d q.state) (place_twins n p.state q.state W o size a b w.c w.d P Q)
+            (λ i h. rw (place_snapshot a b w.c w.d p.state, place_snapshot a b w.c w.d q.state) (N i h)))
 
     try_step : (b : ℕ) (th th' : Bool) → is_there p.state a b ≡ th → is_there q.state a b ≡ th' → th' ≡ th
         → InStep m (cond th (settle a b (try_edge o size field p.state a b) p) (go p))
@@ -131,7 +130,7 @@ module _ (o : Outline) (size : Float) (field : FieldRecord) (n : ℕ) where
     try_step b true true e f g =
         let x = try_edge o size field p.state a b in
         let s = try_same n p.state q.state W o size field a b e in
-        subst (λ (y : Attempt). InStep m (settle a b x p) (settle a b y q)) (sym s)
+        subst (λ (y : Option FarCorners). InStep m (settle a b x p) (settle a b y q)) (sym s)
         (settle_step b e f x refl s (settle_on a b q f x s))
     try_step b false false e f g = both same W N
     try_step b true false e f g = absurd (let z : ◌≡◌ {A = ℕ} 0 1 = cc in omega arith)

@@ -1,5 +1,5 @@
 -- An attempt on a front edge answers the same in states that are alike: `try_alike`. Function by function along the definitions of the checks.
-use Rattle.std.specs.Prelude.{ℕ, ◌+◌, ◌*◌, ◌<◌, ◌≤◌, List, ◌≡◌, Bool, cond, ◌≢◌, Float}
+use Rattle.std.specs.Prelude.{ℕ, ◌+◌, ◌*◌, ◌<◌, ◌≤◌, List, ◌≡◌, Bool, cond, ◌≢◌, Float, Some, None}
 use Rattle.std.proofs.Math.Path.{refl, ap, ap₂}
 use Rattle.std.proofs.Common.{sym, ◌∙◌}
 use Rattle.std.proofs.Math.Bool.{true, false}
@@ -17,13 +17,11 @@ use Rattle.topology.proofs.Front.{next_in, prev_in}
 use Rattle.direction.specs.Record.{FieldRecord}
 use Rattle.front.specs.declared.Corner.{Corner}
 use Rattle.front.specs.declared.Corner.TheVariants.{Reused, Fresh}
-use Rattle.front.specs.declared.Neighbour.TheVariants.{At, Off}
 use Rattle.front.specs.State.{State, node, next_of, prev_of}
 use Rattle.front.specs.Neighbours.{neighbour_of}
 use Rattle.front.specs.Place.{corner_point, corner_id, id_c, id_d, added}
 use Rattle.front.specs.Sound.{Sound}
 use Rattle.front.specs.Pushed.{IsNode}
-use Rattle.paving.specs.declared.Attempt.{Attempt}
 use Rattle.paving.specs.Checks.{close_node, too_close, node_ok, corner_free, corners_apart, blocks, node_inside, crosses_edge, edge_crosses, side_crosses}
 use Rattle.paving.specs.Checks.{edges_free, corners_of, quad_ok, quad_fits}
 use Rattle.paving.specs.Attempt.{is_reused, corner_at, ideal, corner_c, corner_d, quad_if, attempt_quad, try_toward, try_edge}
@@ -63,7 +61,7 @@ module _ (s t : State) (R : ReadsAlike s t) where
   unfolding corner_at is_reused neighbour_of
   corner_alike size other v p inside = by (eqb v off) refl
     where
-      by : (b : Bool) → eqb v off ≡ b → corner_at size t other (cond b Off (At v)) p ≡ corner_at size s other (cond b Off (At v)) p
+      by : (b : Bool) → eqb v off ≡ b → corner_at size t other (cond b None (Some v)) p ≡ corner_at size s other (cond b None (Some v)) p
       by true e = refl
       by false e = rw (R.points v (inside (eqb-false v off e)))
 
@@ -75,7 +73,7 @@ module _ (s t : State) (R : ReadsAlike s t) where
       at h true = h
       at h false = tt
 
-      by : (b : Bool) → eqb v off ≡ b → IsNode N (corner_at size s other (cond b Off (At v)) p)
+      by : (b : Bool) → eqb v off ≡ b → IsNode N (corner_at size s other (cond b None (Some v)) p)
       by true e = tt
       by false e = at (inside (eqb-false v off e)) (is_reused size s other v p)
 

@@ -29,13 +29,6 @@ pub enum Corner {
     Fresh(f64, f64),
 }
 
-// A node's neighbour along the front; none for a node off the front.
-#[derive(Clone, Copy)]
-pub enum Neighbour {
-    At(u32),
-    Off,
-}
-
 // The nodes of a sampled loop in the order of the front. `count` nodes were sampled from `base` on; they run backwards where `turned`;
 // and where `split`, one node more stands after place `longest`.
 #[derive(Clone, Copy)]

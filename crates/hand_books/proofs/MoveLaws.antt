@@ -1,5 +1,5 @@
 -- What holds of the definitions of specs/MoveLaws.antt.
-use Rattle.std.specs.Prelude.{Bool, ◌||◌, cond, ◌≡◌, ltb, length, Float}
+use Rattle.std.specs.Prelude.{Bool, ◌||◌, cond, ◌≡◌, ltb, length, Float, Option, Some, None}
 use Rattle.std.proofs.Math.Bool.{true, false}
 use mathlib.Core.List.{List, [], ◌∷◌}
 use Rattle.std.proofs.Math.Path.{refl}
@@ -12,8 +12,7 @@ use Rattle.direction.specs.Record.{FieldRecord}
 use Rattle.front.specs.State.{State, node_places, edge_places}
 use Rattle.front.specs.Place.{place, is_full}
 use Rattle.front.specs.Sampling.{sampled_count, front_refusal, from_boundary}
-use Rattle.paving.specs.declared.Attempt.{Attempt}
-use Rattle.paving.specs.declared.Attempt.TheVariants.{Nothing, Quad}
+use Rattle.paving.specs.declared.FarCorners.{FarCorners}
 use Rattle.paving.specs.Attempt.{try_edge}
 use Rattle.paving.specs.Advance.{most_quads, is_there, with_snapshot}
 use Rattle.paving.specs.Reach.{Reaches, begin, snapshot, placed}
@@ -32,16 +31,16 @@ use Rattle.hand_books.specs.MoveLaws.{reached_then, FromOutline}
 -- ---- a step
 
 module _ (o : Outline) (size : Float) (field : FieldRecord) (s : State) where
-  settled_reaches : (t : State) (a b : ℕ) → is_there t a b ≡ true → (r : Attempt) → try_edge o size field t a b ≡ r → Reached o size s t
+  settled_reaches : (t : State) (a b : ℕ) → is_there t a b ≡ true → (r : Option FarCorners) → try_edge o size field t a b ≡ r → Reached o size s t
       → Reached o size s (settled_on a b r t).state
-  settled_reaches t a b there Nothing e R = R
-  settled_reaches t a b there (Quad c d) e R = by (is_full t a b c d) refl
+  settled_reaches t a b there None e R = R
+  settled_reaches t a b there (Some q) e R = by (is_full t a b q.c q.d) refl
     where
-      by : (full : Bool) → is_full t a b c d ≡ full
-          → Reached o size s (cond full (handled t Full) (handled (place a b c d t) Placed)).state
+      by : (full : Bool) → is_full t a b q.c q.d ≡ full
+          → Reached o size s (cond full (handled t Full) (handled (place a b q.c q.d t) Placed)).state
       by true f = R
       by false f =
-          let A = tried o size field t a b c d e in
+          let A = tried o size field t a b q.c q.d e in
           record {
             quads = suc R.quads;
             by = placed R.by (record { there = there; da = A.da; db = A.db; answered = A.answered; fits = f });

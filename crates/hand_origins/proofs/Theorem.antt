@@ -1,5 +1,5 @@
 -- What holds of the definitions of specs/Theorem.antt.
-use Rattle.std.specs.Prelude.{Bool, cond, List, ◌≡◌, ℕ, suc, ◌+◌, ◌≤◌, leb, length, Float}
+use Rattle.std.specs.Prelude.{Bool, cond, List, ◌≡◌, ℕ, suc, ◌+◌, ◌≤◌, leb, length, Float, Option, Some, None}
 use Rattle.std.proofs.Math.Bool.{true, false}
 use Rattle.std.proofs.Math.Path.{refl, sym, ap}
 use Rattle.std.proofs.Common.{◌∙◌, add-one, arith, eqb-true}
@@ -17,9 +17,8 @@ use Rattle.front.specs.Sampling.{sampled_count}
 use Rattle.lent_mesh.specs.declared.QuadIds.{QuadIds}
 use Rattle.lent_mesh.specs.Mesh.{quad_in}
 use Rattle.lent_mesh.specs.Answered.{ids_of, quad_same}
-use Rattle.paving.specs.declared.Attempt.{Attempt}
-use Rattle.paving.specs.declared.Attempt.TheVariants.{Nothing, Quad}
-use Rattle.paving.specs.Attempt.{try_edge}
+use Rattle.paving.specs.declared.FarCorners.{FarCorners}
+use Rattle.paving.specs.Attempt.{try_edge, far}
 use Rattle.paving.specs.Advance.{most_quads}
 use Rattle.paving.specs.Reach.{Placement}
 use Rattle.paving.specs.ReachLaws.{tried}
@@ -69,7 +68,7 @@ module _ (o : Outline) (size : Float) (field : FieldRecord) (s : State) (F : Fro
   same_kept : NumbersKept s
   same_kept = sym (origins_same a n l) ∙ N
 
-  module _ (passes : hand_refusal s a b ≡ 0) (c d : Corner) (e : try_edge o size field s a b ≡ Quad c d) (full : is_full s a b c d ≡ false) where
+  module _ (passes : hand_refusal s a b ≡ 0) (c d : Corner) (e : try_edge o size field s a b ≡ Some (far c d)) (full : is_full s a b c d ≡ false) where
     placement : Placement o size s a b c d
     unfolding hand_refusal
     placement =
@@ -121,13 +120,13 @@ module _ (o : Outline) (size : Float) (field : FieldRecord) (s : State) (F : Fro
         ∙ (new_pushed a n l S.id_a c d B.0 B.1
         ∙ (ap (push_at a D m) first ∙ (second ∙ ap (λ (x : List ℕ). overlay x before) (sym numbers_after))))
 
-  settled_kept : hand_refusal s a b ≡ 0 → (r : Attempt) → try_edge o size field s a b ≡ r → NumbersKept (settled_on a b r s).state
-  settled_kept passes Nothing e = same_kept
-  settled_kept passes (Quad c d) e = by (is_full s a b c d) refl
+  settled_kept : hand_refusal s a b ≡ 0 → (r : Option FarCorners) → try_edge o size field s a b ≡ r → NumbersKept (settled_on a b r s).state
+  settled_kept passes None e = same_kept
+  settled_kept passes (Some q) e = by (is_full s a b q.c q.d) refl
     where
-      by : (full : Bool) → is_full s a b c d ≡ full → NumbersKept (cond full (handled s Full) (handled (place a b c d s) Placed)).state
+      by : (full : Bool) → is_full s a b q.c q.d ≡ full → NumbersKept (cond full (handled s Full) (handled (place a b q.c q.d s) Placed)).state
       by true f = same_kept
-      by false f = placed_kept passes c d e f
+      by false f = placed_kept passes q.c q.d e f
 
   place_kept : hand_refusal s a b ≡ 0 → NumbersKept (place_on o size field a b s).state
   unfolding place_on

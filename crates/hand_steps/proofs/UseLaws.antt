@@ -1,5 +1,5 @@
 -- What holds of the definitions of specs/UseLaws.antt.
-use Rattle.std.specs.Prelude.{Bool, ◌||◌, ◌≡◌, ℕ, ◌+◌, ◌≤◌, leb, Float}
+use Rattle.std.specs.Prelude.{Bool, ◌||◌, ◌≡◌, ℕ, ◌+◌, ◌≤◌, leb, Float, Option, Some, None}
 use Rattle.std.proofs.Math.Bool.{true, false, cond}
 use Rattle.std.proofs.Math.Path.{refl}
 use native.Mathlib.Omega.{arith}
@@ -11,8 +11,7 @@ use Rattle.direction.specs.Record.{FieldRecord}
 use Rattle.front.specs.declared.Corner.{Corner}
 use Rattle.front.specs.State.{State, node_places, quad_places, edge_places}
 use Rattle.front.specs.Place.{added, id_c, id_d, edges_added, place, is_full}
-use Rattle.paving.specs.declared.Attempt.{Attempt}
-use Rattle.paving.specs.declared.Attempt.TheVariants.{Nothing, Quad}
+use Rattle.paving.specs.declared.FarCorners.{FarCorners}
 use Rattle.paving.specs.Attempt.{try_edge}
 use Rattle.paving.specs.Advance.{most_quads}
 use Rattle.mesh_check.specs.Check.{beyond_places}
@@ -35,17 +34,17 @@ module _ (o : Outline) (size : Float) (field : FieldRecord) (s : State) (a b : �
   abbrev quads_or_edges : Corner → Corner → Bool
   quads_or_edges c d = ltb (quad_places s) (s.counts.quads + 1) || ltb (edge_places s) (s.counts.edges + edges_added s a b (id_d s c d) (id_c s c))
 
-  settled_grown : (t : Attempt) → NodesGrown (settled_on a b t s).state.counts.nodes
+  settled_grown : (t : Option FarCorners) → NodesGrown (settled_on a b t s).state.counts.nodes
   unfolding is_full
-  settled_grown Nothing = same_grown
-  settled_grown (Quad c d) = by (is_full s a b c d) refl
+  settled_grown None = same_grown
+  settled_grown (Some q) = by (is_full s a b q.c q.d) refl
     where
-      by : (full : Bool) → is_full s a b c d ≡ full → NodesGrown (cond full (handled s Full) (handled (place a b c d s) Placed)).state.counts.nodes
+      by : (full : Bool) → is_full s a b q.c q.d ≡ full → NodesGrown (cond full (handled s Full) (handled (place a b q.c q.d s) Placed)).state.counts.nodes
       by true f = same_grown
       by false f =
-          let N = placed_nodes a b c d s in
-          let m = s.counts.nodes + added c + added d in
-          let first : ltb (node_places s) m ≡ false = (neither (ltb (node_places s) m) (quads_or_edges c d) f).0 in
+          let N = placed_nodes a b q.c q.d s in
+          let m = s.counts.nodes + added q.c + added q.d in
+          let first : ltb (node_places s) m ≡ false = (neither (ltb (node_places s) m) (quads_or_edges q.c q.d) f).0 in
           (omega (arith, N), omega (arith, N, ltb-false (node_places s) m first))
 
   pub place_grown : NodesGrown (place_on o size field a b s).state.counts.nodes

@@ -1,19 +1,18 @@
 -- Paper 11: a single placing on a named edge, and what a step answers and leaves. Definitions only.
-use Rattle.std.specs.Prelude.{cond, List, Result, Ok, Err, ◌≡◌, ℕ, ◌+◌, ◌-◌, leb, eqb, get_or, set, Float}
+use Rattle.std.specs.Prelude.{cond, List, Result, Ok, Err, ◌≡◌, ℕ, ◌+◌, ◌-◌, leb, eqb, get_or, set, Float, Option, Some, None}
 use Rattle.laws.specs.Loop.{for_up}
 use Rattle.domain.specs.Outline.{Outline, first_of}
 use Rattle.direction.specs.Record.{FieldRecord}
 use Rattle.front.specs.declared.Counts.{Counts}
 use Rattle.front.specs.State.{State}
 use Rattle.front.specs.Place.{place, is_full}
-use Rattle.paving.specs.declared.Attempt.{Attempt}
-use Rattle.paving.specs.declared.Attempt.TheVariants.{Nothing, Quad}
+use Rattle.paving.specs.declared.FarCorners.{FarCorners}
 use Rattle.paving.specs.Attempt.{try_edge}
 use Rattle.paving.specs.Advance.{most_quads}
 use Rattle.mesh_check.specs.Check.{mesh_refusal, edge_refusal}
 use Rattle.hand_steps.specs.declared.HandPlacing.{HandPlacing}
 use Rattle.hand_steps.specs.declared.StepOutcome.{StepOutcome}
-use Rattle.hand_steps.specs.declared.StepOutcome.TheVariants.{Placed, None, Full, Cap}
+use Rattle.hand_steps.specs.declared.StepOutcome.TheVariants.{Placed, None as NoQuad, Full, Cap}
 
 -- 23, then 24
 unfoldable pub hand_refusal : State → ℕ → ℕ → ℕ
@@ -30,9 +29,9 @@ abbrev pub handled : State → StepOutcome → Handled
 handled s r = record { state = s; outcome = r }
 
 -- the quad that was answered is placed, where the places lent suffice
-abbrev pub settled_on : ℕ → ℕ → Attempt → State → Handled
-settled_on a b Nothing s = handled s None
-settled_on a b (Quad c d) s = cond (is_full s a b c d) (handled s Full) (handled (place a b c d s) Placed)
+abbrev pub settled_on : ℕ → ℕ → Option FarCorners → State → Handled
+settled_on a b None s = handled s NoQuad
+settled_on a b (Some q) s = cond (is_full s a b q.c q.d) (handled s Full) (handled (place a b q.c q.d s) Placed)
 
 -- the two attempts of the automatic pass; none at all where 250,000 quads stand
 unfoldable pub place_on : Outline → Float → FieldRecord → ℕ → ℕ → State → Handled

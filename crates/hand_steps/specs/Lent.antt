@@ -1,5 +1,5 @@
 -- What a placing may use of a mesh that 23 and 24 let pass, and what the code asks. Definitions only.
-use Rattle.std.specs.Prelude.{false, List, ◌≡◌, ◌≢◌, ℕ, ◌<◌, Float}
+use Rattle.std.specs.Prelude.{false, List, ◌≡◌, ◌≢◌, ℕ, ◌<◌, Float, Option, Some}
 use Rattle.topology.specs.Links.{off}
 use Rattle.domain.specs.Outline.{Outline, outline_refusal}
 use Rattle.domain.specs.Accepted.{OutlineFits}
@@ -9,8 +9,8 @@ use Rattle.front.specs.declared.Counts.{Counts}
 use Rattle.front.specs.declared.Corner.{Corner}
 use Rattle.front.specs.State.{State, next_of, prev_of}
 use Rattle.front.specs.Place.{is_full}
-use Rattle.paving.specs.declared.Attempt.{Attempt}
-use Rattle.paving.specs.declared.Attempt.TheVariants.{Quad}
+use Rattle.paving.specs.declared.FarCorners.{FarCorners}
+use Rattle.paving.specs.Attempt.{far}
 use Rattle.mesh_check.specs.Check.{lent_state}
 use Rattle.mesh_check.specs.Passed.{MeshPasses, MeshRoom}
 use Rattle.hand_placing.specs.Room.{QuadRoom}
@@ -31,7 +31,7 @@ pub record OnFront (s : State) (a b : ℕ) : Type 0 where
   pub at_b : next_of s b ≢ off → next_of s b < s.counts.nodes
 
 -- the attempt's answer can be settled: where it is a quad that isn't full, it fits
-pub record Settleable (xs ys : List Float) (next prev origins quads edges : List ℕ) (k : Counts) (a b : ℕ) (t : Attempt) : Type 0 where
+pub record Settleable (xs ys : List Float) (next prev origins quads edges : List ℕ) (k : Counts) (a b : ℕ) (t : Option FarCorners) : Type 0 where
   pub room : MeshRoom xs ys next prev origins quads edges k.nodes k.quads k.edges
-  pub fits : (c d : Corner) → t ≡ Quad c d → is_full (lent_state xs ys next prev origins quads edges k) a b c d ≡ false
+  pub fits : (c d : Corner) → t ≡ Some (far c d) → is_full (lent_state xs ys next prev origins quads edges k) a b c d ≡ false
       → QuadRoom xs ys next prev quads edges k a b c d

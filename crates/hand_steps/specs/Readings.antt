@@ -1,5 +1,5 @@
 -- What paper 11 says of a step, as laws: 23 before 24, cap with nothing placed, full with no second attempt. Assumes nothing.
-use Rattle.std.specs.Prelude.{true, false, ◌≡◌, ℕ, ◌<◌, ◌≤◌, Float}
+use Rattle.std.specs.Prelude.{true, false, ◌≡◌, ℕ, ◌<◌, ◌≤◌, Float, Some, None}
 use Rattle.std.proofs.Common.{le-leb}
 use Rattle.std.proofs.lemmas.Bool.{lt-leb}
 use Rattle.domain.specs.Outline.{Outline}
@@ -7,11 +7,10 @@ use Rattle.direction.specs.Record.{FieldRecord}
 use Rattle.front.specs.declared.Corner.{Corner}
 use Rattle.front.specs.State.{State}
 use Rattle.front.specs.Place.{place, is_full}
-use Rattle.paving.specs.declared.Attempt.TheVariants.{Nothing, Quad}
-use Rattle.paving.specs.Attempt.{try_edge}
+use Rattle.paving.specs.Attempt.{try_edge, far}
 use Rattle.paving.specs.Advance.{most_quads}
 use Rattle.mesh_check.specs.Check.{mesh_refusal}
-use Rattle.hand_steps.specs.declared.StepOutcome.TheVariants.{Placed, None, Full, Cap}
+use Rattle.hand_steps.specs.declared.StepOutcome.TheVariants.{Placed, None as NoQuad, Full, Cap}
 use Rattle.hand_steps.specs.Hand.{hand_refusal, handled, place_on}
 
 -- a mesh that 23 refuses is refused with 23, wherever the edge is
@@ -26,11 +25,11 @@ module _ (o : Outline) (size : Float) (field : FieldRecord) (a b : ℕ) (s : Sta
   at_the_cap h = rw (le-leb _ _ h)
 
   module _ (few : s.counts.quads < most_quads) where
-    pub no_quad_lem : try_edge o size field s a b ≡ Nothing → place_on o size field a b s ≡ handled s None
+    pub no_quad_lem : try_edge o size field s a b ≡ None → place_on o size field a b s ≡ handled s NoQuad
     unfolding place_on
     no_quad_lem t = rw (lt-leb _ _ few, t)
 
-    module _ (c d : Corner) (t : try_edge o size field s a b ≡ Quad c d) where
+    module _ (c d : Corner) (t : try_edge o size field s a b ≡ Some (far c d)) where
       -- a quad that doesn't fit ends the step: nothing is placed, and the other attempt isn't made
       pub full_ends : is_full s a b c d ≡ true → place_on o size field a b s ≡ handled s Full
       unfolding place_on

@@ -1,5 +1,5 @@
 -- What the code of a step answers, case by case. Assumes nothing.
-use Rattle.std.specs.Prelude.{Bool, true, false, List, Ok, Err, [], ◌≡◌, ◌≢◌, get_or, set, Float}
+use Rattle.std.specs.Prelude.{Bool, true, false, List, Ok, Err, [], ◌≡◌, ◌≢◌, get_or, set, Float, Option, Some}
 use Rattle.std.proofs.Math.Path.{refl, ap}
 use Rattle.std.proofs.Common.{sym, ◌∙◌, arith, length-set}
 use Prim.Native.Nat.{ℕ, zero, suc, ◌+◌, ◌-◌, ◌<◌, ◌≤◌}
@@ -13,9 +13,8 @@ use Rattle.front.specs.declared.Counts.{Counts}
 use Rattle.front.specs.declared.Corner.{Corner}
 use Rattle.front.specs.State.{State, state_of}
 use Rattle.front.specs.Place.{place, is_full}
-use Rattle.paving.specs.declared.Attempt.{Attempt}
-use Rattle.paving.specs.declared.Attempt.TheVariants.{Quad}
-use Rattle.paving.specs.Attempt.{try_edge}
+use Rattle.paving.specs.declared.FarCorners.{FarCorners}
+use Rattle.paving.specs.Attempt.{try_edge, far}
 use Rattle.paving.specs.Advance.{most_quads}
 use Rattle.attempts.specs.Seen.{seen_of}
 use Rattle.attempts.specs.SeenLaws.{try_seen}
@@ -51,7 +50,7 @@ next_long xs ys next prev origins quads edges k e z =
 
 -- ---- the placing
 
-module _ (a b : ℕ) (c d : Corner) (s : State) {t : Attempt} (q : t ≡ Quad c d) {r : Bool} (e : r ≡ is_full s a b c d) where
+module _ (a b : ℕ) (c d : Corner) (s : State) {t : Option FarCorners} (q : t ≡ Some (far c d)) {r : Bool} (e : r ≡ is_full s a b c d) where
   pub handled_full : r ≡ true → handled s Full ≡ settled_on a b t s
   handled_full f = rw (q, ← e, f)
 
@@ -66,13 +65,13 @@ module _ (o : Outline) (size : Float) (g : Grid) (values : List Float) (marks : 
   unfolding place_on
   place_cap h = rw (le-leb _ _ h)
 
-  pub place_tried : s.counts.quads < most_quads → {t : Attempt} → t ≡ try_edge o size (field_record g values []) (seen_of s) a b → {h : Handled}
+  pub place_tried : s.counts.quads < most_quads → {t : Option FarCorners} → t ≡ try_edge o size (field_record g values []) (seen_of s) a b → {h : Handled}
       → h ≡ settled_on a b t s → h ≡ place_on o size field a b s
   unfolding place_on
   place_tried less e p = rw (lt-leb _ _ less, ← (e ∙ try_seen s field o size a b)) p
 
 pub settleable : (o : Outline) (size : Float) (g : Grid) (values xs ys : List Float) (next prev origins quads edges : List ℕ) (k : Counts) (a b : ℕ)
-    → OnFront (lent_state xs ys next prev origins quads edges k) a b → {t : Attempt}
+    → OnFront (lent_state xs ys next prev origins quads edges k) a b → {t : Option FarCorners}
     → t ≡ try_edge o size (field_record g values []) (seen_of (lent_state xs ys next prev origins quads edges k)) a b
     → Settleable xs ys next prev origins quads edges k a b t
 settleable o size g values xs ys next prev origins quads edges k a b S {t} e =

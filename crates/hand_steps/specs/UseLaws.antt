@@ -1,6 +1,6 @@
 -- What a placing may use of a mesh that 23 and 24 let pass: `on_front_lem`. So the quad that an attempt answers fits where it isn't full, and the
 -- attempts can be made with no pools and no blocks. Assumes nothing.
-use Rattle.std.specs.Prelude.{Bool, List, ◌≡◌, ◌≢◌, ℕ, ◌+◌, ◌<◌, ◌≤◌, eqb, length, get_or, Float}
+use Rattle.std.specs.Prelude.{Bool, List, ◌≡◌, ◌≢◌, ℕ, ◌+◌, ◌<◌, ◌≤◌, eqb, length, get_or, Float, Some, None}
 use Rattle.std.proofs.Math.Bool.{true, false, not, cond, true≢false}
 use Rattle.std.proofs.Math.Path.{refl, ap, subst}
 use Rattle.std.proofs.Common.{sym, ◌∙◌}
@@ -20,13 +20,11 @@ use Rattle.topology.specs.Links.{off, link_of}
 use Rattle.front.specs.declared.Counts.{Counts}
 use Rattle.front.specs.declared.Corner.{Corner}
 use Rattle.front.specs.declared.Corner.TheVariants.{Reused, Fresh}
-use Rattle.front.specs.declared.Neighbour.TheVariants.{At, Off}
 use Rattle.front.specs.State.{State, next_of, prev_of}
 use Rattle.front.specs.Neighbours.{neighbour_of}
 use Rattle.front.specs.Place.{added, corner_id, id_c, id_d, is_full}
 use Rattle.front.specs.Stores.{Ids}
-use Rattle.paving.specs.declared.Attempt.TheVariants.{Quad}
-use Rattle.paving.specs.Attempt.{is_reused, corner_at, corner_c, corner_d, try_edge}
+use Rattle.paving.specs.Attempt.{is_reused, corner_at, corner_c, corner_d, try_edge, far}
 use Rattle.paving.specs.AttemptLaws.{quad_chosen}
 use Rattle.paving.specs.Advance.{is_there}
 use Rattle.paving.specs.ReachLaws.{tried}
@@ -93,7 +91,7 @@ corner_below size s other v p c n e within = by (eqb v off) refl e
     at on true e = subst (Below n) e (within on)
     at on false e = subst (Below n) e tt
 
-    by : (t : Bool) → eqb v off ≡ t → corner_at size s other (cond t Off (At v)) p ≡ c → Below n c
+    by : (t : Bool) → eqb v off ≡ t → corner_at size s other (cond t None (Some v)) p ≡ c → Below n c
     by true r e = subst (Below n) e tt
     by false r e = at (eqb-false v off r) (is_reused size s other v p) e
 
@@ -102,14 +100,14 @@ below_id (Reused id) n m h l = omega arith
 below_id (Fresh x y) n m h l = omega arith
 
 module _ (o : Outline) (size : Float) (field : FieldRecord) (s : State) (a b : ℕ) (S : OnFront s a b) (c d : Corner) where
-  pub quad_below : try_edge o size field s a b ≡ Quad c d → Below s.counts.nodes c × Below s.counts.nodes d
+  pub quad_below : try_edge o size field s a b ≡ Some (far c d) → Below s.counts.nodes c × Below s.counts.nodes d
   unfolding corner_c corner_d
   quad_below e =
       let A = tried o size field s a b c d e in
       let Q = quad_chosen o size s a b A.da A.db c d A.answered in
       (corner_below size s b (prev_of s a) _ c _ Q.at_c S.at_a, corner_below size s a (next_of s b) _ d _ Q.at_d S.at_b)
 
-  pub quad_ids : try_edge o size field s a b ≡ Quad c d → Ids (s.counts.nodes + (added c + added d)) a b (id_c s c) (id_d s c d)
+  pub quad_ids : try_edge o size field s a b ≡ Some (far c d) → Ids (s.counts.nodes + (added c + added d)) a b (id_c s c) (id_d s c d)
   quad_ids e =
       let n = s.counts.nodes in
       let B = quad_below e in
@@ -130,7 +128,7 @@ module _ (xs ys : List Float) (next prev origins quads edges : List ℕ) (k : Co
   front_room = room xs ys next prev origins quads edges k k.nodes k.quads k.edges S.passes.counts
 
   pub quad_fits_lem : (o : Outline) (size : Float) (field : FieldRecord) (c d : Corner)
-      → try_edge o size field (lent_state xs ys next prev origins quads edges k) a b ≡ Quad c d
+      → try_edge o size field (lent_state xs ys next prev origins quads edges k) a b ≡ Some (far c d)
       → is_full (lent_state xs ys next prev origins quads edges k) a b c d ≡ false → QuadRoom xs ys next prev quads edges k a b c d
   quad_fits_lem o size field c d e full =
       let s = lent_state xs ys next prev origins quads edges k in

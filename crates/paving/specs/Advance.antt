@@ -1,13 +1,12 @@
 -- A pass and `advance` of src/alt_crossfield.rs, with document 01's four ends. Definitions only.
-use Rattle.std.specs.Prelude.{Bool, true, false, not, ◌&&◌, cond, List, ℕ, min, leb, eqb, get_or, set, Float}
+use Rattle.std.specs.Prelude.{Bool, true, false, not, ◌&&◌, cond, List, ℕ, min, leb, eqb, get_or, set, Float, Option, Some, None}
 use Rattle.laws.specs.Loop.{for_up, Turn, go, out, run}
 use Rattle.domain.specs.Outline.{Outline}
 use Rattle.topology.specs.Links.{off}
 use Rattle.direction.specs.Record.{FieldRecord}
 use Rattle.front.specs.State.{State, next_of}
 use Rattle.front.specs.Place.{place, is_full}
-use Rattle.paving.specs.declared.Attempt.{Attempt}
-use Rattle.paving.specs.declared.Attempt.TheVariants.{Nothing, Quad}
+use Rattle.paving.specs.declared.FarCorners.{FarCorners}
 use Rattle.paving.specs.declared.End.{End}
 use Rattle.paving.specs.declared.End.TheVariants.{Still, Passes, Cap, Full}
 use Rattle.paving.specs.Attempt.{try_edge}
@@ -42,9 +41,9 @@ unfoldable pub after_quad : State → Turn Passing Passed
 after_quad s = cond (leb most_quads s.counts.quads) (out (out (paved s Cap))) (go (passing s true))
 
 -- the front edge a to b was tried: full where the quad doesn't fit the places lent
-abbrev pub settle : ℕ → ℕ → Attempt → Passing → Turn Passing Passed
-settle a b Nothing p = go p
-settle a b (Quad c d) p = cond (is_full p.state a b c d) (out (out (paved p.state Full))) (after_quad (place a b c d p.state))
+abbrev pub settle : ℕ → ℕ → Option FarCorners → Passing → Turn Passing Passed
+settle a b None p = go p
+settle a b (Some q) p = cond (is_full p.state a b q.c q.d) (out (out (paved p.state Full))) (after_quad (place a b q.c q.d p.state))
 
 -- a to b was a front edge when the pass began, and still is
 abbrev pub is_there : State → ℕ → ℕ → Bool

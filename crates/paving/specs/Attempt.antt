@@ -1,5 +1,5 @@
 -- The choice of corners, `attempt_quad` up to the commit, and `try_edge` of src/alt_crossfield.rs. Definitions only.
-use Rattle.std.specs.Prelude.{Bool, not, ◌&&◌, cond, ℕ, eqb, Float}
+use Rattle.std.specs.Prelude.{Bool, not, ◌&&◌, cond, ℕ, eqb, Float, Option, Some, None}
 use Rattle.std.specs.Float.Ieee.{neg, le}
 use Rattle.numbers.specs.Float.{◌⊕◌, ◌⊖◌, ◌⊗◌, ◌⊘◌, bits, tolerance}
 use Rattle.domain.specs.declared.Point.{Point}
@@ -10,12 +10,9 @@ use Rattle.direction.specs.Record.{FieldRecord}
 use Rattle.direction.specs.Direction.{nearest_direction}
 use Rattle.front.specs.declared.Corner.{Corner}
 use Rattle.front.specs.declared.Corner.TheVariants.{Reused, Fresh}
-use Rattle.front.specs.declared.Neighbour.{Neighbour}
-use Rattle.front.specs.declared.Neighbour.TheVariants.{At, Off}
 use Rattle.front.specs.State.{State, node}
 use Rattle.front.specs.Neighbours.{next_at, prev_at}
-use Rattle.paving.specs.declared.Attempt.{Attempt}
-use Rattle.paving.specs.declared.Attempt.TheVariants.{Nothing, Quad}
+use Rattle.paving.specs.declared.FarCorners.{FarCorners}
 use Rattle.paving.specs.Checks.{quad_fits}
 
 -- ---- the choice of corners
@@ -29,9 +26,9 @@ unfoldable pub is_reused : Float → State → ℕ → ℕ → Point → Bool
 is_reused size s other v p = not (eqb v other) && le (distance (node s v) p) (reuse ⊗ size)
 
 -- the corner wanted at p, of a node with the given neighbour
-unfoldable pub corner_at : Float → State → ℕ → Neighbour → Point → Corner
-corner_at size s other Off p = Fresh p.x p.y
-corner_at size s other (At v) p = cond (is_reused size s other v p) (Reused v) (Fresh p.x p.y)
+unfoldable pub corner_at : Float → State → ℕ → Option ℕ → Point → Corner
+corner_at size s other None p = Fresh p.x p.y
+corner_at size s other (Some v) p = cond (is_reused size s other v p) (Reused v) (Fresh p.x p.y)
 
 -- one size from p in a direction
 unfoldable pub ideal : Float → Point → Point → Point
@@ -47,10 +44,14 @@ corner_d size s a b db = corner_at size s a (next_at s b) (ideal size (node s b)
 
 -- ---- `attempt_quad` up to the commit
 
-abbrev pub quad_if : Bool → Corner → Corner → Attempt
-quad_if fits c d = cond fits (Quad c d) Nothing
+abbrev pub far : Corner → Corner → FarCorners
+far c d = record { c = c; d = d }
 
-unfoldable pub attempt_quad : Outline → Float → State → ℕ → ℕ → Point → Point → Attempt
+-- the far corners of a quad, where they fit
+abbrev pub quad_if : Bool → Corner → Corner → Option FarCorners
+quad_if fits c d = cond fits (Some (far c d)) None
+
+unfoldable pub attempt_quad : Outline → Float → State → ℕ → ℕ → Point → Point → Option FarCorners
 attempt_quad o size s a b da db =
     let c = corner_c size s a b da in
     let d = corner_d size s a b db in
@@ -58,24 +59,24 @@ attempt_quad o size s a b da db =
 
 -- ---- `try_edge`
 
-abbrev pub or_else : Attempt → Attempt → Attempt
-or_else Nothing second = second
-or_else (Quad c d) second = Quad c d
+abbrev pub or_else : Option FarCorners → Option FarCorners → Option FarCorners
+or_else None second = second
+or_else (Some q) second = Some q
 
 -- left of a to b, of length 1
 unfoldable pub normal_of : Float → Float → Float → Point
 normal_of bx by length = point (neg (by ⊘ length)) (bx ⊘ length)
 
 -- directions come from the field, then from the edge's normal
-unfoldable pub try_toward : Outline → Float → FieldRecord → State → ℕ → ℕ → Point → Attempt
+unfoldable pub try_toward : Outline → Float → FieldRecord → State → ℕ → ℕ → Point → Option FarCorners
 try_toward o size field s a b normal =
     or_else (attempt_quad o size s a b (nearest_direction field (node s a) normal) (nearest_direction field (node s b) normal))
     (attempt_quad o size s a b normal normal)
 
 -- none on an edge no longer than 1e-12
-unfoldable pub try_edge : Outline → Float → FieldRecord → State → ℕ → ℕ → Attempt
+unfoldable pub try_edge : Outline → Float → FieldRecord → State → ℕ → ℕ → Option FarCorners
 try_edge o size field s a b =
     let bx = (node s b).x ⊖ (node s a).x in
     let by = (node s b).y ⊖ (node s a).y in
     let length = norm bx by in
-    cond (le length tolerance) Nothing (try_toward o size field s a b (normal_of bx by length))
+    cond (le length tolerance) None (try_toward o size field s a b (normal_of bx by length))

@@ -1,12 +1,11 @@
 -- The states that a run of passes goes through: from one to the next by a snapshot or by one quad of the reference. Definitions only.
-use Rattle.std.specs.Prelude.{◌≡◌, true, false, ℕ, suc, Float}
+use Rattle.std.specs.Prelude.{◌≡◌, true, false, ℕ, suc, Float, Some}
 use Rattle.domain.specs.declared.Point.{Point}
 use Rattle.domain.specs.Outline.{Outline}
 use Rattle.front.specs.declared.Corner.{Corner}
 use Rattle.front.specs.State.{State}
 use Rattle.front.specs.Place.{place, is_full}
-use Rattle.paving.specs.declared.Attempt.TheVariants.{Quad}
-use Rattle.paving.specs.Attempt.{attempt_quad}
+use Rattle.paving.specs.Attempt.{attempt_quad, far}
 use Rattle.paving.specs.Advance.{is_there, with_snapshot}
 
 -- the front edge a to b was tried in s, with some directions, and answered the quad a, b, d, c, which fits the places lent
@@ -14,7 +13,7 @@ pub record Placement (o : Outline) (size : Float) (s : State) (a b : ℕ) (c d :
   pub there : is_there s a b ≡ true
   pub da : Point
   pub db : Point
-  pub answered : attempt_quad o size s a b da db ≡ Quad c d
+  pub answered : attempt_quad o size s a b da db ≡ Some (far c d)
   pub fits : is_full s a b c d ≡ false
 
 -- t is reached from s by k quads

@@ -1,5 +1,5 @@
 -- The state that `advance` leaves is reached from the one it began with. Assumes nothing.
-use Rattle.std.specs.Prelude.{◌≡◌, Bool, cond, ℕ, suc, min, leb, Float}
+use Rattle.std.specs.Prelude.{◌≡◌, Bool, cond, ℕ, suc, min, leb, Float, Option, Some, None}
 use Rattle.std.proofs.Math.Path.{refl}
 use Rattle.std.proofs.Common.{subst}
 use Rattle.std.proofs.Math.Bool.{true, false}
@@ -15,10 +15,9 @@ use Rattle.direction.specs.Direction.{nearest_direction}
 use Rattle.front.specs.declared.Corner.{Corner}
 use Rattle.front.specs.State.{State, node}
 use Rattle.front.specs.Place.{place, is_full}
-use Rattle.paving.specs.declared.Attempt.{Attempt}
-use Rattle.paving.specs.declared.Attempt.TheVariants.{Nothing, Quad}
+use Rattle.paving.specs.declared.FarCorners.{FarCorners}
 use Rattle.paving.specs.declared.End.TheVariants.{Still, Cap, Full}
-use Rattle.paving.specs.Attempt.{attempt_quad, or_else, normal_of, try_toward, try_edge}
+use Rattle.paving.specs.Attempt.{attempt_quad, or_else, normal_of, try_toward, try_edge, far}
 use Rattle.paving.specs.Advance.{EndedPaving, paved, Passing, passing, Passed, most_quads, after_quad, settle, is_there, pass_turn, with_snapshot}
 use Rattle.paving.specs.Advance.{after_pass, pass, most_passes, passes_turn, all_used, advance}
 use Rattle.paving.specs.Reach.{Reaches, begin, snapshot, placed}
@@ -29,23 +28,23 @@ use Rattle.paving.specs.Reach.{Reaches, begin, snapshot, placed}
 pub record Attempted (o : Outline) (size : Float) (s : State) (a b : ℕ) (c d : Corner) : Type 0 where
   pub da : Point
   pub db : Point
-  pub answered : attempt_quad o size s a b da db ≡ Quad c d
+  pub answered : attempt_quad o size s a b da db ≡ Some (far c d)
 
-abbrev Answers : Outline → Float → State → ℕ → ℕ → Attempt → Type 0
-Answers o size s a b Nothing = Unit {0}
-Answers o size s a b (Quad c d) = Attempted o size s a b c d
+abbrev Answers : Outline → Float → State → ℕ → ℕ → Option FarCorners → Type 0
+Answers o size s a b None = Unit {0}
+Answers o size s a b (Some q) = Attempted o size s a b q.c q.d
 
 attempt_answers : (o : Outline) (size : Float) (s : State) (a b : ℕ) (da db : Point) → Answers o size s a b (attempt_quad o size s a b da db)
 attempt_answers o size s a b da db = by (attempt_quad o size s a b da db) refl
   where
-    by : (t : Attempt) → attempt_quad o size s a b da db ≡ t → Answers o size s a b t
-    by Nothing e = tt
-    by (Quad c d) e = record { da = da; db = db; answered = e }
+    by : (t : Option FarCorners) → attempt_quad o size s a b da db ≡ t → Answers o size s a b t
+    by None e = tt
+    by (Some q) e = record { da = da; db = db; answered = e }
 
-or_answers : (o : Outline) (size : Float) (s : State) (a b : ℕ) (t u : Attempt) → Answers o size s a b t → Answers o size s a b u
+or_answers : (o : Outline) (size : Float) (s : State) (a b : ℕ) (t u : Option FarCorners) → Answers o size s a b t → Answers o size s a b u
     → Answers o size s a b (or_else t u)
-or_answers o size s a b Nothing u p q = q
-or_answers o size s a b (Quad c d) u p q = p
+or_answers o size s a b None u p q = q
+or_answers o size s a b (Some w) u p q = p
 
 try_answers : (o : Outline) (size : Float) (field : FieldRecord) (s : State) (a b : ℕ) → Answers o size s a b (try_edge o size field s a b)
 unfolding try_edge try_toward
@@ -58,12 +57,12 @@ try_answers o size field s a b =
     choose (le (norm bx by') tolerance) _
     (or_answers o size s a b (attempt_quad o size s a b da db) _ (attempt_answers o size s a b da db) (attempt_answers o size s a b normal normal))
   where
-    choose : (short : Bool) (t : Attempt) → Answers o size s a b t → Answers o size s a b (cond short Nothing t)
+    choose : (short : Bool) (t : Option FarCorners) → Answers o size s a b t → Answers o size s a b (cond short None t)
     choose true t p = tt
     choose false t p = p
 
 -- the quad that an edge answers was answered by an attempt
-pub tried : (o : Outline) (size : Float) (field : FieldRecord) (s : State) (a b : ℕ) (c d : Corner) → try_edge o size field s a b ≡ Quad c d
+pub tried : (o : Outline) (size : Float) (field : FieldRecord) (s : State) (a b : ℕ) (c d : Corner) → try_edge o size field s a b ≡ Some (far c d)
     → Attempted o size s a b c d
 tried o size field s a b c d e = subst (Answers o size s a b) e (try_answers o size field s a b)
 
@@ -93,18 +92,18 @@ module _ (o : Outline) (size : Float) (s : State) where
       choose true = r
       choose false = r
 
-  settle_kept : (p : Passing) (a b : ℕ) (t : Attempt) → is_there p.state a b ≡ true → Answers o size p.state a b t → AtPassing p
+  settle_kept : (p : Passing) (a b : ℕ) (t : Option FarCorners) → is_there p.state a b ≡ true → Answers o size p.state a b t → AtPassing p
       → Kept AtPassing AtPassed (settle a b t p)
-  settle_kept p a b Nothing there h r = r
-  settle_kept p a b (Quad c d) there h r = choose (is_full p.state a b c d) refl
+  settle_kept p a b None there h r = r
+  settle_kept p a b (Some q) there h r = choose (is_full p.state a b q.c q.d) refl
     where
-      more : is_full p.state a b c d ≡ false → Reached o size s (place a b c d p.state)
+      more : is_full p.state a b q.c q.d ≡ false → Reached o size s (place a b q.c q.d p.state)
       more fits = record { quads = suc r.quads; by = placed r.by (record { there = there; da = h.da; db = h.db; answered = h.answered; fits = fits }) }
 
-      choose : (full : Bool) → is_full p.state a b c d ≡ full
-          → Kept AtPassing AtPassed (cond full (out (out (paved p.state Full))) (after_quad (place a b c d p.state)))
+      choose : (full : Bool) → is_full p.state a b q.c q.d ≡ full
+          → Kept AtPassing AtPassed (cond full (out (out (paved p.state Full))) (after_quad (place a b q.c q.d p.state)))
       choose true e = r
-      choose false e = quad_kept (place a b c d p.state) (more e)
+      choose false e = quad_kept (place a b q.c q.d p.state) (more e)
 
   pub turn_kept : (field : FieldRecord) (a : ℕ) (p : Passing) → AtPassing p → Kept AtPassing AtPassed (pass_turn o size field a p)
   unfolding pass_turn

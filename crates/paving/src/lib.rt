@@ -8,11 +8,11 @@ use direction::Grid;
 use domain::Domain;
 use front::Corner;
 
-// What an attempt answers: no quad, or one with the far corners c and d.
+// The far corners of a quad.
 #[derive(Clone, Copy)]
-pub enum Attempt {
-    Nothing,
-    Quad(Corner, Corner),
+pub struct FarCorners {
+    pub c: Corner,
+    pub d: Corner,
 }
 
 // How a run of passes ends.

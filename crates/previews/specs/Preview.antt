@@ -1,5 +1,5 @@
 -- Paper 11: the front after a quad, read from the front before it, and what a preview answers and writes. Definitions only.
-use Rattle.std.specs.Prelude.{cond, List, Result, Ok, Err, ◌≡◌, ℕ, ◌+◌, ◌*◌, ◌/◌, leb, ltb, eqb, length, set, Float}
+use Rattle.std.specs.Prelude.{cond, List, Result, Ok, Err, ◌≡◌, ℕ, ◌+◌, ◌*◌, ◌/◌, leb, ltb, eqb, length, set, Float, Option, Some, None}
 use Rattle.laws.specs.Loop.{for_up}
 use Rattle.topology.specs.Links.{off, update}
 use Rattle.domain.specs.Outline.{Outline, first_of}
@@ -8,13 +8,12 @@ use Rattle.front.specs.declared.Corner.{Corner}
 use Rattle.front.specs.declared.Corner.TheVariants.{Reused, Fresh}
 use Rattle.front.specs.State.{State, next_of}
 use Rattle.front.specs.Place.{added, corner_id, is_full}
-use Rattle.paving.specs.declared.Attempt.{Attempt}
-use Rattle.paving.specs.declared.Attempt.TheVariants.{Nothing, Quad}
+use Rattle.paving.specs.declared.FarCorners.{FarCorners}
 use Rattle.paving.specs.Attempt.{try_edge}
 use Rattle.paving.specs.Advance.{most_quads}
 use Rattle.mesh_check.specs.Check.{mesh_refusal, edge_refusal}
 use Rattle.hand_steps.specs.declared.StepOutcome.{StepOutcome}
-use Rattle.hand_steps.specs.declared.StepOutcome.TheVariants.{Placed, None, Full, Cap}
+use Rattle.hand_steps.specs.declared.StepOutcome.TheVariants.{Placed, None as NoQuad, Full, Cap}
 use Rattle.hand_steps.specs.Hand.{place_on}
 use Rattle.previews.specs.declared.Foreseen.{Foreseen}
 use Rattle.previews.specs.declared.View.{View}
@@ -40,15 +39,15 @@ front_listed n g l = for_up n (edge_turn g) (edge_list l 0)
 
 -- ---- what would become of the edge a to b, and the quad that would be placed: none at the cap, and none that is full
 
-abbrev pub foresight : StepOutcome → Attempt → Foreseen
+abbrev pub foresight : StepOutcome → Option FarCorners → Foreseen
 foresight w q = record { outcome = w; quad = q }
 
-abbrev pub foreseen : ℕ → ℕ → Attempt → State → Foreseen
-foreseen a b Nothing s = foresight None Nothing
-foreseen a b (Quad c d) s = cond (is_full s a b c d) (foresight Full Nothing) (foresight Placed (Quad c d))
+abbrev pub foreseen : ℕ → ℕ → Option FarCorners → State → Foreseen
+foreseen a b None s = foresight NoQuad None
+foreseen a b (Some q) s = cond (is_full s a b q.c q.d) (foresight Full None) (foresight Placed (Some q))
 
 unfoldable pub foreseen_on : Outline → Float → FieldRecord → ℕ → ℕ → State → Foreseen
-foreseen_on o size field a b s = cond (leb most_quads s.counts.quads) (foresight Cap Nothing) (foreseen a b (try_edge o size field s a b) s)
+foreseen_on o size field a b s = cond (leb most_quads s.counts.quads) (foresight Cap None) (foreseen a b (try_edge o size field s a b) s)
 
 -- ---- THE PREVIEW: a view of the mesh after a placing in a copy
 
@@ -106,10 +105,10 @@ abbrev pub is_on : (ℕ → ℕ) → ℕ → ℕ
 is_on g u = cond (eqb (g u) off) 0 1
 
 -- the links, and how many nodes there are, once the quad is placed
-abbrev pub shown_links : Attempt → ℕ → ℕ → ℕ → (ℕ → ℕ) → ℕ → ℕ
-shown_links Nothing a b n g x = g x
-shown_links (Quad c d) a b n g x = moved_links c d a b (corner_id (n + added c) d) (corner_id n c) g x
+abbrev pub shown_links : Option FarCorners → ℕ → ℕ → ℕ → (ℕ → ℕ) → ℕ → ℕ
+shown_links None a b n g x = g x
+shown_links (Some q) a b n g x = moved_links q.c q.d a b (corner_id (n + added q.c) q.d) (corner_id n q.c) g x
 
-abbrev pub shown_nodes : Attempt → ℕ → ℕ
-shown_nodes Nothing n = n
-shown_nodes (Quad c d) n = n + (added c + added d)
+abbrev pub shown_nodes : Option FarCorners → ℕ → ℕ
+shown_nodes None n = n
+shown_nodes (Some q) n = n + (added q.c + added q.d)

@@ -1,5 +1,5 @@
 -- What the code of a preview has at hand makes the preview: the front that it lists is that of the mesh after the placing. Assumes nothing.
-use Rattle.std.specs.Prelude.{Bool, true, false, cond, List, Ok, Err, [], ◌≢◌, leb, ltb, eqb, length, set, Float}
+use Rattle.std.specs.Prelude.{Bool, true, false, cond, List, Ok, Err, [], ◌≢◌, leb, ltb, eqb, length, set, Float, Option, Some, None}
 use Rattle.std.proofs.Math.Path.{◌≡◌, refl}
 use Rattle.std.proofs.Common.{sym, ap, ◌∙◌, subst, arith}
 use Prim.Native.Nat.{ℕ, zero, suc, ◌+◌, ◌*◌, ◌/◌, ◌<◌, ◌≤◌}
@@ -15,9 +15,9 @@ use Rattle.front.specs.declared.Counts.{Counts}
 use Rattle.front.specs.declared.Corner.{Corner}
 use Rattle.front.specs.State.{State, next_of}
 use Rattle.front.specs.Place.{place, is_full}
-use Rattle.paving.specs.declared.Attempt.{Attempt}
-use Rattle.paving.specs.declared.Attempt.TheVariants.{Nothing, Quad}
-use Rattle.paving.specs.Attempt.{try_edge}
+use Rattle.paving.specs.declared.FarCorners.{FarCorners}
+use Rattle.paving.specs.Attempt.{try_edge, far}
+use Rattle.paving.specs.AttemptLaws.{far_same}
 use Rattle.paving.specs.Advance.{most_quads}
 use Rattle.attempts.specs.Seen.{seen_of}
 use Rattle.attempts.specs.SeenLaws.{try_seen}
@@ -36,22 +36,22 @@ use Rattle.previews.specs.FrontAfter.{Shows, placed_shows}
 
 -- ---- what would become of the edge
 
-module _ (a b : ℕ) (c d : Corner) (s : State) {t : Attempt} (q : t ≡ Quad c d) {r : Bool} (e : r ≡ is_full s a b c d) where
-  pub foreseen_full : r ≡ true → foresight Full Nothing ≡ foreseen a b t s
+module _ (a b : ℕ) (c d : Corner) (s : State) {t : Option FarCorners} (q : t ≡ Some (far c d)) {r : Bool} (e : r ≡ is_full s a b c d) where
+  pub foreseen_full : r ≡ true → foresight Full None ≡ foreseen a b t s
   foreseen_full f = rw (q, ← e, f)
 
-  pub foreseen_placed : r ≡ false → foresight Placed (Quad c d) ≡ foreseen a b t s
+  pub foreseen_placed : r ≡ false → foresight Placed (Some (far c d)) ≡ foreseen a b t s
   foreseen_placed f = rw (q, ← e, f)
 
 module _ (o : Outline) (size : Float) (g : Grid) (values : List Float) (marks : List ℕ) (a b : ℕ) (s : State) where
   abbrev field : FieldRecord
   field = field_record g values marks
 
-  pub foreseen_cap : most_quads ≤ s.counts.quads → foresight Cap Nothing ≡ foreseen_on o size field a b s
+  pub foreseen_cap : most_quads ≤ s.counts.quads → foresight Cap None ≡ foreseen_on o size field a b s
   unfolding foreseen_on
   foreseen_cap h = rw (le-leb _ _ h)
 
-  pub foreseen_tried : s.counts.quads < most_quads → {t : Attempt} → t ≡ try_edge o size (field_record g values []) (seen_of s) a b → {w : Foreseen}
+  pub foreseen_tried : s.counts.quads < most_quads → {t : Option FarCorners} → t ≡ try_edge o size (field_record g values []) (seen_of s) a b → {w : Foreseen}
       → w ≡ foreseen a b t s → w ≡ foreseen_on o size field a b s
   unfolding foreseen_on
   foreseen_tried less e p = rw (lt-leb _ _ less, ← (e ∙ try_seen s field o size a b)) p
@@ -59,40 +59,40 @@ module _ (o : Outline) (size : Float) (g : Grid) (values : List Float) (marks : 
 -- ---- what it shows
 
 -- the state once the quad is placed
-abbrev pub with_quad : ℕ → ℕ → Attempt → State → State
-with_quad a b Nothing s = s
-with_quad a b (Quad c d) s = place a b c d s
+abbrev pub with_quad : ℕ → ℕ → Option FarCorners → State → State
+with_quad a b None s = s
+with_quad a b (Some q) s = place a b q.c q.d s
 
 module _ (o : Outline) (size : Float) (field : FieldRecord) (a b : ℕ) (s : State) where
   -- the foresight is what a placing does
   pub record Foresees (w : Foreseen) : Type 0 where
     pub does : place_on o size field a b s ≡ handled (with_quad a b w.quad s) w.outcome
-    pub fits : (c d : Corner) → w.quad ≡ Quad c d → (try_edge o size field s a b ≡ Quad c d) × (is_full s a b c d ≡ false)
+    pub fits : (c d : Corner) → w.quad ≡ Some (far c d) → (try_edge o size field s a b ≡ Some (far c d)) × (is_full s a b c d ≡ false)
 
   pub foresees : Foresees (foreseen_on o size field a b s)
   unfolding foreseen_on place_on
   foresees = by (leb most_quads s.counts.quads) refl (try_edge o size field s a b) refl
     where
-      never : {A : Type 0} (c d : Corner) → Nothing ≡ Quad c d → A
+      never : {A : Type 0} (c d : Corner) → None ≡ Some (far c d) → A
       never c d e = absurd (let z : ◌≡◌ {A = ℕ} 0 1 = cc in omega arith)
 
-      quad : (c d : Corner) → try_edge o size field s a b ≡ Quad c d → (full : Bool) → is_full s a b c d ≡ full → (w : Foreseen)
-          → w ≡ cond full (foresight Full Nothing) (foresight Placed (Quad c d))
-          → (settled_on a b (Quad c d) s ≡ handled (with_quad a b w.quad s) w.outcome)
-          × ((x y : Corner) → w.quad ≡ Quad x y → (try_edge o size field s a b ≡ Quad x y) × (is_full s a b x y ≡ false))
+      quad : (c d : Corner) → try_edge o size field s a b ≡ Some (far c d) → (full : Bool) → is_full s a b c d ≡ full → (w : Foreseen)
+          → w ≡ cond full (foresight Full None) (foresight Placed (Some (far c d)))
+          → (settled_on a b (Some (far c d)) s ≡ handled (with_quad a b w.quad s) w.outcome)
+          × ((x y : Corner) → w.quad ≡ Some (far x y) → (try_edge o size field s a b ≡ Some (far x y)) × (is_full s a b x y ≡ false))
       quad c d e true f w p = rw (p, f) (refl, λ x y z. never x y z)
       quad c d e false f w p =
           rw (p, f) (
             refl,
-            λ x y z. let p : c ≡ x = cc in let q : d ≡ y = cc in rw (← p, ← q) (e, f),
+            λ x y z. let q = far_same z in rw (← q.0, ← q.1) (e, f),
           )
 
-      by : (cap : Bool) → leb most_quads s.counts.quads ≡ cap → (t : Attempt) → try_edge o size field s a b ≡ t
-          → Foresees (cond cap (foresight Cap Nothing) (foreseen a b t s))
+      by : (cap : Bool) → leb most_quads s.counts.quads ≡ cap → (t : Option FarCorners) → try_edge o size field s a b ≡ t
+          → Foresees (cond cap (foresight Cap None) (foreseen a b t s))
       by true e t u = record { does = rw e refl; fits = λ c d z. never c d z }
-      by false e Nothing u = record { does = rw (e, u) refl; fits = λ c d z. never c d z }
-      by false e (Quad c d) u =
-          let Q = quad c d u (is_full s a b c d) refl (foreseen a b (Quad c d) s) refl in
+      by false e None u = record { does = rw (e, u) refl; fits = λ c d z. never c d z }
+      by false e (Some q) u =
+          let Q = quad q.c q.d u (is_full s a b q.c q.d) refl (foreseen a b (Some q) s) refl in
           record { does = rw (e, u) Q.0; fits = Q.1 }
 
 -- as many edges are frontListed as nodes have links
@@ -131,13 +131,13 @@ module _ (xs ys : List Float) (next prev origins quads edges : List ℕ) (k : Co
       → FrontShown s (with_quad a b w.quad s) (shown_nodes w.quad k.nodes) (shown_links w.quad a b k.nodes (link_of k.nodes next))
   shown w e = by w.quad refl
     where
-      by : (q : Attempt) → w.quad ≡ q → FrontShown s (with_quad a b q s) (shown_nodes q k.nodes) (shown_links q a b k.nodes (link_of k.nodes next))
-      by Nothing z =
+      by : (q : Option FarCorners) → w.quad ≡ q → FrontShown s (with_quad a b q s) (shown_nodes q k.nodes) (shown_links q a b k.nodes (link_of k.nodes next))
+      by None z =
           record { shows = standing; most = omega arith; few = (front_room xs ys next prev origins quads edges k a b S).nodes.few }
-      by (Quad c d) z =
-          let C = (subst (Foresees o size field a b s) (sym e) (foresees o size field a b s)).fits c d z in
-          let F = quad_fits_lem xs ys next prev origins quads edges k a b S o size field c d C.0 C.1 in
-          let P = placed_shows s standing c d a b F.nodes.next_fit (omega (arith, F.nodes.few)) F.ids S.there in
+      by (Some q) z =
+          let C = (subst (Foresees o size field a b s) (sym e) (foresees o size field a b s)).fits q.c q.d z in
+          let F = quad_fits_lem xs ys next prev origins quads edges k a b S o size field q.c q.d C.0 C.1 in
+          let P = placed_shows s standing q.c q.d a b F.nodes.next_fit (omega (arith, F.nodes.few)) F.ids S.there in
           record { shows = P.0; most = P.1; few = F.nodes.few }
 
   -- the list has a place for each
@@ -159,7 +159,7 @@ module _ (xs ys : List Float) (next prev origins quads edges : List ℕ) (k : Co
         rw (does, H.shows.links, H.shows.size) (ap (λ (c : EdgeList). c.list) l),
       )
     where
-      view : {p p' : StepOutcome} {q q' : Attempt} {r r' : ℕ} → p ≡ p' → q ≡ q' → r ≡ r'
+      view : {p p' : StepOutcome} {q q' : Option FarCorners} {r r' : ℕ} → p ≡ p' → q ≡ q' → r ≡ r'
           → ◌≡◌ {A = View} (record { outcome = p; quad = q; front = r }) (record { outcome = p'; quad = q'; front = r' })
       view e f g = rw (e, f, g)
 

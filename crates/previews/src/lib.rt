@@ -17,20 +17,20 @@ use direction::Grid;
 use domain::{Domain, Refusal};
 use front::{Corner, Counts, OFF};
 use hand_steps::StepOutcome;
-use paving::Attempt;
+use paving::FarCorners;
 
 // What a placing would do, with the quad that it would place.
 #[derive(Clone, Copy)]
 pub struct Foreseen {
     pub outcome: StepOutcome,
-    pub quad: Attempt,
+    pub quad: Option<FarCorners>,
 }
 
 // A preview: what a placing would do, its quad, and how many front edges it would leave.
 #[derive(Clone, Copy)]
 pub struct View {
     pub outcome: StepOutcome,
-    pub quad: Attempt,
+    pub quad: Option<FarCorners>,
     pub front: usize,
 }
 
@@ -133,11 +133,11 @@ fn link_after(
 }
 
 // The same, where the quad may be none.
-fn link_shown(quad: Attempt, n: u32, next: &[u32], a: u32, b: u32, u: u32) -> u32
+fn link_shown(quad: Option<FarCorners>, n: u32, next: &[u32], a: u32, b: u32, u: u32) -> u32
     requires { (n ≤ length next.now) × (n ≤ 4294967294) }
     ensures { result ≡ shown_links quad a b n (link_of n next.now) u }
 {
-    let Attempt::Quad(c, d) = quad else {
+    let Some(FarCorners { c, d }) = quad else {
         return front::link_of(next, n, u);
     };
     let id_c = c.id(n);
@@ -146,11 +146,11 @@ fn link_shown(quad: Attempt, n: u32, next: &[u32], a: u32, b: u32, u: u32) -> u3
 }
 
 // How many nodes there are with the quad.
-fn nodes_shown(quad: Attempt, n: u32) -> u32
+fn nodes_shown(quad: Option<FarCorners>, n: u32) -> u32
     requires { shown_nodes quad n ≤ 4294967294 }
     ensures { result ≡ shown_nodes quad n }
 {
-    let Attempt::Quad(c, d) = quad else {
+    let Some(FarCorners { c, d }) = quad else {
         return n;
     };
     n + (c.added() + d.added())
@@ -159,7 +159,7 @@ fn nodes_shown(quad: Attempt, n: u32) -> u32
 // Writes the front edges of the first m nodes, with the quad placed, by their first node: how many there are.
 #[tactic(auto, using(crate::specs::ListLaws::written_room, crate::specs::ListLaws::written_end))]
 fn list_front(
-    quad: Attempt,
+    quad: Option<FarCorners>,
     n: u32,
     next: &[u32],
     a: u32,
@@ -196,28 +196,28 @@ fn foresee(
     k: Counts,
     a: u32,
     b: u32,
-    attempt: Attempt,
+    attempt: Option<FarCorners>,
 ) -> Foreseen
     requires { MeshRoom xs.now ys.now next.now prev.now origins.now quads.now edges.now k.nodes k.quads k.edges }
     ensures { result ≡ foreseen a b attempt
         (lent_state xs.now ys.now next.now prev.now origins.now quads.now
         edges.now k) }
 {
-    let Attempt::Quad(c, d) = attempt else {
+    let Some(FarCorners { c, d }) = attempt else {
         return Foreseen {
             outcome: StepOutcome::None,
-            quad: Attempt::Nothing,
+            quad: None,
         };
     };
     if hand_placing::is_full(xs, ys, next, prev, origins, quads, edges, k, a, b, c, d) {
         return Foreseen {
             outcome: StepOutcome::Full,
-            quad: Attempt::Nothing,
+            quad: None,
         };
     }
     Foreseen {
         outcome: StepOutcome::Placed,
-        quad: Attempt::Quad(c, d),
+        quad: attempt,
     }
 }
 
@@ -248,7 +248,7 @@ fn foresee_on(
     if stepping::is_capped(k) {
         return Foreseen {
             outcome: StepOutcome::Cap,
-            quad: Attempt::Nothing,
+            quad: None,
         };
     }
     let attempt = stepping::attempt_on(

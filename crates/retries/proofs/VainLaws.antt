@@ -1,7 +1,7 @@
 -- What holds of the definitions of specs/VainLaws.antt.
 use Prim.Native.Nat.{ℕ, ◌+◌, ◌-◌, ◌*◌, ◌/◌, ◌<◌, ◌≤◌}
 use mathlib.Core.List.{List}
-use Rattle.std.specs.Prelude.{◌≡◌, Bool, true, false, cond, ◌≢◌, eqb, ltb, get_or, set, Float}
+use Rattle.std.specs.Prelude.{◌≡◌, Bool, true, false, cond, ◌≢◌, eqb, ltb, get_or, set, Float, None}
 use Rattle.std.proofs.Math.Path.{refl, sym, ap}
 use Rattle.std.proofs.Common.{◌∙◌, ap₂, subst, length-set, get_or-set_same, get_or-set_other}
 use native.Mathlib.Omega.{arith}
@@ -16,7 +16,6 @@ use Rattle.front.specs.State.{State, node_in, next_of, prev_of}
 use Rattle.front.specs.Sound.{Sound, Frame}
 use Rattle.front.specs.FrameLaws.{frame_same}
 use Rattle.front.specs.Ready.{Known}
-use Rattle.paving.specs.declared.Attempt.TheVariants.{Nothing}
 use Rattle.paving.specs.Attempt.{try_edge}
 use Rattle.paving.specs.Advance.{is_there}
 use Rattle.snapshots.specs.Stretches.{has_places, FewerTries}
@@ -125,7 +124,7 @@ module _ (o : Outline) (size : Float) (field : FieldRecord) where
 
   -- an edge that is remembered needs no try
   pub vain_fails : (l : List ℕ) (t : State) → Remembers o size field l t → (a b : ℕ) → a < t.counts.nodes → is_there t a b ≡ true
-      → is_vain l a b (prev_of t a) (next_of t b) ≡ true → try_edge o size field t a b ≡ Nothing
+      → is_vain l a b (prev_of t a) (next_of t b) ≡ true → try_edge o size field t a b ≡ None
   unfolding is_vain
   vain_fails l t R a b node there vain =
       let on = (there_is t a b there).0 in
@@ -138,10 +137,10 @@ module _ (o : Outline) (size : Float) (field : FieldRecord) where
       let F = R a (ltb-true a (length l / 3) p.0) node (λ e. on (sym first ∙ e)) in
       let s = F.earlier in
       try_fails F.sampled s t F.loops F.sound F.later o size a b on (F.edge ∙ first) (sym second ∙ sym F.before)
-      (sym third ∙ (sym F.after ∙ ap (next_of s) first)) field (subst (λ (v : ℕ). try_edge o size field s a v ≡ Nothing) first F.nothing)
+      (sym third ∙ (sym F.after ∙ ap (next_of s) first)) field (subst (λ (v : ℕ). try_edge o size field s a v ≡ None) first F.nothing)
 
   -- an edge that is tried in vain in a state that a run can be in
-  pub failed_now : (t : State) (n : ℕ) (ls : List (List ℕ)) → Sound n t ls → Known t → (a b : ℕ) → next_of t a ≡ b → try_edge o size field t a b ≡ Nothing
+  pub failed_now : (t : State) (n : ℕ) (ls : List (List ℕ)) → Sound n t ls → Known t → (a b : ℕ) → next_of t a ≡ b → try_edge o size field t a b ≡ None
       → Failed o size field t a b (prev_of t a) (next_of t b)
   failed_now t n ls S K a b edge nothing =
       record {

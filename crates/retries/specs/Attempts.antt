@@ -1,6 +1,6 @@
 -- An attempt on a front edge that fails in a state fails in every later one in which the edge has the same neighbours: `try_fails`. Function by
 -- function along the definitions of the choice of corners and of the checks.
-use Rattle.std.specs.Prelude.{ℕ, ◌+◌, ◌<◌, List, Bool, ◌&&◌, ◌≢◌, Float}
+use Rattle.std.specs.Prelude.{ℕ, ◌+◌, ◌<◌, List, Bool, ◌&&◌, ◌≢◌, Float, Option, Some, None}
 use Rattle.std.proofs.Math.Path.{◌≡◌, refl, ap, ap₂}
 use Rattle.std.proofs.Common.{sym, ◌∙◌, true≢false, arith}
 use Rattle.std.proofs.Math.Bool.{true, false, not, cond}
@@ -18,15 +18,13 @@ use Rattle.topology.specs.Links.{off, link_out}
 use Rattle.topology.proofs.Front.{source, target, next_edge, next_in, next_of_prev, prev_in}
 use Rattle.front.specs.declared.Corner.{Corner}
 use Rattle.front.specs.declared.Corner.TheVariants.{Reused, Fresh}
-use Rattle.front.specs.declared.Neighbour.TheVariants.{At, Off}
 use Rattle.front.specs.State.{State, node, next_of, prev_of}
 use Rattle.front.specs.Neighbours.{neighbour_of, next_at, is_at}
 use Rattle.front.specs.Place.{id_c, id_d}
 use Rattle.front.specs.Ready.{Chosen}
 use Rattle.front.specs.Sound.{Sound}
 use Rattle.front.specs.Pushed.{IsNode}
-use Rattle.paving.specs.declared.Attempt.{Attempt}
-use Rattle.paving.specs.declared.Attempt.TheVariants.{Nothing, Quad}
+use Rattle.paving.specs.declared.FarCorners.{FarCorners}
 use Rattle.paving.specs.Checks.{corners_apart, quad_fits}
 use Rattle.paving.specs.Attempt.{reuse, is_reused, corner_at, ideal, corner_c, corner_d, quad_if, attempt_quad, or_else, normal_of, try_toward, try_edge}
 use Rattle.books.specs.Answered.{chosen}
@@ -69,7 +67,7 @@ module _ (n : ℕ) (s t : State) (ls : List (List ℕ)) (S : Sound n s ls) (G : 
   unfolding neighbour_of
   across_passes a b ha c d hc hd = by (eqb (next_of s (id_c s c)) off) refl
     where
-      by : (i : Bool) → eqb (next_of s (id_c s c)) off ≡ i → not (is_at (cond i Off (At (next_of s (id_c s c)))) (id_d s c d)) ≡ true
+      by : (i : Bool) → eqb (next_of s (id_c s c)) off ≡ i → not (is_at (cond i None (Some (next_of s (id_c s c)))) (id_d s c d)) ≡ true
       by true e = refl
       by false e = differs (next_of s (id_c s c)) (id_d s c d) (λ q. eqb-false (next_of s (id_c s c)) off e (never_across a b ha c d hc hd q))
 
@@ -106,7 +104,7 @@ module _ (n : ℕ) (s t : State) (ls : List (List ℕ)) (S : Sound n s ls) (G : 
     unfolding corner_at is_reused neighbour_of
     corner_same other v p inside = by (eqb v off) refl
       where
-        by : (i : Bool) → eqb v off ≡ i → corner_at size t other (cond i Off (At v)) p ≡ corner_at size s other (cond i Off (At v)) p
+        by : (i : Bool) → eqb v off ≡ i → corner_at size t other (cond i None (Some v)) p ≡ corner_at size s other (cond i None (Some v)) p
         by true e = refl
         by false e =
             ap (λ (q : Point). cond (not (eqb v other) && le (distance q p) (reuse ⊗ size)) (Reused v) (Fresh p.x p.y))
@@ -133,7 +131,7 @@ module _ (n : ℕ) (s t : State) (ls : List (List ℕ)) (S : Sound n s ls) (G : 
     chosen_d db = chosen size s a (next_of s b) (ideal size (node s b) db) _ refl
 
     -- with any directions
-    attempt_fails : (da db : Point) → attempt_quad o size s a b da db ≡ Nothing → attempt_quad o size t a b da db ≡ Nothing
+    attempt_fails : (da db : Point) → attempt_quad o size s a b da db ≡ None → attempt_quad o size t a b da db ≡ None
     unfolding attempt_quad
     attempt_fails da db e =
         let c = corner_c size s a b da in
@@ -143,13 +141,13 @@ module _ (n : ℕ) (s t : State) (ls : List (List ℕ)) (S : Sound n s ls) (G : 
         rw (corner_c_lem da, corner_d_lem db)
         (by c d (quad_fits o size s a b c d) (quad_fits o size t a b c d) (fits_before o size a b ha hb c d (chosen_c da) (chosen_d db) nc nd) e)
       where
-        by : (c d : Corner) (before after : Bool) → (after ≡ true → before ≡ true) → quad_if before c d ≡ Nothing → quad_if after c d ≡ Nothing
+        by : (c d : Corner) (before after : Bool) → (after ≡ true → before ≡ true) → quad_if before c d ≡ None → quad_if after c d ≡ None
         by c d before false f e = refl
         by c d true true f e = absurd (let z : ◌≡◌ {A = ℕ} 0 1 = cc in omega arith)
         by c d false true f e = absurd (true≢false (sym (f refl)))
 
     -- with the directions of the field, then with the edge's normal
-    pub try_fails : (field : FieldRecord) → try_edge o size field s a b ≡ Nothing → try_edge o size field t a b ≡ Nothing
+    pub try_fails : (field : FieldRecord) → try_edge o size field s a b ≡ None → try_edge o size field t a b ≡ None
     unfolding try_edge try_toward
     try_fails field e =
         let bx = (node s b).x ⊖ (node s a).x in
@@ -161,8 +159,8 @@ module _ (n : ℕ) (s t : State) (ls : List (List ℕ)) (S : Sound n s ls) (G : 
         (choose (le (norm bx by) tolerance) (attempt_quad o size s a b da db) (attempt_quad o size s a b normal normal)
         (attempt_quad o size t a b da db) (attempt_quad o size t a b normal normal) (attempt_fails da db) (attempt_fails normal normal) e)
       where
-        choose : (short : Bool) (x y x' y' : Attempt) → (x ≡ Nothing → x' ≡ Nothing) → (y ≡ Nothing → y' ≡ Nothing)
-            → cond short Nothing (or_else x y) ≡ Nothing → cond short Nothing (or_else x' y') ≡ Nothing
+        choose : (short : Bool) (x y x' y' : Option FarCorners) → (x ≡ None → x' ≡ None) → (y ≡ None → y' ≡ None)
+            → cond short None (or_else x y) ≡ None → cond short None (or_else x' y') ≡ None
         choose true x y x' y' f g e = refl
-        choose false Nothing y x' y' f g e = rw (f refl) (g e)
-        choose false (Quad c d) y x' y' f g e = absurd (let z : ◌≡◌ {A = ℕ} 0 1 = cc in omega arith)
+        choose false None y x' y' f g e = rw (f refl) (g e)
+        choose false (Some q) y x' y' f g e = absurd (let z : ◌≡◌ {A = ℕ} 0 1 = cc in omega arith)

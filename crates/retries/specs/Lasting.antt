@@ -1,6 +1,6 @@
 -- THE LAW: an edge that was tried in vain is tried in vain in every later state of the run in which its neighbours on the front are the same
 -- (`failing_lasts`, at the end). Before it: what holds of a state that is reached.
-use Rattle.std.specs.Prelude.{ℕ, suc, ◌+◌, ◌*◌, ◌<◌, ◌≤◌, List, ◌≡◌, ◌≢◌, Float}
+use Rattle.std.specs.Prelude.{ℕ, suc, ◌+◌, ◌*◌, ◌<◌, ◌≤◌, List, ◌≡◌, ◌≢◌, Float, None}
 use Rattle.std.proofs.Common.{◌∙◌, arith}
 use Rattle.domain.specs.Outline.{Outline}
 use Rattle.direction.specs.Record.{FieldRecord}
@@ -12,7 +12,6 @@ use Rattle.front.specs.FrameLaws.{extends_at, frame_same, frame_trans, frame_nod
 use Rattle.front.specs.Ready.{Known}
 use Rattle.front.specs.KnownLaws.{known_placed}
 use Rattle.front.specs.Step.{step}
-use Rattle.paving.specs.declared.Attempt.TheVariants.{Nothing}
 use Rattle.paving.specs.Attempt.{try_edge}
 use Rattle.paving.specs.Advance.{with_snapshot}
 use Rattle.paving.specs.Reach.{Reaches, begin, snapshot, placed}
@@ -106,7 +105,7 @@ sound_few n s ls S = omega (arith, S.nodes_fit)
 -- in s in vain: it is in t.
 pub failing_lasts : (n : ℕ) (o : Outline) (size : Float) (field : FieldRecord) (s t : State) (ls : List (List ℕ)) → Sound n s ls → Known s
     → Reached o size s t → (a b : ℕ) → b ≢ off → next_of s a ≡ b → prev_of t a ≡ prev_of s a → next_of t b ≡ next_of s b
-    → try_edge o size field s a b ≡ Nothing → try_edge o size field t a b ≡ Nothing
+    → try_edge o size field s a b ≡ None → try_edge o size field t a b ≡ None
 failing_lasts n o size field s t ls S K r a b on edge prev next e =
     let Y = stands_after S K r.by in
     try_fails n s t ls S (grows s t K Y.frame (sound_few n t Y.loops Y.sound)) o size a b on edge prev next field e

@@ -1,13 +1,12 @@
 -- A lent list in which a run notes the edges that it tried in vain: three numbers a node, for as many nodes as it has places. Definitions only.
-use Rattle.std.specs.Prelude.{Bool, ◌&&◌, cond, List, ◌≡◌, ◌≢◌, ℕ, ◌+◌, ◌-◌, ◌*◌, ◌/◌, ◌<◌, eqb, length, get_or, set, Float}
+use Rattle.std.specs.Prelude.{Bool, ◌&&◌, cond, List, ◌≡◌, ◌≢◌, ℕ, ◌+◌, ◌-◌, ◌*◌, ◌/◌, ◌<◌, eqb, length, get_or, set, Float, Option, Some, None}
 use Rattle.laws.specs.Loop.{for_up}
 use Rattle.domain.specs.Outline.{Outline}
 use Rattle.direction.specs.Record.{FieldRecord}
 use Rattle.topology.specs.Links.{off}
 use Rattle.front.specs.State.{State, next_of, prev_of}
 use Rattle.front.specs.Sound.{Sound}
-use Rattle.paving.specs.declared.Attempt.{Attempt}
-use Rattle.paving.specs.declared.Attempt.TheVariants.{Nothing, Quad}
+use Rattle.paving.specs.declared.FarCorners.{FarCorners}
 use Rattle.paving.specs.Attempt.{try_edge}
 use Rattle.snapshots.specs.Stretches.{has_places, stretched}
 use Rattle.retries.specs.Grows.{Grows}
@@ -23,9 +22,9 @@ unfoldable pub noted : List ℕ → ℕ → ℕ → ℕ → ℕ → List ℕ
 noted l a b p q = cond (has_places l a) (set (set (set l (3 * a) b) (3 * a + 1) p) (3 * a + 2) q) l
 
 -- what is left of the list after a try of the edge: one in vain is noted
-abbrev pub tried_after : Attempt → List ℕ → ℕ → ℕ → ℕ → ℕ → List ℕ
-tried_after Nothing l a b p q = noted l a b p q
-tried_after (Quad c d) l a b p q = l
+abbrev pub tried_after : Option FarCorners → List ℕ → ℕ → ℕ → ℕ → ℕ → List ℕ
+tried_after None l a b p q = noted l a b p q
+tried_after (Some w) l a b p q = l
 
 -- nothing was tried from node a, and no stretch begins at it
 abbrev pub forget_turn : ℕ → ℕ → List ℕ → List ℕ
@@ -47,7 +46,7 @@ pub record Failed (o : Outline) (size : Float) (field : FieldRecord) (t : State)
   pub edge : next_of earlier a ≡ b
   pub before : prev_of earlier a ≡ p
   pub after : next_of earlier b ≡ q
-  pub nothing : try_edge o size field earlier a b ≡ Nothing
+  pub nothing : try_edge o size field earlier a b ≡ None
 
 -- Whatever the list l has of an edge from one of t's nodes was so. `off` in the first place of a node says that it has nothing: no edge ends there.
 abbrev pub Remembers : Outline → Float → FieldRecord → List ℕ → State → Type 0

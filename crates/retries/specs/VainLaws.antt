@@ -2,7 +2,7 @@
 -- any later state.
 use Prim.Native.Nat.{ℕ, zero, suc, ◌+◌, ◌-◌, ◌*◌, ◌/◌, ◌<◌, ◌≤◌}
 use mathlib.Core.List.{List}
-use Rattle.std.specs.Prelude.{◌≡◌, Bool, true, false, not, cond, ◌≢◌, eqb, get_or, set}
+use Rattle.std.specs.Prelude.{◌≡◌, Bool, true, false, not, cond, ◌≢◌, eqb, get_or, set, Option, Some, None}
 use Rattle.std.proofs.Math.Path.{refl, sym, ap}
 use Rattle.std.proofs.Common.{◌∙◌, ap₂, eq-or-lt_of_le, length-set, get_or-set_same, get_or-set_other}
 use Rattle.std.proofs.Math.Logic.{⊎_elim}
@@ -14,8 +14,7 @@ use Rattle.laws.specs.Loop.{for_up}
 use Rattle.laws.specs.Tests.{both}
 use Rattle.topology.specs.Links.{off}
 use Rattle.front.specs.State.{State, next_of}
-use Rattle.paving.specs.declared.Attempt.{Attempt}
-use Rattle.paving.specs.declared.Attempt.TheVariants.{Nothing, Quad}
+use Rattle.paving.specs.declared.FarCorners.{FarCorners}
 use Rattle.paving.specs.Advance.{is_there}
 use Rattle.snapshots.specs.Stretches.{has_places, stretched, OffBoth, Stretches, SamePlaces}
 use Rattle.snapshots.specs.StretchLaws.{stretch_written}
@@ -155,11 +154,11 @@ module _ (l : List ℕ) (a x y z : ℕ) where
         ∙ (get_or-set_other (set l (3 * a) x) (3 * a + 1) (3 * a) y 0 (λ e. omega arith) ∙ get_or-set_same l (3 * a) x 0 (omega arith))
 
 -- a note keeps the stretches: its node has none
-pub stretches_tried : (r : Attempt) (l : List ℕ) (a b p q n : ℕ) (next snapshot : List ℕ) → b ≢ off → {m : List ℕ} → m ≡ tried_after r l a b p q
+pub stretches_tried : (r : Option FarCorners) (l : List ℕ) (a b p q n : ℕ) (next snapshot : List ℕ) → b ≢ off → {m : List ℕ} → m ≡ tried_after r l a b p q
     → Stretches l n next snapshot → Stretches m n next snapshot
 unfolding noted
-stretches_tried (Quad c d) l a b p q n next snapshot on e S = rw e S
-stretches_tried Nothing l a b p q n next snapshot on e S = rw e (by (has_places l a) refl)
+stretches_tried (Some w) l a b p q n next snapshot on e S = rw e S
+stretches_tried None l a b p q n next snapshot on e S = rw e (by (has_places l a) refl)
   where
     new : List ℕ
     new = three l a b p q

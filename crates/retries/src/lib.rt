@@ -12,7 +12,7 @@ ghost use Rattle.retries.specs.Vain.{is_vain, noted, tried_after, forgotten, Rem
 ghost use Rattle.retries.specs.Untried.{Untried};
 
 use front::Mesh;
-use paving::{Attempt, Scratch, Surroundings};
+use paving::{FarCorners, Scratch, Surroundings};
 
 // ---- the list
 
@@ -57,7 +57,7 @@ pub fn try_untried(
     scratch: &mut Scratch<'_>,
     a: u32,
     b: u32,
-) -> Attempt
+) -> Option<FarCorners>
     requires lent { TryLent (outline_in around.now) around.now.blocks.now around.now.grid around.now.values.now around.now.size mesh.now.xs.now
         mesh.now.ys.now mesh.now.next.now mesh.now.prev.now mesh.now.edges.now scratch.old.node_pool.now scratch.old.edge_pool.now mesh.now.counts }
     requires untried { Untried (outline_in around.now) around.now.size (field_in around.now) (seen_of (mesh_state mesh.now)) scratch.old.tried.now a b }
@@ -73,7 +73,7 @@ pub fn try_untried(
     let p = front::link_of(mesh.prev, nodes, a);
     let q = front::link_of(mesh.next, nodes, b);
     if is_vain(scratch.tried(), a, b, p, q) {
-        return Attempt::Nothing;
+        return None;
     }
     let attempt = attempts::try_edge(
         around.domain,
@@ -92,7 +92,7 @@ pub fn try_untried(
         a,
         b,
     );
-    if let Attempt::Nothing = attempt {
+    if attempt.is_none() {
         note(scratch.tried, a, b, p, q);
     }
     attempt

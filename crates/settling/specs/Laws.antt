@@ -20,10 +20,9 @@ use Rattle.front.specs.Place.{place}
 use Rattle.front.specs.Stores.{PlacesQuad}
 use Rattle.front.specs.KnownLaws.{placed_full, placed_done}
 use Rattle.front.specs.Ready.{Ready}
-use Rattle.paving.specs.declared.Attempt.{Attempt}
-use Rattle.paving.specs.declared.Attempt.TheVariants.{Nothing, Quad}
+use Rattle.paving.specs.declared.FarCorners.{FarCorners}
 use Rattle.paving.specs.declared.End.TheVariants.{Cap, Full}
-use Rattle.paving.specs.Attempt.{try_edge}
+use Rattle.paving.specs.Attempt.{try_edge, far}
 use Rattle.paving.specs.Advance.{paved, passing, most_quads, after_quad, settle, is_there, pass_turn}
 use Rattle.paving.specs.ReachLaws.{tried}
 use Rattle.books.specs.Answered.{choice}
@@ -99,25 +98,25 @@ module _ (o : Outline) (size : Float) (g : Grid) (values : List Float) (s : Stat
           remembers = R;
         }
 
-    module _ (t : Attempt) (u : t ≡ try_edge o size field (seen_of s) a to) where
+    module _ (t : Option FarCorners) (u : t ≡ try_edge o size field (seen_of s) a to) where
       is_try : try_edge o size field s a to ≡ t
       is_try = sym (try_seen s field o size a to) ∙ sym u
 
       turned : (some : Bool) → settle a to t (passing s some) ≡ pass_turn o size field a (passing s some)
       unfolding pass_turn
       turned some =
-          rw ((snapshot_edge_there (get_or s.next a 0) b e f).1, on) (ap (λ (x : Attempt). settle a to x (passing s some)) (sym is_try))
+          rw ((snapshot_edge_there (get_or s.next a 0) b e f).1, on) (ap (λ (x : Option FarCorners). settle a to x (passing s some)) (sym is_try))
 
-      pub settle_same : t ≡ Nothing → (some : Bool) → go (passing s some) ≡ pass_turn o size field a (passing s some)
+      pub settle_same : t ≡ None → (some : Bool) → go (passing s some) ≡ pass_turn o size field a (passing s some)
       settle_same q some = rw q at (turned some)
 
-      module _ (c d : Corner) (q : t ≡ Quad c d) where
+      module _ (c d : Corner) (q : t ≡ Some (far c d)) where
         pub settle_ready : (blocks : List ℕ) → Paveable o blocks g values s → Ready s a to c d
         settle_ready blocks P =
             let A = tried o size field s a to c d (is_try ∙ q) in
             ready o blocks g values s P a to c d (choice o size s a to A.da A.db c d on A.answered)
 
-        quad_turned : (some : Bool) → settle a to (Quad c d) (passing s some) ≡ pass_turn o size field a (passing s some)
+        quad_turned : (some : Bool) → settle a to (Some (far c d)) (passing s some) ≡ pass_turn o size field a (passing s some)
         quad_turned some = rw q at (turned some)
 
         pub settle_full : (e : NoPlaces) (t : State) → PlacesQuad a to c d s (Err e) t → (some : Bool)

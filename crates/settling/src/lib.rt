@@ -13,7 +13,7 @@ ghost use Rattle.settling.specs.Paveable.{PaveableIn};
 ghost use Rattle.settling.specs.Searchable.{SearchableIn, HelpedIn};
 
 use front::{Corner, Counts, Full, Mesh, Paving};
-use paving::{Attempt, End, Scratch, Surroundings};
+use paving::{End, Scratch, Surroundings};
 use std::ops::ControlFlow;
 
 // Files what the mesh counts and `k` doesn't; nothing was tried from nodes that are new.
@@ -77,12 +77,18 @@ pub fn settle(
         return ControlFlow::Continue(false);
     };
     let attempt = retries::try_untried(around, &paving.mesh(), scratch, a, b);
-    let Attempt::Quad(c, d) = attempt else {
+    let Some(far) = attempt else {
         return ControlFlow::Continue(false);
     };
     let k = paving.counts;
-    let across = knows_across(around.size, &paving.mesh(), scratch.edge_pool(), c, d);
-    if let Err(Full) = paving.place(snapshot, a, b, c, d, across) {
+    let across = knows_across(
+        around.size,
+        &paving.mesh(),
+        scratch.edge_pool(),
+        far.c,
+        far.d,
+    );
+    if let Err(Full) = paving.place(snapshot, a, b, far.c, far.d, across) {
         return ControlFlow::Break(End::Full);
     }
     file_added(around.size, &paving.mesh(), scratch, k);

@@ -1,13 +1,13 @@
 -- What the code of a preview's answer puts together is the definition's. Assumes nothing.
-use Rattle.std.specs.Prelude.{◌≡◌, ℕ, ◌+◌, Float}
+use Rattle.std.specs.Prelude.{◌≡◌, ℕ, ◌+◌, Float, Some}
 use Rattle.front.specs.declared.Corner.{Corner}
 use Rattle.front.specs.Place.{added, corner_id}
-use Rattle.paving.specs.declared.Attempt.TheVariants.{Quad}
 use Rattle.previews.specs.declared.View.{View}
 use Rattle.step_answers.specs.declared.PreviewAnswer.{PreviewAnswer}
 use Rattle.step_answers.specs.Answers.{outcome_number, fresh_x, fresh_y, view_numbers}
+use Rattle.paving.specs.Attempt.{far}
 
-pub view_made : (v : View) (n a b : ℕ) (c d : Corner) → v.quad ≡ Quad c d → {o C D p q : ℕ} {cx cy dx dy : Float} → o ≡ outcome_number v.outcome
+pub view_made : (v : View) (n a b : ℕ) (c d : Corner) → v.quad ≡ Some (far c d) → {o C D p q : ℕ} {cx cy dx dy : Float} → o ≡ outcome_number v.outcome
     → p ≡ added c → D ≡ corner_id (n + p) d → C ≡ corner_id n c → q ≡ added d → cx ≡ fresh_x c → cy ≡ fresh_y c → dx ≡ fresh_x d → dy ≡ fresh_y d
     → ◌≡◌ {A = PreviewAnswer}
     (record {

@@ -1,15 +1,14 @@
 -- The answers of hand stepping as they cross to the host: the numbers of each case. Definitions only.
-use Rattle.std.specs.Prelude.{ℕ, ◌+◌, Result, Ok, Err, Float}
+use Rattle.std.specs.Prelude.{ℕ, ◌+◌, Result, Ok, Err, Float, Option, Some, None}
 use Rattle.numbers.specs.Float.{zero_f}
 use Rattle.front.specs.declared.Counts.{Counts}
 use Rattle.front.specs.declared.Corner.{Corner}
 use Rattle.front.specs.declared.Corner.TheVariants.{Reused, Fresh}
 use Rattle.front.specs.Place.{added, corner_id}
-use Rattle.paving.specs.declared.Attempt.{Attempt}
-use Rattle.paving.specs.declared.Attempt.TheVariants.{Nothing, Quad}
 use Rattle.hand_steps.specs.declared.HandPlacing.{HandPlacing}
+use Rattle.paving.specs.declared.FarCorners.{FarCorners}
 use Rattle.hand_steps.specs.declared.StepOutcome.{StepOutcome}
-use Rattle.hand_steps.specs.declared.StepOutcome.TheVariants.{Placed, None, Full, Cap}
+use Rattle.hand_steps.specs.declared.StepOutcome.TheVariants.{Placed, None as NoQuad, Full, Cap}
 use Rattle.previews.specs.declared.View.{View}
 use Rattle.step_answers.specs.declared.StepAnswer.{StepAnswer}
 use Rattle.step_answers.specs.declared.PreviewAnswer.{PreviewAnswer}
@@ -18,7 +17,7 @@ use Rattle.step_answers.specs.declared.PreviewAnswer.{PreviewAnswer}
 
 abbrev pub outcome_number : StepOutcome → ℕ
 outcome_number Placed = 0
-outcome_number None = 1
+outcome_number NoQuad = 1
 outcome_number Full = 2
 outcome_number Cap = 3
 
@@ -78,21 +77,21 @@ abbrev pub fresh_y : Corner → Float
 fresh_y (Reused id) = zero_f
 fresh_y (Fresh x y) = y
 
-abbrev pub quad_numbers : Attempt → ℕ → ℕ → ℕ → ℕ → ℕ → PreviewAnswer
-quad_numbers Nothing outcome front n a b = no_quad outcome front
-quad_numbers (Quad c d) outcome front n a b =
+abbrev pub quad_numbers : Option FarCorners → ℕ → ℕ → ℕ → ℕ → ℕ → PreviewAnswer
+quad_numbers None outcome front n a b = no_quad outcome front
+quad_numbers (Some q) outcome front n a b =
     record {
       refusal = 0;
       outcome = outcome;
       a = a;
       b = b;
-      d = corner_id (n + added c) d;
-      c = corner_id n c;
-      new_nodes = added c + added d;
-      cx = fresh_x c;
-      cy = fresh_y c;
-      dx = fresh_x d;
-      dy = fresh_y d;
+      d = corner_id (n + added q.c) q.d;
+      c = corner_id n q.c;
+      new_nodes = added q.c + added q.d;
+      cx = fresh_x q.c;
+      cy = fresh_y q.c;
+      dx = fresh_x q.d;
+      dy = fresh_y q.d;
       front = front;
     }
 

@@ -8,7 +8,7 @@ ghost use Rattle.step_answers.specs.Answers.{outcome_number, refused_step, step_
 use domain::Refusal;
 use front::Corner;
 use hand_steps::{HandPlacing, StepOutcome};
-use paving::Attempt;
+use paving::FarCorners;
 use previews::View;
 
 // What became of the edge (0 placed, 1 none, 2 full, 3 cap), and how many nodes, quads, distinct edges and front edges there are after it. All is 0 on a
@@ -106,7 +106,7 @@ fn view_numbers(v: View, n: u32, a: u32, b: u32) -> PreviewAnswer
 {
     let outcome = outcome_number(v.outcome);
     let front = v.front;
-    let Attempt::Quad(c, d) = v.quad else {
+    let Some(FarCorners { c, d }) = v.quad else {
         return PreviewAnswer {
             outcome,
             front,

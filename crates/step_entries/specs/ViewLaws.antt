@@ -1,6 +1,6 @@
 -- The quad and its new nodes, as a preview answers them, are those of the mesh after the placing. Assumes nothing.
 use Rattle.std.proofs.Math.Bool.{Bool, cond}
-use Rattle.std.specs.Prelude.{true, false, ◌≡◌, ℕ, ◌+◌, ◌-◌, ◌*◌, ◌≤◌, leb, length, get_or, set, Float}
+use Rattle.std.specs.Prelude.{true, false, ◌≡◌, ℕ, ◌+◌, ◌-◌, ◌*◌, ◌≤◌, leb, length, get_or, set, Float, ◌<◌, Option, Some, None}
 use mathlib.Core.List.{List}
 use Rattle.std.proofs.Math.Path.{refl, ap}
 use Rattle.std.proofs.Common.{◌∙◌, arith, length-set, get_or-set_same, get_or-set_other, le-leb}
@@ -16,14 +16,14 @@ use Rattle.front.specs.State.{State, node_in, quad_at}
 use Rattle.front.specs.Place.{added, corner_id, id_c, id_d, place, is_full}
 use Rattle.front.specs.Stores.{store_x, store_y}
 use Rattle.front.specs.StateAfter.{quad_reads}
-use Rattle.paving.specs.declared.Attempt.{Attempt}
-use Rattle.paving.specs.declared.Attempt.TheVariants.{Nothing, Quad}
-use Rattle.paving.specs.Attempt.{try_edge}
+use Rattle.paving.specs.declared.FarCorners.{FarCorners}
+use Rattle.paving.specs.Attempt.{try_edge, far}
 use Rattle.paving.specs.Advance.{most_quads}
 use Rattle.mesh_check.specs.Check.{lent_state}
 use Rattle.hand_placing.specs.Local.{placed_nodes, placed_quads, placed_xs, placed_ys}
-use Rattle.hand_steps.specs.declared.StepOutcome.TheVariants.{Placed, Cap}
-use Rattle.hand_steps.specs.Hand.{handled, settled_on, place_on}
+use Rattle.hand_steps.specs.declared.StepOutcome.TheVariants.{Placed, Cap, None as NoQuad, Full}
+use Rattle.hand_steps.specs.Hand.{handled, settled_on, place_on, Handled}
+use Rattle.hand_steps.specs.declared.StepOutcome.{StepOutcome}
 use Rattle.hand_steps.specs.Lent.{OnFront}
 use Rattle.hand_steps.specs.UseLaws.{Below, quad_below, quad_fits_lem}
 use Rattle.previews.specs.Preview.{foresight, foreseen, foreseen_on, view_on}
@@ -121,7 +121,7 @@ module _ (s : State) (a b : ℕ) (c d : Corner) (room : 4 * (s.counts.quads + 1)
   more : t.counts.nodes - n ≡ added c + added d
   more = omega (arith, placed_nodes a b c d s)
 
-  quad_view : view_numbers (record { outcome = Placed; quad = Quad c d; front = t.counts.front }) n a b ≡ copy_numbers s Placed t
+  quad_view : view_numbers (record { outcome = Placed; quad = Some (far c d); front = t.counts.front }) n a b ≡ copy_numbers s Placed t
   quad_view = rw (placed_quad, more, c_x, c_y, d_x, d_y)
 
 -- ---- the whole
@@ -135,23 +135,23 @@ module _ (xs ys : List Float) (next prev origins quads edges : List ℕ) (k : Co
   unfolding foreseen_on place_on
   view_is = by (leb most_quads k.quads) (try_edge o size field s a b) refl
     where
-      view : Bool → Attempt → PreviewAnswer
+      view : Bool → Option FarCorners → PreviewAnswer
       view cap t =
           let h = cond cap (handled s Cap) (settled_on a b t s) in
-          view_numbers (record { outcome = h.outcome; quad = (cond cap (foresight Cap Nothing) (foreseen a b t s)).quad; front = h.state.counts.front })
+          view_numbers (record { outcome = h.outcome; quad = (cond cap (foresight Cap None) (foreseen a b t s)).quad; front = h.state.counts.front })
           k.nodes a b
 
-      copy : Bool → Attempt → PreviewAnswer
+      copy : Bool → Option FarCorners → PreviewAnswer
       copy cap t = let h = cond cap (handled s Cap) (settled_on a b t s) in copy_numbers s h.outcome h.state
 
-      quad : (c d : Corner) → try_edge o size field s a b ≡ Quad c d → (full : Bool) → is_full s a b c d ≡ full → view false (Quad c d) ≡ copy false (Quad c d)
+      quad : (c d : Corner) → try_edge o size field s a b ≡ Some (far c d) → (full : Bool) → is_full s a b c d ≡ full → view false (Some (far c d)) ≡ copy false (Some (far c d))
       quad c d e true f = rw f refl
       quad c d e false f =
           let R = quad_fits_lem xs ys next prev origins quads edges k a b S o size field c d e f in
           let B = quad_below o size field s a b S c d e in
           rw f (quad_view s a b c d R.quads_fit R.nodes.xs_fit R.nodes.ys_fit B.0 B.1)
 
-      by : (cap : Bool) (t : Attempt) → try_edge o size field s a b ≡ t → view cap t ≡ copy cap t
+      by : (cap : Bool) (t : Option FarCorners) → try_edge o size field s a b ≡ t → view cap t ≡ copy cap t
       by true t e = refl
-      by false Nothing e = refl
-      by false (Quad c d) e = quad c d e (is_full s a b c d) refl
+      by false None e = refl
+      by false (Some q) e = quad q.c q.d e (is_full s a b q.c q.d) refl

@@ -17,7 +17,7 @@ use direction::Grid;
 use domain::{Domain, Refusal, Settings};
 use front::Counts;
 use hand_steps::{HandPlacing, StepOutcome};
-use paving::Attempt;
+use paving::FarCorners;
 
 // Refusal 23, then 24: on every input.
 pub fn check_hand(
@@ -54,7 +54,7 @@ pub fn attempt_on(
     k: Counts,
     a: u32,
     b: u32,
-) -> Attempt
+) -> Option<FarCorners>
     requires { TryLent (outline_of domain) [] grid values.now size xs.now ys.now next.now prev.now edges.now [] [] k }
     ensures { result ≡ try_edge (outline_of domain.entry) size (field_record grid values.now [])
         (seen_state xs.now ys.now next.now prev.now edges.now k) a b }
@@ -77,7 +77,7 @@ fn settle(
     k: Counts,
     a: u32,
     b: u32,
-    attempt: Attempt,
+    attempt: Option<FarCorners>,
 ) -> HandPlacing
     requires { Settleable xs.old ys.old next.old prev.old origins.now quads.old edges.old k a b attempt }
     ensures { handled
@@ -86,7 +86,7 @@ fn settle(
         ≡ settled_on a b attempt (lent_state xs.old ys.old next.old prev.old origins.now
         quads.old edges.old k) }
 {
-    let Attempt::Quad(c, d) = attempt else {
+    let Some(FarCorners { c, d }) = attempt else {
         return HandPlacing {
             outcome: StepOutcome::None,
             counts: k,

@@ -1,6 +1,6 @@
 -- The quad that would take the last numbers (docs/DECISIONS.md, 16), computed from the definitions: with 4,294,967,294 nodes its second new corner
 -- gets the number that marks a node off the front. The attempt answers it, and the paving is full.
-use Rattle.std.specs.Prelude.{◌≡◌, refl, Bool, true, false, not, [], ◌∷◌, ℕ, zero, suc}
+use Rattle.std.specs.Prelude.{◌≡◌, refl, Bool, true, false, not, [], ◌∷◌, ℕ, zero, suc, Some}
 use Rattle.std.proofs.Common.{sym, ap}
 use Rattle.laws.specs.Chain.{passes}
 use Rattle.laws.specs.Loop.{for_up, any_up}
@@ -15,9 +15,8 @@ use Rattle.front.specs.declared.Corner.TheVariants.{Fresh}
 use Rattle.front.specs.State.{State, state_of, counted}
 use Rattle.front.specs.Neighbours.{next_at, is_at}
 use Rattle.front.specs.Place.{id_c, id_d, is_full}
-use Rattle.paving.specs.declared.Attempt.TheVariants.{Quad}
 use Rattle.paving.specs.Checks.{close_node, too_close, node_ok, corner_free, corners_apart, blocks, node_inside, edges_free, corners_of, quad_ok, quad_fits}
-use Rattle.paving.specs.Attempt.{corner_c, corner_d, attempt_quad}
+use Rattle.paving.specs.Attempt.{corner_c, corner_d, attempt_quad, far}
 use Rattle.table.specs.Opened.{opened}
 use Rattle.table.specs.Unreached.{whole_point, up}
 
@@ -132,7 +131,7 @@ unfolding quad_fits
 fits = passes refl (passes free_c (passes free_d (passes apart (passes not_next ok))))
 
 -- the attempt answers the quad
-pub last_quad : attempt_quad wide one_f most 0 1 up up ≡ Quad new_c new_d
+pub last_quad : attempt_quad wide one_f most 0 1 up up ≡ Some (far new_c new_d)
 unfolding attempt_quad
 last_quad = rw (chosen_c, chosen_d, ← fits)
 

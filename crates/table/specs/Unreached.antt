@@ -1,7 +1,7 @@
 -- What no run reaches (docs/DECISIONS.md, 13), computed from the definitions on states of a few nodes: the same corner twice, c to d on the front
 -- already, the filters of the reuse, 4,096 spans, the cap, and walks that don't close. Every function of the code equals its definition on
 -- such states too, as far as its `requires` lets them in.
-use Rattle.std.specs.Prelude.{◌≡◌, refl, Bool, true, false, List, [], ◌∷◌, ℕ, Float}
+use Rattle.std.specs.Prelude.{◌≡◌, refl, Bool, true, false, List, [], ◌∷◌, ℕ, Float, Some, None}
 use Rattle.std.specs.Float.Ieee.{neg}
 use Rattle.laws.specs.Loop.{go, out}
 use Rattle.numbers.specs.Float.{to_float, zero_f, one_f, half_f}
@@ -13,10 +13,9 @@ use Rattle.topology.specs.Links.{off}
 use Rattle.direction.specs.Record.{FieldRecord}
 use Rattle.front.specs.declared.Corner.TheVariants.{Reused, Fresh}
 use Rattle.front.specs.State.{State, state_of, counted}
-use Rattle.paving.specs.declared.Attempt.TheVariants.{Nothing, Quad}
 use Rattle.paving.specs.declared.End.TheVariants.{Passes, Cap}
 use Rattle.paving.specs.Checks.{edge_crosses}
-use Rattle.paving.specs.Attempt.{corner_c, corner_d, attempt_quad}
+use Rattle.paving.specs.Attempt.{corner_c, corner_d, attempt_quad, far}
 use Rattle.paving.specs.Advance.{passing, paved, after_quad, advance}
 use Rattle.paving.specs.Loops.{front_loops}
 use Rattle.table.specs.Opened.{opened}
@@ -42,11 +41,11 @@ abbrev corners : ℕ → State
 corners last =
     linked 4 (zero_f ∷ one_f ∷ one_f ∷ zero_f ∷ []) (zero_f ∷ zero_f ∷ one_f ∷ one_f ∷ []) (1 ∷ 2 ∷ 3 ∷ last ∷ []) (3 ∷ 0 ∷ 1 ∷ 2 ∷ [])
 
-pub unit_quad : attempt_quad unit one_f (corners 0) 0 1 up up ≡ Quad (Reused 3) (Reused 2)
+pub unit_quad : attempt_quad unit one_f (corners 0) 0 1 up up ≡ Some (far (Reused 3) (Reused 2))
 unfolding opened
 unit_quad = refl
 
-pub next_of_c_is_d : attempt_quad unit one_f (corners 2) 0 1 up up ≡ Nothing
+pub next_of_c_is_d : attempt_quad unit one_f (corners 2) 0 1 up up ≡ None
 unfolding opened
 next_of_c_is_d = refl
 
@@ -67,7 +66,7 @@ pub same_node_d : corner_d (to_float 4) narrow 0 1 up ≡ Reused 2
 unfolding opened
 same_node_d = refl
 
-pub same_corner : attempt_quad triangle (to_float 4) narrow 0 1 up up ≡ Nothing
+pub same_corner : attempt_quad triangle (to_float 4) narrow 0 1 up up ≡ None
 unfolding opened
 same_corner = refl
 

@@ -1,8 +1,8 @@
 -- `retries::try_untried` meets its contract: the list has the edge, or it is tried, and noted where that is in vain. Assumes nothing.
-use Rattle.std.specs.Prelude.{List, ℕ}
+use Rattle.std.specs.Prelude.{not, List, ℕ}
 use Rattle.std.proofs.Common.{◌∙◌, ap}
 use Rattle.retries.specs.Vain.{is_vain}
-use Rattle.retries.proofs.Untried.{untried_vain, untried_kept, untried_noted}
+use Rattle.retries.proofs.Untried.{none_is, untried_vain, untried_kept, untried_noted}
 use Rattle.front.specs.State.{State}
 use Rattle.front.specs.Lent.{mesh_state}
 use Rattle.domain.specs.Outline.{Outline}
@@ -30,8 +30,8 @@ returns-then-is_vain-clause-tried c =
     untried_kept (around s) c.args.around.now.size c.args.around.now.grid c.args.around.now.values.now (lent s) _ _ _ c.requires.untried c.link_of-p.ensures
     c.link_of-q.ensures (c.is_vain.ensures ∙ ap (λ (l : List ℕ). is_vain l c.args.a c.args.b c.link_of-p.result c.link_of-q.result) c.tried.ensures) c.if-is_vain.true
 
-pub returns-in-Nothing-clause-remembers : goal.returns-in-Nothing-clause-remembers
-returns-in-Nothing-clause-remembers c =
-    let s = (goal.at.returns-in-Nothing-clause-remembers c).Start in
+pub returns-then-is_none-clause-remembers : goal.returns-then-is_none-clause-remembers
+returns-then-is_none-clause-remembers c =
+    let s = (goal.at.returns-then-is_none-clause-remembers c).Start in
     untried_noted (around s) c.args.around.now.size c.args.around.now.grid c.args.around.now.values.now (lent s) _ _ _ c.requires.untried c.link_of-p.ensures
-    c.link_of-q.ensures c.try_edge-attempt.ensures c.in-Nothing.is c.note.ensures
+    c.link_of-q.ensures c.try_edge-attempt.ensures (none_is _ (c.is_none.ensures ∙ ap not c.if-is_none.true)) c.note.ensures

@@ -102,9 +102,9 @@ place-requires c =
       settle_ready (around s) a.size a.grid a.values.now (lent s) c.args.a c.requires.node (held _ _ _ _ _ c.requires.paveable)
           (edge_of _ _ c.snapshot_edge.ensures c.next.ensures) c.in-Some.is _
           (c.try_untried-attempt.ensures.answer
-          ∙ ap (λ (m : State). try_edge (outline_in a) a.size (field_in a) (seen_of m) c.args.a c.in-Some.b) c.mesh.ensures) _ _ c.in-Quad.is _
+          ∙ ap (λ (m : State). try_edge (outline_in a) a.size (field_in a) (seen_of m) c.args.a c.in-Some.b) c.mesh.ensures) _ _ c.in-Some-attempt.is _
           c.requires.paveable,
-      c.knows_across-across.ensures ∙ ap (λ (m : State). known_across m.edges m.counts.edges c.in-Quad.c c.in-Quad.d) c.mesh-2.ensures,
+      c.knows_across-across.ensures ∙ ap (λ (m : State). known_across m.edges m.counts.edges c.in-Some-attempt.far.c c.in-Some-attempt.far.d) c.mesh-2.ensures,
     )
 
 pub returns-in-Err-clause-settles : goal.returns-in-Err-clause-settles
@@ -114,7 +114,7 @@ returns-in-Err-clause-settles c =
     settle_full (around s) a.size a.grid a.values.now (lent s) c.args.a c.requires.node (held _ _ _ _ _ c.requires.paveable)
     (edge_of _ _ c.snapshot_edge.ensures c.next.ensures) c.in-Some.is _
     (c.try_untried-attempt.ensures.answer ∙ ap (λ (m : State). try_edge (outline_in a) a.size (field_in a) (seen_of m) c.args.a c.in-Some.b) c.mesh.ensures)
-    _ _ c.in-Quad.is _ _ (rw (← c.in-Err.is) c.place.ensures.placed)
+    _ _ c.in-Some-attempt.is _ _ (rw (← c.in-Err.is) c.place.ensures.placed)
 
 pub returns-in-Err-clause-helped : goal.returns-in-Err-clause-helped
 returns-in-Err-clause-helped c =
@@ -124,7 +124,7 @@ returns-in-Err-clause-helped c =
     let ready = settle_ready (around s) a.size a.grid a.values.now (lent s) c.args.a c.requires.node (held _ _ _ _ _ c.requires.paveable)
     (edge_of _ _ c.snapshot_edge.ensures c.next.ensures) c.in-Some.is _
     (c.try_untried-attempt.ensures.answer
-    ∙ ap (λ (m : State). try_edge (outline_in a) a.size (field_in a) (seen_of m) c.args.a c.in-Some.b) c.mesh.ensures) _ _ c.in-Quad.is _ c.requires.paveable in
+    ∙ ap (λ (m : State). try_edge (outline_in a) a.size (field_in a) (seen_of m) c.args.a c.in-Some.b) c.mesh.ensures) _ _ c.in-Some-attempt.is _ c.requires.paveable in
     let M = subst (λ (m : State). Remembers (outline_in a) a.size (field_in a) r.new.scratch.tried.now (seen_edges m.xs m.ys m.edges m.counts)) c.mesh.ensures
     r.ensures.remembers in
     let T = stretches_tried r.result c.args.scratch.now.tried.now c.args.a _ _ _ c.args.paving.now.counts.nodes c.args.paving.now.next.now c.args.snapshot.now
@@ -142,7 +142,7 @@ file_added-requires-clause-nodes c =
     let ready = settle_ready (around s) a.size a.grid a.values.now (lent s) c.args.a c.requires.node (held _ _ _ _ _ c.requires.paveable)
     (edge_of _ _ c.snapshot_edge.ensures c.next.ensures) c.in-Some.is _
     (c.try_untried-attempt.ensures.answer
-    ∙ ap (λ (m : State). try_edge (outline_in a) a.size (field_in a) (seen_of m) c.args.a c.in-Some.b) c.mesh.ensures) _ _ c.in-Quad.is _ c.requires.paveable in
+    ∙ ap (λ (m : State). try_edge (outline_in a) a.size (field_in a) (seen_of m) c.args.a c.in-Some.b) c.mesh.ensures) _ _ c.in-Some-attempt.is _ c.requires.paveable in
     let adds = placed_adds (around s) _ _ _ a.size (lent s) c.requires.paveable c.args.a _ _ _ ready c.requires.helped.search
     (paving_state c.place.new.self c.args.snapshot.now) (rw (← c.in_default-place.is) c.place.ensures.placed) in
     rw c.try_untried-attempt.ensures.pools.0
@@ -156,7 +156,7 @@ file_added-requires-clause-edges c =
     let ready = settle_ready (around s) a.size a.grid a.values.now (lent s) c.args.a c.requires.node (held _ _ _ _ _ c.requires.paveable)
     (edge_of _ _ c.snapshot_edge.ensures c.next.ensures) c.in-Some.is _
     (c.try_untried-attempt.ensures.answer
-    ∙ ap (λ (m : State). try_edge (outline_in a) a.size (field_in a) (seen_of m) c.args.a c.in-Some.b) c.mesh.ensures) _ _ c.in-Quad.is _ c.requires.paveable in
+    ∙ ap (λ (m : State). try_edge (outline_in a) a.size (field_in a) (seen_of m) c.args.a c.in-Some.b) c.mesh.ensures) _ _ c.in-Some-attempt.is _ c.requires.paveable in
     let adds = placed_adds (around s) _ _ _ a.size (lent s) c.requires.paveable c.args.a _ _ _ ready c.requires.helped.search
     (paving_state c.place.new.self c.args.snapshot.now) (rw (← c.in_default-place.is) c.place.ensures.placed) in
     rw c.try_untried-attempt.ensures.pools.1
@@ -171,7 +171,7 @@ returns-clause-settles c =
     settle_done (around s) a.size a.grid a.values.now (lent s) c.args.a c.requires.node (held _ _ _ _ _ c.requires.paveable)
     (edge_of _ _ c.snapshot_edge.ensures c.next.ensures) c.in-Some.is _
     (c.try_untried-attempt.ensures.answer
-    ∙ ap (λ (m : State). try_edge (outline_in a) a.size (field_in a) (seen_of m) c.args.a c.in-Some.b) c.mesh.ensures) _ _ c.in-Quad.is _ (paving_state c.place.new.self c.args.snapshot.now) (rw (← c.in_default-place.is) c.place.ensures.placed) c.after_quad.ensures
+    ∙ ap (λ (m : State). try_edge (outline_in a) a.size (field_in a) (seen_of m) c.args.a c.in-Some.b) c.mesh.ensures) _ _ c.in-Some-attempt.is _ (paving_state c.place.new.self c.args.snapshot.now) (rw (← c.in_default-place.is) c.place.ensures.placed) c.after_quad.ensures
 
 pub returns-clause-helped : goal.returns-clause-helped
 returns-clause-helped c =
@@ -181,7 +181,7 @@ returns-clause-helped c =
     let ready = settle_ready (around s) a.size a.grid a.values.now (lent s) c.args.a c.requires.node (held _ _ _ _ _ c.requires.paveable)
     (edge_of _ _ c.snapshot_edge.ensures c.next.ensures) c.in-Some.is _
     (c.try_untried-attempt.ensures.answer
-    ∙ ap (λ (m : State). try_edge (outline_in a) a.size (field_in a) (seen_of m) c.args.a c.in-Some.b) c.mesh.ensures) _ _ c.in-Quad.is _ c.requires.paveable in
+    ∙ ap (λ (m : State). try_edge (outline_in a) a.size (field_in a) (seen_of m) c.args.a c.in-Some.b) c.mesh.ensures) _ _ c.in-Some-attempt.is _ c.requires.paveable in
     let M = subst (λ (m : State). Remembers (outline_in a) a.size (field_in a) r.new.scratch.tried.now (seen_edges m.xs m.ys m.edges m.counts)) c.mesh.ensures
     r.ensures.remembers in
     let T = stretches_tried r.result c.args.scratch.now.tried.now c.args.a _ _ _ c.args.paving.now.counts.nodes c.args.paving.now.next.now c.args.snapshot.now

@@ -1,7 +1,7 @@
 -- An attempt by its parts in the code's order: a new corner, the far corners, and a neighbour taken apart. Assumes nothing.
 use Rattle.std.proofs.Math.Path.{◌≡◌, refl}
 use Rattle.std.proofs.Common.{ap, ◌∙◌, eq-eqb, ne_eqb}
-use Rattle.std.specs.Prelude.{Bool, not, ◌&&◌, ◌≢◌, ℕ, eqb, Float}
+use Rattle.std.specs.Prelude.{Bool, not, ◌&&◌, ◌≢◌, ℕ, eqb, Float, Option, Some, None}
 use Rattle.std.proofs.Math.Bool.{true, false}
 use Rattle.laws.specs.Chain.{passes, second_fails}
 use Rattle.numbers.specs.Float.{is_finite}
@@ -9,8 +9,6 @@ use Rattle.domain.specs.declared.Point.{Point}
 use Rattle.domain.specs.Outline.{Outline, point}
 use Rattle.domain.specs.Queries.{contains}
 use Rattle.front.specs.declared.Corner.{Corner}
-use Rattle.front.specs.declared.Neighbour.{Neighbour}
-use Rattle.front.specs.declared.Neighbour.TheVariants.{At, Off}
 use Rattle.front.specs.State.{State, node}
 use Rattle.front.specs.Neighbours.{next_at, prev_at, is_at}
 use Rattle.front.specs.Place.{id_c, id_d}
@@ -45,11 +43,11 @@ module _ (s : State) (size : Float) (a b : ℕ) (da db : Point) where
 
 -- ---- a neighbour n that was taken apart, and the node v
 
-pub none_follows : {n : Neighbour} (v : ℕ) → n ≡ Off → true ≡ not (is_at n v)
+pub none_follows : {n : Option ℕ} (v : ℕ) → n ≡ None → true ≡ not (is_at n v)
 none_follows v e = rw e refl
 
-pub that_follows : {n : Neighbour} {w : ℕ} (v : ℕ) → n ≡ At w → w ≡ v → false ≡ not (is_at n v)
+pub that_follows : {n : Option ℕ} {w : ℕ} (v : ℕ) → n ≡ Some w → w ≡ v → false ≡ not (is_at n v)
 that_follows {w = w} v e q = rw (e, eq-eqb w v q) refl
 
-pub other_follows : {n : Neighbour} {w : ℕ} (v : ℕ) → n ≡ At w → w ≢ v → true ≡ not (is_at n v)
+pub other_follows : {n : Option ℕ} {w : ℕ} (v : ℕ) → n ≡ Some w → w ≢ v → true ≡ not (is_at n v)
 other_follows {w = w} v e q = rw (e, ne_eqb w v q) refl

@@ -355,6 +355,7 @@ pub fn try_edge(
     let first = attempt_quad(
         domain, blocks, size, xs, ys, next, prev, edges, node_pool, edge_pool, counts, a, b, da, db,
     );
+    // Stays a `match`: `or_else` would take a closure with the same fifteen arguments, which is no plainer.
     match first {
         None => attempt_quad(
             domain, blocks, size, xs, ys, next, prev, edges, node_pool, edge_pool, counts, a, b,

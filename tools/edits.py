@@ -13,12 +13,13 @@ ROOT = pathlib.Path(__file__).resolve().parent.parent
 # As the check words it: `FILE:LINE:COLUMN: error: ..`, with further lines indented.
 ERROR = re.compile(r"^\S+:\d+:\d+: error(?:\[[\w-]+\])?: (.*(?:\n  .*)*)", re.MULTILINE)
 # A function without a proof file has its needs named instead.
-NEED = re.compile(r"^note: \S+:\d+:\d+: (it is not proved that .*)", re.MULTILINE)
+NEED = re.compile(r"^note: \S+:\d+:\d+: ((?:it is not proved that |`search` found no proof \().*)", re.MULTILINE)
 # Neither: the function has no proof, and the line says why.
 NO_PROOF = re.compile(r"^fn .*: (?:no proof|not proved).*", re.MULTILINE)
 
 FACTS = [
     r"it is not proved that ",
+    r"^`search` found no proof \(`invariant_of-",
     r"`search`: no proof of ",
     r"`omega`: (?:the goal|the part|a listed rule) ",
     r"`cc`: the equations do not join ",

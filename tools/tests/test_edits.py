@@ -67,6 +67,11 @@ note: what antt said of a `search` in the proof that rattle made: /t/src/lib.rt:
 fn t::double: no proof: expected `double-spec` in /t/proofs/double/Proof.antt; `search` does not close `returns`
 logic=not-proved
 """,
+    "an invariant of a type": """\
+note: /t/src/lib.rt:15:9: `search` found no proof (`invariant_of-self`); `search` gave up at one of its limits
+fn t::next: no proof
+logic=not-proved
+""",
 }
 
 # What it says where nothing is shown.

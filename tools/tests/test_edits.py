@@ -67,6 +67,22 @@ note: what antt said of a `search` in the proof that rattle made: /t/src/lib.rt:
 fn t::double: no proof: expected `double-spec` in /t/proofs/double/Proof.antt; `search` does not close `returns`
 logic=not-proved
 """,
+    "an equation that is missing": """\
+/t/proofs/any/Answers.antt:12:99: error: `returns`: list the missing equation with its arguments, or rewrite by `rw` or `simp`
+logic=not-proved
+""",
+    "a rewriting of nothing": """\
+/t/proofs/sign/Answers.antt:28:113: error: `loop-p-preserved`: `rw`: no part of the goal `Compared n (step n s)` is an instance of the left side
+logic=not-proved
+""",
+    "two sides that differ": """\
+/t/proofs/read/Answers.antt:26:64: error: `returns`: computed as a goal is, one side reads `Prim.Native.Nat.suc (n c)`, and the other `n c`
+logic=not-proved
+""",
+    "a search by `grind`": """\
+/t/proofs/write/Answers.antt:12:5: error: `returns`: `grind` found no proof. It did not look into `Rattle.t.specs.Buffer.written`
+logic=not-proved
+""",
     "an invariant of a type": """\
 note: /t/src/lib.rt:15:9: `search` found no proof (`invariant_of-self`); `search` gave up at one of its limits
 fn t::next: no proof

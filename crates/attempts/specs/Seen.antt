@@ -6,7 +6,11 @@ use Rattle.pools.specs.Pool.{Indexed}
 use Rattle.direction.specs.declared.Grid.{Grid}
 use Rattle.direction.specs.Cells.{FieldLent}
 use Rattle.front.specs.declared.Counts.{Counts}
+use Rattle.front.specs.declared.Mesh.{Mesh}
 use Rattle.front.specs.State.{State, counted}
+use Rattle.paving.specs.declared.Surroundings.{Surroundings}
+use Rattle.paving.specs.Lent.{outline_in}
+use Rattle.indexed.specs.declared.Pools.{Pools}
 use Rattle.indexed.specs.Rects.{node_rects, edge_rects}
 
 -- ---- states with the lists that are read, the others empty
@@ -75,3 +79,23 @@ pub record TryLent (o : Outline) (blocks : List ℕ) (g : Grid) (values : List F
     (next prev edges node_pool edge_pool : List ℕ) (counts : Counts) : Type 0 where
   pub attempt : AttemptLent o blocks size xs ys next prev edges node_pool edge_pool counts
   pub field : FieldLent g values
+
+-- ---- what the code asks, of surroundings, a mesh and pools
+
+abbrev pub NodesLentIn : Surroundings → Mesh → Pools → Type 0
+NodesLentIn a m p = NodesLent (outline_in a) a.blocks.now a.size m.xs.now m.ys.now p.nodes.now m.counts
+
+abbrev pub EdgesIndexedIn : Float → Mesh → Pools → Type 0
+EdgesIndexedIn size m p = EdgesIndexed size m.xs.now m.ys.now m.edges.now p.edges.now m.counts.edges
+
+abbrev pub EdgesLentIn : Float → Mesh → Pools → Type 0
+EdgesLentIn size m p = EdgesLent size m.xs.now m.ys.now m.edges.now p.edges.now m.counts
+
+abbrev pub AttemptLentIn : Surroundings → Mesh → Pools → Type 0
+AttemptLentIn a m p =
+    AttemptLent (outline_in a) a.blocks.now a.size m.xs.now m.ys.now m.next.now m.prev.now m.edges.now p.nodes.now p.edges.now m.counts
+
+abbrev pub TryLentIn : Surroundings → Mesh → Pools → Type 0
+TryLentIn a m p =
+    TryLent (outline_in a) a.blocks.now a.field.grid a.field.values.now a.size m.xs.now m.ys.now m.next.now m.prev.now m.edges.now p.nodes.now p.edges.now
+    m.counts

@@ -1,8 +1,11 @@
 -- Where the nodes of a grid lie in the lent lists: what the functions over them ask. Assumes nothing.
-use Rattle.std.specs.Prelude.{◌≡◌, true, ℕ, ◌+◌, ◌*◌, ◌≤◌, ◌<◌, ltb}
+use Rattle.std.specs.Prelude.{List, ◌≡◌, true, ℕ, ◌+◌, ◌*◌, ◌≤◌, ◌<◌, ltb, length, Float}
 use Rattle.std.proofs.Common.{ap, mul-le-mul_right, arith, ltb-true}
+use Rattle.direction.specs.declared.Grid.{Grid}
 use Rattle.direction.specs.Record.{most_field_nodes}
 use Rattle.direction.specs.Cells.{row_in, row_over}
+use Rattle.averages.specs.declared.GridNode.{GridNode}
+use Rattle.averages.specs.declared.GridRow.{GridRow}
 
 -- n rows of w nodes: room for two floats and a mark each
 pub record FieldRoom (w n floats bytes : ℕ) : Type 0 where
@@ -21,6 +24,17 @@ pub record Row (w n j base floats : ℕ) : Type 0 where
   pub at : base ≡ j * w
   pub row : j < n
   pub room : 2 * (n * w) ≤ floats
+
+-- a node of a grid, and a row, in a list of two floats a node
+abbrev pub NodeIn : Grid → GridNode → List Float → Type 0
+NodeIn g node values = Node g.nx g.ny node.j node.i node.id (length values)
+
+abbrev pub RowIn : Grid → GridRow → List Float → Type 0
+RowIn g row values = Row g.nx g.ny row.j row.first (length values)
+
+-- a row's node in column i
+abbrev pub row_node : GridRow → ℕ → GridNode
+row_node row i = record { i = i; j = row.j; id = row.first + i }
 
 -- a mark for node id, and counts that a float holds
 pub record NodeMark (w n id bytes : ℕ) : Type 0 where

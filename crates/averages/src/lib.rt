@@ -1,23 +1,49 @@
 // The average of a node's neighbours in the grid of a cross field (src/alt_crossfield.rs), normalised.
 #![tactic(auto)]
 
-ghost use Rattle.std.specs.Prelude.{◌≡◌, true, ◌+◌, ◌-◌, ◌*◌, ◌≤◌, ◌<◌, length};
+ghost use Rattle.std.specs.Prelude.{◌≡◌, true, ◌+◌, ◌*◌, ◌<◌, ◌^◌, length};
 ghost use Rattle.domain.specs.Outline.{point_at};
-ghost use Rattle.averages.specs.Places.{Node};
+ghost use Rattle.averages.specs.Places.{NodeIn, row_node};
 ghost use Rattle.averages.specs.Average.{plus_if, neighbour_sum, neighbour_count, normalised, divided, average};
 
-use direction::Grid;
+use direction::{CrossField, Grid};
 use domain::{Point, Settings};
 
-// The sum with the value of node k, where there is one.
-#[tactic(auto, unfolding(crate::specs::Average::plus_if))]
-fn plus_if(there: bool, values: &[f64], k: usize, sum: Point) -> Point
-    requires { there ≡ true → 2 * k + 1 < length values.now }
-    ensures { result ≡ plus_if there (point_at values.now k) sum }
-{
-    if !there {
-        return sum;
+// Node (i, j) of a grid, and its number.
+#[derive(Clone, Copy)]
+pub struct GridNode {
+    pub i: usize,
+    pub j: usize,
+    pub id: usize,
+}
+
+// Row j of a grid, and the number of its first node.
+#[derive(Clone, Copy)]
+pub struct GridRow {
+    pub j: usize,
+    pub first: usize,
+}
+
+impl GridRow {
+    // Its node in column i.
+    pub fn node(self, i: usize) -> GridNode
+        requires { self.first + i < 2 ^ 64 }
+        ensures { result ≡ row_node self i }
+    {
+        GridNode {
+            i,
+            j: self.j,
+            id: self.first + i,
+        }
     }
+}
+
+// The sum with the value of node k.
+#[tactic(auto, unfolding(crate::specs::Average::plus_if))]
+fn plus_node(values: &[f64], k: usize, sum: Point) -> Point
+    requires { 2 * k + 1 < length values.now }
+    ensures { result ≡ plus_if true (point_at values.now k) sum }
+{
     let v = outlines::point_at(values, k);
     Point {
         x: sum.x + v.x,
@@ -26,30 +52,42 @@ fn plus_if(there: bool, values: &[f64], k: usize, sum: Point) -> Point
 }
 
 // The sum of the neighbours' values: left, right, below, above.
-fn neighbour_sum(g: Grid, values: &[f64], j: usize, i: usize, id: usize) -> Point
-    requires { Node g.nx g.ny j i id (length values.now) }
-    ensures { result ≡ neighbour_sum g values.now j i }
+#[tactic(auto, using(crate::specs::Places::here_in, crate::specs::Places::left_in, crate::specs::Places::right_in, crate::specs::Places::under_in))]
+fn neighbour_sum(field: CrossField<'_>, node: GridNode) -> Point
+    requires { NodeIn field.grid node field.values.now }
+    ensures { result ≡ neighbour_sum field.entry.grid field.entry.values.now node.j node.i }
 {
-    let nx = g.nx;
-    let left = plus_if(
-        0 < i,
-        values,
-        id.saturating_sub(1),
-        Point { x: 0.0, y: 0.0 },
-    );
-    let right = plus_if(i + 1 < nx, values, id + 1, left);
-    let under = plus_if(0 < j, values, id.saturating_sub(nx), right);
-    plus_if(j + 1 < g.ny, values, id + nx, under)
+    let GridNode { i, j, id } = node;
+    let nx = field.grid.nx;
+    let mut sum = Point { x: 0.0, y: 0.0 };
+    if 0 < i {
+        sum = plus_node(field.values, id - 1, sum);
+    }
+    if i + 1 < nx {
+        sum = plus_node(field.values, id + 1, sum);
+    }
+    if 0 < j {
+        sum = plus_node(field.values, id - nx, sum);
+    }
+    if j + 1 < field.grid.ny {
+        sum = plus_node(field.values, id + nx, sum);
+    }
+    sum
 }
 
-fn neighbour_count(g: Grid, j: usize, i: usize) -> u32
-    requires { (i < g.nx) × (j < g.ny) }
-    ensures { result ≡ neighbour_count g j i }
+#[tactic(auto, using(crate::proofs::Bits::bool_number), unfolding(crate::specs::Average::neighbour_count))]
+fn neighbour_count(g: Grid, node: GridNode) -> u32
+    requires { (node.i < g.nx) × (node.j < g.ny) }
+    ensures { result ≡ neighbour_count g node.j node.i }
 {
-    u32::from(0 < i) + u32::from(i + 1 < g.nx) + u32::from(0 < j) + u32::from(j + 1 < g.ny)
+    u32::from(0 < node.i)
+        + u32::from(node.i + 1 < g.nx)
+        + u32::from(0 < node.j)
+        + u32::from(node.j + 1 < g.ny)
 }
 
 // Divided by its norm where that is above 1e-12, else (1, 0).
+#[tactic(auto, unfolding(crate::specs::Average::normalised))]
 fn normalised(v: Point) -> Point
     ensures { result ≡ normalised v }
 {
@@ -87,11 +125,12 @@ fn divided(sum: Point, count: u32) -> Point
     }
 }
 
-// The neighbours' average, normalised, at node (i, j), whose number is id.
-pub fn average(g: Grid, values: &[f64], j: usize, i: usize, id: usize) -> Point
-    requires { Node g.nx g.ny j i id (length values.now) }
-    ensures { result ≡ average g values.now j i }
+// The neighbours' average, normalised, at a node.
+#[tactic(auto, unfolding(crate::specs::Average::average))]
+pub fn average(field: CrossField<'_>, node: GridNode) -> Point
+    requires { NodeIn field.grid node field.values.now }
+    ensures { result ≡ average field.entry.grid field.entry.values.now node.j node.i }
 {
-    let sum = neighbour_sum(g, values, j, i, id);
-    normalised(divided(sum, neighbour_count(g, j, i)))
+    let sum = neighbour_sum(field, node);
+    normalised(divided(sum, neighbour_count(field.grid, node)))
 }

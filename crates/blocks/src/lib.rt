@@ -6,10 +6,12 @@ ghost use Rattle.std.specs.Prelude.{◌≡◌, ◌+◌, ◌*◌, ◌≤◌, ◌<
 ghost use Rattle.laws.specs.Loop.{any_up};
 ghost use Rattle.domain.specs.Outline.{outline_of, points, most_points, outline_refusal};
 ghost use Rattle.domain.specs.Queries.{polygon_turn, point_in_polygon, in_hole, contains};
+ghost use Rattle.outlines.specs.Holes.{HolePlace};
 ghost use Rattle.blocks.specs.Blocks.{for_between, coordinate, reach, is_farther, Farthest, block_end, is_listed, BlockThere, BlockFiles, LoopFiles};
 ghost use Rattle.blocks.specs.Blocks.{LoopDrawn, first_block_at, Drawn, block_extent, ray_misses};
 
 use domain::{Domain, Point};
+use outlines::Hole;
 
 // A box round segments.
 #[derive(Clone, Copy)]
@@ -69,13 +71,18 @@ fn farthest(d: usize, s: &[f64], from: usize, to: usize) -> u32
     requires { (from < to) × (to ≤ points s.now) × (points s.now ≤ most_points) }
     ensures { Farthest s.now d from to result }
 {
-    let mut far = from;
-    for i in from + 1..to {
-        if is_farther(d, reach(d, s, i), reach(d, s, far)) {
-            far = i;
-        }
-    }
-    far as u32
+    (from + 1..to).fold(
+        from,
+        |far, i|
+            requires { (far < points s.now) × (i < points s.now) }
+        {
+            if is_farther(d, reach(d, s, i), reach(d, s, far)) {
+                i
+            } else {
+                far
+            }
+        },
+    ) as u32
 }
 
 // The number of the first block of loop k, before which `start` hole points stand.
@@ -157,11 +164,11 @@ fn crossings(p: Point, s: &[f64], from: usize, to: usize, inside: bool) -> bool
     requires { (from ≤ to) × (to ≤ points s.now) }
     ensures { result ≡ for_between from to (polygon_turn p s.now) inside }
 {
-    let mut odd = inside;
-    for i in from..to {
-        odd ^= outlines::ray_crosses(p, outlines::point_at(s, i), outlines::point_after(s, i));
-    }
-    odd
+    (from..to).fold(
+        inside,
+        |odd, i| odd
+            ^ outlines::ray_crosses(p, outlines::point_at(s, i), outlines::point_after(s, i)),
+    )
 }
 
 fn point_in_polygon(p: Point, s: &[f64], blocks: &[u32], first: usize) -> bool
@@ -178,17 +185,20 @@ fn point_in_polygon(p: Point, s: &[f64], blocks: &[u32], first: usize) -> bool
     inside
 }
 
+// Whether p is inside the hole.
+fn is_in_hole(domain: Domain<'_>, blocks: &[u32], p: Point, hole: Hole<'_>) -> bool
+    requires { Drawn (outline_of domain) blocks.now × HolePlace (outline_of domain) hole.index hole }
+    ensures { result ≡ point_in_polygon p hole.entry.points.now }
+{
+    let first = first_block(domain.outer, hole.index + 1, hole.start);
+    point_in_polygon(p, hole.points, blocks, first)
+}
+
 fn in_some_hole(domain: Domain<'_>, blocks: &[u32], p: Point) -> bool
     requires { Drawn (outline_of domain) blocks.now }
     ensures { result ≡ any_up (length domain.entry.lens.now) (in_hole (outline_of domain.entry) p) }
 {
-    for hole in outlines::holes_of(domain) {
-        let first = first_block(domain.outer, hole.index + 1, hole.start);
-        if point_in_polygon(p, hole.points, blocks, first) {
-            return true;
-        }
-    }
-    false
+    outlines::holes_of(domain).any(|hole| is_in_hole(domain, blocks, p, hole))
 }
 
 // `contains` of the outline.

@@ -1,1 +1,4 @@
 pub mod Holes
+pub mod Written
+pub mod LoopWritten
+pub mod LoopsLaid

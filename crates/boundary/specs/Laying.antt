@@ -4,9 +4,12 @@ use Rattle.std.specs.Prelude.{List, ◌≡◌, ℕ, ◌+◌, ◌*◌, ◌<◌, �
 use Rattle.laws.specs.Loop.{for_up}
 use Rattle.topology.specs.Links.{off}
 use Rattle.domain.specs.Outline.{Outline, outline_refusal, after, points}
+use Rattle.front.specs.declared.Counts.{Counts}
+use Rattle.front.specs.declared.Paving.{Paving}
 use Rattle.front.specs.declared.Ring.{Ring}
+use Rattle.front.specs.Lent.{SameLists}
 use Rattle.front.specs.State.{State, state_of, counted}
-use Rattle.front.specs.Sampling.{loop_parts, sample_loop, ring_count, ring_at, ring_in, split_longest, sampled_count}
+use Rattle.front.specs.Sampling.{loop_parts, sample_loop, ring_count, ring_at, RingFits, ring_in, split_longest, sampled_count}
 use Rattle.sampled.specs.Joins.{with_link}
 use Rattle.boundary.specs.Counting.{even_up}
 
@@ -45,6 +48,57 @@ abbrev pub between_loops : List ℕ → List ℕ → List Float → List Float �
 between_loops snapshot quads xs ys next prev edges n =
     state_of xs ys next prev snapshot quads edges (counted n 0 n n)
 
+-- a paving's state between two loops, with another snapshot and other quads
+abbrev pub between_in : List ℕ → List ℕ → Paving → State
+between_in snapshot quads p = between_loops snapshot quads p.xs.now p.ys.now p.next.now p.prev.now p.edges.now p.counts.nodes
+
+-- the state that a paving's lists hold with another snapshot, other quads and other counts
+abbrev pub lent_with : Paving → List ℕ → List ℕ → Counts → State
+lent_with p snapshot quads k = state_of p.xs.now p.ys.now p.next.now p.prev.now snapshot quads p.edges.now k
+
+-- ---- what the code writes
+
+-- q has the lists that p has, each as long, and the same quads
+pub record SameRoom (p q : Paving) : Type 0 where
+  pub lists : SameLists p q
+  pub xs : length q.xs.now ≡ length p.xs.now
+  pub ys : length q.ys.now ≡ length p.ys.now
+  pub next : length q.next.now ≡ length p.next.now
+  pub prev : length q.prev.now ≡ length p.prev.now
+  pub edges : length q.edges.now ≡ length p.edges.now
+  pub quads : q.quads.now ≡ p.quads.now
+
+-- q is p with n nodes more, and nothing else is new
+pub record MoreNodes (n : ℕ) (p q : Paving) : Type 0 where
+  pub places : SameRoom p q
+  pub edges : q.edges.now ≡ p.edges.now
+  pub counts : q.counts ≡ counted (p.counts.nodes + n) p.counts.quads p.counts.edges p.counts.front
+
+-- n nodes more, which are those that `change` adds, whatever the rest of the state
+pub record NodesWritten (n : ℕ) (change : State → State) (p q : Paving) : Type 0 where
+  pub more : MoreNodes n p q
+  pub state : (st : State) → with_nodes st q.xs.now q.ys.now q.next.now q.prev.now (p.counts.nodes + n)
+      ≡ change (with_nodes st p.xs.now p.ys.now p.next.now p.prev.now p.counts.nodes)
+
+-- q is p with n edges more, each of them on the front, and nothing else is new
+pub record MoreEdges (n : ℕ) (p q : Paving) : Type 0 where
+  pub places : SameRoom p q
+  pub xs : q.xs.now ≡ p.xs.now
+  pub ys : q.ys.now ≡ p.ys.now
+  pub counts : q.counts ≡ counted p.counts.nodes p.counts.quads (p.counts.edges + n) (p.counts.front + n)
+
+-- n edges more, which are those that `change` adds, whatever the rest of the state
+pub record EdgesWritten (n : ℕ) (change : State → State) (p q : Paving) : Type 0 where
+  pub more : MoreEdges n p q
+  pub state : (st : State) → with_front_edges st q.next.now q.prev.now q.edges.now (p.counts.edges + n)
+      ≡ change (with_front_edges st p.next.now p.prev.now p.edges.now p.counts.edges)
+
+-- p and q stand between two loops, and q has besides the loop of n nodes that `change` lays
+pub record LoopWritten (n : ℕ) (change : State → State) (p q : Paving) : Type 0 where
+  pub places : SameRoom p q
+  pub counts : q.counts ≡ counted (p.counts.nodes + n) 0 (p.counts.nodes + n) (p.counts.nodes + n)
+  pub state : (snapshot quads : List ℕ) → between_in snapshot quads q ≡ change (between_in snapshot quads p)
+
 -- ---- what the code asks
 
 -- n nodes have places
@@ -55,21 +109,32 @@ pub record NodeRoom (n : ℕ) (xs ys : List Float) (next prev : List ℕ) : Type
   pub in_prev : n ≤ length prev
   pub few : n < off
 
+abbrev pub NodeRoomIn : ℕ → Paving → Type 0
+NodeRoomIn n p = NodeRoom n p.xs.now p.ys.now p.next.now p.prev.now
+
+-- the ring's ids are nodes of the paving, which has places for their edges, and each of its edges is on the front
+pub record CanLink (r : Ring) (p : Paving) : Type 0 where
+  pub fits : RingFits r
+  pub in_next : r.base + ring_count r ≤ length p.next.now
+  pub in_prev : r.base + ring_count r ≤ length p.prev.now
+  pub in_edges : 2 * (p.counts.edges + ring_count r) ≤ length p.edges.now
+  pub front : p.counts.front ≡ p.counts.edges
+
 -- n ids from base on
 pub record NodesFrom (base n : ℕ) : Type 0 where
   pub some : 0 < n
   pub few : base + n < off
-
--- the ring's longest edge is one of its edges, and its ids are nodes
-pub record RingFits (r : Ring) : Type 0 where
-  pub longest : r.longest < r.count
-  pub few : r.base + ring_count r < off
 
 -- a loop has points, and its nodes from base on have places, and as many edges
 pub record LoopRoom (s : List Float) (size : Float) (base : ℕ) (xs ys : List Float) (next prev edges : List ℕ) : Type 0 where
   pub some : 0 < points s
   pub nodes : NodeRoom (base + even_up (loop_parts size s)) xs ys next prev
   pub in_edges : 2 * (base + even_up (loop_parts size s)) ≤ length edges
+
+-- the paving stands between two loops, and loop s has room in it
+pub record CanLay (s : List Float) (size : Float) (p : Paving) : Type 0 where
+  pub room : LoopRoom s size p.counts.nodes p.xs.now p.ys.now p.next.now p.prev.now p.edges.now
+  pub counts : p.counts ≡ counted p.counts.nodes 0 p.counts.nodes p.counts.nodes
 
 -- the outline is not refused, and what is sampled has places
 pub record CanSample (o : Outline) (size : Float) (xs ys : List Float) (next prev edges : List ℕ) : Type 0 where

@@ -8,16 +8,16 @@ use Rattle.std.specs.Float.Ieee.{lt}
 use Rattle.laws.specs.Loop.{for_up, Loop, loop_start_lem, loop_next, loop_end, sum_up}
 use Rattle.laws.specs.Sums.{sum_zero, sum_suc, sum_term}
 use Rattle.domain.specs.declared.Point.{Point}
-use Rattle.domain.specs.Outline.{points, point_at, point_after, after}
+use Rattle.domain.specs.Outline.{points, point_at, point_after}
 use Rattle.geometry.specs.Plane.{distance}
 use Rattle.front.specs.declared.Ring.{Ring}
 use Rattle.front.specs.State.{State, state_of, counted, push_node}
 use Rattle.front.specs.Sampling.{parts_of, parts, loop_parts, sample_loop}
-use Rattle.front.specs.Sampling.{edge_length, longest_turn, longest_edge, ring_of, ring_count, sampled_at, ring_at, midpoint, split_longest, ring_in}
+use Rattle.front.specs.Sampling.{edge_length, longest_turn, longest_edge, ring_of, ring_count, sampled_at, ring_at, RingFits, midpoint, split_longest, ring_in}
 use Rattle.sampled.specs.Cuts.{cuts_least}
 use Rattle.sampled.specs.Rings.{longest_in}
 use Rattle.boundary.specs.Counting.{even_up}
-use Rattle.boundary.specs.Laying.{between_loops, NodeRoom, NodesFrom, RingFits, LoopRoom, link_ring, lay_loop}
+use Rattle.boundary.specs.Laying.{between_loops, NodeRoom, NodesFrom, LoopRoom, link_ring, lay_loop}
 
 -- ---- room
 

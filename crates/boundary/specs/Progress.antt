@@ -5,7 +5,7 @@ use Rattle.std.proofs.Common.{sym, ◌∙◌, add-one, arith}
 use Rattle.std.proofs.Math.Path.{ap}
 use Rattle.laws.specs.Loop.{Loop, sum_up}
 use Rattle.laws.specs.Sums.{sum_zero, sum_suc, sum_le, sum_term}
-use Rattle.domain.specs.Outline.{Outline, loop_at, loop_start, points, first_of, misshapen, loops_refusal, far_refusal, outline_refusal}
+use Rattle.domain.specs.Outline.{Outline, loop_at, loop_start, first_of, misshapen, loops_refusal, far_refusal, outline_refusal}
 use Rattle.front.specs.State.{State, cleared}
 use Rattle.front.specs.Sampling.{loop_count, loop_parts, loop_nodes, sampled_count, front_refusal, boundary_turn}
 use Rattle.sampled.specs.Nodes.{room_places}

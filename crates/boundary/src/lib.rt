@@ -1,19 +1,20 @@
 // Sampling: `Paving::from_boundary` of src/alt_crossfield.rs, with refusal 10.
 #![tactic(auto)]
 
-ghost use Rattle.std.specs.Prelude.{◌≡◌, false, List, ℕ, ◌+◌, ◌*◌, ◌<◌, ◌≤◌, min, Float, length};
-ghost use Rattle.domain.specs.Outline.{outline_of, misshapen};
+ghost use Rattle.std.specs.Prelude.{◌≡◌, false, cond, List, ℕ, ◌+◌, ◌-◌, ◌*◌, ◌<◌, min, length};
+ghost use Rattle.domain.specs.Outline.{outline_of, misshapen, after};
 ghost use Rattle.domain.specs.Refusals.{refused};
 ghost use Rattle.front.specs.declared.Counts.{Counts};
-ghost use Rattle.front.specs.State.{State, state_of, most_nodes, push_node};
+ghost use Rattle.front.specs.Lent.{mesh_state};
+ghost use Rattle.front.specs.State.{node_in, most_nodes};
 ghost use Rattle.front.specs.Sampling.{parts_of, loop_parts, sampled_count, sampled_refusal, front_refusal, cut, sample_segment, sample_loop, from_boundary};
-ghost use Rattle.front.specs.Sampling.{signed_area, ordered_at, edge_length, longest_edge, ring_of, ring_count, sampled_at, ring_at, midpoint, split_longest};
+ghost use Rattle.front.specs.Sampling.{signed_area, edge_length, longest_edge, ring_in, ring_count, sampled_at, midpoint, split_longest};
 ghost use Rattle.sampled.specs.Joins.{with_link};
 ghost use Rattle.boundary.specs.Counting.{most, even_up};
-ghost use Rattle.boundary.specs.Laying.{with_nodes, with_front_edges, between_loops, NodeRoom, NodesFrom, RingFits, LoopRoom, CanSample, link_ring, lay_loop};
+ghost use Rattle.boundary.specs.Laying.{lent_with, NodeRoomIn, NodesFrom, CanLink, CanLay, CanSample, SameRoom, NodesWritten, EdgesWritten, LoopWritten, link_ring, lay_loop};
 
 use domain::{Domain, Point, Refusal, Settings};
-use front::{Counts, OFF, Ring};
+use front::{Counts, MOST_NODES, Mesh, Paving, Ring};
 
 // ---- how many
 
@@ -32,6 +33,7 @@ pub fn parts_of(size: f64, length: f64) -> u64
 pub fn loop_parts(s: &[f64], size: f64) -> u64
     ensures { result ≡ min (loop_parts size s.now) most }
 {
+    // Stays a loop, as in `sampled_count`: each turn stops the sum at `MOST`.
     let mut sum: u64 = 0;
     for i in 0..s.len() / 2 {
         let a = outlines::point_at(s, i);
@@ -44,7 +46,7 @@ pub fn loop_parts(s: &[f64], size: f64) -> u64
 }
 
 // The points sampled of a loop: an odd one gets one more.
-fn loop_nodes(s: &[f64], size: f64) -> u64
+pub fn loop_nodes(s: &[f64], size: f64) -> u64
     ensures { result ≡ even_up (min (loop_parts size s.now) most) }
 {
     let parts = loop_parts(s, size);
@@ -75,7 +77,7 @@ pub fn check_places(
         ≡ sampled_refusal (outline_of domain.entry) size (min node_places most_nodes) edge_places }
 {
     let count = sampled_count(domain, size) as usize;
-    if count > 4294967294 || node_places < count || edge_places < count {
+    if count > MOST_NODES || node_places < count || edge_places < count {
         return Err(Refusal::FrontNeedsSpace);
     }
     Ok(())
@@ -96,300 +98,203 @@ fn cut(a: Point, b: Point, n: usize, k: usize) -> Point
     }
 }
 
-// `push_node`: node n is p, off the front.
-#[tactic(auto, unfolding(front::specs::State::push_node))]
-fn push_node(xs: &mut [f64], ys: &mut [f64], next: &mut [u32], prev: &mut [u32], n: usize, p: Point)
-    requires { NodeRoom (n + 1) xs.old ys.old next.old prev.old }
-    ensures { (st : State) → with_nodes st xs.new ys.new next.new prev.new (n + 1)
-        ≡ push_node p (with_nodes st xs.old ys.old next.old prev.old n) }
-{
-    xs[n] = p.x;
-    ys[n] = p.y;
-    next[n] = OFF;
-    prev[n] = OFF;
-}
-
-// The points of one segment, written from node `from` on.
-fn sample_segment(
-    a: Point,
-    b: Point,
-    parts: usize,
-    xs: &mut [f64],
-    ys: &mut [f64],
-    next: &mut [u32],
-    prev: &mut [u32],
-    from: usize,
-)
-    requires { NodeRoom (from + parts) xs.old ys.old next.old prev.old }
-    ensures { (st : State) → with_nodes st xs.new ys.new next.new prev.new (from + parts)
-        ≡ sample_segment a b parts (with_nodes st xs.old ys.old next.old prev.old from) }
+// The points of one segment.
+fn sample_segment(a: Point, b: Point, parts: usize, paving: &mut Paving<'_>)
+    requires { NodeRoomIn (paving.old.counts.nodes + parts) paving.old }
+    ensures { NodesWritten parts (sample_segment a b parts) paving.old paving.new }
 {
     for k in 0..parts {
-        push_node(xs, ys, next, prev, from + k, cut(a, b, parts, k));
+        paving.push_node(cut(a, b, parts, k));
     }
 }
 
-// The points of a loop, written from node `from` on. The answer is the count of nodes then.
-fn sample_loop(
-    s: &[f64],
-    size: f64,
-    xs: &mut [f64],
-    ys: &mut [f64],
-    next: &mut [u32],
-    prev: &mut [u32],
-    from: usize,
-) -> usize
-    requires { NodeRoom (from + loop_parts size s.now) xs.old ys.old next.old prev.old }
-    ensures { (result ≡ from + loop_parts size s.now)
-        × ((st : State) → with_nodes st xs.new ys.new next.new prev.new result
-        ≡ sample_loop size s.now (with_nodes st xs.old ys.old next.old prev.old from)) }
+// The points of a loop.
+fn sample_loop(s: &[f64], size: f64, paving: &mut Paving<'_>)
+    requires { NodeRoomIn (paving.old.counts.nodes + loop_parts size s.now) paving.old }
+    ensures { NodesWritten (loop_parts size s.now) (sample_loop size s.now) paving.old paving.new }
 {
-    let mut nodes = from;
     for i in 0..s.len() / 2 {
         let a = outlines::point_at(s, i);
         let b = outlines::point_after(s, i);
         let parts = parts_of(size, geometry::distance(a, b)) as usize;
-        sample_segment(a, b, parts, xs, ys, next, prev, nodes);
-        nodes += parts;
+        sample_segment(a, b, parts, paving);
     }
-    nodes
 }
 
 // ---- the ring of a loop's nodes
 
-// `signed_area` of n nodes from base on.
-fn signed_area(xs: &[f64], ys: &[f64], base: usize, n: usize) -> f64
-    requires { NodesFrom base n }
-    ensures { result ≡ signed_area xs.now ys.now base n }
-{
-    let mut sum = 0.0;
-    for i in 0..n {
-        let a = front::node_at(xs, ys, (base + i) as u32);
-        let b = front::node_at(xs, ys, (base + outlines::after(n, i)) as u32);
-        sum = sum + (a.x * b.y - b.x * a.y);
+// A ring among a mesh's nodes.
+#[derive(Clone, Copy)]
+struct MeshRing<'a> {
+    mesh: &'a Mesh<'a>,
+    ring: Ring,
+    ghost sampled: { NodesFrom ring.base ring.count },
+}
+
+impl MeshRing<'_> {
+    // `signed_area` of the nodes in the order sampled.
+    fn signed_area(&self) -> f64
+        ensures { result ≡ signed_area self.now.mesh.now.xs.now self.now.mesh.now.ys.now self.now.ring.base self.now.ring.count }
+    {
+        let base = self.ring.base;
+        let n = self.ring.count;
+        // Stays a loop: the definition adds from 0.0 in this order, and a `fold` of the same turns is no plainer.
+        let mut sum = 0.0;
+        for i in 0..n {
+            let after = outlines::after(n as usize, i as usize) as u32;
+            let a = self.mesh.node(base + i);
+            let b = self.mesh.node(base + after);
+            sum += geometry::area_term(a, b);
+        }
+        0.5 * sum
     }
-    0.5 * sum
-}
 
-// Id k of n from base on, backwards where turned.
-fn ordered_at(base: usize, n: usize, turned: bool, k: usize) -> usize
-    requires { (k < n) × (base + n < 4294967296) }
-    ensures { (result ≡ ordered_at base n turned k) × (result < base + n) }
-{
-    if turned { base + (n - 1 - k) } else { base + k }
-}
+    // The ends of the edge from the node sampled as number k to the next one.
+    fn edge_ends(&self, k: usize) -> (Point, Point)
+        requires { k < self.now.ring.count }
+        ensures { (result.0 ≡ node_in self.now.mesh.now.xs.now self.now.mesh.now.ys.now (sampled_at self.now.ring k))
+            × (result.1 ≡ node_in self.now.mesh.now.xs.now self.now.mesh.now.ys.now (sampled_at self.now.ring (after self.now.ring.count k))) }
+    {
+        let after = outlines::after(self.ring.count as usize, k);
+        (
+            self.mesh.node(self.ring.sampled_at(k)),
+            self.mesh.node(self.ring.sampled_at(after)),
+        )
+    }
 
-// The length of the edge from id k to the next one.
-#[tactic(auto, unfolding(front::specs::Sampling::edge_length))]
-fn edge_length(xs: &[f64], ys: &[f64], base: usize, n: usize, turned: bool, k: usize) -> f64
-    requires { NodesFrom base n × (k < n) }
-    ensures { result ≡ edge_length xs.now ys.now base n turned k }
-{
-    let a = front::node_at(xs, ys, ordered_at(base, n, turned, k) as u32);
-    let b = front::node_at(
-        xs,
-        ys,
-        ordered_at(base, n, turned, outlines::after(n, k)) as u32,
-    );
-    geometry::distance(a, b)
-}
+    // The length of that edge.
+    #[tactic(auto, unfolding(front::specs::Sampling::edge_length))]
+    fn edge_length(&self, k: usize) -> f64
+        requires { k < self.now.ring.count }
+        ensures { result ≡ edge_length self.now.mesh.now.xs.now self.now.mesh.now.ys.now self.now.ring.base self.now.ring.count self.now.ring.turned k }
+    {
+        let (a, b) = self.edge_ends(k);
+        geometry::distance(a, b)
+    }
 
-// The longest edge, the last of equals.
-fn longest_edge(xs: &[f64], ys: &[f64], base: usize, n: usize, turned: bool) -> usize
-    requires { NodesFrom base n }
-    ensures { (result ≡ longest_edge xs.now ys.now base n turned) × (result < n) }
-{
-    let mut best = 0;
-    let mut longest = edge_length(xs, ys, base, n, turned, 0);
-    for i in 0..n {
-        let length = edge_length(xs, ys, base, n, turned, i);
-        if !(length < longest) {
-            best = i;
-            longest = length;
+    // The longest edge, the last of equals.
+    fn longest_edge(&self) -> usize
+        ensures { (result ≡ longest_edge self.now.mesh.now.xs.now self.now.mesh.now.ys.now self.now.ring.base self.now.ring.count self.now.ring.turned)
+            × (result < self.now.ring.count) }
+    {
+        // Stays a loop: it keeps the best length beside its place, and floats have no order for `max_by`.
+        let mut best = 0;
+        let mut longest = self.edge_length(0);
+        for i in 0..self.ring.count as usize {
+            let length = self.edge_length(i);
+            if !(length < longest) {
+                best = i;
+                longest = length;
+            }
+        }
+        best
+    }
+
+    // The midpoint of the longest edge.
+    #[tactic(auto, unfolding(front::specs::Sampling::midpoint))]
+    fn midpoint(&self) -> Point
+        requires { self.now.ring.longest < self.now.ring.count }
+        ensures { result ≡ midpoint self.now.mesh.now.xs.now self.now.mesh.now.ys.now self.now.ring }
+    {
+        let (a, b) = self.edge_ends(self.ring.longest as usize);
+        Point {
+            x: (a.x + b.x) / 2.0,
+            y: (a.y + b.y) / 2.0,
         }
     }
-    best
 }
 
-// The ring of loop k, of which n nodes were sampled from base on.
+// The ring of loop k, whose nodes are those from base on.
 #[tactic(auto, unfolding(front::specs::Sampling::ring_of))]
-fn ring_of(k: usize, xs: &[f64], ys: &[f64], base: usize, n: usize) -> Ring
-    requires { NodesFrom base n }
-    ensures { result ≡ ring_of k xs.now ys.now base n }
+fn ring_of(k: usize, mesh: &Mesh<'_>, base: u32) -> Ring
+    requires { NodesFrom base (mesh.now.counts.nodes - base) }
+    ensures { result ≡ ring_in k base (mesh_state mesh.now) }
 {
-    let positive = signed_area(xs, ys, base, n) > 0.0;
-    let turned = positive != (k == 0);
-    let longest = longest_edge(xs, ys, base, n, turned);
-    Ring {
-        base: base as u32,
-        count: n as u32,
-        turned,
+    let n = mesh.counts.nodes - base;
+    let ring = Ring {
+        base,
+        count: n,
+        turned: false,
         split: n % 2 == 1,
-        longest: longest as u32,
+        longest: 0,
+    };
+    let positive = MeshRing { mesh, ring }.signed_area() > 0.0;
+    let ring = Ring {
+        turned: positive != (k == 0),
+        ..ring
+    };
+    Ring {
+        longest: MeshRing { mesh, ring }.longest_edge() as u32,
+        ..ring
     }
 }
 
-// How many ids the ring has.
-// Stays a function, as the others of a ring: the struct is of the crate `front`, which has no need of them, so methods there are no plainer.
-fn ring_count(r: Ring) -> usize
-    ensures { result ≡ ring_count r }
+// An odd loop gets the midpoint of its longest edge.
+fn split_longest(ring: Ring, paving: &mut Paving<'_>)
+    requires nodes_from { NodesFrom ring.base ring.count × (ring.longest < ring.count) × (paving.old.counts.nodes ≡ ring.base + ring.count) }
+    requires node_room { NodeRoomIn (ring.base + ring_count ring) paving.old }
+    ensures { NodesWritten (cond ring.split 1 0) (split_longest ring) paving.old paving.new }
 {
-    let n = r.count as usize;
-    if r.split { n + 1 } else { n }
-}
-
-// The node sampled as number k of the ring.
-fn sampled_at(r: Ring, k: usize) -> u32
-    requires { (k < r.count) × (r.base + r.count < 4294967296) }
-    ensures { (result ≡ sampled_at r k) × (result < r.base + r.count) }
-{
-    ordered_at(r.base as usize, r.count as usize, r.turned, k) as u32
-}
-
-// `ids[k]`
-#[tactic(auto, unfolding(front::specs::Sampling::ring_at))]
-fn ring_at(r: Ring, k: usize) -> u32
-    requires { RingFits r × (k < ring_count r) }
-    ensures { (result ≡ ring_at r k) × (result < r.base + ring_count r) }
-{
-    let middle = r.longest as usize + 1;
-    if !r.split || k < middle {
-        return sampled_at(r, k);
+    if ring.split {
+        let p = MeshRing {
+            mesh: &paving.mesh(),
+            ring,
+        }
+        .midpoint();
+        paving.push_node(p);
     }
-    if k == middle {
-        return r.base + r.count;
-    }
-    sampled_at(r, k - 1)
-}
-
-// The midpoint of the longest edge.
-#[tactic(auto, unfolding(front::specs::Sampling::midpoint))]
-fn midpoint(xs: &[f64], ys: &[f64], r: Ring) -> Point
-    requires { NodesFrom r.base r.count × (r.longest < r.count) }
-    ensures { result ≡ midpoint xs.now ys.now r }
-{
-    let k = r.longest as usize;
-    let a = front::node_at(xs, ys, sampled_at(r, k));
-    let b = front::node_at(xs, ys, sampled_at(r, outlines::after(r.count as usize, k)));
-    Point {
-        x: (a.x + b.x) / 2.0,
-        y: (a.y + b.y) / 2.0,
-    }
-}
-
-// An odd loop gets the midpoint of its longest edge as node `nodes`. The answer is the count of nodes then.
-fn split_longest(
-    r: Ring,
-    xs: &mut [f64],
-    ys: &mut [f64],
-    next: &mut [u32],
-    prev: &mut [u32],
-    nodes: usize,
-) -> usize
-    requires nodes_from { NodesFrom r.base r.count × (r.longest < r.count) × (nodes ≡ r.base + r.count) }
-    requires node_room { NodeRoom (r.base + ring_count r) xs.old ys.old next.old prev.old }
-    ensures { (result ≡ r.base + ring_count r)
-        × ((st : State) → with_nodes st xs.new ys.new next.new prev.new result
-        ≡ split_longest r (with_nodes st xs.old ys.old next.old prev.old nodes)) }
-{
-    if !r.split {
-        return nodes;
-    }
-    let p = midpoint(xs, ys, r);
-    push_node(xs, ys, next, prev, nodes, p);
-    nodes + 1
 }
 
 // ---- the front
 
-// v comes after u, and their edge is edge e.
+// v comes after u, and their edge is new.
 #[tactic(auto, unfolding(front::specs::State::push_edge))]
-fn link(next: &mut [u32], prev: &mut [u32], edges: &mut [u32], u: u32, v: u32, e: usize)
-    requires { (u < length next.old) × (v < length prev.old) × (2 * e + 1 < length edges.old) }
-    ensures { (st : State) → with_front_edges st next.new prev.new edges.new (e + 1)
-        ≡ with_link u v (with_front_edges st next.old prev.old edges.old e) }
+fn link(paving: &mut Paving<'_>, u: u32, v: u32)
+    requires ids { (u < length paving.old.next.now) × (v < length paving.old.prev.now) }
+    requires edges { (2 * paving.old.counts.edges + 1 < length paving.old.edges.now) × (paving.old.counts.front ≡ paving.old.counts.edges) }
+    ensures { EdgesWritten 1 (with_link u v) paving.old paving.new }
 {
-    front::link(next, prev, u, v);
-    front::write_edge(edges, e, u, v);
+    front::link(paving.next, paving.prev, u, v);
+    front::write_edge(paving.edges, paving.counts.edges, u, v);
+    paving.counts.edges += 1;
+    paving.counts.front += 1;
 }
 
-// Each id of the ring is joined to the next. Its edges are new, so none is looked for: they are written from edge e on.
-fn link_ring(r: Ring, next: &mut [u32], prev: &mut [u32], edges: &mut [u32], e: usize)
-    requires { RingFits r × (r.base + ring_count r ≤ length next.old) × (r.base + ring_count r ≤ length prev.old)
-        × (2 * (e + ring_count r) ≤ length edges.old) }
-    ensures { (st : State) → with_front_edges st next.new prev.new edges.new (e + ring_count r)
-        ≡ link_ring r (with_front_edges st next.old prev.old edges.old e) }
+// Each id of the ring is joined to the next. Its edges are new, so none is looked for.
+fn link_ring(ring: Ring, paving: &mut Paving<'_>)
+    requires { CanLink ring paving.old }
+    ensures { EdgesWritten (ring_count ring) (link_ring ring) paving.old paving.new }
 {
-    let n = ring_count(r);
+    let n = ring.len();
     for i in 0..n {
-        let u = ring_at(r, i);
-        let v = ring_at(r, outlines::after(n, i));
-        link(next, prev, edges, u, v, e + i);
+        link(paving, ring.at(i), ring.at(outlines::after(n, i)));
     }
 }
 
-// Loop k, sampled and joined from node `base` on. The answer is the count of nodes then.
-fn lay_loop(
-    k: usize,
-    s: &[f64],
-    size: f64,
-    xs: &mut [f64],
-    ys: &mut [f64],
-    next: &mut [u32],
-    prev: &mut [u32],
-    edges: &mut [u32],
-    base: usize,
-) -> usize
-    requires { LoopRoom s.now size base xs.old ys.old next.old prev.old edges.old }
-    ensures { (result ≡ base + even_up (loop_parts size s.now))
-        × ((snapshot quads : List ℕ)
-        → between_loops snapshot quads xs.new ys.new next.new prev.new edges.new result
-        ≡ lay_loop k s.now size
-        (between_loops snapshot quads xs.old ys.old next.old prev.old edges.old base)) }
+// Loop k, sampled and joined after those before it.
+fn lay_loop(k: usize, s: &[f64], size: f64, paving: &mut Paving<'_>)
+    requires { CanLay s.now size paving.old }
+    ensures { LoopWritten (even_up (loop_parts size s.now)) (lay_loop k s.now size) paving.old paving.new }
 {
-    let nodes = sample_loop(s, size, xs, ys, next, prev, base);
-    let r = ring_of(k, xs, ys, base, nodes - base);
-    let end = split_longest(r, xs, ys, next, prev, nodes);
-    link_ring(r, next, prev, edges, base);
-    end
+    let base = paving.counts.nodes;
+    sample_loop(s, size, paving);
+    let ring = ring_of(k, &paving.mesh(), base);
+    split_longest(ring, paving);
+    link_ring(ring, paving);
 }
 
-// `from_boundary`, in the lists lent.
-pub fn from_boundary(
-    domain: Domain<'_>,
-    size: f64,
-    xs: &mut [f64],
-    ys: &mut [f64],
-    next: &mut [u32],
-    prev: &mut [u32],
-    edges: &mut [u32],
-) -> Counts
-    requires { CanSample (outline_of domain) size xs.old ys.old next.old prev.old edges.old }
-    ensures { (snapshot quads : List ℕ) (counts : Counts)
-        → front_refusal (outline_of domain.entry) size
-        (state_of xs.old ys.old next.old prev.old snapshot quads edges.old counts) ≡ 0
-        → state_of xs.new ys.new next.new prev.new snapshot quads edges.new result
-        ≡ from_boundary (outline_of domain.entry) size
-        (state_of xs.old ys.old next.old prev.old snapshot quads edges.old counts) }
+// `from_boundary`, in the lists lent, whatever was counted before.
+pub fn from_boundary(domain: Domain<'_>, size: f64, paving: &mut Paving<'_>)
+    requires { CanSample (outline_of domain) size paving.old.xs.now paving.old.ys.now paving.old.next.now paving.old.prev.now paving.old.edges.now }
+    ensures room { SameRoom paving.old paving.new }
+    ensures sampled { (snapshot quads : List ℕ) (counts : Counts)
+        → front_refusal (outline_of domain.entry) size (lent_with paving.old snapshot quads counts) ≡ 0
+        → lent_with paving.new snapshot quads paving.new.counts
+        ≡ from_boundary (outline_of domain.entry) size (lent_with paving.old snapshot quads counts) }
 {
-    let mut nodes = lay_loop(0, domain.outer, size, xs, ys, next, prev, edges, 0);
+    paving.counts = Counts::default();
+    lay_loop(0, domain.outer, size, paving);
     for hole in outlines::holes_of(domain) {
-        nodes = lay_loop(
-            hole.index + 1,
-            hole.points,
-            size,
-            xs,
-            ys,
-            next,
-            prev,
-            edges,
-            nodes,
-        );
-    }
-    Counts {
-        nodes: nodes as u32,
-        quads: 0,
-        edges: nodes,
-        front: nodes,
+        lay_loop(hole.index + 1, hole.points, size, paving);
     }
 }

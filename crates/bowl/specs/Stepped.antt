@@ -38,6 +38,13 @@ NodesWithin xs ys n = (i : ℕ) → i < n → NodeWithin xs ys i
 abbrev pub ids : ℕ → ℕ → ℕ → ℕ → QuadIds
 ids a b d c = record { a = a; b = b; d = d; c = c }
 
+-- the nodes of a quad are
+pub record QuadWithin (xs ys : List Float) (q : QuadIds) : Type 0 where
+  pub a : NodeWithin xs ys q.a
+  pub b : NodeWithin xs ys q.b
+  pub d : NodeWithin xs ys q.d
+  pub c : NodeWithin xs ys q.c
+
 -- n quads are lent, and their nodes
 pub record QuadsWithin (xs ys : List Float) (quads : List ℕ) (n : ℕ) : Type 0 where
   pub lent : 4 * n ≤ length quads

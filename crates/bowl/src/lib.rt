@@ -1,17 +1,21 @@
 // The motor bowl: the nodes of a lent mesh in whole steps of 1/64 degree, refused where a quad doesn't turn left in steps at all four corners.
 #![tactic(auto)]
 
-ghost use Rattle.std.specs.Prelude.{◌≡◌, ◌+◌, ◌*◌, ◌≤◌, ◌<◌, length};
+ghost use Rattle.std.specs.Prelude.{◌≡◌, not, ◌+◌, ◌*◌, ◌≤◌, ◌<◌, length};
+ghost use Rattle.domain.specs.Accepted.{AllFit};
 ghost use Rattle.orientation.specs.Orient.{way};
 ghost use Rattle.front.specs.State.{counted};
-ghost use Rattle.mesh_check.specs.Check.{lent_state};
+ghost use Rattle.lent_mesh.specs.Mesh.{quad_in};
+ghost use Rattle.mesh_check.specs.Check.{lent_state, lent_in};
 ghost use Rattle.bowl.specs.Steps.{steps_at, turns_left, is_shown, lowest_hidden, hidden_answer, steps_answer, stored_steps};
-ghost use Rattle.bowl.specs.Stepped.{vector, NodeWithin, FewSteps, IsVector, ids, QuadsWithin, NodesWithin, MeshStepped};
+ghost use Rattle.bowl.specs.Stepped.{vector, NodeWithin, FewSteps, IsVector, QuadWithin, QuadsWithin, NodesWithin, MeshStepped};
 
 use domain::Refusal;
-use front::Counts;
+use front::{Counts, Mesh};
+use lent_mesh::QuadIds;
 
 // `refusal` is 23 or 25, 0 where nothing is refused; `quad` is the lowest quad that the bowl can't show, where 25 says so.
+// Stays a number beside a quad: the C interface answers this struct.
 #[repr(C)]
 #[derive(Clone, Copy)]
 pub struct StepsAnswer {
@@ -28,115 +32,116 @@ pub struct Steps {
     pub y: i64,
 }
 
+impl Steps {
+    // The way from here to b.
+    fn way(self, b: Steps) -> Steps
+        requires { FewSteps 64064 self × FewSteps 64064 b }
+        ensures { IsVector 128128 result (way (vector self) (vector b)) }
+    {
+        Steps {
+            x: b.x - self.x,
+            y: b.y - self.y,
+        }
+    }
+
+    // Whether this way and then the way q turn left.
+    fn is_left(self, q: Steps) -> bool
+        requires { FewSteps 128128 self × FewSteps 128128 q }
+        ensures { result ≡ turns_left (vector self) (vector q) }
+    {
+        self.y * q.x < self.x * q.y
+    }
+}
+
 // Where a node is.
-fn steps_at(xs: &[f64], ys: &[f64], id: u32) -> Steps
-    requires { NodeWithin xs.now ys.now id }
-    ensures { IsVector 64064 result (steps_at xs.now ys.now id) }
+fn steps_at(mesh: &Mesh<'_>, id: u32) -> Steps
+    requires { NodeWithin mesh.now.xs.now mesh.now.ys.now id }
+    ensures { IsVector 64064 result (steps_at mesh.now.xs.now mesh.now.ys.now id) }
 {
     let i = id as usize;
-    let x = nearest_step::nearest_step(xs[i]);
-    let y = nearest_step::nearest_step(ys[i]);
+    let x = nearest_step::nearest_step(mesh.xs[i]);
+    let y = nearest_step::nearest_step(mesh.ys[i]);
     Steps {
         x: x as i64,
         y: y as i64,
     }
 }
 
-// The way from a to b.
-fn way(a: Steps, b: Steps) -> Steps
-    requires { FewSteps 64064 a × FewSteps 64064 b }
-    ensures { IsVector 128128 result (way (vector a) (vector b)) }
+// Whether the quad turns left in steps at all four corners.
+fn is_shown(mesh: &Mesh<'_>, q: QuadIds) -> bool
+    requires { QuadWithin mesh.now.xs.now mesh.now.ys.now q }
+    ensures { result ≡ is_shown mesh.now.xs.now mesh.now.ys.now q }
 {
-    Steps {
-        x: b.x - a.x,
-        y: b.y - a.y,
+    let a = steps_at(mesh, q.a);
+    let b = steps_at(mesh, q.b);
+    let d = steps_at(mesh, q.d);
+    let c = steps_at(mesh, q.c);
+    let ab = a.way(b);
+    let bd = b.way(d);
+    let dc = d.way(c);
+    let ca = c.way(a);
+    ca.is_left(ab) && ab.is_left(bd) && bd.is_left(dc) && dc.is_left(ca)
+}
+
+// The ids of quad k.
+#[tactic(auto, unfolding(lent_mesh::specs::Mesh::quad_in))]
+fn quad_ids(mesh: &Mesh<'_>, k: usize) -> QuadIds
+    requires { 4 * (k + 1) ≤ length mesh.now.quads.now }
+    ensures { result ≡ quad_in mesh.now.quads.now k }
+{
+    QuadIds {
+        a: mesh.quads[4 * k],
+        b: mesh.quads[4 * k + 1],
+        d: mesh.quads[4 * k + 2],
+        c: mesh.quads[4 * k + 3],
     }
 }
 
-// Whether the way p and then the way q turn left.
-fn is_left(p: Steps, q: Steps) -> bool
-    requires { FewSteps 128128 p × FewSteps 128128 q }
-    ensures { result ≡ turns_left (vector p) (vector q) }
+// Whether quad k can't be shown.
+fn is_hidden(mesh: &Mesh<'_>, k: usize) -> bool
+    requires { QuadsWithin mesh.now.xs.now mesh.now.ys.now mesh.now.quads.now mesh.now.counts.quads × (k < mesh.now.counts.quads) }
+    ensures { result ≡ not (is_shown mesh.now.xs.now mesh.now.ys.now (quad_in mesh.now.quads.now k)) }
 {
-    p.y * q.x < p.x * q.y
+    !is_shown(mesh, quad_ids(mesh, k))
 }
 
-// Whether the quad a, b, d, c turns left in steps at all four corners.
-fn is_shown(xs: &[f64], ys: &[f64], a: u32, b: u32, d: u32, c: u32) -> bool
-    requires { NodeWithin xs.now ys.now a × NodeWithin xs.now ys.now b × NodeWithin xs.now ys.now d × NodeWithin xs.now ys.now c }
-    ensures { result ≡ is_shown xs.now ys.now (ids a b d c) }
+// The lowest quad that can't be shown.
+fn lowest_hidden(mesh: &Mesh<'_>) -> Option<usize>
+    requires { QuadsWithin mesh.now.xs.now mesh.now.ys.now mesh.now.quads.now mesh.now.counts.quads }
+    ensures { hidden_answer result ≡ lowest_hidden mesh.now.xs.now mesh.now.ys.now mesh.now.quads.now mesh.now.counts.quads }
 {
-    let at_a = steps_at(xs, ys, a);
-    let at_b = steps_at(xs, ys, b);
-    let at_d = steps_at(xs, ys, d);
-    let at_c = steps_at(xs, ys, c);
-    let ab = way(at_a, at_b);
-    let bd = way(at_b, at_d);
-    let dc = way(at_d, at_c);
-    let ca = way(at_c, at_a);
-    is_left(ca, ab) && is_left(ab, bd) && is_left(bd, dc) && is_left(dc, ca)
-}
-
-// The lowest of n quads that can't be shown.
-fn lowest_hidden(xs: &[f64], ys: &[f64], quads: &[u32], n: usize) -> Option<usize>
-    requires { QuadsWithin xs.now ys.now quads.now n }
-    ensures { hidden_answer result ≡ lowest_hidden xs.now ys.now quads.now n }
-{
-    for k in 0..n {
-        if !is_shown(
-            xs,
-            ys,
-            quads[4 * k],
-            quads[4 * k + 1],
-            quads[4 * k + 2],
-            quads[4 * k + 3],
-        ) {
-            return Some(k);
-        }
-    }
-    None
+    (0..mesh.counts.quads).find(|&k| is_hidden(mesh, k))
 }
 
 // ---- the step buffer
 
-// The steps of n nodes, two places a node.
-fn store_steps(xs: &[f64], ys: &[f64], n: usize, steps: &mut [i32])
-    requires { NodesWithin xs.now ys.now n × (2 * n ≤ length steps.old) }
-    ensures { steps.new ≡ stored_steps xs.now ys.now n steps.old }
+// The steps of the nodes, two places a node.
+// Stays indexed: chunks of two zipped with both coordinates are no plainer than one index.
+fn store_steps(mesh: &Mesh<'_>, steps: &mut [i32])
+    requires { NodesWithin mesh.now.xs.now mesh.now.ys.now mesh.now.counts.nodes × (2 * mesh.now.counts.nodes ≤ length steps.old) }
+    ensures { steps.new ≡ stored_steps mesh.now.xs.now mesh.now.ys.now mesh.now.counts.nodes steps.old }
 {
-    for i in 0..n {
-        steps[2 * i] = nearest_step::nearest_step(xs[i]);
-        steps[2 * i + 1] = nearest_step::nearest_step(ys[i]);
+    for i in 0..mesh.counts.nodes as usize {
+        steps[2 * i] = nearest_step::nearest_step(mesh.xs[i]);
+        steps[2 * i + 1] = nearest_step::nearest_step(mesh.ys[i]);
     }
 }
 
 // ---- the entry
 
 // 23 of the mesh, 23 where a node hasn't two of the places, then 25.
-fn steps_answer(
-    xs: &[f64],
-    ys: &[f64],
-    next: &[u32],
-    prev: &[u32],
-    origins: &[u16],
-    quads: &[u32],
-    edges: &[u32],
-    k: Counts,
-    places: usize,
-) -> StepsAnswer
-    ensures { result ≡ steps_answer
-        (lent_state xs.now ys.now next.now prev.now origins.now quads.now
-        edges.now k) places }
+// Stays C's struct: 23 has no quad and 25 has one, so that a `Result` would need an enum of its own that says the same two values once more.
+fn steps_answer(mesh: &Mesh<'_>, origins: &[u16], places: usize) -> StepsAnswer
+    requires { AllFit mesh.now.xs.now × AllFit mesh.now.ys.now }
+    ensures { result ≡ steps_answer (lent_in mesh.now origins.now) places }
 {
-    if mesh_check::check_mesh(xs, ys, next, prev, origins, quads, edges, k).is_err()
-        || places / 2 < k.nodes as usize
-    {
+    if mesh_check::check_mesh(mesh, origins).is_err() || places / 2 < mesh.counts.nodes as usize {
         return StepsAnswer {
             refusal: u32::from(Refusal::UnsoundMesh),
             quad: 0,
         };
     }
-    match lowest_hidden(xs, ys, quads, k.quads) {
+    match lowest_hidden(mesh) {
         Some(quad) => StepsAnswer {
             refusal: u32::from(Refusal::NotShown),
             quad,
@@ -150,6 +155,7 @@ fn steps_answer(
 
 // The nodes of a lent mesh in whole steps of 1/64 degree, each coordinate at the nearest step, halves at the even one. The mesh is only read, and the buffer is
 // written once nothing is refused.
+// Stays a row of slices and numbers: C calls it.
 #[unsafe(no_mangle)]
 pub extern "C" fn sitjorbe_steps(
     xs: &[f64],
@@ -169,16 +175,24 @@ pub extern "C" fn sitjorbe_steps(
         (lent_state xs.now ys.now next.now prev.now origins.now quads.now
         edges.now (counted node_count quad_count edge_count front_count)) steps.old result steps.new }
 {
-    let k = Counts {
-        nodes: node_count,
-        quads: quad_count,
-        edges: edge_count,
-        front: front_count,
+    let mesh = Mesh {
+        xs,
+        ys,
+        next,
+        prev,
+        quads,
+        edges,
+        counts: Counts {
+            nodes: node_count,
+            quads: quad_count,
+            edges: edge_count,
+            front: front_count,
+        },
     };
-    let r = steps_answer(xs, ys, next, prev, origins, quads, edges, k, steps.len());
+    let r = steps_answer(&mesh, origins, steps.len());
     let given = r.refusal == 0;
     if given {
-        store_steps(xs, ys, node_count as usize, steps);
+        store_steps(&mesh, steps);
     }
     r
 }

@@ -1,6 +1,6 @@
 -- What `field` answers is never refused by 11, when exactly its nodes are lent: a host can hand a field straight to the direction query.
 -- Assumes nothing.
-use Rattle.std.specs.Prelude.{◌≡◌, refl, Bool, true, false, not, List, ℕ, ◌+◌, ◌*◌, ◌^◌, ◌≤◌, ◌<◌, T, leb, length, get_or, Float}
+use Rattle.std.specs.Prelude.{◌≡◌, refl, Bool, true, false, not, List, ℕ, ◌+◌, ◌*◌, ◌^◌, ◌≤◌, ◌<◌, T, length, get_or, Float}
 use Rattle.std.proofs.Common.{sym, ap, subst, le_of_eq, mul_comm, arith, le-leb, eq-eqb, le→leb, lit≤}
 use Rattle.std.specs.Float.{nan, binary64}
 use Rattle.std.specs.Float.Ieee.{fits, le, of_bits}

@@ -1,7 +1,7 @@
 -- The growth of the spacing ends: for a box at most 4,000 wide and high, a spacing that begins at 0.004 or more has grown to 11 or more
 -- before the growths that are tried run out, and no grid of that spacing has more than 250,000 nodes. Sizes are in units of the smallest
 -- float above 0, of which W make 1. Assumes nothing.
-use Rattle.std.specs.Prelude.{◌≡◌, refl, Bool, not, ◌||◌, cond, ℕ, zero, suc, ◌+◌, ◌-◌, ◌*◌, ◌/◌, ◌^◌, ◌≤◌, ◌<◌, T, leb, Float}
+use Rattle.std.specs.Prelude.{◌≡◌, refl, Bool, not, ◌||◌, cond, ℕ, zero, suc, ◌+◌, ◌-◌, ◌*◌, ◌/◌, ◌^◌, ◌≤◌, ◌<◌, T, Float}
 use Rattle.std.proofs.Common.{sym, ap, ◌∙◌, subst, true≢false, le_trans, le_of_eq, le-mul_of_pos_right, mul_comm, mul_assoc, mul_left_comm, suc-mul, mul-le-mul, le_of_mul-le-mul_right, div-lt_iff_lt-mul, le_of_lt, lt_of_not-le, le-ltb, ltb-false, lit≤, leb→le}
 use Rattle.std.proofs.Math.Bool.{true, false}
 use Rattle.std.proofs.Math.Nat.{min-le_left, mul-le-mul_right}

@@ -9,22 +9,34 @@ ghost use Rattle.domain.specs.Queries.{nearest_segment};
 ghost use Rattle.domain.specs.Refusals.{refused, numbered};
 ghost use Rattle.blocks.specs.Blocks.{Drawn};
 ghost use Rattle.direction.specs.Record.{most_field_nodes, grid_nodes, field_lists, field_record};
-ghost use Rattle.averages.specs.Places.{Node, Row, NodeMark, RowMarks, FieldRoom};
+ghost use Rattle.averages.specs.Places.{NodeIn, RowIn, NodeMark, RowMarks, FieldRoom};
 ghost use Rattle.crossfield.specs.Grid.{no_bounds, widened, loop_bounds, bounds, grid_count, too_many_nodes, spacing, grid_of, size_refusal};
 ghost use Rattle.crossfield.specs.Grid.{bounds_refusal, sweeps_refusal};
 ghost use Rattle.crossfield.specs.Seeds.{grid_point, seed, is_fixed, seed_node, seed_row, seeded};
-ghost use Rattle.crossfield.specs.Field.{places_refusal, refusal_for, field_refusal, field_of, field_result, field_answer, FieldDraws};
+ghost use Rattle.crossfield.specs.Field.{places_refusal, drawn_refusal, refusal_for, field_refusal, field_of, field_result, field_answer, FieldDraws};
 
+use averages::{GridNode, GridRow};
 use direction::Grid;
 use domain::{Domain, Near, Point, Refusal, Settings};
+use sweeps::MarkedGrid;
 
 // `(xmin, xmax, ymin, ymax)`
+// Stays a type beside `blocks::Extent`, which has the same fields: that one is of a block's reach, and the definitions of both crates name their own.
 #[derive(Clone, Copy)]
 pub struct Bounds {
     pub xmin: f64,
     pub xmax: f64,
     pub ymin: f64,
     pub ymax: f64,
+}
+
+// What seeds are made of: the outline with its blocks, and the grid.
+#[derive(Clone, Copy)]
+struct Seeding<'a> {
+    domain: Domain<'a>,
+    blocks: &'a [u32],
+    grid: Grid,
+    ghost drawn: { Drawn (outline_of domain) blocks.now },
 }
 
 // ---- the bounding box, over all loops
@@ -58,14 +70,11 @@ impl Bounds {
     fn around(self, s: &[f64]) -> Bounds
         ensures { result ≡ loop_bounds s.now self }
     {
-        let mut wide = self;
-        for i in 0..s.len() / 2 {
-            wide = wide.widened(outlines::point_at(s, i));
-        }
-        wide
+        (0..s.len() / 2).fold(self, |wide, i| wide.widened(outlines::point_at(s, i)))
     }
 }
 
+// Stays a loop: a fold over the holes that begins with the outer loop's box is no plainer.
 pub fn bounds_of(domain: Domain<'_>) -> Bounds
     requires { misshapen (outline_of domain) ≡ false }
     ensures { result ≡ bounds (outline_of domain.entry) }
@@ -113,6 +122,7 @@ fn spacing(width: f64, height: f64, h: f64) -> f64
     grown
 }
 
+#[tactic(auto, using(crate::specs::Counts::few_columns, crate::specs::Counts::few_rows), unfolding(crate::specs::Grid::grid_of))]
 pub fn grid_of(b: Bounds, size: f64) -> Grid
     requires { grid_nodes (grid_of b size) ≤ most_field_nodes }
     ensures { result ≡ grid_of b size }
@@ -183,15 +193,15 @@ fn check_places(g: Grid, places: usize) -> Result<(), Refusal>
 
 // ---- seeds and marks
 
-// Where node (i, j) stands.
+// Where a node stands.
 #[tactic(auto, unfolding(crate::specs::Seeds::grid_point))]
-fn grid_point(g: Grid, i: usize, j: usize) -> Point
-    requires { (i < 4294967296) × (j < 4294967296) }
-    ensures { result ≡ grid_point g i j }
+fn grid_point(g: Grid, node: GridNode) -> Point
+    requires { (node.i < 4294967296) × (node.j < 4294967296) }
+    ensures { result ≡ grid_point g node.i node.j }
 {
     Point {
-        x: g.xmin + numbers::to_f64(i) * g.h,
-        y: g.ymin + numbers::to_f64(j) * g.h,
+        x: g.xmin + numbers::to_f64(node.i) * g.h,
+        y: g.ymin + numbers::to_f64(node.j) * g.h,
     }
 }
 
@@ -208,87 +218,69 @@ fn seed(t: Point) -> Point
     }
 }
 
-// Whether a node at p is fixed: inside, and its nearest segment within 1.5 spacings. The distance is known, so it is asked first.
-#[tactic(auto, unfolding(crate::specs::Seeds::is_fixed))]
-fn is_fixed(domain: Domain<'_>, blocks: &[u32], h: f64, p: Point, found: Near) -> bool
-    requires { Drawn (outline_of domain) blocks.now }
-    ensures { result ≡ is_fixed (outline_of domain.entry) h p found }
-{
-    found.distance <= Settings::BAND * h && blocks::contains_point(domain, blocks, p)
-}
-
-// Stays with five lists and the grid: both written lists would be `&mut` fields, and each contract would say that they stay the same, so a struct is no plainer.
-// Node (i, j), whose number is id: one search serves its value and its mark. The answer is the nearest segment, which is a guess of the next node's.
-fn seed_node(
-    domain: Domain<'_>,
-    blocks: &[u32],
-    g: Grid,
-    values: &mut [f64],
-    marks: &mut [u8],
-    j: usize,
-    i: usize,
-    id: usize,
-    guess: Near,
-) -> Near
-    requires drawn { Drawn (outline_of domain) blocks.now }
-    requires node { Node g.nx g.ny j i id (length values.old) }
-    requires node_mark { NodeMark g.nx g.ny id (length marks.old) }
-    ensures marks_after { field_lists values.new marks.new
-        ≡ seed_node (outline_of domain.entry) g j i
-        (field_lists values.old marks.old) }
-    ensures value { result ≡ nearest_segment (outline_of domain.entry) (grid_point g i j) }
-{
-    let p = grid_point(g, i, j);
-    let found = nearest::nearest_segment(domain, blocks, p, guess);
-    let v = seed(geometry::tangent(found.a, found.b));
-    let mark = u8::from(is_fixed(domain, blocks, g.h, p, found));
-    let k = 2 * id;
-    values[k] = v.x;
-    values[k + 1] = v.y;
-    marks[id] = mark;
-    found
-}
-
-// Row j, whose first node's number is base. The first node's guess is the outer loop's first segment, for want of a better.
-fn seed_row(
-    domain: Domain<'_>,
-    blocks: &[u32],
-    g: Grid,
-    values: &mut [f64],
-    marks: &mut [u8],
-    j: usize,
-    base: usize,
-)
-    requires drawn { Drawn (outline_of domain) blocks.now }
-    requires row { Row g.nx g.ny j base (length values.old) }
-    requires row_marks { RowMarks g.nx g.ny base (length marks.old) }
-    ensures { field_lists values.new marks.new
-        ≡ seed_row (outline_of domain.entry) g j
-        (field_lists values.old marks.old) }
-{
-    let mut near = Near {
-        a: outlines::point_at(domain.outer, 0),
-        b: outlines::point_at(domain.outer, 1),
-        distance: 0.0,
-        loop_index: 0,
-        segment_index: 0,
-    };
-    for i in 0..g.nx {
-        near = seed_node(domain, blocks, g, values, marks, j, i, base + i, near);
+impl Seeding<'_> {
+    // Whether a node at p is fixed: inside, and its nearest segment within 1.5 spacings. The distance is known, so it is asked first.
+    #[tactic(auto, unfolding(crate::specs::Seeds::is_fixed))]
+    fn is_fixed(&self, p: Point, found: Near) -> bool
+        ensures { result ≡ is_fixed (outline_of self.now.domain) self.now.grid.h p found }
+    {
+        found.distance <= Settings::BAND * self.grid.h
+            && blocks::contains_point(self.domain, self.blocks, p)
     }
-}
 
-// Every node's value and mark.
-fn seed_all(domain: Domain<'_>, blocks: &[u32], g: Grid, values: &mut [f64], marks: &mut [u8])
-    requires drawn { Drawn (outline_of domain) blocks.now }
-    requires field_room { FieldRoom g.nx g.ny (length values.old) (length marks.old) }
-    requires nx_le_most_field_nodes { (g.nx ≤ most_field_nodes) × (g.ny ≤ most_field_nodes) }
-    ensures { field_lists values.new marks.new
-        ≡ seeded (outline_of domain.entry) g
-        (field_lists values.old marks.old) }
-{
-    for j in 0..g.ny {
-        seed_row(domain, blocks, g, values, marks, j, j * g.nx);
+    // One search serves a node's value and its mark. The answer is the nearest segment, which is a guess of the next node's.
+    #[tactic(auto, using(averages::specs::Places::here_in, averages::proofs::Bits::bool_number), unfolding(crate::specs::Seeds::seed_node))]
+    fn seed_node(&self, values: &mut [f64], marks: &mut [u8], node: GridNode, guess: Near) -> Near
+        requires node { NodeIn self.now.grid node values.old }
+        requires node_mark { NodeMark self.now.grid.nx self.now.grid.ny node.id (length marks.old) }
+        ensures marks_after { field_lists values.new marks.new
+            ≡ seed_node (outline_of self.now.domain) self.now.grid node.j node.i
+            (field_lists values.old marks.old) }
+        ensures value { result
+            ≡ nearest_segment (outline_of self.now.domain) (grid_point self.now.grid node.i node.j) }
+    {
+        let p = grid_point(self.grid, node);
+        let found = nearest::nearest_segment(self.domain, self.blocks, p, guess);
+        let v = seed(geometry::tangent(found.a, found.b));
+        let mark = u8::from(self.is_fixed(p, found));
+        sweeps::set_value(values, node.id, v);
+        marks[node.id] = mark;
+        found
+    }
+
+    // The first node's guess is the outer loop's first segment, for want of a better.
+    fn seed_row(&self, values: &mut [f64], marks: &mut [u8], row: GridRow)
+        requires row { RowIn self.now.grid row values.old }
+        requires row_marks { RowMarks self.now.grid.nx self.now.grid.ny row.first (length marks.old) }
+        ensures { field_lists values.new marks.new
+            ≡ seed_row (outline_of self.now.domain) self.now.grid row.j
+            (field_lists values.old marks.old) }
+    {
+        let mut near = Near {
+            a: outlines::point_at(self.domain.outer, 0),
+            b: outlines::point_at(self.domain.outer, 1),
+            distance: 0.0,
+            loop_index: 0,
+            segment_index: 0,
+        };
+        for i in 0..self.grid.nx {
+            near = self.seed_node(values, marks, row.node(i), near);
+        }
+    }
+
+    // Every node's value and mark.
+    fn seed_all(&self, values: &mut [f64], marks: &mut [u8])
+        requires field_room { FieldRoom self.now.grid.nx self.now.grid.ny (length values.old) (length marks.old) }
+        requires nx_le_most_field_nodes { (self.now.grid.nx ≤ most_field_nodes)
+            × (self.now.grid.ny ≤ most_field_nodes) }
+        ensures { field_lists values.new marks.new
+            ≡ seeded (outline_of self.now.domain) self.now.grid
+            (field_lists values.old marks.old) }
+    {
+        let Grid { nx, ny, .. } = self.grid;
+        for j in 0..ny {
+            self.seed_row(values, marks, GridRow { j, first: j * nx });
+        }
     }
 }
 
@@ -311,6 +303,13 @@ pub fn check_field(
     check_places(grid_of(b, size), places)
 }
 
+// Refusals 1 to 7: neither 8 nor 9, since no sweeps are asked for, and no field has more nodes.
+pub fn check_drawn(domain: Domain<'_>, size: f64) -> Result<(), Refusal>
+    ensures { refused result ≡ drawn_refusal (outline_of domain.entry) size }
+{
+    check_field(domain, size, 0, Settings::MOST_FIELD_NODES)
+}
+
 // The field where none of 1 to 9 refuses it, in the lists lent; and the outline's blocks.
 pub fn make_field(
     domain: Domain<'_>,
@@ -326,14 +325,20 @@ pub fn make_field(
         (field_lists values.old marks.old)
         × Drawn (outline_of domain.entry) blocks.new }
 {
-    let g = grid_of(bounds_of(domain), size);
+    let grid = grid_of(bounds_of(domain), size);
     blocks::file(domain, blocks);
-    seed_all(domain, blocks, g, values, marks);
-    sweeps::sweeps(limit, g, marks, values);
-    g
+    let seeding = Seeding {
+        domain,
+        blocks,
+        grid,
+    };
+    seeding.seed_all(values, marks);
+    MarkedGrid { grid, marks }.sweeps(limit, values);
+    grid
 }
 
 // The field of an outline, in the lists lent; on a refusal nothing is written. The list of blocks may have any length, and has the outline's blocks after.
+#[tactic(auto, using(domain::proofs::Refused::refusal_some, domain::specs::RefusalLaws::answer_refused), unfolding(crate::specs::Field::field_answer, crate::specs::Field::field_refusal))]
 pub fn field(
     domain: Domain<'_>,
     size: f64,

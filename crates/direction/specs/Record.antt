@@ -1,6 +1,7 @@
 -- A field record: the grid, and the lists lent beside it. Definitions only.
 use Rattle.std.specs.Prelude.{List, ℕ, ◌+◌, ◌*◌, Float}
 use Rattle.direction.specs.declared.Grid.{Grid}
+use Rattle.direction.specs.declared.CrossField.{CrossField}
 
 -- the lent lists: two floats a node, and a mark a node
 pub record FieldLists : Type 0 where
@@ -17,6 +18,10 @@ pub record FieldRecord : Type 0 where
 
 abbrev pub field_record : Grid → List Float → List ℕ → FieldRecord
 field_record g values marks = record { grid = g; lists = field_lists values marks }
+
+-- that of a field as it is read, and of the marks lent beside it
+abbrev pub field_lent : CrossField → List ℕ → FieldRecord
+field_lent field marks = field_record field.grid field.values.now marks
 
 -- the most nodes of a field
 abbrev pub most_field_nodes : ℕ

@@ -4,7 +4,7 @@
 ghost use Rattle.std.specs.Prelude.{◌≡◌, ◌+◌, ◌≤◌};
 ghost use Rattle.numbers.specs.Whole.{floor_quotient};
 ghost use Rattle.domain.specs.Outline.{any_float};
-ghost use Rattle.direction.specs.Record.{field_record};
+ghost use Rattle.direction.specs.Record.{field_lent};
 ghost use Rattle.direction.specs.Direction.{within, value_unsound, counts_sound, grid_sound, record_refusal, grid_cell, weighed, raw_at};
 ghost use Rattle.direction.specs.Direction.{scaled, half, direction_of, dot, closer_of, nearest_of, direction_at, direction_refusal};
 ghost use Rattle.direction.specs.Direction.{direction_answer};
@@ -23,6 +23,13 @@ pub struct Grid {
     pub ny: usize,
 }
 
+// A cross field as it is read (src/alt_crossfield.rs: `CrossField`): its grid, and two floats for each of its nodes.
+#[derive(Clone, Copy)]
+pub struct CrossField<'a> {
+    pub grid: Grid,
+    pub values: &'a [f64],
+}
+
 // The limits of refusal 11.
 impl Grid {
     pub const LEAST_SPACING: f64 = 0.001;
@@ -38,7 +45,7 @@ impl Grid {
 
 // Finite, and at most m either way.
 #[tactic(auto, unfolding(crate::specs::Direction::within))]
-fn is_within(m: f64, x: f64) -> bool
+pub fn is_within(m: f64, x: f64) -> bool
     ensures { result ≡ within m x }
 {
     numbers::is_finite_f64(x) && numbers::abs_f64(x) <= m
@@ -48,21 +55,6 @@ fn any_unsound(values: &[f64]) -> bool
     ensures { result ≡ any_float value_unsound values.now }
 {
     values.iter().any(|&v| !is_within(Grid::MOST_VALUE, v))
-}
-
-// The counts' part of 11.
-#[tactic(auto, unfolding(crate::specs::Direction::counts_sound))]
-fn counts_sound(g: Grid, values: &[f64], marks: &[u8]) -> bool
-    ensures { result ≡ counts_sound (field_record g values.now marks.now) }
-{
-    let Some(nodes) = g.nx.checked_mul(g.ny) else {
-        return false;
-    };
-    2 <= g.nx
-        && 2 <= g.ny
-        && nodes <= Settings::MOST_FIELD_NODES
-        && nodes == marks.len()
-        && 2 * nodes == values.len()
 }
 
 // The floats' part of 11, but for the values.
@@ -77,13 +69,29 @@ fn grid_sound(g: Grid) -> bool
         && is_within(Grid::MOST_ORIGIN, g.ymin)
 }
 
+impl CrossField<'_> {
+    // The counts' part of 11.
+    #[tactic(auto, unfolding(crate::specs::Direction::counts_sound))]
+    fn counts_sound(self, marks: &[u8]) -> bool
+        ensures { result ≡ counts_sound (field_lent self.entry marks.now) }
+    {
+        let Some(nodes) = self.grid.nx.checked_mul(self.grid.ny) else {
+            return false;
+        };
+        2 <= self.grid.nx
+            && 2 <= self.grid.ny
+            && nodes <= Settings::MOST_FIELD_NODES
+            && nodes == marks.len()
+            && 2 * nodes == self.values.len()
+    }
+}
+
 // Refusal 11.
-// Stays three parameters: the paving lends the grid and the values alone, so a record of all three would serve only the two entries.
 #[tactic(auto, unfolding(crate::specs::Direction::record_refusal))]
-pub fn check_record(g: Grid, values: &[f64], marks: &[u8]) -> Result<(), Refusal>
-    ensures { refused result ≡ record_refusal (field_record g values.now marks.now) }
+pub fn check_record(field: CrossField<'_>, marks: &[u8]) -> Result<(), Refusal>
+    ensures { refused result ≡ record_refusal (field_lent field.entry marks.now) }
 {
-    if !counts_sound(g, values, marks) || !grid_sound(g) || any_unsound(values) {
+    if !field.counts_sound(marks) || !grid_sound(field.grid) || any_unsound(field.values) {
         return Err(Refusal::NoFieldRecord);
     }
     Ok(())
@@ -111,26 +119,30 @@ fn weighed(tx: f64, ty: f64, v00: f64, v10: f64, v01: f64, v11: f64) -> f64
     (1.0 - tx) * (1.0 - ty) * v00 + tx * (1.0 - ty) * v10 + (1.0 - tx) * ty * v01 + tx * ty * v11
 }
 
-// The values at the corners of p's cell, interpolated.
-fn raw_at(g: Grid, values: &[f64], p: Point) -> Point
-    requires { FieldLent g values.now }
-    ensures { result ≡ raw_at g values.now p }
-{
-    let nx = g.nx;
-    let dx = p.x - g.xmin;
-    let dy = p.y - g.ymin;
-    let i = cell_of(dx, g.h, nx);
-    let j = cell_of(dy, g.h, g.ny);
-    let tx = numbers::clamp_f64(dx / g.h - numbers::to_f64(i), 0.0, 1.0);
-    let ty = numbers::clamp_f64(dy / g.h - numbers::to_f64(j), 0.0, 1.0);
-    let id = j * nx + i;
-    let p00 = outlines::point_at(values, id);
-    let p10 = outlines::point_at(values, id + 1);
-    let p01 = outlines::point_at(values, id + nx);
-    let p11 = outlines::point_at(values, id + nx + 1);
-    Point {
-        x: weighed(tx, ty, p00.x, p10.x, p01.x, p11.x),
-        y: weighed(tx, ty, p00.y, p10.y, p01.y, p11.y),
+impl CrossField<'_> {
+    // The values at the corners of p's cell, interpolated.
+    #[tactic(auto, using(crate::specs::Cells::corner_in, crate::specs::Cells::corner_small, crate::specs::Cells::column_small, crate::specs::Cells::row_small))]
+    fn raw_at(self, p: Point) -> Point
+        requires { FieldLent self.grid self.values.now }
+        ensures { result ≡ raw_at self.entry.grid self.entry.values.now p }
+    {
+        let grid = self.grid;
+        let nx = grid.nx;
+        let dx = p.x - grid.xmin;
+        let dy = p.y - grid.ymin;
+        let i = cell_of(dx, grid.h, nx);
+        let j = cell_of(dy, grid.h, grid.ny);
+        let tx = numbers::clamp_f64(dx / grid.h - numbers::to_f64(i), 0.0, 1.0);
+        let ty = numbers::clamp_f64(dy / grid.h - numbers::to_f64(j), 0.0, 1.0);
+        let id = j * nx + i;
+        let p00 = outlines::point_at(self.values, id);
+        let p10 = outlines::point_at(self.values, id + 1);
+        let p01 = outlines::point_at(self.values, id + nx);
+        let p11 = outlines::point_at(self.values, id + nx + 1);
+        Point {
+            x: weighed(tx, ty, p00.x, p10.x, p01.x, p11.x),
+            y: weighed(tx, ty, p00.y, p10.y, p01.y, p11.y),
+        }
     }
 }
 
@@ -200,31 +212,31 @@ fn nearest_of(target: Point, d: Point) -> Point
     closer_of(target, second, Point { x: d.y, y: -d.x })
 }
 
-pub fn nearest_direction(g: Grid, values: &[f64], p: Point, target: Point) -> Point
-    requires { FieldLent g values.now }
-    ensures { result ≡ direction_at g values.now p target }
+pub fn nearest_direction(field: CrossField<'_>, p: Point, target: Point) -> Point
+    requires { FieldLent field.grid field.values.now }
+    ensures { result ≡ direction_at field.entry.grid field.entry.values.now p target }
 {
-    nearest_of(target, direction_of(raw_at(g, values, p)))
+    nearest_of(target, direction_of(field.raw_at(p)))
 }
 
 #[tactic(auto, unfolding(crate::specs::Direction::direction_refusal), using(domain::proofs::Refused::first_refused))]
-fn check_query(g: Grid, values: &[f64], marks: &[u8], p: Point) -> Result<(), Refusal>
-    ensures { refused result ≡ direction_refusal (field_record g values.now marks.now) p }
+fn check_query(field: CrossField<'_>, marks: &[u8], p: Point) -> Result<(), Refusal>
+    ensures { refused result ≡ direction_refusal (field_lent field.entry marks.now) p }
 {
-    check_record(g, values, marks)?;
+    check_record(field, marks)?;
     outlines::check_point(p)
 }
 
 // The direction query, refusals first.
+#[tactic(auto, using(domain::proofs::Refused::refusal_some, domain::specs::RefusalLaws::answer_refused, crate::specs::RecordLaws::direction_lent), unfolding(crate::specs::Direction::direction_answer, crate::specs::Direction::nearest_direction))]
 pub fn query_direction(
-    g: Grid,
-    values: &[f64],
+    field: CrossField<'_>,
     marks: &[u8],
     p: Point,
     target: Point,
 ) -> Result<Point, Refusal>
-    ensures { numbered result ≡ direction_answer (field_record g values.now marks.now) p target }
+    ensures { numbered result ≡ direction_answer (field_lent field.entry marks.now) p target }
 {
-    check_query(g, values, marks, p)?;
-    Ok(nearest_direction(g, values, p, target))
+    check_query(field, marks, p)?;
+    Ok(nearest_direction(field, p, target))
 }

@@ -3,7 +3,7 @@ use Rattle.std.specs.Prelude.{Result, true, false, not, cond, ◌≡◌, ltb, eq
 use mathlib.Core.List.{List, [], ◌++◌, append_assoc}
 use Rattle.std.proofs.Common.{⊎_elim, sym, ◌∙◌, eq-or-lt_of_le, le_of_suc-le-suc, arith, take_at}
 use Rattle.std.proofs.Math.Path.{refl, ap}
-use Prim.Native.Nat.{ℕ, zero, suc, ◌+◌, ◌*◌, ◌/◌, ◌%◌, ◌<◌}
+use Prim.Native.Nat.{ℕ, zero, suc, ◌*◌, ◌/◌, ◌%◌, ◌<◌}
 use borrow.Author.Tests.{lt-ltb, ltb-true, ltb-false, eqb-true, eq-eqb, ne_eqb, not-false}
 use Rattle.std.proofs.Math.ListN.{length, take, drop, length-append}
 use Rattle.std.proofs.Math.Seq.{drop_at}

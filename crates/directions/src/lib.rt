@@ -4,55 +4,68 @@
 ghost use Rattle.std.specs.Prelude.{◌≡◌, ◌+◌, ◌≤◌, length};
 ghost use Rattle.std.proofs.lemmas.List.Edits.{sets};
 ghost use Rattle.domain.specs.Refusals.{refused, numbered};
-ghost use Rattle.direction.specs.Record.{field_record};
+ghost use Rattle.direction.specs.Record.{field_lent};
 ghost use Rattle.direction.specs.Cells.{FieldLent};
 ghost use Rattle.directions.specs.Directions.{record_lent, direction_floats, lists_unfit, directions_refusal, DirectionsGiven};
 ghost use Rattle.directions.specs.Laws.{point_answer, Fit, points_answered};
 
-use direction::Grid;
+use direction::{CrossField, Grid};
 use domain::{Point, Refusal};
+
+// A list of direction queries: the points, x then y, and each one's target, which may be any two floats.
+#[derive(Clone, Copy)]
+struct DirectionQueries<'a> {
+    points: &'a [f64],
+    targets: &'a [f64],
+}
 
 // ---- the refusals
 
-// 14's test. Lengths are divided, so that no product can overflow.
-#[tactic(auto, unfolding(crate::specs::Directions::lists_unfit), using(crate::proofs::Laws::third_of))]
-fn lists_unfit(points: &[f64], targets: &[f64], answers: &[f64]) -> bool
-    ensures { result ≡ lists_unfit points.now targets.now answers.now }
-{
-    points.len() != targets.len() || points.len() % 2 == 1 || answers.len() / 3 < points.len() / 2
+impl DirectionQueries<'_> {
+    // 14's test. Lengths are divided, so that no product can overflow.
+    #[tactic(auto, unfolding(crate::specs::Directions::lists_unfit), using(crate::proofs::Laws::third_of))]
+    fn lists_unfit(self, answers: &[f64]) -> bool
+        ensures { result ≡ lists_unfit self.entry.points.now self.entry.targets.now answers.now }
+    {
+        self.points.len() != self.targets.len()
+            || self.points.len() % 2 == 1
+            || answers.len() / 3 < self.points.len() / 2
+    }
 }
 
 // 14, then 11.
+#[tactic(auto, using(crate::proofs::Laws::lists_refused, crate::proofs::Laws::lists_pass))]
 fn check_directions(
-    g: Grid,
-    values: &[f64],
+    field: CrossField<'_>,
     marks: &[u8],
-    points: &[f64],
-    targets: &[f64],
+    queries: DirectionQueries<'_>,
     answers: &[f64],
 ) -> Result<(), Refusal>
     ensures { refused result
-        ≡ directions_refusal (field_record g values.now marks.now) points.now targets.now
-        answers.now }
+        ≡ directions_refusal (field_lent field.entry marks.now) queries.entry.points.now
+        queries.entry.targets.now answers.now }
 {
-    if lists_unfit(points, targets, answers) {
+    if queries.lists_unfit(answers) {
         return Err(Refusal::AnswerLists);
     }
-    direction::check_record(g, values, marks)
+    direction::check_record(field, marks)
 }
 
 // ---- the answers
 
 // The single query's answer where 11 doesn't refuse the record.
-fn point_answer(g: Grid, values: &[f64], p: Point, target: Point) -> Result<Point, Refusal>
-    requires { FieldLent g values.now }
-    ensures { numbered result ≡ point_answer g values.now p target }
+#[tactic(auto, using(domain::proofs::Refused::refusal_some, domain::specs::RefusalLaws::answer_refused), unfolding(crate::specs::Laws::point_answer))]
+fn point_answer(field: CrossField<'_>, p: Point, target: Point) -> Result<Point, Refusal>
+    requires { FieldLent field.grid field.values.now }
+    ensures { numbered result
+        ≡ point_answer field.entry.grid field.entry.values.now p target }
 {
     outlines::check_point(p)?;
-    Ok(direction::nearest_direction(g, values, p, target))
+    Ok(direction::nearest_direction(field, p, target))
 }
 
 // An answer at the three places from k on.
+#[tactic(auto, using(crate::specs::Laws::three_stores), unfolding(crate::specs::Directions::direction_floats))]
 fn write_answer(answers: &mut [f64], k: usize, answer: Result<Point, Refusal>)
     requires { k + 3 ≤ length answers.old }
     ensures { answers.new ≡ sets answers.old k (direction_floats (numbered answer)) }
@@ -72,21 +85,25 @@ fn write_answer(answers: &mut [f64], k: usize, answer: Result<Point, Refusal>)
 }
 
 // The answers of all points, where none of 14 and 11 refuses.
-// Stays indexed: zipped chunks of two, two and three floats are no plainer than one index.
-fn write_answers(g: Grid, values: &[f64], points: &[f64], targets: &[f64], answers: &mut [f64])
-    requires { FieldLent g values.now × Fit points.now targets.now answers.old }
-    ensures { answers.new ≡ points_answered g values.now points.now targets.now answers.old }
+// Stays indexed: of what is written through `chunks_exact_mut` a proof learns the length alone.
+fn write_answers(field: CrossField<'_>, queries: DirectionQueries<'_>, answers: &mut [f64])
+    requires { FieldLent field.grid field.values.now
+        × Fit queries.points.now queries.targets.now answers.old }
+    ensures { answers.new
+        ≡ points_answered field.entry.grid field.entry.values.now queries.entry.points.now
+        queries.entry.targets.now answers.old }
 {
-    for i in 0..points.len() / 2 {
-        let p = outlines::point_at(points, i);
-        let target = outlines::point_at(targets, i);
-        let answer = point_answer(g, values, p, target);
+    for i in 0..queries.points.len() / 2 {
+        let p = outlines::point_at(queries.points, i);
+        let target = outlines::point_at(queries.targets, i);
+        let answer = point_answer(field, p, target);
         write_answer(answers, 3 * i, answer);
     }
 }
 
 // Of the field's four directions at each point the one nearest to its target, which may be any two floats: three floats a point, 0 and the direction, or
 // the number of what refuses the point and two zeros. Nothing is written where the whole list is refused.
+// Stays a row of slices and numbers: C calls it.
 #[unsafe(no_mangle)]
 pub extern "C" fn sitjorbe_directions(
     xmin: f64,
@@ -110,10 +127,12 @@ pub extern "C" fn sitjorbe_directions(
         nx,
         ny,
     };
-    match check_directions(grid, values, marks, points, targets, answers) {
+    let field = CrossField { grid, values };
+    let queries = DirectionQueries { points, targets };
+    match check_directions(field, marks, queries, answers) {
         Err(refusal) => u32::from(refusal),
         Ok(()) => {
-            write_answers(grid, values, points, targets, answers);
+            write_answers(field, queries, answers);
             0
         }
     }

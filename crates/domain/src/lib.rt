@@ -1,5 +1,5 @@
-// The outline as lent, its refusals 1 to 4, and `contains` and `nearest_segment` of src/two_d.rs's `Domain`, in `specs/`. No function: `outlines`, `blocks` and
-// `nearest` have the code.
+// The outline as lent, and the refusals with their numbers; in `specs/` the refusals 1 to 4, and `contains` and `nearest_segment` of src/two_d.rs's `Domain`, whose
+// code `outlines`, `blocks` and `nearest` have.
 #![tactic(auto)]
 
 ghost use Rattle.std.specs.Prelude.{◌≡◌};
@@ -86,57 +86,57 @@ impl Settings {
 #[derive(Clone, Copy, Debug, PartialEq, Eq)]
 pub enum Refusal {
     // A coordinate list of odd length, hole lengths that don't add up to the hole points, or more than 4,096 points.
-    Lists,
+    Lists = 1,
     // A loop of fewer than three points.
-    ShortLoop,
+    ShortLoop = 2,
     // A coordinate not finite, in the outline or in a query's point.
-    NotFinite,
+    NotFinite = 3,
     // A coordinate beyond 1,000 either way, in the outline or in a query's point.
-    TooFar,
+    TooFar = 4,
     // A size not finite, or not above 0.
-    NoSize,
+    NoSize = 5,
     // A size below 0.01 or above 100.
-    SizeOutOfRange,
+    SizeOutOfRange = 6,
     // An outline whose bounding box has no width or no height.
-    Flat,
+    Flat = 7,
     // More than 1,000 sweeps.
-    TooManySweeps,
+    TooManySweeps = 8,
     // The field has more nodes than were lent.
-    FieldNeedsSpace,
+    FieldNeedsSpace = 9,
     // The sampled outline has more nodes than the lent node places or edge places, or more loops than there are places for their lengths.
-    FrontNeedsSpace,
+    FrontNeedsSpace = 10,
     // A field record that isn't one.
-    NoFieldRecord,
+    NoFieldRecord = 11,
     // A file's block has a wrong check.
-    WrongCheck,
+    WrongCheck = 12,
     // A file with a wrong length, count or fill.
-    WrongFile,
+    WrongFile = 13,
     // A list for answers that is too short, or lists of points and targets that differ in length or end in half a point.
-    AnswerLists,
+    AnswerLists = 14,
     // A node id that isn't in the mesh, or is past the lent list of thresholds.
-    NoNode,
+    NoNode = 15,
     // A threshold above 500.
-    ThresholdTooHigh,
+    ThresholdTooHigh = 16,
     // A withdrawal where no threshold stands.
-    NoThreshold,
+    NoThreshold = 17,
     // A quad that isn't in the mesh, or lacks a threshold where its estimate is asked for.
-    NoQuad,
+    NoQuad = 18,
     // A weight above 256.
-    WeightTooHigh,
+    WeightTooHigh = 19,
     // An unknown role, or an operation that its role lacks.
-    NotAllowed,
+    NotAllowed = 20,
     // A presentation order in which some quad is absent, repeated or unknown.
-    NotEachOnce,
+    NotEachOnce = 21,
     // A presentation order in which a quad stands before one that laid a front edge which it used up.
-    TooEarly,
+    TooEarly = 22,
     // A lent mesh that isn't sound, or a list lent beside it that is too short.
-    UnsoundMesh,
+    UnsoundMesh = 23,
     // An edge that isn't on the front.
-    NotOnFront,
+    NotOnFront = 24,
     // A quad that doesn't turn left at all four corners in steps of the bowl.
-    NotShown,
+    NotShown = 25,
     // The lent list is too short for every small quad.
-    FoursNeedSpace,
+    FoursNeedSpace = 26,
 }
 
 // Its number: up to 13 document 01's, above the papers'.
@@ -144,34 +144,7 @@ impl From<Refusal> for u32 {
     ghost from_gives = { λ refusal number. number ≡ refusal_number refusal };
 
     fn from(refusal: Refusal) -> u32 {
-        match refusal {
-            Refusal::Lists => 1,
-            Refusal::ShortLoop => 2,
-            Refusal::NotFinite => 3,
-            Refusal::TooFar => 4,
-            Refusal::NoSize => 5,
-            Refusal::SizeOutOfRange => 6,
-            Refusal::Flat => 7,
-            Refusal::TooManySweeps => 8,
-            Refusal::FieldNeedsSpace => 9,
-            Refusal::FrontNeedsSpace => 10,
-            Refusal::NoFieldRecord => 11,
-            Refusal::WrongCheck => 12,
-            Refusal::WrongFile => 13,
-            Refusal::AnswerLists => 14,
-            Refusal::NoNode => 15,
-            Refusal::ThresholdTooHigh => 16,
-            Refusal::NoThreshold => 17,
-            Refusal::NoQuad => 18,
-            Refusal::WeightTooHigh => 19,
-            Refusal::NotAllowed => 20,
-            Refusal::NotEachOnce => 21,
-            Refusal::TooEarly => 22,
-            Refusal::UnsoundMesh => 23,
-            Refusal::NotOnFront => 24,
-            Refusal::NotShown => 25,
-            Refusal::FoursNeedSpace => 26,
-        }
+        refusal as u32
     }
 }
 

@@ -1,9 +1,10 @@
 -- What holds of the definitions of specs/Given.antt.
-use Rattle.std.specs.Prelude.{Bool, cond, List, [], ◌∷◌, ◌≡◌, ℕ, zero, suc, ◌≤◌, set, Result, Err, IfOk}
+use Rattle.std.specs.Prelude.{Bool, cond, List, [], ◌∷◌, ◌≡◌, ℕ, zero, suc, ◌≤◌, set, Result, Ok, Err, IfOk}
 use Rattle.std.proofs.Math.Bool.{true, false}
 use Rattle.std.proofs.Math.Path.{refl, subst}
 use Rattle.std.proofs.Common.{sym, ◌∙◌, eqb-true}
 use Rattle.std.proofs.Math.Dec.{eqb}
+use Rattle.numbers.specs.Float.{zero_f}
 use Rattle.lent_mesh.specs.Mesh.{Mesh, quad_of}
 use Rattle.thresholds.specs.Figures.{threshold_at, Results}
 use Rattle.thresholds.specs.Kept.{Afresh, enter_unmoved, withdraw_unmoved}
@@ -17,10 +18,10 @@ use Rattle.exam.specs.declared.ResultRead.TheVariants.{ReadEstimate}
 use Rattle.exam.specs.declared.ExamRequest.{ExamRequest}
 use Rattle.exam.specs.declared.ExamRequest.TheVariants.{Changes, ReadsMesh, ReadsResults, Unknown}
 use Rattle.exam.specs.declared.ExamReply.{ExamReply}
-use Rattle.exam.specs.declared.ExamReply.TheVariants.{Done, Estimate}
+use Rattle.exam.specs.declared.ExamReply.TheVariants.{Done, Node, Quad, Loop, Threshold, Figures, Estimate}
 use Rattle.exam.specs.declared.ExamAnswer.{ExamAnswer}
 use Rattle.exam.specs.Exam.{ExamMesh, mesh_in, may, may_read_mesh, may_read_results, mesh_seen, change_answer, reply_or, reply_with, result_reply, estimate_reply}
-use Rattle.exam.specs.Exam.{acted, does, exam_acts, exam_numbers, ExamExit, exam_exit, exam_answer, masked_exit, masked_answer}
+use Rattle.exam.specs.Exam.{acted, does, exam_acts, flat, exam_numbers, ExamExit, exam_exit, exam_answer, masked_exit, masked_answer}
 use Rattle.exam.specs.Statement.{EstimateGiven, ExamGiven}
 use Rattle.exam.specs.Given.{masked_sees, exam_kept, exam_begun, Call, after_calls}
 
@@ -97,13 +98,28 @@ unfolding exam_answer exam_acts result_reply
 exam_estimate m x role list k u v may =
     rw may (estimate_given (mesh_in m) x.thresholds k u v _ (estimate_flat (mesh_in m) x.thresholds k u v))
 
+-- ---- a refusal
+
+refused_numbers : (a : Result ExamReply ℕ) → ((exam_numbers a).refusal ≡ 0 → ⊥) → exam_numbers a ≡ flat (exam_numbers a).refusal zero_f zero_f 0 0 0 0 0 0 0 0 0 0
+unfolding exam_numbers
+refused_numbers (Err number) h = refl
+refused_numbers (Ok Done) h = absurd (h refl)
+refused_numbers (Ok (Node p origin)) h = absurd (h refl)
+refused_numbers (Ok (Quad q)) h = absurd (h refl)
+refused_numbers (Ok (Loop length)) h = absurd (h refl)
+refused_numbers (Ok (Threshold t)) h = absurd (h refl)
+refused_numbers (Ok (Figures count sum)) h = absurd (h refl)
+refused_numbers (Ok (Estimate e)) h = absurd (h refl)
+
 -- ---- WHAT A HOST GETS
 
 module _ (m : ExamMesh) (x : Results) (role : ℕ) (q : ExamRequest) (list : List ℕ) where
   defined : let e = exam_answer m x role q list in ExamGiven m x role q list e.numbers e.list e.left
+  unfolding exam_answer
   defined =
       record {
         equal = refl;
+        no_numbers = refused_numbers (exam_acts m x role q list).reply;
         masked = λ three. subst (λ (j : ℕ). masked_exit (exam_answer m x j q list).numbers (exam_answer m x j q list).list ≡ masked_answer m q list) (sym three)
             (masked_sees m x q list);
         unmoved = exam_unmoved m x role q list;

@@ -1,5 +1,6 @@
 -- What a host gets of an exam. Statements only.
 use Rattle.std.specs.Prelude.{true, false, List, ◌≡◌, ℕ, ◌≤◌, set, Result, IfOk}
+use Rattle.numbers.specs.Float.{zero_f}
 use Rattle.lent_mesh.specs.Mesh.{Mesh, quad_of}
 use Rattle.thresholds.specs.Figures.{most_threshold, threshold_at, stands, names, Results}
 use Rattle.thresholds.specs.Kept.{Afresh}
@@ -10,7 +11,7 @@ use Rattle.exam.specs.declared.ExamRequest.TheVariants.{Changes, ReadsResults}
 use Rattle.exam.specs.declared.ResultChange.TheVariants.{Begin}
 use Rattle.exam.specs.declared.ResultRead.TheVariants.{ReadEstimate}
 use Rattle.exam.specs.declared.ExamAnswer.{ExamAnswer}
-use Rattle.exam.specs.Exam.{ExamMesh, mesh_in, may_read_results, exam_exit, exam_answer, masked_exit, masked_answer}
+use Rattle.exam.specs.Exam.{ExamMesh, mesh_in, may_read_results, flat, exam_exit, exam_answer, masked_exit, masked_answer}
 
 -- Of the estimate in quad k of a mesh: it equals its definition; were one threshold that stands another, the answer would be refused as it is, or its
 -- estimate be no farther from this one than the two thresholds are apart, and the same where the quad doesn't name that node; and an estimate lies
@@ -27,6 +28,8 @@ pub record EstimateGiven (m : Mesh) (t : List ℕ) (k u v : ℕ) (r : Result ℕ
 pub record ExamGiven (m : ExamMesh) (x : Results) (role : ℕ) (q : ExamRequest) (list : List ℕ) (r : ExamAnswer) (after : List ℕ) (left : Results) : Type 0 where
   -- all of it is the definition's
   pub equal : exam_exit r after left ≡ exam_answer m x role q list
+  -- where it is refused, the other numbers are 0
+  pub no_numbers : (r.refusal ≡ 0 → ⊥) → r ≡ flat r.refusal zero_f zero_f 0 0 0 0 0 0 0 0 0 0
   -- a masked reader gets what has no results among its arguments: exams with the same mesh give it the same, whatever their thresholds, counts and sums
   pub masked : role ≡ 3 → masked_exit r after ≡ masked_answer m q list
   -- the results are as they were, unless the desk asked and nothing is refused

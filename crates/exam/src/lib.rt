@@ -1,8 +1,14 @@
 // One exam for three roles: the desk begins it, enters, withdraws and reads; a reader reads everything; a masked reader reads nodes, quads and loops only. Here is
-// what is asked and answered, and in `specs/` what the answer is. No function: `exam_requests` has what each request does, `exam_entry` the entry.
+// what is asked and answered, and in `specs/` what the answer is. Of code it has the roles, with what they may ask, and the answer as it crosses: `exam_requests`
+// has what each request does, `exam_entry` the entry.
 #![tactic(auto)]
 
-use domain::Point;
+ghost use Rattle.std.specs.Prelude.{◌≡◌};
+ghost use Rattle.domain.specs.Refusals.{numbered};
+ghost use Rattle.exam.specs.Exam.{role_number, may, exam_numbers};
+ghost use Rattle.exam.specs.Roles.{NumbersRole};
+
+use domain::{Point, Refusal};
 use lent_mesh::QuadIds;
 
 // Who asks.
@@ -11,6 +17,22 @@ pub enum Role {
     Desk,
     Reader,
     MaskedReader,
+}
+
+// The role with this number.
+impl TryFrom<u32> for Role {
+    type Error = Refusal;
+
+    ghost try_from_gives = { NumbersRole };
+
+    fn try_from(number: u32) -> Result<Role, Refusal> {
+        match number {
+            1 => Ok(Role::Desk),
+            2 => Ok(Role::Reader),
+            3 => Ok(Role::MaskedReader),
+            _ => Err(Refusal::NotAllowed),
+        }
+    }
 }
 
 // What changes the results.
@@ -57,10 +79,24 @@ pub enum ExamReply {
     Estimate(u32),
 }
 
-// Stays a struct: C reads it.
+impl Role {
+    // Whether the role has the operation.
+    pub fn may(self, request: ExamRequest) -> bool
+        ensures { result ≡ may (role_number self) request }
+    {
+        match request {
+            ExamRequest::Changes(_) => matches!(self, Role::Desk),
+            ExamRequest::ReadsMesh(_) => true,
+            ExamRequest::ReadsResults(_) => matches!(self, Role::Desk | Role::Reader),
+            ExamRequest::Unknown => false,
+        }
+    }
+}
+
+// Stays a number beside the values: the C interface needs it.
 // The reply as it crosses: `refusal` is 0 where nothing is refused; what isn't asked for is 0.
 #[repr(C)]
-#[derive(Clone, Copy)]
+#[derive(Clone, Copy, Default)]
 pub struct ExamAnswer {
     pub refusal: u32,
     pub x: f64,
@@ -75,4 +111,37 @@ pub struct ExamAnswer {
     pub sum: u32,
     pub estimate: u32,
     pub origin: u32,
+}
+
+impl From<Result<ExamReply, Refusal>> for ExamAnswer {
+    ghost from_gives = { λ reply answer. answer ≡ exam_numbers (numbered reply) };
+
+    #[tactic(auto, unfolding(crate::specs::Exam::exam_numbers))]
+    fn from(reply: Result<ExamReply, Refusal>) -> ExamAnswer {
+        let none = ExamAnswer::default();
+        match reply {
+            Err(refusal) => ExamAnswer {
+                refusal: u32::from(refusal),
+                ..none
+            },
+            Ok(ExamReply::Done) => none,
+            Ok(ExamReply::Node(p, origin)) => ExamAnswer {
+                x: p.x,
+                y: p.y,
+                origin,
+                ..none
+            },
+            Ok(ExamReply::Quad(q)) => ExamAnswer {
+                a: q.a,
+                b: q.b,
+                d: q.d,
+                c: q.c,
+                ..none
+            },
+            Ok(ExamReply::Loop(length)) => ExamAnswer { length, ..none },
+            Ok(ExamReply::Threshold(threshold)) => ExamAnswer { threshold, ..none },
+            Ok(ExamReply::Figures(count, sum)) => ExamAnswer { count, sum, ..none },
+            Ok(ExamReply::Estimate(estimate)) => ExamAnswer { estimate, ..none },
+        }
+    }
 }

@@ -11,11 +11,12 @@ ghost use Rattle.exam.specs.Statement.{ExamGiven};
 ghost use Rattle.exam_requests.specs.Lent.{exam_mesh_lent};
 
 use domain::Refusal;
-use exam::{ExamAnswer, ExamReply, ExamRequest};
+use exam::{ExamAnswer, ExamReply, ExamRequest, Role};
 use exam_requests::LentExamMesh;
 use exam_results::LentResults;
 
 // What is replied. It is refused before all else where the role lacks the operation.
+// Stays with the role's number: one that no role has is refused here as well, by `?`.
 #[tactic(auto, using(crate::specs::Code::no_role, exam_results::specs::FigureLaws::refusal_answered), unfolding(exam::specs::Exam::exam_acts, exam::specs::Exam::reply_or))]
 fn ask(
     role: u32,
@@ -28,10 +29,8 @@ fn ask(
     ensures acts { acted (numbered result) reply.new (results_lent results.new)
         ≡ exam_acts (exam_mesh_lent mesh.entry) (results_lent results.old) role request reply.old }
 {
-    let Some(role) = exam_requests::role_numbered(role) else {
-        return Err(Refusal::NotAllowed);
-    };
-    if !exam_requests::may(role, request) {
+    let role = Role::try_from(role)?;
+    if !role.may(request) {
         return Err(Refusal::NotAllowed);
     }
     match request {
@@ -39,7 +38,7 @@ fn ask(
             exam_requests::change_results(change, mesh.mesh(), results)?;
             Ok(ExamReply::Done)
         }
-        ExamRequest::ReadsMesh(read) => exam_requests::read_mesh(read, mesh, reply),
+        ExamRequest::ReadsMesh(read) => mesh.read(read, reply),
         ExamRequest::ReadsResults(read) => exam_requests::read_results(read, mesh.mesh(), results),
         ExamRequest::Unknown => Err(Refusal::NotAllowed),
     }
@@ -89,5 +88,5 @@ pub extern "C" fn sitjorbe_exam(
         count,
         sum,
     };
-    exam_requests::exam_numbers(ask(role, request, mesh, &mut results, reply))
+    ExamAnswer::from(ask(role, request, mesh, &mut results, reply))
 }

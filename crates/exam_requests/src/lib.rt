@@ -1,19 +1,20 @@
-// Who may ask what of an exam, and what each request does. The mesh is only read, and what reads it is handed no results.
+// What each request to an exam does. The mesh is only read, and what reads it is handed no results.
 #![tactic(auto)]
 
-ghost use Rattle.std.specs.Prelude.{◌≡◌, false, MatchOption};
+ghost use Rattle.std.specs.Prelude.{◌≡◌};
 ghost use Rattle.domain.specs.Refusals.{refused, numbered};
 ghost use Rattle.lent_mesh.specs.Mesh.{mesh_lent};
 ghost use Rattle.thresholds.specs.Figures.{outcome};
 ghost use Rattle.exam_results.specs.Lent.{results_lent, SameBorrows};
-ghost use Rattle.exam.specs.Exam.{role_number, may_read_mesh, may, request_numbered, nodes_in, mesh_in};
-ghost use Rattle.exam.specs.Exam.{node_reply, quad_reply, loop_seen, seen, mesh_seen, change_answer, threshold_reply, estimate_reply, result_reply, exam_numbers};
+ghost use Rattle.exam.specs.Exam.{request_numbered, nodes_in, mesh_in};
+ghost use Rattle.exam.specs.Exam.{node_reply, quad_reply, loop_seen, seen, mesh_seen, change_answer, threshold_reply, estimate_reply, result_reply};
 ghost use Rattle.exam_requests.specs.Lent.{exam_mesh_lent};
 
 use domain::Refusal;
-use exam::{ExamAnswer, ExamReply, ExamRequest, MeshRead, ResultChange, ResultRead, Role};
-use exam_results::LentResults;
+use exam::{ExamReply, ExamRequest, MeshRead, ResultChange, ResultRead};
+use exam_results::{LentResults, Thresholds};
 use lent_mesh::LentMesh;
+use loop_reads::LentLinks;
 
 // The mesh of an exam as it is lent.
 #[derive(Clone, Copy)]
@@ -28,32 +29,9 @@ pub struct LentExamMesh<'a> {
     pub origins: &'a [u16],
 }
 
-// ---- roles and requests
+// ---- requests
 
-// The role with this number.
-pub fn role_numbered(number: u32) -> Option<Role>
-    ensures { MatchOption result (may_read_mesh number ≡ false) (λ role. role_number role ≡ number) }
-{
-    match number {
-        1 => Some(Role::Desk),
-        2 => Some(Role::Reader),
-        3 => Some(Role::MaskedReader),
-        _ => None,
-    }
-}
-
-// Whether the role has the operation.
-pub fn may(role: Role, request: ExamRequest) -> bool
-    ensures { result ≡ may (role_number role) request }
-{
-    match request {
-        ExamRequest::Changes(_) => matches!(role, Role::Desk),
-        ExamRequest::ReadsMesh(_) => true,
-        ExamRequest::ReadsResults(_) => matches!(role, Role::Desk | Role::Reader),
-        ExamRequest::Unknown => false,
-    }
-}
-
+// Stays a `match` on a number: C gives it, and the numbers beside it.
 // The request that an operation's number and the numbers beside it make.
 #[tactic(auto, unfolding(exam::specs::Exam::request_numbered))]
 pub fn request_numbered(operation: u32, item: u32, value: u32, u: u32, v: u32) -> ExamRequest
@@ -95,62 +73,67 @@ impl<'a> LentExamMesh<'a> {
             quads: self.quads,
         }
     }
-}
 
-#[tactic(auto, unfolding(exam::specs::Exam::node_reply))]
-fn node_reply(mesh: LentExamMesh<'_>, id: u32) -> Result<ExamReply, Refusal>
-    ensures { numbered result
-        ≡ node_reply (nodes_in (exam_mesh_lent mesh.entry)) mesh.entry.xs.now mesh.entry.ys.now mesh.entry.origins.now id }
-{
-    if id >= mesh.nodes() {
-        return Err(Refusal::NoNode);
+    // What its loops are read from.
+    fn links(self) -> LentLinks<'a>
+        ensures { (result.nodes ≡ nodes_in (exam_mesh_lent self.entry))
+            × (result.next.now ≡ self.entry.next.now) × (result.prev.now ≡ self.entry.prev.now) }
+    {
+        LentLinks {
+            nodes: self.nodes(),
+            next: self.next,
+            prev: self.prev,
+        }
     }
-    let origin = mesh.origins.get(id as usize).copied().unwrap_or(0);
-    let p = front::node_at(mesh.xs, mesh.ys, id);
-    Ok(ExamReply::Node(p, u32::from(origin)))
 }
 
-#[tactic(auto, unfolding(exam::specs::Exam::quad_reply))]
-fn quad_reply(quad_count: usize, quads: &[u32], k: u32) -> Result<ExamReply, Refusal>
-    ensures { numbered result ≡ quad_reply quad_count quads.now k }
-{
-    let i = k as usize;
-    if i >= lent_mesh::quad_count(quad_count, quads) {
-        return Err(Refusal::NoQuad);
+impl LentExamMesh<'_> {
+    #[tactic(auto, unfolding(exam::specs::Exam::node_reply))]
+    fn node_reply(self, id: u32) -> Result<ExamReply, Refusal>
+        ensures { let m = exam_mesh_lent self.entry in numbered result ≡ node_reply (nodes_in m) m.xs m.ys m.origins id }
+    {
+        if id >= self.nodes() {
+            return Err(Refusal::NoNode);
+        }
+        let origin = self.origins.get(id as usize).copied().unwrap_or(0);
+        let p = front::node_at(self.xs, self.ys, id);
+        Ok(ExamReply::Node(p, u32::from(origin)))
     }
-    Ok(ExamReply::Quad(lent_mesh::quad_at(quads, i)))
-}
 
-#[tactic(auto, unfolding(exam::specs::Exam::loop_seen))]
-fn loop_reply(
-    n: u32,
-    next: &[u32],
-    prev: &[u32],
-    k: u32,
-    reply: &mut [u32],
-) -> Result<ExamReply, Refusal>
-    ensures { seen (numbered result) reply.new ≡ loop_seen n next.now prev.now k reply.old }
-{
-    Ok(ExamReply::Loop(loop_reads::read_loop(n, next, prev, k, reply)?))
-}
+    #[tactic(auto, unfolding(exam::specs::Exam::quad_reply))]
+    fn quad_reply(self, k: u32) -> Result<ExamReply, Refusal>
+        ensures { numbered result ≡ quad_reply self.entry.quad_count self.entry.quads.now k }
+    {
+        let i = k as usize;
+        if i >= lent_mesh::quad_count(self.quad_count, self.quads) {
+            return Err(Refusal::NoQuad);
+        }
+        Ok(ExamReply::Quad(lent_mesh::quad_at(self.quads, i)))
+    }
 
-#[tactic(auto, unfolding(exam::specs::Exam::mesh_seen))]
-pub fn read_mesh(
-    read: MeshRead,
-    mesh: LentExamMesh<'_>,
-    reply: &mut [u32],
-) -> Result<ExamReply, Refusal>
-    ensures { seen (numbered result) reply.new ≡ mesh_seen (exam_mesh_lent mesh.entry) read reply.old }
-{
-    match read {
-        MeshRead::ReadNode(id) => node_reply(mesh, id),
-        MeshRead::ReadQuad(k) => quad_reply(mesh.quad_count, mesh.quads, k),
-        MeshRead::ReadLoop(k) => loop_reply(mesh.nodes(), mesh.next, mesh.prev, k, reply),
+    #[tactic(auto, unfolding(exam::specs::Exam::loop_seen))]
+    fn loop_reply(self, k: u32, reply: &mut [u32]) -> Result<ExamReply, Refusal>
+        ensures { let m = exam_mesh_lent self.entry in
+            seen (numbered result) reply.new ≡ loop_seen (nodes_in m) m.next m.prev k reply.old }
+    {
+        Ok(ExamReply::Loop(self.links().read_loop(k, reply)?))
+    }
+
+    #[tactic(auto, unfolding(exam::specs::Exam::mesh_seen))]
+    pub fn read(self, read: MeshRead, reply: &mut [u32]) -> Result<ExamReply, Refusal>
+        ensures { seen (numbered result) reply.new ≡ mesh_seen (exam_mesh_lent self.entry) read reply.old }
+    {
+        match read {
+            MeshRead::ReadNode(id) => self.node_reply(id),
+            MeshRead::ReadQuad(k) => self.quad_reply(k),
+            MeshRead::ReadLoop(k) => self.loop_reply(k, reply),
+        }
     }
 }
 
 // ---- the results
 
+// Stays a function, and so does `read_results`: `LentResults` is of a crate below, which has no requests.
 #[tactic(auto, unfolding(exam::specs::Exam::change_answer))]
 pub fn change_results(
     change: ResultChange,
@@ -172,25 +155,19 @@ pub fn change_results(
 }
 
 #[tactic(auto, using(exam_results::specs::FigureLaws::refusal_answered), unfolding(exam::specs::Exam::threshold_reply, exam::specs::Exam::reply_or))]
-fn threshold_reply(n: u32, thresholds: &[u16], id: u32) -> Result<ExamReply, Refusal>
-    ensures { numbered result ≡ threshold_reply n thresholds.now id }
+fn threshold_reply(thresholds: &Thresholds<'_>, id: u32) -> Result<ExamReply, Refusal>
+    ensures { numbered result ≡ threshold_reply thresholds.now.mesh.nodes thresholds.now.list.now id }
 {
-    let v = exam_results::threshold_at(thresholds, id);
-    exam_results::check_threshold(n, thresholds, id, v, Refusal::NoThreshold)?;
+    let v = thresholds.at(id);
+    thresholds.check(id, v, Refusal::NoThreshold)?;
     Ok(ExamReply::Threshold(v))
 }
 
 #[tactic(auto, unfolding(exam::specs::Exam::estimate_reply))]
-fn estimate_reply(
-    mesh: LentMesh<'_>,
-    thresholds: &[u16],
-    k: u32,
-    u: u32,
-    v: u32,
-) -> Result<ExamReply, Refusal>
-    ensures { numbered result ≡ estimate_reply (mesh_lent mesh.entry) thresholds.now k u v }
+fn estimate_reply(thresholds: &Thresholds<'_>, k: u32, u: u32, v: u32) -> Result<ExamReply, Refusal>
+    ensures { numbered result ≡ estimate_reply (mesh_lent thresholds.now.mesh) thresholds.now.list.now k u v }
 {
-    Ok(ExamReply::Estimate(exam_results::estimate_at(mesh, thresholds, k as usize, u, v)?))
+    Ok(ExamReply::Estimate(thresholds.estimate_at(k as usize, u, v)?))
 }
 
 #[tactic(auto, unfolding(exam::specs::Exam::result_reply))]
@@ -201,79 +178,10 @@ pub fn read_results(
 ) -> Result<ExamReply, Refusal>
     ensures { numbered result ≡ result_reply (mesh_lent mesh.entry) (results_lent results.now) read }
 {
+    let thresholds = results.thresholds(mesh);
     match read {
-        ResultRead::ReadThreshold(id) => threshold_reply(mesh.nodes, results.thresholds(), id),
+        ResultRead::ReadThreshold(id) => threshold_reply(&thresholds, id),
         ResultRead::ReadFigures => Ok(ExamReply::Figures(*results.count, *results.sum)),
-        ResultRead::ReadEstimate(k, u, v) => estimate_reply(mesh, results.thresholds(), k, u, v),
-    }
-}
-
-// ---- the answer
-
-const NO_NUMBERS: ExamAnswer = ExamAnswer {
-    refusal: 0,
-    x: 0.0,
-    y: 0.0,
-    a: 0,
-    b: 0,
-    d: 0,
-    c: 0,
-    length: 0,
-    threshold: 0,
-    count: 0,
-    sum: 0,
-    estimate: 0,
-    origin: 0,
-};
-
-#[tactic(auto, unfolding(exam::specs::Exam::exam_numbers))]
-fn reply_numbers(reply: ExamReply) -> ExamAnswer
-    ensures { result ≡ exam_numbers (Ok reply) }
-{
-    match reply {
-        ExamReply::Done => NO_NUMBERS,
-        ExamReply::Node(p, origin) => ExamAnswer {
-            x: p.x,
-            y: p.y,
-            origin,
-            ..NO_NUMBERS
-        },
-        ExamReply::Quad(q) => ExamAnswer {
-            a: q.a,
-            b: q.b,
-            d: q.d,
-            c: q.c,
-            ..NO_NUMBERS
-        },
-        ExamReply::Loop(length) => ExamAnswer {
-            length,
-            ..NO_NUMBERS
-        },
-        ExamReply::Threshold(threshold) => ExamAnswer {
-            threshold,
-            ..NO_NUMBERS
-        },
-        ExamReply::Figures(count, sum) => ExamAnswer {
-            count,
-            sum,
-            ..NO_NUMBERS
-        },
-        ExamReply::Estimate(estimate) => ExamAnswer {
-            estimate,
-            ..NO_NUMBERS
-        },
-    }
-}
-
-#[tactic(auto, unfolding(exam::specs::Exam::exam_numbers))]
-pub fn exam_numbers(reply: Result<ExamReply, Refusal>) -> ExamAnswer
-    ensures { result ≡ exam_numbers (numbered reply) }
-{
-    match reply {
-        Ok(reply) => reply_numbers(reply),
-        Err(refusal) => ExamAnswer {
-            refusal: u32::from(refusal),
-            ..NO_NUMBERS
-        },
+        ResultRead::ReadEstimate(k, u, v) => estimate_reply(&thresholds, k, u, v),
     }
 }

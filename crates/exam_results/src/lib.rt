@@ -2,10 +2,11 @@
 // thresholds of those quads, and the estimate between the nodes of a quad. A call that changes them looks only at the quads that name its node.
 #![tactic(auto)]
 
-ghost use Rattle.std.specs.Prelude.{◌≡◌, ◌<◌, ◌≤◌, ◌||◌, length, ◌==◌};
+ghost use Rattle.std.specs.Prelude.{◌≡◌, ◌<◌, ◌≤◌, ◌||◌, length, ◌==◌, eqb};
+ghost use Rattle.std.specs.List.{list_any};
 ghost use Rattle.domain.specs.Refusals.{refusal_number, refused, numbered};
 ghost use Rattle.lent_mesh.specs.Mesh.{mesh_lent};
-ghost use Rattle.thresholds.specs.Figures.{threshold_at, stands, is_complete, once_only, quad_total, names, count_at, sum_at, share_of};
+ghost use Rattle.thresholds.specs.Figures.{threshold_at, stands, is_complete, once_only, quad_total, count_at, sum_at, share_of};
 ghost use Rattle.thresholds.specs.Figures.{moved, outcome, is_missing, refusal_at, with_threshold, begin_answer, enter_answer, withdraw_answer};
 ghost use Rattle.estimates.specs.Estimate.{estimate, estimate_of, estimate_refusal, estimate_answer};
 ghost use Rattle.exam_results.specs.FigureLaws.{count_share, sum_share};
@@ -19,10 +20,18 @@ use lent_mesh::{LentMesh, QuadIds};
 pub const MOST_THRESHOLD: u32 = 500;
 
 // None, as it is written.
+// Stays a number: lent lists hold it, and C gives them.
 pub const NO_THRESHOLD: u16 = 65535;
 
 // The greatest weight: all the way across the quad.
 pub const MOST_WEIGHT: u32 = 256;
+
+// Thresholds as they are lent, at the nodes of a mesh.
+#[derive(Clone, Copy)]
+pub struct Thresholds<'a> {
+    pub mesh: LentMesh<'a>,
+    pub list: &'a [u16],
+}
 
 // What the quads that name a node have: how many are complete, and the sum of their thresholds.
 #[derive(Clone, Copy)]
@@ -41,91 +50,87 @@ pub struct LentResults<'a> {
 
 // ---- reading
 
-// What the list has at id; past the list none.
-pub fn threshold_at(thresholds: &[u16], id: u32) -> u32
-    ensures { (result ≡ threshold_at thresholds.now id) × (result ≤ 65535) }
-{
-    u32::from(thresholds.get(id as usize).copied().unwrap_or(NO_THRESHOLD))
-}
-
-// Whether a threshold stands at id.
-#[tactic(auto, unfolding(thresholds::specs::Figures::stands))]
-pub fn stands(nodes: u32, thresholds: &[u16], id: u32) -> bool
-    ensures { result ≡ stands nodes thresholds.now id }
-{
-    id < nodes && threshold_at(thresholds, id) <= MOST_THRESHOLD
-}
-
-// Whether a threshold stands at all four.
-#[tactic(auto, unfolding(thresholds::specs::Figures::is_complete))]
-pub fn is_complete(nodes: u32, thresholds: &[u16], q: QuadIds) -> bool
-    ensures { result ≡ is_complete nodes thresholds.now q }
-{
-    stands(nodes, thresholds, q.a)
-        && stands(nodes, thresholds, q.b)
-        && stands(nodes, thresholds, q.d)
-        && stands(nodes, thresholds, q.c)
-}
-
-// The threshold at id, or 0 where its node was counted already.
-fn once(thresholds: &[u16], id: u32, repeated: bool) -> u32
-    ensures { (result ≡ once_only repeated (threshold_at thresholds.now id)) × (result ≤ 65535) }
-{
-    if repeated {
-        0
-    } else {
-        threshold_at(thresholds, id)
+impl Thresholds<'_> {
+    // What the list has at id; past the list none.
+    // Stays a number, and no `Option`: its clause is over the numbers lent, of which all above 500 mean none.
+    pub fn at(&self, id: u32) -> u32
+        ensures { (result ≡ threshold_at self.now.list.now id) × (result ≤ 65535) }
+    {
+        u32::from(self.list.get(id as usize).copied().unwrap_or(NO_THRESHOLD))
     }
-}
 
-// The thresholds of the quad's nodes, each node counted once.
-#[tactic(auto, unfolding(thresholds::specs::Figures::quad_total))]
-fn quad_total(thresholds: &[u16], q: QuadIds) -> u32
-    ensures { result ≡ quad_total thresholds.now q }
-{
-    let a = threshold_at(thresholds, q.a);
-    let b = once(thresholds, q.b, q.b == q.a);
-    let d = once(thresholds, q.d, q.d == q.a || q.d == q.b);
-    let c = once(thresholds, q.c, q.c == q.a || q.c == q.b || q.c == q.d);
-    a + b + d + c
-}
+    // Whether a threshold stands at id.
+    #[tactic(auto, unfolding(thresholds::specs::Figures::stands))]
+    pub fn stands(&self, id: u32) -> bool
+        ensures { result ≡ stands self.now.mesh.nodes self.now.list.now id }
+    {
+        id < self.mesh.nodes && self.at(id) <= MOST_THRESHOLD
+    }
 
-// Whether one of the four is id.
-#[tactic(auto, unfolding(thresholds::specs::Figures::names))]
-fn names(q: QuadIds, id: u32) -> bool
-    ensures { result ≡ names q id }
-{
-    q.a == id || q.b == id || q.d == id || q.c == id
+    // Whether a threshold stands at all four.
+    #[tactic(auto, unfolding(thresholds::specs::Figures::is_complete))]
+    pub fn is_complete(&self, q: QuadIds) -> bool
+        ensures { result ≡ is_complete self.now.mesh.nodes self.now.list.now q }
+    {
+        self.stands(q.a) && self.stands(q.b) && self.stands(q.d) && self.stands(q.c)
+    }
+
+    // The threshold at id, or 0 where its node was counted already.
+    fn once(&self, id: u32, counted: &[u32]) -> u32
+        ensures { (result ≡ once_only (list_any (λ x. eqb x id) counted.now) (threshold_at self.now.list.now id)) × (result ≤ 65535) }
+    {
+        if counted.contains(&id) {
+            0
+        } else {
+            self.at(id)
+        }
+    }
+
+    // The thresholds of the quad's nodes, each node counted once.
+    #[tactic(auto, unfolding(thresholds::specs::Figures::quad_total))]
+    fn quad_total(&self, q: QuadIds) -> u32
+        ensures { result ≡ quad_total self.now.list.now q }
+    {
+        let a = self.at(q.a);
+        let b = self.once(q.b, &[q.a]);
+        let d = self.once(q.d, &[q.a, q.b]);
+        let c = self.once(q.c, &[q.a, q.b, q.d]);
+        a + b + d + c
+    }
 }
 
 // ---- the figures moved
 
-// What the quad adds to the shares of id.
-#[tactic(auto, unfolding(crate::specs::FigureLaws::count_share, crate::specs::FigureLaws::sum_share))]
-fn quad_share(nodes: u32, thresholds: &[u16], q: QuadIds, id: u32) -> Share
-    ensures { (result.count ≡ count_share nodes thresholds.now q id) × (result.sum ≡ sum_share nodes thresholds.now q id) }
-{
-    if names(q, id) && is_complete(nodes, thresholds, q) {
-        let sum = quad_total(thresholds, q);
-        Share { count: 1, sum }
-    } else {
-        Share { count: 0, sum: 0 }
+impl Thresholds<'_> {
+    // What the quad adds to the shares of id.
+    #[tactic(auto, unfolding(crate::specs::FigureLaws::count_share, crate::specs::FigureLaws::sum_share, thresholds::specs::Figures::names))]
+    fn quad_share(&self, q: QuadIds, id: u32) -> Share
+        ensures { (result.count ≡ count_share self.now.mesh.nodes self.now.list.now q id)
+            × (result.sum ≡ sum_share self.now.mesh.nodes self.now.list.now q id) }
+    {
+        if q.has(id) && self.is_complete(q) {
+            let sum = self.quad_total(q);
+            Share { count: 1, sum }
+        } else {
+            Share { count: 0, sum: 0 }
+        }
     }
-}
 
-// What the quads have that name id: a scan.
-fn node_share(mesh: LentMesh<'_>, thresholds: &[u16], id: u32) -> Share
-    ensures { (result.count ≡ share_of (mesh_lent mesh.entry) id (count_at (mesh_lent mesh.entry) thresholds.now))
-        × (result.sum ≡ share_of (mesh_lent mesh.entry) id (sum_at (mesh_lent mesh.entry) thresholds.now)) }
-{
-    let mut count: u32 = 0;
-    let mut sum: u32 = 0;
-    for k in 0..mesh.quad_count() {
-        let share = quad_share(mesh.nodes, thresholds, mesh.quad(k), id);
-        count += share.count;
-        sum += share.sum;
+    // What the quads have that name id.
+    // Stays a loop: one scan makes both sums, and that neither wraps is its invariant.
+    fn node_share(&self, id: u32) -> Share
+        ensures { let m = mesh_lent self.now.mesh in
+            (result.count ≡ share_of m id (count_at m self.now.list.now)) × (result.sum ≡ share_of m id (sum_at m self.now.list.now)) }
+    {
+        let mut count: u32 = 0;
+        let mut sum: u32 = 0;
+        for k in 0..self.mesh.quad_count() {
+            let share = self.quad_share(self.mesh.quad(k), id);
+            count += share.count;
+            sum += share.sum;
+        }
+        Share { count, sum }
     }
-    Share { count, sum }
 }
 
 // A figure moved by what was lost and won, modulo 2^32.
@@ -138,41 +143,41 @@ fn moved(x: u32, lost: u32, won: u32) -> u32
 
 // ---- the refusals
 
-// Whether id is no node, or past the list.
-#[tactic(auto, unfolding(thresholds::specs::Figures::is_missing))]
-pub fn is_missing(nodes: u32, thresholds: &[u16], id: u32) -> bool
-    ensures { result ≡ is_missing nodes thresholds.now id }
-{
-    nodes <= id || thresholds.len() <= id as usize
-}
+impl Thresholds<'_> {
+    // Whether id is no node, or past the list.
+    #[tactic(auto, unfolding(thresholds::specs::Figures::is_missing))]
+    pub fn is_missing(&self, id: u32) -> bool
+        ensures { result ≡ is_missing self.now.mesh.nodes self.now.list.now id }
+    {
+        self.mesh.nodes <= id || self.list.len() <= id as usize
+    }
 
-// No node where the node is missing, then `high` where v is no threshold.
-#[tactic(auto, unfolding(thresholds::specs::Figures::refusal_at))]
-pub fn check_threshold(
-    nodes: u32,
-    thresholds: &[u16],
-    id: u32,
-    v: u32,
-    high: Refusal,
-) -> Result<(), Refusal>
-    ensures { refused result ≡ refusal_at nodes thresholds.now id v (refusal_number high) }
-{
-    if is_missing(nodes, thresholds, id) {
-        return Err(Refusal::NoNode);
+    // No node where the node is missing, then `high` where v is no threshold.
+    #[tactic(auto, unfolding(thresholds::specs::Figures::refusal_at))]
+    pub fn check(&self, id: u32, v: u32, high: Refusal) -> Result<(), Refusal>
+        ensures { refused result ≡ refusal_at self.now.mesh.nodes self.now.list.now id v (refusal_number high) }
+    {
+        if self.is_missing(id) {
+            return Err(Refusal::NoNode);
+        }
+        if v > MOST_THRESHOLD {
+            return Err(high);
+        }
+        Ok(())
     }
-    if v > MOST_THRESHOLD {
-        return Err(high);
-    }
-    Ok(())
 }
 
 // ---- the three calls
 
 impl LentResults<'_> {
-    pub fn thresholds(&self) -> &[u16]
-        ensures { result.now ≡ self.now.thresholds.now }
+    // The thresholds, at the nodes of a mesh.
+    pub fn thresholds<'b>(&'b self, mesh: LentMesh<'b>) -> Thresholds<'b>
+        ensures { (result.mesh ≡ mesh.entry) × (result.list.now ≡ self.now.thresholds.now) }
     {
-        &*self.thresholds
+        Thresholds {
+            mesh,
+            list: &*self.thresholds,
+        }
     }
 
     // v written at id, and the figures moved by what the quads that name id had before and have after.
@@ -182,9 +187,9 @@ impl LentResults<'_> {
         ensures same { SameBorrows self.old self.new }
         ensures left { results_lent self.new ≡ with_threshold (mesh_lent mesh.entry) (results_lent self.old) id v }
     {
-        let lost = node_share(mesh, self.thresholds(), id);
+        let lost = self.thresholds(mesh).node_share(id);
         self.thresholds[id as usize] = v;
-        let won = node_share(mesh, self.thresholds(), id);
+        let won = self.thresholds(mesh).node_share(id);
         *self.count = moved(*self.count, lost.count, won.count);
         *self.sum = moved(*self.sum, lost.sum, won.sum);
     }
@@ -207,13 +212,8 @@ impl LentResults<'_> {
         ensures left { outcome (refused result) (results_lent self.new)
             ≡ enter_answer (mesh_lent mesh.entry) (results_lent self.old) node threshold }
     {
-        check_threshold(
-            mesh.nodes,
-            self.thresholds(),
-            node,
-            threshold,
-            Refusal::ThresholdTooHigh,
-        )?;
+        self.thresholds(mesh)
+            .check(node, threshold, Refusal::ThresholdTooHigh)?;
         self.set_threshold(mesh, node, threshold as u16);
         Ok(())
     }
@@ -225,8 +225,8 @@ impl LentResults<'_> {
         ensures left { outcome (refused result) (results_lent self.new)
             ≡ withdraw_answer (mesh_lent mesh.entry) (results_lent self.old) node }
     {
-        let v = threshold_at(self.thresholds(), node);
-        check_threshold(mesh.nodes, self.thresholds(), node, v, Refusal::NoThreshold)?;
+        let thresholds = self.thresholds(mesh);
+        thresholds.check(node, thresholds.at(node), Refusal::NoThreshold)?;
         self.set_threshold(mesh, node, NO_THRESHOLD);
         Ok(())
     }
@@ -245,50 +245,40 @@ fn weigh(u: u32, v: u32, a: u32, b: u32, d: u32, c: u32) -> u32
     (s * t * a + u * t * b + u * v * d + s * v * c) / 65536
 }
 
-// The estimate in a quad that has all four thresholds.
-#[tactic(auto, unfolding(estimates::specs::Estimate::estimate_of))]
-fn estimate_in(nodes: u32, thresholds: &[u16], q: QuadIds, u: u32, v: u32) -> u32
-    requires { Estimable nodes thresholds.now q u v }
-    ensures { result ≡ estimate_of u v thresholds.now q }
-{
-    let a = threshold_at(thresholds, q.a);
-    let b = threshold_at(thresholds, q.b);
-    let d = threshold_at(thresholds, q.d);
-    let c = threshold_at(thresholds, q.c);
-    weigh(u, v, a, b, d, c)
-}
-
-// A quad that isn't in the mesh or lacks a threshold, then a weight above 256.
-#[tactic(auto, unfolding(estimates::specs::Estimate::estimate_refusal))]
-fn check_estimate(
-    mesh: LentMesh<'_>,
-    thresholds: &[u16],
-    quad: usize,
-    u: u32,
-    v: u32,
-) -> Result<(), Refusal>
-    ensures { refused result ≡ estimate_refusal (mesh_lent mesh.entry) thresholds.now quad u v }
-{
-    if quad >= mesh.quad_count() || !is_complete(mesh.nodes, thresholds, mesh.quad(quad)) {
-        return Err(Refusal::NoQuad);
+impl Thresholds<'_> {
+    // The estimate in a quad that has all four thresholds.
+    #[tactic(auto, unfolding(estimates::specs::Estimate::estimate_of))]
+    fn estimate_in(&self, q: QuadIds, u: u32, v: u32) -> u32
+        requires { Estimable self.now.mesh.nodes self.now.list.now q u v }
+        ensures { result ≡ estimate_of u v self.now.list.now q }
+    {
+        let a = self.at(q.a);
+        let b = self.at(q.b);
+        let d = self.at(q.d);
+        let c = self.at(q.c);
+        weigh(u, v, a, b, d, c)
     }
-    if u > MOST_WEIGHT || v > MOST_WEIGHT {
-        return Err(Refusal::WeightTooHigh);
-    }
-    Ok(())
-}
 
-// The estimate in quad `quad` at the weights u and v.
-#[tactic(auto, using(crate::specs::FigureLaws::refusal_answered), unfolding(estimates::specs::Estimate::estimate_answer))]
-pub fn estimate_at(
-    mesh: LentMesh<'_>,
-    thresholds: &[u16],
-    quad: usize,
-    u: u32,
-    v: u32,
-) -> Result<u32, Refusal>
-    ensures { numbered result ≡ estimate_answer (mesh_lent mesh.entry) thresholds.now quad u v }
-{
-    check_estimate(mesh, thresholds, quad, u, v)?;
-    Ok(estimate_in(mesh.nodes, thresholds, mesh.quad(quad), u, v))
+    // A quad that isn't in the mesh or lacks a threshold, then a weight above 256.
+    #[tactic(auto, unfolding(estimates::specs::Estimate::estimate_refusal))]
+    fn check_estimate(&self, quad: usize, u: u32, v: u32) -> Result<(), Refusal>
+        ensures { refused result ≡ estimate_refusal (mesh_lent self.now.mesh) self.now.list.now quad u v }
+    {
+        if quad >= self.mesh.quad_count() || !self.is_complete(self.mesh.quad(quad)) {
+            return Err(Refusal::NoQuad);
+        }
+        if u > MOST_WEIGHT || v > MOST_WEIGHT {
+            return Err(Refusal::WeightTooHigh);
+        }
+        Ok(())
+    }
+
+    // The estimate in quad `quad` at the weights u and v.
+    #[tactic(auto, using(crate::specs::FigureLaws::refusal_answered), unfolding(estimates::specs::Estimate::estimate_answer))]
+    pub fn estimate_at(&self, quad: usize, u: u32, v: u32) -> Result<u32, Refusal>
+        ensures { numbered result ≡ estimate_answer (mesh_lent self.now.mesh) self.now.list.now quad u v }
+    {
+        self.check_estimate(quad, u, v)?;
+        Ok(self.estimate_in(self.mesh.quad(quad), u, v))
+    }
 }

@@ -1,7 +1,7 @@
 -- READS LISTED: of a mesh that a run answered, loop k of an exam is the k-th that `front_loops` lists; past those, it is empty.
 use mathlib.Core.List.{List, []}
-use Rattle.std.specs.Prelude.{◌≡◌, refl, ℕ, zero, suc, ◌≤◌}
-use Rattle.std.proofs.Common.{sym, ◌∙◌, arith}
+use Rattle.std.specs.Prelude.{◌≡◌, refl, ℕ, zero, suc, ◌≤◌, Ok, Err, IsOk, IfOk}
+use Rattle.std.proofs.Common.{sym, ◌∙◌, true≢false, arith}
 use Rattle.std.proofs.Math.Path.{ap, subst}
 use Rattle.std.proofs.Math.ListN.{length}
 use Rattle.domain.specs.declared.Settings.{Settings}
@@ -19,7 +19,7 @@ use Rattle.sampled.specs.Outlines.{outline_three}
 use Rattle.sampled.proofs.Begun.{begun}
 use Rattle.books_hold.specs.Stages.{Standing, standing}
 use Rattle.run.specs.declared.Paved.{Paved}
-use Rattle.run.specs.Run.{Lent, narrowed, field_part, state_part, Ran, ran, answered_state, refused_answer, refusal_of, accepted_in, accepted_run, run_answer}
+use Rattle.run.specs.Run.{Lent, narrowed, field_part, state_part, Ran, ran, answered_state, refusal_of, accepted_in, accepted_run, run_answer}
 use Rattle.lent_mesh.specs.Mesh.{node_count_of}
 use Rattle.exam.specs.Exam.{nodes_lent}
 use Rattle.exam_loops.specs.Loops.{linked_loops, loop_numbered, read_into, read_loop}
@@ -45,22 +45,22 @@ module _ (o : Outline) (set : Settings) (f : FieldLists) (lent : State) (none : 
   unfolding node_places
   run_nodes = let fits = run_standing.sound.nodes_fit in (omega (arith, fits), omega (arith, fits))
 
--- a run that answers no refusal is refused by none
-none_refused : (o : Outline) (set : Settings) (l : Lent) → (run_answer o set l).answer.refusal ≡ 0 → refusal_of o set l ≡ 0
-unfolding run_answer refused_answer
+-- a run that is answered is refused by none
+none_refused : (o : Outline) (set : Settings) (l : Lent) → IsOk (run_answer o set l).answer → refusal_of o set l ≡ 0
+unfolding run_answer
 none_refused o set l = by (refusal_of o set l)
   where
-    by : (n : ℕ) → (answer_by (λ number. ran (refused_answer number) l) (accepted_run o set l) n).answer.refusal ≡ 0 → n ≡ 0
+    by : (n : ℕ) → IsOk (answer_by (λ number. ran (Err number) l) (accepted_run o set l) n).answer → n ≡ 0
     by zero z = refl
-    by (suc n) z = absurd (omega (arith, z))
+    by (suc n) z = absurd (true≢false (sym z))
 
 -- ---- `r` is answered and `after` left in the lists, as the contract of the run has them
 
-module _ (o : Outline) (set : Settings) (l : Lent) (r : Paved) (after : Lent) (e : ran r after ≡ run_answer o set l) (z : r.refusal ≡ 0) where
+module _ (o : Outline) (set : Settings) (l : Lent) (r : Paved) (after : Lent) (e : ran (Ok r) after ≡ run_answer o set l) where
   none : refusal_of o set l ≡ 0
-  none = none_refused o set l (ap (λ (w : Ran). w.answer.refusal) (sym e) ∙ z)
+  none = none_refused o set l (subst (λ (w : Ran). IsOk w.answer) e refl)
 
-  same : ran r after ≡ accepted_run o set l
+  same : ran (Ok r) after ≡ accepted_run o set l
   unfolding run_answer
   same = rw none at e
 
@@ -72,13 +72,13 @@ module _ (o : Outline) (set : Settings) (l : Lent) (r : Paved) (after : Lent) (e
   loops_read : linked_loops r.counts.nodes after.next after.prev ≡ front_loops (answered_state r after)
   unfolding accepted_run accepted_in front_loops
   loops_read =
-      subst (λ (w : Ran). linked_loops w.answer.counts.nodes w.lists.next w.lists.prev ≡ front_loops (answered_state w.answer w.lists)) (sym same)
+      subst (λ (w : Ran). IfOk w.answer (λ p. linked_loops p.counts.nodes w.lists.next w.lists.prev ≡ front_loops (answered_state p w.lists))) (sym same)
       (run_listed o set (field_part l) (state_part (narrowed l)) unstopped)
 
   nodes_fit : (r.counts.nodes ≤ length after.xs) × (r.counts.nodes ≤ length after.ys)
   unfolding accepted_run accepted_in
   nodes_fit =
-      subst (λ (w : Ran). (w.answer.counts.nodes ≤ length w.lists.xs) × (w.answer.counts.nodes ≤ length w.lists.ys)) (sym same)
+      subst (λ (w : Ran). IfOk w.answer (λ p. (p.counts.nodes ≤ length w.lists.xs) × (p.counts.nodes ≤ length w.lists.ys))) (sym same)
       (run_nodes o set (field_part l) (state_part (narrowed l)) unstopped)
 
   -- every node is read, where each has its origin lent

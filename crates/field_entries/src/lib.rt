@@ -9,14 +9,15 @@ ghost use Rattle.direction.specs.Direction.{direction_answer};
 ghost use Rattle.crossfield.specs.Field.{field_answer};
 ghost use Rattle.field_entries.specs.Answers.{grid_lent, field_exit, field_numbers, direction_numbers};
 
-use direction::Grid;
+use direction::{CrossField, Grid};
 use domain::{Domain, Point};
 
 // A field record's floats and counts; its values and marks are in the lists lent. `refusal` is document 01's number, 0 where nothing is refused; on a
 // refusal all else is 0.
 #[repr(C)]
-#[derive(Clone, Copy)]
+#[derive(Clone, Copy, Default)]
 pub struct FieldRecordAnswer {
+    // Stays a number beside the values: the C interface needs it.
     pub refusal: u32,
     pub xmin: f64,
     pub ymin: f64,
@@ -26,8 +27,9 @@ pub struct FieldRecordAnswer {
 }
 
 #[repr(C)]
-#[derive(Clone, Copy)]
+#[derive(Clone, Copy, Default)]
 pub struct DirectionAnswer {
+    // Stays a number beside the values: the C interface needs it.
     pub refusal: u32,
     pub x: f64,
     pub y: f64,
@@ -35,6 +37,7 @@ pub struct DirectionAnswer {
 
 // The field of the outline, in the lists lent: two floats and a mark a node. Nothing is written on a refusal. The list of blocks is scratch of any
 // length, which searches go by as far as it has room; the answer doesn't depend on it.
+// Stays a row of slices and numbers, here and below: C calls it.
 #[unsafe(no_mangle)]
 pub extern "C" fn sitjorbe_field<'a>(
     outer: &'a [f64],
@@ -55,11 +58,7 @@ pub extern "C" fn sitjorbe_field<'a>(
     match crossfield::field(domain, size, sweeps, values, marks, blocks) {
         Err(refusal) => FieldRecordAnswer {
             refusal: u32::from(refusal),
-            xmin: 0.0,
-            ymin: 0.0,
-            h: 0.0,
-            nx: 0,
-            ny: 0,
+            ..FieldRecordAnswer::default()
         },
         Ok(grid) => FieldRecordAnswer {
             refusal: 0,
@@ -100,11 +99,10 @@ pub extern "C" fn sitjorbe_direction(
     };
     let p = Point { x, y };
     let target = Point { x: tx, y: ty };
-    match direction::query_direction(grid, values, marks, p, target) {
+    match direction::query_direction(CrossField { grid, values }, marks, p, target) {
         Err(refusal) => DirectionAnswer {
             refusal: u32::from(refusal),
-            x: 0.0,
-            y: 0.0,
+            ..DirectionAnswer::default()
         },
         Ok(direction) => DirectionAnswer {
             refusal: 0,

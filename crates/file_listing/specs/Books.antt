@@ -1,6 +1,6 @@
 -- Demand 3 and paper 9 of the program: the exact books hold of every mesh that is printed (`books_printed`), and the numbers of its nodes, which aren't
 -- printed, never mix (`origins_printed`). Assumes nothing.
-use Rattle.std.specs.Prelude.{◌≡◌, refl, List, ℕ, zero, suc, ◌+◌, ◌*◌, T, get_or, take, drop, Float}
+use Rattle.std.specs.Prelude.{◌≡◌, refl, List, ℕ, zero, suc, ◌+◌, ◌*◌, T, get_or, take, drop, Float, Err, IfOk}
 use Rattle.std.proofs.Common.{sym, subst, arith, length-take, length-drop, get_or-take, get_or-drop}
 use Rattle.std.specs.Float.{nan, binary64}
 use Rattle.std.specs.Float.Ieee.{fits}
@@ -9,7 +9,7 @@ use Rattle.laws.specs.Tabulate.{tabulate, tabulate_length, tabulate_at}
 use Rattle.domain.specs.declared.Settings.{Settings}
 use Rattle.domain.specs.Outline.{Outline}
 use Rattle.domain.specs.Accepted.{AllFit, OutlineFits}
-use Rattle.run.specs.Run.{Lent, Ran, snapshot_places, narrowed, accepted_in, refusal_of, refused_answer, run_answer, PavesBooks, PavesOrigins, Paves}
+use Rattle.run.specs.Run.{Lent, Ran, ran, accepted_run, refusal_of, run_answer, PavesBooks, PavesOrigins, Paves}
 use Rattle.run.specs.Laws.{paves_accepted, paves_refused}
 use Rattle.outline_file.specs.File.{coordinate_at, file_points, request_of, outline_of}
 use Rattle.file_listing.specs.Program.{program_lent}
@@ -56,19 +56,19 @@ ran_paves o set l doubles = go (refusal_of o set l) refl
 
     go : (n : ℕ) → refusal_of o set l ≡ n → let r = run_answer o set l in Paves o set l r.answer r.lists
     go zero e =
-        let r = accepted_in o set (narrowed l) in
-        same (paves_accepted o set l (snapshot_places l) refl e doubles r.answer r.lists refl)
-    go (suc n) e = same (paves_refused o set l (suc n) (sym e) (λ z. absurd (omega arith)) (refused_answer (suc n)) refl)
+        let r = accepted_run o set l in
+        same (paves_accepted o set l e doubles r.answer r.lists refl)
+    go (suc n) e = same {r = ran (Err (suc n)) l} (paves_refused o set l (suc n) (sym e) (λ z. absurd (omega arith)))
 
 -- of what the program prints where it refuses nothing
 pub books_printed : (file : List ℕ)
     → let q = request_of file in
     let r = run_answer (outline_of q) q.settings program_lent in
-    r.answer.refusal ≡ 0 → PavesBooks (outline_of q) q.settings r.answer r.lists
+    IfOk r.answer (λ p. PavesBooks (outline_of q) q.settings p r.lists)
 books_printed file = (ran_paves _ _ program_lent (outline_fits file)).books
 
 pub origins_printed : (file : List ℕ)
     → let q = request_of file in
     let r = run_answer (outline_of q) q.settings program_lent in
-    r.answer.refusal ≡ 0 → PavesOrigins (outline_of q) q.settings program_lent.origins r.answer r.lists
+    IfOk r.answer (λ p. PavesOrigins (outline_of q) q.settings program_lent.origins p r.lists)
 origins_printed file = (ran_paves _ _ program_lent (outline_fits file)).origins

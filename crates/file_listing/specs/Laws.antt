@@ -1,6 +1,6 @@
 -- Laws of what the program prints: `given_whole` (what a buffer holds that has places for the listing), `read_listed` (the listing is that of what was
 -- read) and `start_decides` (of endless input the first 4,609 bytes decide). Assumes nothing.
-use Rattle.std.specs.Prelude.{◌≡◌, false, List, [], ℕ, zero, suc, ◌-◌, ◌*◌, ◌/◌, ◌≤◌, length, get_or, take, drop, Float, Result, Ok, Err}
+use Rattle.std.specs.Prelude.{◌≡◌, List, [], ℕ, zero, suc, ◌-◌, ◌*◌, ◌/◌, ◌≤◌, length, get_or, take, drop, Float, Result, Ok, Err}
 use Rattle.std.proofs.Math.Path.{refl, ap}
 use Rattle.std.proofs.Common.{sym, ◌∙◌, subst, arith, length-append, length-take-le}
 use Rattle.laws.specs.Overlay.{overlay, overlay_length}
@@ -17,11 +17,10 @@ use Rattle.outline_file.specs.File.{head_of, Reading, reading, read_as, read_fil
 use Rattle.outline_file.specs.ReadLaws.{accepted_file}
 use Rattle.outline_file.specs.Lent.{lent_outline_lem}
 use Rattle.outline_file.specs.Enough.{enough}
-use Rattle.listing.specs.declared.Heading.{Heading}
-use Rattle.listing.specs.Listing.{heading, refused_listing, listing}
+use Rattle.listing.specs.Listing.{refused_listing, listing}
 use Rattle.listing.specs.Buffer.{Buffer, buffer, buffer_written}
-use Rattle.listing.specs.Fits.{listing_fits, written_front}
-use Rattle.file_listing.specs.Program.{program_lent, heading_of, ran_listing, outline_listing, program_listing, ListingGiven}
+use Rattle.listing.specs.Fits.{refused_fits, listing_fits, written_front}
+use Rattle.file_listing.specs.Program.{program_lent, headed, ran_listing, outline_listing, program_listing, ListingGiven}
 
 -- ---- the buffer
 
@@ -49,21 +48,19 @@ pub record ProgramLengths (l : Lent) : Type 0 where
   pub loops : length l.loops ≡ 800
   pub lengths : length l.lengths ≡ 8
 
-module _ (o : Outline) (set : Settings) (r : Paved) (after : Lent) (p : Paves o set program_lent r after) {h : Heading} (e : h ≡ heading_of r) where
+module _ (o : Outline) (set : Settings) {r : Result Paved ℕ} {after : Lent} (p : Paves o set program_lent r after) where
   abbrev listed : List ℕ
-  listed = listing r.refusal h after.xs after.ys after.quads after.loops after.lengths
+  listed = listing (headed r) after.xs after.ys after.quads after.loops after.lengths
 
   listed_is : listed ≡ outline_listing o set
   unfolding outline_listing ran_listing
-  listed_is =
-      ap (λ (k : Heading). listing r.refusal k after.xs after.ys after.quads after.loops after.lengths) e
-      ∙ ap ran_listing p.equal
+  listed_is = ap ran_listing p.equal
 
   pub run_listed : ProgramLengths after → {s t : List ℕ} {n : ℕ} → buffer t n ≡ buffer_written listed s → ListingGiven (outline_listing o set) s t n
   run_listed long f =
       given_as listed_is
       (given_whole f
-      (listing_fits h after.xs after.ys after.quads after.loops after.lengths r.refusal (omega (arith, long.xs))
+      (listing_fits (headed r) after.xs after.ys after.quads after.loops after.lengths (omega (arith, long.xs))
       (omega (arith, long.quads)) (omega (arith, long.loops)) (omega (arith, long.lengths))))
 
 -- ---- the request
@@ -189,17 +186,9 @@ module _ (file : List ℕ) (points : List Float) (lens : List ℕ) where
 
 -- ---- a refusal
 
-pub refused_listed : {number : ℕ} → (number ≡ 0 → ⊥) → {s t : List ℕ} {n : ℕ} → buffer t n ≡ buffer_written (refused_listing number) s
+pub refused_listed : (number : ℕ) {s t : List ℕ} {n : ℕ} → buffer t n ≡ buffer_written (refused_listing number) s
     → ListingGiven (refused_listing number) s t n
-unfolding listing
-refused_listed {number} h e = given_whole e (short number h)
-  where
-    none : Heading
-    none = heading 0 0 0 0 false 0
-
-    short : (number : ℕ) → (number ≡ 0 → ⊥) → length (refused_listing number) ≤ 117681
-    short zero h = absurd (h refl)
-    short (suc n) h = listing_fits none [] [] [] [] [] (suc n) (omega arith) (omega arith) (omega arith) (omega arith)
+refused_listed number e = given_whole e (refused_fits number)
 
 -- ---- endless input
 

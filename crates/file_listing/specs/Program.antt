@@ -1,9 +1,10 @@
 -- THE PROGRAM: the bytes that it prints for the bytes of its standard input (document 01, "File and listing"). Definitions only.
-use Rattle.std.specs.Prelude.{List, ◌≡◌, ℕ, ◌≤◌, length, take, replicate, Float}
+use Rattle.std.specs.Prelude.{List, ◌≡◌, ℕ, ◌≤◌, length, take, replicate, Float, Result, Ok, Err}
 use Rattle.numbers.specs.Float.{zero_f}
 use Rattle.domain.specs.declared.Settings.{Settings}
 use Rattle.domain.specs.Outline.{Outline}
 use Rattle.domain.specs.Queries.{answer_by}
+use Rattle.paving.specs.Ends.{end_number}
 use Rattle.run.specs.declared.Paved.{Paved}
 use Rattle.run.specs.Run.{Lent, lent, Ran, run_answer}
 use Rattle.outline_file.specs.File.{outline_of, file_refusal, request_of}
@@ -31,13 +32,18 @@ program_lent =
 -- of a run's answer what the first line says
 unfoldable pub heading_of : Paved → Heading
 heading_of r =
-    heading r.counts.nodes r.counts.quads r.counts.front r.end r.whole r.listed.count
+    heading r.counts.nodes r.counts.quads r.counts.front (end_number r.end) r.whole r.listed.count
+
+-- or the refusal
+abbrev pub headed : Result Paved ℕ → Result Heading ℕ
+headed (Ok p) = Ok (heading_of p)
+headed (Err number) = Err number
 
 -- the listing of a run's answer, in the lists as the run leaves them
 unfoldable pub ran_listing : Ran → List ℕ
 ran_listing r =
     let l = r.lists in
-    listing r.answer.refusal (heading_of r.answer) l.xs l.ys l.quads l.loops l.lengths
+    listing (headed r.answer) l.xs l.ys l.quads l.loops l.lengths
 
 -- the listing of an outline: of its run, or of its refusal, 1 to 10
 unfoldable pub outline_listing : Outline → Settings → List ℕ

@@ -1,12 +1,14 @@
 -- What the code's ways of writing bytes rest on.
-use Rattle.std.proofs.Common.{◌≡◌, refl, sym, ap, ap₂, ◌∙◌, ℕ, zero, suc, ◌+◌, ◌-◌, ◌/◌, ◌%◌, ◌^◌, ◌≤◌, List, ◌∷◌, ◌++◌, append_assoc, length, take, drop, arith, replicate, drop-drop, length-take, length-drop}
+use Rattle.std.proofs.Common.{◌≡◌, refl, sym, ap, ap₂, ◌∙◌, ℕ, zero, suc, ◌+◌, ◌-◌, ◌*◌, ◌/◌, ◌%◌, ◌^◌, ◌≤◌, ◌<◌, min, subst, Float, List, ◌∷◌, ◌++◌, append_assoc, append-nil, drop_of_length-le, length, take, drop, arith, replicate, drop-drop, length-take, length-drop}
 use Rattle.std.proofs.lemmas.List.{length-replicate}
 use Rattle.std.specs.Int.{byte_at, bytes_low_first, to_le_bytes}
 use Rattle.std.proofs.Math.Nat.{pow-suc, div-div-eq-div-mul}
 use mir.Syntax.{w64}
 use Rattle.std.proofs.Math.Seq.{sets, sets-eq}
-use Rattle.outline_file.specs.File.{number_bytes}
-use Rattle.file_writing.specs.RoundTrip.{bytes_length}
+use Rattle.laws.specs.Overlay.{overlay}
+use Rattle.outline_file.specs.File.{number_bytes, block_of, point_bytes}
+use Rattle.file_writing.specs.RoundTrip.{bytes_length, block_wide}
+use Rattle.file_writing.specs.WriteLaws.{Blocks, blocks_long, blocks_put, points_used, sets_first, sets_part}
 
 -- a part of a list, replaced by a list of its length
 pub part_put : {A : Type 0} (l : List A) (at k : ℕ) (part : List A) → length part ≡ k → at + k ≤ length l
@@ -46,3 +48,35 @@ zeros_put b used n {part} h e =
     let count : length (take n (drop used b)) ≡ n = simp (length-take, length-drop) (omega arith) in
     let is : part ≡ replicate n 0 = e ∙ ap (λ (m : ℕ). replicate m 0) count in
     part_put b used n part (rw is (length-replicate {A = ℕ} n 0)) h ∙ ap (sets b used) is
+
+-- a block put in a list
+pub block_put : (l : List ℕ) (at : ℕ) {part block : List ℕ} → part ≡ block → length block ≡ 512 → at + 512 ≤ length l
+    → take at l ++ (part ++ drop (at + 512 - at) (drop at l)) ≡ sets l at block
+block_put l at {part} {block} e wide h = rw e (part_put l at (at + 512 - at) block (omega (arith, wide)) (omega arith))
+
+pub first_block_put : (l : List ℕ) {part block : List ℕ} → part ≡ block → length block ≡ 512 → 512 ≤ length l → part ++ drop 512 l ≡ sets l 0 block
+unfolding overlay
+first_block_put l {part} {block} e wide h = rw e (ap (λ (n : ℕ). block ++ drop n l) (sym wide)) ∙ sym (sets_first l block (omega (arith, wide)))
+
+-- the next block of points
+pub points_put : (points : List Float) {file : List ℕ} {n k : ℕ} {s : List ℕ} → Blocks points file n k s → 62 * k ≤ length points
+    → 512 * (n + 1) ≤ length file → k < n → {to : ℕ} → to ≡ min (62 * k + 62) (length points)
+    → {part : List ℕ} → part ≡ block_of (point_bytes (take (to - 62 * k) (drop (62 * k) points)))
+    → Blocks points file n (k + 1) (take (512 * (k + 1)) s ++ (part ++ drop (512 * (k + 1) + 512 - 512 * (k + 1)) (drop (512 * (k + 1)) s)))
+points_put points {file} {n} {k} {s} l within long h {to} e {part} f =
+    let here : List Float = take (to - 62 * k) (drop (62 * k) points) in
+    let wide : length (block_of (point_bytes here)) ≡ 512 =
+    block_wide (point_bytes here) (omega (arith, points_used here, length-take (to - 62 * k) (drop (62 * k) points))) in
+    let room : 512 * (k + 1) + 512 ≤ length s = omega (arith, blocks_long points l) in
+    subst (Blocks points file n (k + 1))
+    (sets_part s (512 * (k + 1)) (block_of (point_bytes here)) (omega (arith, wide, room)) refl ∙ sym (block_put s (512 * (k + 1)) f wide room))
+    (blocks_put points l within long h e refl)
+
+-- a block that takes the place of a whole list
+pub whole_block : (l c : List ℕ) → length l ≡ 512 → length c ≤ 510 → sets l 0 (block_of c) ≡ block_of c
+unfolding overlay
+whole_block l c long fit =
+    let wide = block_wide c fit in
+    sets_first l (block_of c) (omega (arith, wide))
+    ∙ ap (λ (r : List ℕ). block_of c ++ r) (drop_of_length-le l {i = length (block_of c)} (omega (arith, wide)))
+    ∙ append-nil (block_of c)

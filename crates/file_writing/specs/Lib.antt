@@ -1,3 +1,4 @@
 pub mod Example
+pub mod Lent
 pub mod RoundTrip
 pub mod WriteLaws

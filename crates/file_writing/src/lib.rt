@@ -4,18 +4,27 @@
 ghost use Rattle.std.specs.Prelude.{◌≡◌, ◌+◌, ◌-◌, ◌/◌, ◌≤◌, ◌<◌, length, take, replicate, MatchOption, IfSome};
 ghost use Rattle.std.specs.Option.{unwrap_or};
 ghost use Rattle.std.proofs.lemmas.List.Edits.{sets};
-ghost use Rattle.outline_file.specs.File.{request, number_bytes, block_of, length_bytes, head_bytes, point_bytes, blocks_of};
+ghost use Rattle.outline_file.specs.File.{number_bytes, block_of, length_bytes, head_bytes, point_bytes, blocks_of};
+ghost use Rattle.file_writing.specs.Lent.{request_lent};
 ghost use Rattle.outline_file.specs.File.{file_length, total_points, fileable, file_written, write_file};
 
 use domain::Settings;
 use outline_file::{
-    BLOCK, BLOCK_COORDINATES, BLOCK_POINTS, CONTENTS, LENGTHS_AT, LOOPS_AT, MOST_LOOPS,
-    MOST_POINTS, PASSES_AT, SWEEPS_AT,
+    BLOCK_COORDINATES, BLOCK_POINTS, CONTENTS, FILE_BLOCK, LENGTHS_AT, LOOPS_AT, MOST_FILE_POINTS,
+    MOST_LOOPS, PASSES_AT, SWEEPS_AT,
 };
 use std::num;
 
 // Of sweeps or of passes, since two bytes have them.
 const MOST_COUNT: usize = 65535;
+
+// What a file is written of, as it is lent: the settings, the coordinates of all loops, and each loop's length in points.
+#[derive(Clone, Copy)]
+pub struct LentRequest<'a> {
+    pub settings: Settings,
+    pub points: &'a [f64],
+    pub lens: &'a [usize],
+}
 
 // Puts the `n` bytes of `x` from place `at` on, low byte first.
 fn put_number(n: usize, x: u64, b: &mut [u8], at: usize)
@@ -26,8 +35,8 @@ fn put_number(n: usize, x: u64, b: &mut [u8], at: usize)
 }
 
 // Makes a block of the contents on the first `used` places.
-fn seal(b: &mut [u8], used: usize)
-    requires { (used ≤ 510) × (512 ≤ length b.old) }
+fn seal(b: &mut [u8; FILE_BLOCK], used: usize)
+    requires { used ≤ 510 }
     ensures { b.new ≡ sets b.old 0 (block_of (take used b.old)) }
 {
     b[used..CONTENTS].fill(0);
@@ -35,8 +44,8 @@ fn seal(b: &mut [u8], used: usize)
     put_number(2, sum, b, CONTENTS);
 }
 
-fn put_lengths(lens: &[usize], b: &mut [u8])
-    requires { (length lens.now ≤ 8) × (512 ≤ length b.old) }
+fn put_lengths(lens: &[usize], b: &mut [u8; FILE_BLOCK])
+    requires { length lens.now ≤ 8 }
     ensures { b.new ≡ sets b.old 14 (length_bytes lens.now) }
 {
     for (k, &n) in lens.iter().enumerate() {
@@ -44,8 +53,8 @@ fn put_lengths(lens: &[usize], b: &mut [u8])
     }
 }
 
-fn put_points(points: &[f64], b: &mut [u8])
-    requires { (length points.now ≤ 62) × (512 ≤ length b.old) }
+fn put_points(points: &[f64], b: &mut [u8; FILE_BLOCK])
+    requires { length points.now ≤ 62 }
     ensures { b.new ≡ sets b.old 0 (point_bytes points.now) }
 {
     for (c, &x) in points.iter().enumerate() {
@@ -53,24 +62,28 @@ fn put_points(points: &[f64], b: &mut [u8])
     }
 }
 
-fn write_head(settings: Settings, lens: &[usize], b: &mut [u8])
-    requires { (length lens.now ≤ 8) × (512 ≤ length b.old) }
-    ensures { b.new ≡ sets b.old 0 (block_of (head_bytes «settings» lens.now)) }
+fn head_block(settings: Settings, lens: &[usize]) -> [u8; FILE_BLOCK]
+    requires { length lens.now ≤ 8 }
+    ensures { result ≡ block_of (head_bytes «settings» lens.now) }
 {
-    put_number(8, num::f64_to_bits_with_nan(settings.size), b, 0);
-    put_number(2, settings.sweeps as u64, b, SWEEPS_AT);
-    put_number(2, settings.passes as u64, b, PASSES_AT);
-    put_number(2, lens.len() as u64, b, LOOPS_AT);
-    put_lengths(lens, b);
-    seal(b, LENGTHS_AT + 2 * lens.len());
+    let mut b = [0; FILE_BLOCK];
+    put_number(8, num::f64_to_bits_with_nan(settings.size), &mut b, 0);
+    put_number(2, settings.sweeps as u64, &mut b, SWEEPS_AT);
+    put_number(2, settings.passes as u64, &mut b, PASSES_AT);
+    put_number(2, lens.len() as u64, &mut b, LOOPS_AT);
+    put_lengths(lens, &mut b);
+    seal(&mut b, LENGTHS_AT + 2 * lens.len());
+    b
 }
 
-fn write_points(points: &[f64], b: &mut [u8])
-    requires { (length points.now ≤ 62) × (512 ≤ length b.old) }
-    ensures { b.new ≡ sets b.old 0 (block_of (point_bytes points.now)) }
+fn points_block(points: &[f64]) -> [u8; FILE_BLOCK]
+    requires { length points.now ≤ 62 }
+    ensures { result ≡ block_of (point_bytes points.now) }
 {
-    put_points(points, b);
-    seal(b, 8 * points.len());
+    let mut b = [0; FILE_BLOCK];
+    put_points(points, &mut b);
+    seal(&mut b, 8 * points.len());
+    b
 }
 
 // Puts the blocks of points after the head's.
@@ -81,18 +94,19 @@ fn write_blocks(points: &[f64], file: &mut [u8])
     for k in 0..(points.len() / 2).div_ceil(BLOCK_POINTS) {
         let from = BLOCK_COORDINATES * k;
         let to = (from + BLOCK_COORDINATES).min(points.len());
-        let at = BLOCK * (k + 1);
-        write_points(&points[from..to], &mut file[at..]);
+        let at = FILE_BLOCK * (k + 1);
+        file[at..at + FILE_BLOCK].copy_from_slice(&points_block(&points[from..to]));
     }
 }
 
 // The points of all loops, where a file can hold them.
+// Stays a loop: each length is compared before it is added, so that no sum overflows, and no lemma makes a sum of the calls of a `try_fold`.
 fn few_points(lens: &[usize]) -> Option<usize>
     ensures { MatchOption result (248 < total_points lens.now) (λ n. (n ≤ 248) × (n ≡ total_points lens.now)) }
 {
     let mut sum = 0;
     for &n in lens {
-        if MOST_POINTS - sum < n {
+        if MOST_FILE_POINTS - sum < n {
             return None;
         }
         sum += n;
@@ -100,40 +114,37 @@ fn few_points(lens: &[usize]) -> Option<usize>
     Some(sum)
 }
 
-// Whether a file can hold a request.
-#[tactic(auto, unfolding(outline_file::specs::File::fileable))]
-fn can_file(settings: Settings, points: &[f64], lens: &[usize]) -> bool
-    ensures { result ≡ fileable (request «settings» points.now lens.now) }
-{
-    let Some(n) = few_points(lens) else {
-        return false;
-    };
-    1 <= lens.len()
-        && lens.len() <= MOST_LOOPS
-        && points.len() == 2 * n
-        && settings.sweeps <= MOST_COUNT
-        && settings.passes <= MOST_COUNT
-}
+impl LentRequest<'_> {
+    // Whether a file can hold it.
+    #[tactic(auto, unfolding(outline_file::specs::File::fileable))]
+    fn can_file(self) -> bool
+        ensures { result ≡ fileable (request_lent self.entry) }
+    {
+        let Some(n) = few_points(self.lens) else {
+            return false;
+        };
+        1 <= self.lens.len()
+            && self.lens.len() <= MOST_LOOPS
+            && self.points.len() == 2 * n
+            && self.settings.sweeps <= MOST_COUNT
+            && self.settings.passes <= MOST_COUNT
+    }
 
-// Writes the file of a request, and answers its length. Where a file can't hold the request or the list lent is too short for it, there is no
-// answer and nothing is written. Places after the file keep their contents.
-pub fn write_file(
-    settings: Settings,
-    points: &[f64],
-    lens: &[usize],
-    file: &mut [u8],
-) -> Option<usize>
-    ensures written { file_written (unwrap_or result 0) file.new ≡ write_file (request «settings» points.now lens.now) file.old }
-    ensures some { IfSome result (λ n. 0 < n) }
-{
-    if !can_file(settings, points, lens) {
-        return None;
+    // Writes its file, and answers the file's length. Where a file can't hold it or the list lent is too short, there is no answer and nothing is
+    // written. Places after the file keep their contents.
+    pub fn write_file(self, file: &mut [u8]) -> Option<usize>
+        ensures written { file_written (unwrap_or result 0) file.new ≡ write_file (request_lent self.entry) file.old }
+        ensures some { IfSome result (λ n. 0 < n) }
+    {
+        if !self.can_file() {
+            return None;
+        }
+        let n = outline_file::file_length(self.points.len() / 2);
+        if file.len() < n {
+            return None;
+        }
+        file[..FILE_BLOCK].copy_from_slice(&head_block(self.settings, self.lens));
+        write_blocks(self.points, file);
+        Some(n)
     }
-    let n = outline_file::file_length(points.len() / 2);
-    if file.len() < n {
-        return None;
-    }
-    write_head(settings, lens, file);
-    write_blocks(points, file);
-    Some(n)
 }

@@ -1,4 +1,5 @@
--- The lists of a paving; what the code writes into a slice's part, and how it searches.
+-- The lists of a paving; the stores of a placing; what the code writes into a slice's part, and how it searches.
 pub mod Lent
 pub mod Parts
+pub mod Quads
 pub mod Searches

@@ -4,6 +4,7 @@ use Rattle.domain.specs.declared.Point.{Point}
 use Rattle.domain.specs.Outline.{point}
 use Rattle.front.specs.declared.Corner.{Corner}
 use Rattle.front.specs.declared.Corner.TheVariants.{Reused, Fresh}
+use Rattle.front.specs.declared.NewQuad.{NewQuad}
 use Rattle.front.specs.State.{State, node, node_places, quad_places, edge_places, has_edge, push_node, add_front, remove_front, add_edge, push_quad}
 
 -- ---- the far corners
@@ -17,6 +18,10 @@ added (Fresh x y) = 1
 abbrev pub corner_id : ℕ → Corner → ℕ
 corner_id n (Reused id) = id
 corner_id n (Fresh x y) = n
+
+-- the quad a, b, d, c with the ids of its far corners, where the next new node gets the number n
+abbrev pub new_quad : ℕ → ℕ → ℕ → Corner → Corner → NewQuad
+new_quad n a b c d = record { a = a; b = b; c = c; d = d; id_c = corner_id n c; id_d = corner_id (n + added c) d }
 
 abbrev pub corner_point : State → Corner → Point
 corner_point s (Reused id) = node s id

@@ -1,10 +1,11 @@
 -- `Paving::from_boundary` of src/alt_crossfield.rs: the outline sampled into a front, with refusal 10. Definitions only.
-use Rattle.std.specs.Prelude.{Bool, ◌&&◌, ◌||◌, cond, List, ℕ, suc, ◌+◌, ◌-◌, ◌%◌, max, ltb, eqb, length, Float}
+use Rattle.std.specs.Prelude.{Bool, ◌&&◌, ◌||◌, cond, List, ℕ, suc, ◌+◌, ◌-◌, ◌%◌, ◌<◌, max, ltb, eqb, length, Float}
 use Rattle.std.specs.Float.Ieee.{lt, unlike}
 use Rattle.laws.specs.Loop.{for_up, sum_up}
 use Rattle.laws.specs.Tabulate.{tabulate}
 use Rattle.numbers.specs.Float.{◌⊕◌, ◌⊖◌, ◌⊗◌, ◌⊘◌, bits, zero_f, two_f, half_f, to_float}
 use Rattle.numbers.specs.Whole.{ceil_count}
+use Rattle.topology.specs.Links.{off}
 use Rattle.domain.specs.declared.Point.{Point}
 use Rattle.domain.specs.Outline.{Outline, loop_at, points, point, point_at, point_after, after}
 use Rattle.geometry.specs.Plane.{distance, area_term}
@@ -112,6 +113,11 @@ sampled_at r k = ordered_at r.base r.count r.turned k
 unfoldable pub ring_at : Ring → ℕ → ℕ
 ring_at r k =
     cond (r.split && ltb r.longest k) (cond (eqb k (r.longest + 1)) (r.base + r.count) (sampled_at r (k - 1))) (sampled_at r k)
+
+-- the ring's longest edge is one of its edges, and its ids are nodes
+pub record RingFits (r : Ring) : Type 0 where
+  pub longest : r.longest < r.count
+  pub few : r.base + ring_count r < off
 
 -- the midpoint of the longest edge
 unfoldable pub midpoint : List Float → List Float → Ring → Point

@@ -1,11 +1,11 @@
 -- What the code of `place` stores, list by list. StoreLaws has the theorem that these stores are the state that `place` leaves. Definitions only.
-use Rattle.std.specs.Prelude.{ℕ, ◌+◌, ◌-◌, ◌*◌, ◌<◌, ◌≤◌, min, max, List, ◌≡◌, Bool, true, false, ◌||◌, cond, ltb, set, Float, Result, Ok, Err}
+use Rattle.std.specs.Prelude.{ℕ, ◌+◌, ◌-◌, ◌*◌, ◌<◌, ◌≤◌, min, max, List, ◌≡◌, Bool, true, false, ◌||◌, cond, ltb, length, set, Float, Result, Ok, Err}
 use Rattle.topology.specs.Links.{off}
 use Rattle.front.specs.declared.Counts.{Counts}
 use Rattle.front.specs.declared.Corner.{Corner}
 use Rattle.front.specs.declared.Corner.TheVariants.{Reused, Fresh}
 use Rattle.front.specs.declared.Full.{Full}
-use Rattle.front.specs.State.{State, counted, node_places, quad_places, edge_places, edge_in}
+use Rattle.front.specs.State.{State, counted, fewest, most_nodes, node_places, quad_places, edge_places, edge_in}
 use Rattle.front.specs.Place.{added, place, is_full}
 
 -- ---- the whole
@@ -29,6 +29,11 @@ pub record PlacesQuad (a b : ℕ) (c d : Corner) (s : State) (r : Result (Unit {
 abbrev pub counts_with_quad : Counts → Corner → Corner → ℕ → Counts
 counts_with_quad k c d e =
     counted (k.nodes + (added c + added d)) (k.quads + 1) (k.edges + e) (k.front + 2 * (added c + added d) - 2)
+
+-- n nodes, q quads or e mesh edges are beyond the places lent, where one more list has so many places for nodes; the snapshot isn't asked
+unfoldable pub places_exceeded : State → ℕ → ℕ → ℕ → ℕ → Bool
+places_exceeded s others n q e =
+    ltb (min (fewest (length s.xs) (length s.ys) (length s.next) (length s.prev) others) most_nodes) n || (ltb (quad_places s) q || ltb (edge_places s) e)
 
 -- m nodes, a quad and e mesh edges more are beyond those lent
 unfoldable pub is_beyond : State → ℕ → ℕ → Bool

@@ -1,14 +1,16 @@
 // The state of a paving (src/alt_crossfield.rs: `Paving`), lists lent and counts by value, and the placing of a quad.
 #![tactic(auto)]
 
-ghost use Rattle.std.specs.Prelude.{◌≡◌, [], ◌+◌, ◌*◌, ◌^◌, ◌≤◌, ◌<◌, min, max, length, get_or, set};
+ghost use Rattle.std.specs.Prelude.{◌≡◌, List, [], ℕ, ◌+◌, ◌*◌, ◌^◌, ◌≤◌, ◌<◌, min, max, length, get_or, set};
 ghost use Rattle.std.specs.Float.{nan};
 ghost use Rattle.topology.specs.Links.{off, link_of};
-ghost use Rattle.front.specs.State.{state_of, node_in, fewest, most_nodes};
+ghost use Rattle.front.specs.State.{node_in, fewest, most_nodes, push_node};
 ghost use Rattle.front.specs.Lent.{mesh_state, paving_state, SameLists};
-ghost use Rattle.front.specs.Place.{added, corner_id};
+ghost use Rattle.front.specs.Neighbours.{neighbour_of, next_at, prev_at};
+ghost use Rattle.front.specs.Place.{added, corner_id, new_quad};
+ghost use Rattle.front.specs.Sampling.{RingFits, ring_count, sampled_at, ring_at};
 ghost use Rattle.front.specs.Ready.{Ready};
-ghost use Rattle.front.specs.Stores.{PlacesQuad, counts_with_quad, is_beyond, store_x, store_y, reuses_node, known_across, unless, new_edges};
+ghost use Rattle.front.specs.Stores.{PlacesQuad, counts_with_quad, places_exceeded, is_beyond, store_x, store_y, reuses_node, known_across, unless, new_edges};
 ghost use Rattle.front.specs.Stores.{store_edge, store_edges, store_quad, store_side, store_next, store_prev, Ids, Countable};
 
 use domain::Point;
@@ -29,8 +31,20 @@ pub enum Corner {
     Fresh(f64, f64),
 }
 
+// A quad a, b, d, c on the edge a to b: its far corners, and the ids that they have or get.
+#[derive(Clone, Copy)]
+pub struct NewQuad {
+    pub a: u32,
+    pub b: u32,
+    pub c: Corner,
+    pub d: Corner,
+    pub id_c: u32,
+    pub id_d: u32,
+}
+
 // The nodes of a sampled loop in the order of the front. `count` nodes were sampled from `base` on; they run backwards where `turned`;
 // and where `split`, one node more stands after place `longest`.
+// Stays a flag beside a place: a ring that isn't split has a longest edge too, and the definitions (`RingFits`, `midpoint`) speak of that of each ring.
 #[derive(Clone, Copy)]
 pub struct Ring {
     pub base: u32,
@@ -69,10 +83,11 @@ pub struct Paving<'a> {
 }
 
 // The link of a node off the front.
+// Stays a number: lent lists hold it, and C gives them.
 pub const OFF: u32 = 4294967295;
 
 // Node places past this many count as not lent.
-const MOST_NODES: usize = 4294967294;
+pub const MOST_NODES: usize = 4294967294;
 
 impl Corner {
     // How many nodes the corner adds.
@@ -102,6 +117,23 @@ impl Corner {
     }
 }
 
+impl NewQuad {
+    // The quad with the far corners c and d, where the next new node gets the number n.
+    pub fn new(n: u32, a: u32, b: u32, c: Corner, d: Corner) -> NewQuad
+        requires { n ≤ most_nodes }
+        ensures { result ≡ new_quad n a b c d }
+    {
+        NewQuad {
+            a,
+            b,
+            c,
+            d,
+            id_c: c.id(n),
+            id_d: d.id(n + c.added()),
+        }
+    }
+}
+
 impl Counts {
     // The counts after a quad with the far corners c and d, which adds so many mesh edges.
     pub fn after_quad(self, c: Corner, d: Corner, edges: usize) -> Counts
@@ -115,6 +147,45 @@ impl Counts {
             edges: self.edges + edges,
             front: self.front + 2 * (m as usize) - 2,
         }
+    }
+}
+
+impl Ring {
+    // How many ids the ring has.
+    pub fn len(self) -> usize
+        ensures { result ≡ ring_count self }
+    {
+        let n = self.count as usize;
+        if self.split { n + 1 } else { n }
+    }
+
+    // The node sampled as number k of the ring.
+    pub fn sampled_at(self, k: usize) -> u32
+        requires { (k < self.count) × (self.base + self.count < 4294967296) }
+        ensures { (result ≡ sampled_at self k) × (result < self.base + self.count) }
+    {
+        let k = k as u32;
+        if self.turned {
+            self.base + (self.count - 1 - k)
+        } else {
+            self.base + k
+        }
+    }
+
+    // Id k of the ring.
+    #[tactic(auto, unfolding(crate::specs::Sampling::ring_at))]
+    pub fn at(self, k: usize) -> u32
+        requires { RingFits self × (k < ring_count self) }
+        ensures { (result ≡ ring_at self k) × (result < self.base + ring_count self) }
+    {
+        let middle = self.longest as usize + 1;
+        if !self.split || k < middle {
+            return self.sampled_at(k);
+        }
+        if k == middle {
+            return self.base + self.count;
+        }
+        self.sampled_at(k - 1)
     }
 }
 
@@ -146,8 +217,21 @@ pub fn link_of(links: &[u32], n: u32, u: u32) -> u32
     if u < n { links[u as usize] } else { OFF }
 }
 
+// The neighbour of node u by its link, where the first n places are in use; none for a node that isn't there.
+#[tactic(auto, unfolding(crate::specs::Neighbours::neighbour_of))]
+pub fn link_at(links: &[u32], n: u32, u: u32) -> Option<u32>
+    requires { n ≤ length links.now }
+    ensures { result ≡ neighbour_of (link_of n links.now u) }
+{
+    match link_of(links, n, u) {
+        OFF => None,
+        v => Some(v),
+    }
+}
+
 // ---- the new nodes
 
+// Stays on the lists that are written, and so do the edges, the quad and the front below: a method would have to say too that the others stay.
 fn put_corner(c: Corner, xs: &mut [f64], ys: &mut [f64], n: u32)
     requires { (n + added c ≤ length xs.old) × (n + added c ≤ length ys.old) }
     ensures { (xs.new ≡ store_x c n xs.old) × (ys.new ≡ store_y c n ys.old) }
@@ -202,27 +286,17 @@ fn put_edge(edges: &mut [u32], known: bool, n: usize, u: u32, v: u32)
 
 // Stores the edges b to d, d to c and c to a, from place n on.
 #[tactic(auto, using(crate::specs::StoreLaws::length_store), unfolding(crate::specs::Stores::store_edges, crate::specs::Stores::new_edges))]
-fn put_edges(
-    edges: &mut [u32],
-    n: usize,
-    across: bool,
-    c: Corner,
-    d: Corner,
-    a: u32,
-    b: u32,
-    id_c: u32,
-    id_d: u32,
-)
-    requires { 2 * (n + new_edges across c d) ≤ length edges.old }
-    ensures { edges.new ≡ store_edges across c d a b id_c id_d n edges.old }
+fn put_edges(edges: &mut [u32], n: usize, across: bool, q: NewQuad)
+    requires { 2 * (n + new_edges across q.c q.d) ≤ length edges.old }
+    ensures { edges.new ≡ store_edges across q.c q.d q.a q.b q.id_c q.id_d n edges.old }
 {
-    let at_d = d.is_reused();
-    let at_c = c.is_reused();
+    let at_d = q.d.is_reused();
+    let at_c = q.c.is_reused();
     let n1 = n + usize::from(!at_d);
     let n2 = n1 + usize::from(!across);
-    put_edge(edges, at_d, n, b, id_d);
-    put_edge(edges, across, n1, id_d, id_c);
-    put_edge(edges, at_c, n2, id_c, a);
+    put_edge(edges, at_d, n, q.b, q.id_d);
+    put_edge(edges, across, n1, q.id_d, q.id_c);
+    put_edge(edges, at_c, n2, q.id_c, q.a);
 }
 
 // ---- the quad
@@ -238,6 +312,7 @@ pub fn put_quad(quads: &mut [u32], k: usize, a: u32, b: u32, d: u32, c: u32)
 // ---- the front
 
 // Makes u to v a front edge.
+// Stays on the links: as a method of `Paving` it, and what follows, would have to say of the other lists that they stay.
 pub fn link(next: &mut [u32], prev: &mut [u32], u: u32, v: u32)
     requires { (u < length next.old) × (v < length prev.old) }
     ensures { (next.new ≡ set next.old u v) × (prev.new ≡ set prev.old v u) }
@@ -268,28 +343,20 @@ fn link_side(c: Corner, next: &mut [u32], prev: &mut [u32], x: u32, u: u32, v: u
 
 // The sides of the quad that are on the front come off, and the others go on.
 #[tactic(auto, unfolding(crate::specs::Stores::store_next, crate::specs::Stores::store_prev))]
-fn move_front(
-    c: Corner,
-    d: Corner,
-    next: &mut [u32],
-    prev: &mut [u32],
-    a: u32,
-    b: u32,
-    id_c: u32,
-    id_d: u32,
-)
-    requires { Ids (length next.old) a b id_c id_d × Ids (length prev.old) a b id_c id_d }
-    ensures { (next.new ≡ store_next c d a b id_c id_d next.old)
-        × (prev.new ≡ store_prev c d a b id_c id_d prev.old) }
+fn move_front(next: &mut [u32], prev: &mut [u32], q: NewQuad)
+    requires { Ids (length next.old) q.a q.b q.id_c q.id_d × Ids (length prev.old) q.a q.b q.id_c q.id_d }
+    ensures { (next.new ≡ store_next q.c q.d q.a q.b q.id_c q.id_d next.old)
+        × (prev.new ≡ store_prev q.c q.d q.a q.b q.id_c q.id_d prev.old) }
 {
-    link_side(c, next, prev, a, a, id_c);
-    link(next, prev, id_c, id_d);
-    link_side(d, next, prev, b, id_d, b);
+    link_side(q.c, next, prev, q.a, q.a, q.id_c);
+    link(next, prev, q.id_c, q.id_d);
+    link_side(q.d, next, prev, q.b, q.id_d, q.b);
 }
 
 // ---- the placing
 
 // How many nodes the lists have places for; `others` is the length of one more list that holds a number a node.
+// Stays beside the method: `run` asks it of the lists that a host lends.
 pub fn node_places(xs: &[f64], ys: &[f64], next: &[u32], prev: &[u32], others: usize) -> usize
     ensures { result ≡ min (fewest (length xs.now) (length ys.now) (length next.now) (length prev.now) others) most_nodes }
 {
@@ -301,30 +368,43 @@ pub fn node_places(xs: &[f64], ys: &[f64], next: &[u32], prev: &[u32], others: u
         .min(MOST_NODES)
 }
 
-// Whether m nodes, a quad and e mesh edges more are beyond those lent.
-#[tactic(auto, unfolding(crate::specs::Stores::is_beyond, crate::specs::State::node_places, crate::specs::State::quad_places, crate::specs::State::edge_places))]
-fn is_beyond(
-    xs: &[f64],
-    ys: &[f64],
-    next: &[u32],
-    prev: &[u32],
-    snapshot: &[u32],
-    quads: &[u32],
-    edges: &[u32],
-    k: Counts,
-    m: u32,
-    e: usize,
-) -> bool
-    requires { (k.quads + 1 < 2 ^ 64) × (k.edges + e < 2 ^ 64) }
-    ensures { result ≡ is_beyond
-        (state_of xs.now ys.now next.now prev.now snapshot.now quads.now
-        edges.now k)
-        m e }
-{
-    let n = (k.nodes as usize) + (m as usize);
-    n > node_places(xs, ys, next, prev, snapshot.len())
-        || k.quads + 1 > quads.len() / 4
-        || k.edges + e > edges.len() / 2
+impl Mesh<'_> {
+    // Node id's point; past the lists' ends NaNs.
+    pub fn node(&self, id: u32) -> Point
+        ensures { result ≡ node_in self.now.xs.now self.now.ys.now id }
+    {
+        node_at(self.xs, self.ys, id)
+    }
+
+    // Node u's neighbours along the front.
+    pub fn next_at(&self, u: u32) -> Option<u32>
+        requires { self.now.counts.nodes ≤ length self.now.next.now }
+        ensures { result ≡ next_at (mesh_state self.now) u }
+    {
+        link_at(self.next, self.counts.nodes, u)
+    }
+
+    pub fn prev_at(&self, u: u32) -> Option<u32>
+        requires { self.now.counts.nodes ≤ length self.now.prev.now }
+        ensures { result ≡ prev_at (mesh_state self.now) u }
+    {
+        link_at(self.prev, self.counts.nodes, u)
+    }
+
+    // How many nodes the lists have places for.
+    pub fn node_places(&self, others: usize) -> usize
+        ensures { result ≡ min (fewest (length self.now.xs.now) (length self.now.ys.now) (length self.now.next.now) (length self.now.prev.now) others) most_nodes }
+    {
+        node_places(self.xs, self.ys, self.next, self.prev, others)
+    }
+
+    // Whether n nodes, q quads or e mesh edges are beyond the places lent; `others` is as in `node_places`.
+    #[tactic(auto, unfolding(crate::specs::Stores::places_exceeded, crate::specs::State::quad_places, crate::specs::State::edge_places))]
+    pub fn is_beyond(&self, others: usize, n: usize, q: usize, e: usize) -> bool
+        ensures { result ≡ places_exceeded (mesh_state self.now) others n q e }
+    {
+        n > self.node_places(others) || q > self.quads.len() / 4 || e > self.edges.len() / 2
+    }
 }
 
 impl<'a> Paving<'a> {
@@ -357,15 +437,33 @@ impl<'a> Paving<'a> {
         self.quads
     }
 
+    // A new node at p: it is off the front, whatever stood in its place.
+    #[tactic(auto, unfolding(crate::specs::State::push_node))]
+    pub fn push_node(&mut self, p: Point)
+        requires few { self.old.counts.nodes ≤ most_nodes }
+        requires places { (self.old.counts.nodes < length self.old.xs.now) × (self.old.counts.nodes < length self.old.ys.now)
+            × (self.old.counts.nodes < length self.old.next.now) × (self.old.counts.nodes < length self.old.prev.now) }
+        ensures same { SameLists self.old self.new }
+        ensures pushed { (snapshot : List ℕ) → paving_state self.new snapshot ≡ push_node p (paving_state self.old snapshot) }
+    {
+        let n = self.counts.nodes as usize;
+        self.xs[n] = p.x;
+        self.ys[n] = p.y;
+        self.next[n] = OFF;
+        self.prev[n] = OFF;
+        self.counts.nodes += 1;
+    }
+
     // Whether m nodes, a quad and e mesh edges more are beyond those lent.
+    #[tactic(auto, unfolding(crate::specs::Stores::is_beyond, crate::specs::Stores::places_exceeded, crate::specs::State::node_places, crate::specs::State::quad_places, crate::specs::State::edge_places))]
     fn is_beyond(&self, snapshot: &[u32], m: u32, e: usize) -> bool
         requires { (self.now.counts.quads + 1 < 2 ^ 64) × (self.now.counts.edges + e < 2 ^ 64) }
         ensures { result ≡ is_beyond (paving_state self.now snapshot.now) m e }
     {
         let k = self.counts;
-        is_beyond(
-            self.xs, self.ys, self.next, self.prev, snapshot, self.quads, self.edges, k, m, e,
-        )
+        let n = (k.nodes as usize) + (m as usize);
+        self.mesh()
+            .is_beyond(snapshot.len(), n, k.quads + 1, k.edges + e)
     }
 
     // Places the quad a, b, d, c on the front edge a to b; or says that it is full, and writes nothing. `across` says whether c and d are joined already.
@@ -384,18 +482,16 @@ impl<'a> Paving<'a> {
         ensures placed { PlacesQuad a b c d (paving_state self.old snapshot.now) result (paving_state self.new snapshot.now) }
     {
         let k = self.counts;
-        let n = k.nodes;
-        let more_c = c.added();
-        let id_c = c.id(n);
-        let id_d = d.id(n + more_c);
+        let q = NewQuad::new(k.nodes, a, b, c, d);
+        let more = c.added() + d.added();
         let w = new_edges(across, c, d);
-        if self.is_beyond(snapshot, more_c + d.added(), w) {
+        if self.is_beyond(snapshot, more, w) {
             return Err(Full);
         }
-        put_corners(c, d, self.xs, self.ys, n);
-        put_edges(self.edges, k.edges, across, c, d, a, b, id_c, id_d);
-        put_quad(self.quads, k.quads, a, b, id_d, id_c);
-        move_front(c, d, self.next, self.prev, a, b, id_c, id_d);
+        put_corners(c, d, self.xs, self.ys, k.nodes);
+        put_edges(self.edges, k.edges, across, q);
+        put_quad(self.quads, k.quads, a, b, q.id_d, q.id_c);
+        move_front(self.next, self.prev, q);
         self.counts = k.after_quad(c, d, w);
         Ok(())
     }

@@ -1,4 +1,4 @@
--- The infinities as the code writes them.
+-- The infinities as quotients.
 use Rattle.std.specs.Prelude.{◌≡◌, refl}
 use Rattle.std.specs.Float.Ieee.{div, of_bits, neg}
 use Rattle.numbers.specs.Float.{◌⊘◌, zero_f, one_f, infinity_f, neg_infinity_f}

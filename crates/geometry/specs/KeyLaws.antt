@@ -39,19 +39,15 @@ le_by_lt (pos a) (negsuc b) = refl
 le_by_lt (negsuc a) (pos b) = refl
 le_by_lt (negsuc a) (negsuc b) = not_below_lem b a
 
+picked : (t : Bool) (k l : ℤ) → cond t l k ≡ cond (not t) k l
+picked true k l = refl
+picked false k l = refl
+
 least_is : (k l : ℤ) → int_min k l ≡ lesser k l
-least_is k l = rw (sym (at_most_lem k l), le_by_lt k l) (by (int_lt l k))
-  where
-    by : (t : Bool) → cond t l k ≡ cond (not t) k l
-    by true = refl
-    by false = refl
+least_is k l = rw (sym (at_most_lem k l), le_by_lt k l) (picked (int_lt l k) k l)
 
 greatest_is : (k l : ℤ) → int_max k l ≡ greater k l
-greatest_is k l = rw (sym (at_most_lem k l), le_by_lt k l) (by (int_lt l k))
-  where
-    by : (t : Bool) → cond t k l ≡ cond (not t) l k
-    by true = refl
-    by false = refl
+greatest_is k l = rw (sym (at_most_lem k l), le_by_lt k l) (picked (int_lt l k) l k)
 
 pub ends_meet : (k l m n : ℤ) {a b : ℤ} → a ≡ int_min k l → b ≡ int_max m n → le_z a b ≡ at_most (lesser k l) (greater m n)
 ends_meet k l m n e f = rw (e, f, least_is k l, greatest_is m n) (at_most_lem (lesser k l) (greater m n))

@@ -1,7 +1,7 @@
 // The geometry tests of src/alt_crossfield.rs, and the keys that replace its two indexes. Each function equals its definition on every input.
 #![tactic(auto)]
 
-ghost use Rattle.std.specs.Prelude.{◌≡◌};
+ghost use Rattle.std.specs.Prelude.{◌≡◌, if◌then◌else◌};
 ghost use Rattle.exact.specs.Corner.{norm};
 ghost use Rattle.geometry.specs.Plane.{distance, tangent, area_term, cross2, doubled_area, left_of, point_in_convex, on_segment, opposite};
 ghost use Rattle.geometry.specs.Plane.{touches, segments_cross, centroid, convex_ccw};
@@ -148,27 +148,26 @@ fn lacks_left_turn(p: Corners) -> bool
     no_left_turn(c, a, b) || no_left_turn(a, b, d) || no_left_turn(b, d, c) || no_left_turn(d, c, a)
 }
 
-// Whether each corner turns left by more than 20°. A side's length is taken once, for both its corners.
-// Stays a ladder: a side's length is a root, and is taken only where the corners before it turn.
-#[tactic(auto, unfolding(crate::specs::LeftTurns::corners_turn))]
+// The side a to b, where the corner at which u ends and it starts turns.
+#[tactic(auto, unfolding(crate::specs::Sides::turn_ok))]
+fn turned(u: Side, a: Point, b: Point) -> Option<Side>
+    ensures { result ≡ (if turn_ok u (side_of a b) then Some (side_of a b) else None) }
+{
+    let v = side_of(a, b);
+    turns(u, v).then_some(v)
+}
+
+// Whether each corner turns left by more than 20°. A side's length, a root, is taken once for both its corners, and only where the corners before it turn.
+#[tactic(auto, unfolding(crate::specs::LeftTurns::corners_turn), using(crate::specs::Sides::turn_is))]
 fn corners_turn(p: Corners) -> bool
     ensures { result ≡ corners_turn p }
 {
     let Corners { a, b, d, c } = p;
     let ca = side_of(c, a);
-    let ab = side_of(a, b);
-    if !turns(ca, ab) {
-        return false;
-    }
-    let bd = side_of(b, d);
-    if !turns(ab, bd) {
-        return false;
-    }
-    let dc = side_of(d, c);
-    if !turns(bd, dc) {
-        return false;
-    }
-    turns(dc, ca)
+    turned(ca, a, b)
+        .and_then(|ab| turned(ab, b, d))
+        .and_then(|bd| turned(bd, d, c))
+        .is_some_and(|dc| turns(dc, ca))
 }
 
 // Whether the quad turns left by more than 20° at each corner. One that lacks a left turn fails without a root.
@@ -276,7 +275,7 @@ pub fn gap(k: i64, l: i64) -> u64
 fn between(k: i64, l: i64, m: i64) -> bool
     ensures { result ≡ between k l m }
 {
-    l <= k && k <= m
+    (l..=m).contains(&k)
 }
 
 // The spans of the key rectangle with the corners k and l.
@@ -325,17 +324,17 @@ fn columns_meet(k: Key, l: Key, bucket: f64, c: Point, d: Point) -> bool
 }
 
 // Whether the edge c to d is a candidate for a query whose ends have the keys k and l. Most edges leave at the columns.
-#[tactic(auto, unfolding(crate::specs::Keys::candidate_at))]
+#[tactic(auto, unfolding(crate::specs::Keys::candidate_at, crate::specs::Keys::rectangles_meet))]
 pub fn candidate_at(k: Key, l: Key, size: f64, c: Point, d: Point) -> bool
     ensures { result ≡ candidate_at k l size c d }
 {
     let bucket = 2.0 * size;
-    if !columns_meet(k, l, bucket, c, d) {
-        return false;
-    }
-    let m = key_of(bucket, c);
-    let n = key_of(bucket, d);
-    rectangles_meet(k, l, m, n) && spans_kept(k, l) && spans_kept(m, n)
+    columns_meet(k, l, bucket, c, d)
+        && {
+            let m = key_of(bucket, c);
+            let n = key_of(bucket, d);
+            rectangles_meet(k, l, m, n) && spans_kept(k, l) && spans_kept(m, n)
+        }
 }
 
 // Whether the edge c to d is a candidate for the query a to b.
@@ -377,26 +376,27 @@ pub fn is_too_close(size: f64, p: Point, q: Point) -> bool
 
 // ---- a quad's box
 
-// Stays two functions of nested calls: one that takes `min_f64` or `max_f64` as a closure has a clause for each of the four calls, and is no plainer.
+#[tactic(auto, unfolding(crate::specs::Keys::least_of))]
 fn least_of(x: f64, y: f64, z: f64, w: f64) -> f64
     ensures { result ≡ least_of x y z w }
 {
-    numbers::min_f64(
-        numbers::min_f64(numbers::min_f64(numbers::min_f64(1.0 / 0.0, x), y), z),
-        w,
-    )
+    [x, y, z, w]
+        .iter()
+        .fold(f64::INFINITY, |least, &v| numbers::min_f64(least, v))
 }
 
+#[tactic(auto, unfolding(crate::specs::Keys::greatest_of))]
 fn greatest_of(x: f64, y: f64, z: f64, w: f64) -> f64
     ensures { result ≡ greatest_of x y z w }
 {
-    numbers::max_f64(
-        numbers::max_f64(numbers::max_f64(numbers::max_f64(-1.0 / 0.0, x), y), z),
-        w,
+    [x, y, z, w].iter().fold(
+        f64::NEG_INFINITY,
+        |greatest, &v| numbers::max_f64(greatest, v),
     )
 }
 
 // The lower left corner of the quad's box.
+// Stays two functions, this and `highest`: one that takes `least_of` or `greatest_of` has a clause for each coordinate, and is no shorter than both.
 #[tactic(auto, unfolding(crate::specs::Keys::lowest))]
 pub fn lowest(p: Corners) -> Point
     ensures { result ≡ lowest p }

@@ -1,2 +1,2 @@
-// Hand-stepped sequences keep the exact books: theorems only (specs/Sequences.antt).
+// Hand-stepped sequences keep the exact books: theorems only (proofs/Sequences.antt).
 #![tactic(auto)]

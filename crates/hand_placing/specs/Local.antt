@@ -7,7 +7,6 @@ use Rattle.std.proofs.Common.{◌∙◌}
 use native.Mathlib.Omega.{arith}
 use Rattle.std.proofs.Math.ListN.{set}
 use Rattle.topology.specs.Links.{off, link_of}
-use Rattle.domain.specs.Outline.{point}
 use Rattle.front.specs.declared.Counts.{Counts}
 use Rattle.front.specs.declared.Corner.{Corner}
 use Rattle.front.specs.declared.Corner.TheVariants.{Reused, Fresh}
@@ -24,7 +23,7 @@ module _ (over : State → State → State) (bare : State → State) (same : (s 
   Local F = (s p : State) → F (over s p) ≡ over s (F (over (bare s) p))
 
   -- of the part alone a change leaves the part alone
-  alone : (F : State → State) → Local F → (s p : State) → F (over (bare s) p) ≡ over (bare s) (F (over (bare s) p))
+  pub alone : (F : State → State) → Local F → (s p : State) → F (over (bare s) p) ≡ over (bare s) (F (over (bare s) p))
   alone F f s p = f (bare s) p ∙ ap (λ (x : State). over (bare s) (F (over x p))) (same s)
 
   -- one change after another
@@ -95,7 +94,7 @@ bare_edges s = edges_in [] 0
 abbrev pub EdgesLocal : (State → State) → Type 0
 EdgesLocal F = Local over_edges bare_edges (λ s. refl) F
 
-edge_local : (u v : ℕ) → EdgesLocal (add_edge u v)
+pub edge_local : (u v : ℕ) → EdgesLocal (add_edge u v)
 unfolding add_edge has_edge push_edge
 edge_local u v s p = by (edge_in p.edges p.counts.edges u v)
   where
@@ -104,7 +103,7 @@ edge_local u v s p = by (edge_in p.edges p.counts.edges u v)
     by true = refl
     by false = refl
 
-edges_local : (a b d c : ℕ) → EdgesLocal (add_edges a b d c)
+pub edges_local : (a b d c : ℕ) → EdgesLocal (add_edges a b d c)
 unfolding add_edges
 edges_local a b d c =
     let F1 = add_edge a b in

@@ -1,18 +1,16 @@
 -- What the parts of a placing ask of each other, and when a quad is full. Assumes nothing.
-use Rattle.std.specs.Prelude.{Bool, true, false, ◌||◌, cond, List, ◌≡◌, ℕ, ◌+◌, ◌*◌, ◌/◌, ◌<◌, ◌≤◌, length, Float}
+use Rattle.std.specs.Prelude.{Bool, false, List, ◌≡◌, ℕ, ◌+◌, ◌*◌, ◌≤◌, length, Float}
 use Rattle.std.proofs.Math.Path.{refl}
-use Rattle.std.proofs.Common.{sym, ap, ap₂, ◌∙◌, add_assoc, arith, ltb-false}
-use Rattle.laws.specs.Tests.{neither}
+use Rattle.std.proofs.Common.{sym, ap, ◌∙◌, add_assoc, arith}
 use Rattle.front.specs.declared.Counts.{Counts}
 use Rattle.front.specs.declared.Corner.{Corner}
-use Rattle.front.specs.declared.Corner.TheVariants.{Reused, Fresh}
-use Rattle.front.specs.State.{State, edge_in, has_edge, add_edge, quad_places, edge_places}
+use Rattle.front.specs.State.{State, edge_in, has_edge, add_edge}
 use Rattle.front.specs.MeshEdges.{edged, edges_few, added_count}
 use Rattle.front.specs.Place.{added, corner_id, id_c, id_d, add_edges, edges_added, is_full}
 use Rattle.front.specs.Stores.{unless, Ids}
 use Rattle.mesh_check.specs.Check.{lent_state, beyond_places}
 use Rattle.mesh_check.specs.Passed.{room}
-use Rattle.mesh_changes.specs.Parts.{edges_in, NodesFit}
+use Rattle.mesh_changes.specs.Parts.{edges_in}
 use Rattle.hand_placing.specs.Room.{QuadRoom}
 
 -- the node of corner d, which comes after c's

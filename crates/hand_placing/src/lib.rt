@@ -3,253 +3,162 @@
 #![tactic(auto)]
 
 ghost use Rattle.std.specs.Prelude.{◌≡◌, List, ℕ, ◌+◌, ◌*◌, ◌^◌, ◌≤◌, ◌<◌, length};
-ghost use Rattle.front.specs.State.{state_of, add_edge, remove_front, add_front};
+ghost use Rattle.front.specs.State.{add_edge, remove_front, add_front, push_quad};
+ghost use Rattle.front.specs.Lent.{paving_state, SameLists};
 ghost use Rattle.front.specs.Place.{added, push_corner, add_edges, take_off, put_on, move_front, place, is_full};
-ghost use Rattle.front.specs.Stores.{Ids};
-ghost use Rattle.mesh_check.specs.Check.{lent_state};
-ghost use Rattle.mesh_check.specs.Passed.{MeshRoom};
-ghost use Rattle.mesh_changes.specs.Parts.{front_in, edges_in, nodes_alone, NodesFit};
-ghost use Rattle.hand_placing.specs.Room.{QuadRoom};
+ghost use Rattle.mesh_check.specs.Check.{lent_in};
+ghost use Rattle.mesh_check.specs.Passed.{CountsFit};
+ghost use Rattle.mesh_changes.specs.Parts.{NodesFit, LinkFits, ChangedBy, LinksKept};
+ghost use Rattle.hand_placing.specs.Room.{QuadFits, EdgesFit, TwoFit, SidesFit};
 
-use front::{Corner, Counts};
+use domain::Point;
+use front::{Corner, Mesh, NewQuad, Paving};
 
 // ---- the mesh edges
 
-// Two edges of a quad, u to v and v to w: the count after them.
-#[tactic(auto, using(crate::specs::PlaceLaws::first_edge_fits, crate::specs::PlaceLaws::second_edge_fits))]
-fn add_two(edges: &mut [u32], n: usize, u: u32, v: u32, w: u32) -> usize
-    requires { 2 * (add_edge v w (add_edge u v (edges_in edges.old n))).counts.edges ≤ length edges.old }
-    ensures { edges_in edges.new result ≡ add_edge v w (add_edge u v (edges_in edges.old n)) }
+// Two edges of a quad, u to v and v to w.
+#[tactic(auto, using(front::proofs::Lent::lists_trans))]
+fn add_two(paving: &mut Paving<'_>, u: u32, v: u32, w: u32)
+    requires { TwoFit paving.old u v w }
+    ensures same { SameLists paving.old paving.new }
+    ensures added { ChangedBy (λ s. add_edge v w (add_edge u v s)) paving.old paving.new }
 {
-    let m = mesh_changes::add_edge(edges, n, u, v);
-    mesh_changes::add_edge(edges, m, v, w)
+    mesh_changes::add_edge(paving, u, v);
+    mesh_changes::add_edge(paving, v, w);
 }
 
-// The mesh edges of the quad a, b, d, c.
-#[tactic(auto, using(crate::specs::PlaceLaws::first_pair, crate::specs::PlaceLaws::second_pair), unfolding(front::specs::Place::add_edges))]
-fn add_edges(edges: &mut [u32], n: usize, a: u32, b: u32, d: u32, c: u32) -> usize
-    requires { 2 * (add_edges a b d c (edges_in edges.old n)).counts.edges ≤ length edges.old }
-    ensures { edges_in edges.new result ≡ add_edges a b d c (edges_in edges.old n) }
+// The mesh edges of the quad.
+#[tactic(auto, using(front::proofs::Lent::lists_trans), unfolding(front::specs::Place::add_edges))]
+fn add_edges(paving: &mut Paving<'_>, q: NewQuad)
+    requires { EdgesFit paving.old q.a q.b q.id_d q.id_c }
+    ensures same { SameLists paving.old paving.new }
+    ensures added { ChangedBy (add_edges q.a q.b q.id_d q.id_c) paving.old paving.new }
 {
-    let m = add_two(edges, n, a, b, d);
-    add_two(edges, m, d, c, a)
+    add_two(paving, q.a, q.b, q.id_d);
+    add_two(paving, q.id_d, q.id_c, q.a);
 }
 
 // ---- the front
 
 // The front edge at a reused corner comes off.
-fn take_off(
-    c: Corner,
-    next: &mut [u32],
-    prev: &mut [u32],
-    n: u32,
-    f: usize,
-    u: u32,
-    v: u32,
-) -> usize
-    requires { (n ≤ length next.old) × (u < n) × (v < length prev.old) }
-    ensures { (front_in next.new prev.new n result ≡ take_off c u v (front_in next.old prev.old n f)) × (result ≤ f) }
+#[tactic(auto, using(front::proofs::Lent::lists_same))]
+fn take_off(paving: &mut Paving<'_>, c: Corner, u: u32, v: u32)
+    requires { LinkFits paving.old u v }
+    ensures same { SameLists paving.old paving.new }
+    ensures taken { ChangedBy (take_off c u v) paving.old paving.new }
+    ensures kept { LinksKept paving.old paving.new }
+    ensures few { paving.new.counts.front ≤ paving.old.counts.front }
 {
     match c {
-        Corner::Reused(_) => mesh_changes::remove_front(next, prev, n, f, u, v),
-        Corner::Fresh(_, _) => f,
+        Corner::Reused(_) => mesh_changes::remove_front(paving, u, v),
+        Corner::Fresh(_, _) => (),
     }
 }
 
 // The front edge at a new corner goes on.
-fn put_on(c: Corner, next: &mut [u32], prev: &mut [u32], n: u32, f: usize, u: u32, v: u32) -> usize
-    requires { (n ≤ length next.old) × (u < n) × (v < length prev.old) × (f < 2 ^ 63) }
-    ensures { (front_in next.new prev.new n result ≡ put_on c u v (front_in next.old prev.old n f)) × (result ≤ f + 1) }
+#[tactic(auto, using(front::proofs::Lent::lists_same))]
+fn put_on(paving: &mut Paving<'_>, c: Corner, u: u32, v: u32)
+    requires { LinkFits paving.old u v × (paving.old.counts.front < 2 ^ 63) }
+    ensures same { SameLists paving.old paving.new }
+    ensures put { ChangedBy (put_on c u v) paving.old paving.new }
+    ensures kept { LinksKept paving.old paving.new }
+    ensures few { paving.new.counts.front ≤ paving.old.counts.front + 1 }
 {
     match c {
-        Corner::Reused(_) => f,
-        Corner::Fresh(_, _) => mesh_changes::add_front(next, prev, n, f, u, v),
+        Corner::Reused(_) => (),
+        Corner::Fresh(_, _) => mesh_changes::add_front(paving, u, v),
     }
 }
 
 // The sides of the quad that are on the front come off.
-fn strip(
-    c: Corner,
-    d: Corner,
-    next: &mut [u32],
-    prev: &mut [u32],
-    n: u32,
-    f: usize,
-    a: u32,
-    b: u32,
-    id_c: u32,
-    id_d: u32,
-) -> usize
-    requires { (n ≤ length next.old) × (n ≤ length prev.old) × Ids n a b id_c id_d }
-    ensures { (front_in next.new prev.new n result
-        ≡ take_off d b id_d (take_off c id_c a (remove_front a b (front_in next.old prev.old n f)))) × (result ≤ f) }
+#[tactic(auto, using(front::proofs::Lent::lists_trans))]
+fn strip(paving: &mut Paving<'_>, q: NewQuad)
+    requires { SidesFit paving.old q }
+    ensures same { SameLists paving.old paving.new }
+    ensures stripped { ChangedBy (λ s. take_off q.d q.b q.id_d (take_off q.c q.id_c q.a (remove_front q.a q.b s))) paving.old paving.new }
+    ensures kept { LinksKept paving.old paving.new }
+    ensures few { paving.new.counts.front ≤ paving.old.counts.front }
 {
-    let f1 = mesh_changes::remove_front(next, prev, n, f, a, b);
-    let f2 = take_off(c, next, prev, n, f1, id_c, a);
-    take_off(d, next, prev, n, f2, b, id_d)
+    mesh_changes::remove_front(paving, q.a, q.b);
+    take_off(paving, q.c, q.id_c, q.a);
+    take_off(paving, q.d, q.b, q.id_d);
 }
 
 // The others go on.
-fn extend(
-    c: Corner,
-    d: Corner,
-    next: &mut [u32],
-    prev: &mut [u32],
-    n: u32,
-    f: usize,
-    a: u32,
-    b: u32,
-    id_c: u32,
-    id_d: u32,
-) -> usize
-    requires { (n ≤ length next.old) × (n ≤ length prev.old) × Ids n a b id_c id_d × (f < 2 ^ 62) }
-    ensures { front_in next.new prev.new n result
-        ≡ put_on d id_d b (add_front id_c id_d (put_on c a id_c (front_in next.old prev.old n f))) }
+#[tactic(auto, using(front::proofs::Lent::lists_trans))]
+fn extend(paving: &mut Paving<'_>, q: NewQuad)
+    requires { SidesFit paving.old q × (paving.old.counts.front < 2 ^ 62) }
+    ensures same { SameLists paving.old paving.new }
+    ensures extended { ChangedBy (λ s. put_on q.d q.id_d q.b (add_front q.id_c q.id_d (put_on q.c q.a q.id_c s))) paving.old paving.new }
 {
-    let f1 = put_on(c, next, prev, n, f, a, id_c);
-    let f2 = mesh_changes::add_front(next, prev, n, f1, id_c, id_d);
-    put_on(d, next, prev, n, f2, id_d, b)
+    put_on(paving, q.c, q.a, q.id_c);
+    mesh_changes::add_front(paving, q.id_c, q.id_d);
+    put_on(paving, q.d, q.id_d, q.b);
 }
 
-// The front moves: the count of its edges after it.
-#[tactic(auto, unfolding(front::specs::Place::move_front))]
-fn move_front(
-    c: Corner,
-    d: Corner,
-    next: &mut [u32],
-    prev: &mut [u32],
-    n: u32,
-    f: usize,
-    a: u32,
-    b: u32,
-    id_c: u32,
-    id_d: u32,
-) -> usize
-    requires { (n ≤ length next.old) × (n ≤ length prev.old) × Ids n a b id_c id_d × (f < 2 ^ 62) }
-    ensures { front_in next.new prev.new n result
-        ≡ move_front c d a b id_d id_c (front_in next.old prev.old n f) }
+// The front moves.
+#[tactic(auto, using(front::proofs::Lent::lists_trans), unfolding(front::specs::Place::move_front))]
+fn move_front(paving: &mut Paving<'_>, q: NewQuad)
+    requires { SidesFit paving.old q × (paving.old.counts.front < 2 ^ 62) }
+    ensures same { SameLists paving.old paving.new }
+    ensures moved { ChangedBy (move_front q.c q.d q.a q.b q.id_d q.id_c) paving.old paving.new }
 {
-    let bare = strip(c, d, next, prev, n, f, a, b, id_c, id_d);
-    extend(c, d, next, prev, n, bare, a, b, id_c, id_d)
+    strip(paving, q);
+    extend(paving, q);
 }
 
 // ---- new nodes
 
-// A new corner becomes node n: the count of nodes after it.
-fn new_corner(
-    c: Corner,
-    xs: &mut [f64],
-    ys: &mut [f64],
-    next: &mut [u32],
-    prev: &mut [u32],
-    n: u32,
-) -> u32
-    requires { NodesFit xs.old ys.old next.old prev.old (n + added c) }
-    ensures { (nodes_alone xs.new ys.new next.new prev.new result
-        ≡ push_corner c (nodes_alone xs.old ys.old next.old prev.old n)) × (result ≡ n + added c) }
+// A new corner becomes a node.
+#[tactic(auto, using(front::proofs::Lent::lists_same))]
+fn push_corner(paving: &mut Paving<'_>, c: Corner)
+    requires { NodesFit paving.old.xs.now paving.old.ys.now paving.old.next.now paving.old.prev.now (paving.old.counts.nodes + added c) }
+    ensures same { SameLists paving.old paving.new }
+    ensures pushed { ChangedBy (push_corner c) paving.old paving.new }
 {
     match c {
-        Corner::Reused(_) => n,
-        Corner::Fresh(x, y) => {
-            mesh_changes::new_node(xs, ys, next, prev, n, x, y);
-            n + 1
-        }
+        Corner::Reused(_) => (),
+        Corner::Fresh(x, y) => paving.push_node(Point { x, y }),
     }
-}
-
-fn new_corners(
-    c: Corner,
-    d: Corner,
-    xs: &mut [f64],
-    ys: &mut [f64],
-    next: &mut [u32],
-    prev: &mut [u32],
-    n: u32,
-) -> u32
-    requires { NodesFit xs.old ys.old next.old prev.old (n + (added c + added d)) }
-    ensures { (nodes_alone xs.new ys.new next.new prev.new result
-        ≡ push_corner d (push_corner c (nodes_alone xs.old ys.old next.old prev.old n)))
-        × (result ≡ n + (added c + added d)) }
-{
-    let m = new_corner(c, xs, ys, next, prev, n);
-    new_corner(d, xs, ys, next, prev, m)
 }
 
 // ---- the quad
 
-// Places the quad a, b, d, c on the edge a to b: the counts after it.
-pub fn place_quad(
-    xs: &mut [f64],
-    ys: &mut [f64],
-    next: &mut [u32],
-    prev: &mut [u32],
-    quads: &mut [u32],
-    edges: &mut [u32],
-    k: Counts,
-    a: u32,
-    b: u32,
-    c: Corner,
-    d: Corner,
-) -> Counts
-    requires { QuadRoom xs.old ys.old next.old prev.old quads.old edges.old k a b c d }
-    ensures { (snapshot : List ℕ) →
-        state_of xs.new ys.new next.new prev.new snapshot quads.new edges.new result
-        ≡ place a b c d (state_of xs.old ys.old next.old prev.old snapshot quads.old
-        edges.old k) }
+// It is the next quad.
+#[tactic(auto, unfolding(front::specs::State::push_quad, front::specs::Stores::store_quad))]
+fn push_quad(paving: &mut Paving<'_>, q: NewQuad)
+    requires { 4 * (paving.old.counts.quads + 1) ≤ length paving.old.quads.now }
+    ensures same { SameLists paving.old paving.new }
+    ensures pushed { ChangedBy (push_quad q.a q.b q.id_d q.id_c) paving.old paving.new }
 {
-    let n = k.nodes;
-    let q = k.quads;
-    let f = k.front;
-    let more = q + 1;
-    let id_c = c.id(n);
-    let id_d = d.id(n + c.added());
-    let m = new_corners(c, d, xs, ys, next, prev, n);
-    let e = add_edges(edges, k.edges, a, b, id_d, id_c);
-    front::put_quad(quads, q, a, b, id_d, id_c);
-    let after = move_front(c, d, next, prev, m, f, a, b, id_c, id_d);
-    Counts {
-        nodes: m,
-        quads: more,
-        edges: e,
-        front: after,
-    }
+    let k = paving.counts.quads;
+    front::put_quad(paving.quads, k, q.a, q.b, q.id_d, q.id_c);
+    paving.counts.quads = k + 1;
+}
+
+// Places the quad a, b, d, c on the edge a to b.
+#[tactic(auto, using(front::proofs::Lent::lists_trans))]
+pub fn place_quad(paving: &mut Paving<'_>, a: u32, b: u32, c: Corner, d: Corner)
+    requires { QuadFits paving.old a b c d }
+    ensures same { SameLists paving.old paving.new }
+    ensures placed { (snapshot : List ℕ) → paving_state paving.new snapshot ≡ place a b c d (paving_state paving.old snapshot) }
+{
+    let q = NewQuad::new(paving.counts.nodes, a, b, c, d);
+    push_corner(paving, c);
+    push_corner(paving, d);
+    add_edges(paving, q);
+    push_quad(paving, q);
+    move_front(paving, q);
 }
 
 // Whether the quad would need a node, quad or distinct edge beyond those lent.
-pub fn is_full(
-    xs: &[f64],
-    ys: &[f64],
-    next: &[u32],
-    prev: &[u32],
-    origins: &[u16],
-    quads: &[u32],
-    edges: &[u32],
-    k: Counts,
-    a: u32,
-    b: u32,
-    c: Corner,
-    d: Corner,
-) -> bool
-    requires { MeshRoom xs.now ys.now next.now prev.now origins.now quads.now edges.now k.nodes k.quads k.edges }
-    ensures { result ≡ is_full
-        (lent_state xs.now ys.now next.now prev.now origins.now quads.now
-        edges.now k) a b c d }
+pub fn is_full(mesh: &Mesh<'_>, origins: &[u16], a: u32, b: u32, c: Corner, d: Corner) -> bool
+    requires { CountsFit mesh.now origins.now }
+    ensures { result ≡ is_full (lent_in mesh.now origins.now) a b c d }
 {
-    let n = k.nodes;
-    let more_c = c.added();
-    let more_d = d.added();
-    let e = mesh_changes::edges_added(edges, k.edges, a, b, d.id(n + more_c), c.id(n));
-    let nodes = (n as usize) + (more_c as usize) + (more_d as usize);
-    mesh_check::beyond_places(
-        xs,
-        ys,
-        next,
-        prev,
-        origins,
-        quads,
-        edges,
-        nodes,
-        k.quads + 1,
-        k.edges + e,
-    )
+    let k = mesh.counts;
+    let q = NewQuad::new(k.nodes, a, b, c, d);
+    let e = mesh_changes::edges_added(mesh, a, b, q.id_d, q.id_c);
+    let nodes = (k.nodes as usize) + (c.added() as usize) + (d.added() as usize);
+    mesh_check::beyond_places(mesh, origins, nodes, k.quads + 1, k.edges + e)
 }

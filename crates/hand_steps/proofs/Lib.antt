@@ -1,1 +1,2 @@
 pub mod UseLaws
+pub mod Quads

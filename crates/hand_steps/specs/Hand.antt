@@ -3,14 +3,12 @@ use Rattle.std.specs.Prelude.{cond, List, Result, Ok, Err, ◌≡◌, ℕ, ◌+�
 use Rattle.laws.specs.Loop.{for_up}
 use Rattle.domain.specs.Outline.{Outline, first_of}
 use Rattle.direction.specs.Record.{FieldRecord}
-use Rattle.front.specs.declared.Counts.{Counts}
 use Rattle.front.specs.State.{State}
 use Rattle.front.specs.Place.{place, is_full}
 use Rattle.paving.specs.declared.FarCorners.{FarCorners}
 use Rattle.paving.specs.Attempt.{try_edge}
 use Rattle.paving.specs.Advance.{most_quads}
 use Rattle.mesh_check.specs.Check.{mesh_refusal, edge_refusal}
-use Rattle.hand_steps.specs.declared.HandPlacing.{HandPlacing}
 use Rattle.hand_steps.specs.declared.StepOutcome.{StepOutcome}
 use Rattle.hand_steps.specs.declared.StepOutcome.TheVariants.{Placed, None as NoQuad, Full, Cap}
 
@@ -38,22 +36,23 @@ unfoldable pub place_on : Outline → Float → FieldRecord → ℕ → ℕ → 
 place_on o size field a b s =
     cond (leb most_quads s.counts.quads) (handled s Cap) (settled_on a b (try_edge o size field s a b) s)
 
+-- the quad that it places, or why it places none
+abbrev pub fitting : ℕ → ℕ → Option FarCorners → State → Result FarCorners StepOutcome
+fitting a b None s = Err NoQuad
+fitting a b (Some q) s = cond (is_full s a b q.c q.d) (Err Full) (Ok q)
+
+unfoldable pub quad_on : Outline → Float → FieldRecord → ℕ → ℕ → State → Result FarCorners StepOutcome
+quad_on o size field a b s = cond (leb most_quads s.counts.quads) (Err Cap) (fitting a b (try_edge o size field s a b) s)
+
 -- ---- a step
 
 -- the mesh after a step on the edge a to b: as it was, where the step is refused
 unfoldable pub step_on : Outline → Float → FieldRecord → ℕ → ℕ → State → State
 step_on o size field a b s = cond (eqb (hand_refusal s a b) 0) (place_on o size field a b s).state s
 
--- what a step answers: the refusal, or what became of the edge, with the counts after it
-unfoldable pub step_answer : Outline → Float → FieldRecord → ℕ → ℕ → State → Result HandPlacing ℕ
-step_answer o size field a b s =
-    let h = place_on o size field a b s in
-    cond (eqb (hand_refusal s a b) 0) (Ok (record { outcome = h.outcome; counts = h.state.counts })) (Err (hand_refusal s a b))
-
--- the counts after an answer, of k before
-abbrev pub counts_left : Counts → Result HandPlacing ℕ → Counts
-counts_left k (Err r) = k
-counts_left k (Ok h) = h.counts
+-- what a step answers: the refusal, or what became of the edge
+unfoldable pub step_answer : Outline → Float → FieldRecord → ℕ → ℕ → State → Result StepOutcome ℕ
+step_answer o size field a b s = cond (eqb (hand_refusal s a b) 0) (Ok (place_on o size field a b s).outcome) (Err (hand_refusal s a b))
 
 -- ---- the numbers of the nodes' loops (paper 9)
 
@@ -69,7 +68,7 @@ abbrev pub origins_on : Outline → Float → FieldRecord → ℕ → ℕ → St
 origins_on o size field a b s l = new_origins a s.counts.nodes (step_on o size field a b s).counts.nodes l
 
 -- what `step` ensures: of the edge a to b in s, with the numbers `before`, it answers r, and leaves t and the numbers `after`
-pub record StepTaken (o : Outline) (size : Float) (field : FieldRecord) (a b : ℕ) (s : State) (before : List ℕ) (r : Result HandPlacing ℕ) (t : State)
+pub record StepTaken (o : Outline) (size : Float) (field : FieldRecord) (a b : ℕ) (s : State) (before : List ℕ) (r : Result StepOutcome ℕ) (t : State)
     (after : List ℕ) : Type 0 where
   pub answer : r ≡ step_answer o size field a b s
   pub state : t ≡ step_on o size field a b s

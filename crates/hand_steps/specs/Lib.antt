@@ -1,5 +1,6 @@
--- In reading order: a placing and a step; what paper 11 says of them; what the code asks; what it may use of a mesh that 23 and 24 let pass; what it
--- answers.
+-- In reading order: what becomes of an edge, by its number; a placing and a step; what paper 11 says of them; what the code asks; what it may use of a
+-- mesh that 23 and 24 let pass; what it answers.
+pub mod Outcomes
 pub mod Hand
 pub mod Readings
 pub mod Lent

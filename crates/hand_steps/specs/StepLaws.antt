@@ -125,7 +125,7 @@ module _ (o : Outline) (size : Float) (field : FieldRecord) (a b : ℕ) (xs ys :
     pub step_done : r ≡ 0 → (xs' ys' : List Float) (next' prev' quads' edges' : List ℕ) (m : Counts) (w : StepOutcome)
         → handled (state_of xs' ys' next' prev' (all_off origins) quads' edges' m) w ≡ place_on o size field a b s → (after : List ℕ)
         → after ≡ new_origins a k.nodes m.nodes origins
-        → StepTaken o size field a b s origins (Ok (record { outcome = w; counts = m })) (lent_state xs' ys' next' prev' after quads' edges' m) after
+        → StepTaken o size field a b s origins (Ok w) (lent_state xs' ys' next' prev' after quads' edges' m) after
     unfolding step_answer step_on
     step_done z xs' ys' next' prev' quads' edges' m w p after n =
         let long : length after ≡ length origins = ap length n ∙ origins_length a k.nodes m.nodes origins in

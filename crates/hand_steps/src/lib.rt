@@ -1,7 +1,8 @@
 // What a front stepped by hand answers. The code is in `stepping`.
 #![tactic(auto)]
 
-use front::Counts;
+ghost use Rattle.std.specs.Prelude.{◌≡◌};
+ghost use Rattle.hand_steps.specs.Outcomes.{outcome_number};
 
 // What a single placing answers.
 #[derive(Clone, Copy)]
@@ -12,9 +13,16 @@ pub enum StepOutcome {
     Cap,
 }
 
-// What became of the edge, with the counts after it.
-#[derive(Clone, Copy)]
-pub struct HandPlacing {
-    pub outcome: StepOutcome,
-    pub counts: Counts,
+// Its number for hosts.
+impl From<StepOutcome> for u32 {
+    ghost from_gives = { λ outcome number. number ≡ outcome_number outcome };
+
+    fn from(outcome: StepOutcome) -> u32 {
+        match outcome {
+            StepOutcome::Placed => 0,
+            StepOutcome::None => 1,
+            StepOutcome::Full => 2,
+            StepOutcome::Cap => 3,
+        }
+    }
 }

@@ -1,6 +1,6 @@
 -- A walk along the chains of a rectangle's cells, row by row: what a cursor has still to visit. Definitions only.
 use Rattle.std.specs.Prelude.{Bool, true, false, cond, List, [], ◌∷◌, ◌++◌, ◌≡◌, ℕ, zero, suc, ◌+◌, ◌-◌, ◌<◌, ◌≤◌, eqb, length, Option, Some, None}
-use Rattle.pools.specs.Pool.{none, cells, capacity, own_at, chain, any_of, cell_of, chain_at, span}
+use Rattle.pools.specs.Pool.{none, cells, capacity, own_at, chain, cell_of, chain_at, span}
 use Rattle.pools.specs.declared.Rect.{Rect}
 use Rattle.key_rects.specs.Rects.{Meets}
 use Rattle.index.specs.declared.Cursor.{Cursor}

@@ -1,12 +1,12 @@
 -- Laws of walks: a walk by a cursor answers what a scan of all items answers.
-use Rattle.std.specs.Prelude.{Bool, cond, ◌||◌, ◌⊎◌, ◌≡◌, ℕ, zero, suc, ◌+◌, ◌-◌, ◌*◌, ◌%◌, ◌<◌, ◌≤◌, eqb, get_or}
+use Rattle.std.specs.Prelude.{Bool, ◌||◌, ◌≡◌, ℕ, ◌+◌, ◌-◌, ◌%◌, ◌<◌, ◌≤◌}
 use Rattle.std.proofs.Math.Bool.{true, false}
 use Rattle.std.specs.Option.{IfSome, MatchOption}
-use Rattle.std.proofs.Common.{Option, Some, None, true≢false, inl, inr, ◌∙◌, subst, add-one, arith}
-use mathlib.Core.List.{List, [], ◌∷◌, ◌++◌, append_assoc}
+use Rattle.std.proofs.Common.{Option, Some, None, true≢false, ◌∙◌, arith}
+use mathlib.Core.List.{List, [], ◌∷◌, ◌++◌}
 use Rattle.std.proofs.Math.Logic.{⊎_elim}
 use Rattle.std.proofs.Math.Path.{refl, sym, ap, ap₂}
-use borrow.Author.Tests.{eq-eqb, ne_eqb, eqb-false}
+use borrow.Author.Tests.{ne_eqb}
 use Rattle.std.proofs.Math.ListN.{length}
 use Rattle.laws.specs.Loop.{for_up, any_up, any_found, any_none}
 use Rattle.pools.specs.declared.Rect.{Rect}
@@ -14,10 +14,10 @@ use Rattle.index.specs.declared.Cursor.{Cursor}
 use Rattle.pools.specs.Pool.{none, cells, capacity, own_at, link_at, head_at, used, falling, chain, any_of, cell_of, chain_at, span, filed}
 use Rattle.pools.specs.Pool.{Filed, Indexed}
 use Rattle.key_rects.specs.Rects.{Meets}
-use Rattle.index.specs.Walk.{cursor_of, across, columns, rows, visited, over, row_ahead, ahead, At, InRow, Stands, NextCursor}
+use Rattle.index.specs.Walk.{cursor_of, columns, rows, visited, over, row_ahead, ahead, At, InRow, Stands, NextCursor}
 use Rattle.pools.specs.ChainLaws.{any_has, any_left, falling_high, falling_step, falling_on, falling_last, falling_keeps}
 use Rattle.pools.specs.ChainLaws.{below_or_not}
-use Rattle.index.specs.AcrossLaws.{across_from, across_more, across_end, across_empty, across_none, across_some}
+use Rattle.index.specs.AcrossLaws.{across_more, across_empty, across_none, across_some}
 use Rattle.pools.specs.FileLaws.{filed_short, cell_in, place_small, next_column}
 
 -- ---- a search by the visited owners is the scan

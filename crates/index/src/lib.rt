@@ -28,6 +28,7 @@ fn own_at(pool: &[u32], c: Cursor) -> u32
 }
 
 // The first place under the columns of row j after column i, whose cell is `cell`.
+// Stays a loop, here and in `later_rows`: the contract of `find_map` tells only which calls it made, and no lemma says of these what was passed over.
 fn later_columns(pool: &[u32], right: u32, i: usize, j: usize, cell: usize) -> Option<Cursor>
     requires { (4 ≤ length pool.now) × (cell ≡ cell_of (cells (length pool.now)) i j) }
     ensures rest { InRow pool.now right j (columns pool.now j (right - i) (i + 1)) (cursor_of result) }
@@ -117,6 +118,7 @@ pub fn any_visited<F: Fn(usize) -> bool>(pool: &[u32], r: Rect, test: F) -> bool
     ensures { (tests : ℕ → Bool) → Decides (F.post test) 4294967296 tests → result ≡ any_of tests (visited pool.now r) }
 {
     let mut next = first(pool, r);
+    // Stays a loop: `any` asks for an iterator that ends, and of what `successors` makes the library doesn't say that.
     while let Some(c) = next {
         if test(own_at(pool, c) as usize) {
             return true;
@@ -134,13 +136,10 @@ pub fn any_item<F: Fn(usize) -> bool>(pool: &[u32], r: Rect, count: usize, test:
     ensures { (tests : ℕ → Bool) (rects : ℕ → Rect) → Decides (F.post test) (max count 4294967296) tests → Indexed pool.now rects count
         → AreMet tests rects r → result ≡ any_up count tests }
 {
-    if any_visited(pool, r, &test) {
-        return true;
-    }
-    for id in pools::filed(pool) as usize..count {
-        if test(id) {
-            return true;
-        }
-    }
-    false
+    any_visited(pool, r, &test)
+        || (pools::filed(pool) as usize..count).any(
+            |id|
+                requires { F.pre test id }
+            { test(id) },
+        )
 }

@@ -1,5 +1,5 @@
 -- Laws of the tests as the code has them at hand.
-use Rattle.std.specs.Prelude.{Bool, true, not, List, [], ◌≡◌, refl, ℕ, ◌+◌, ◌*◌, eqb, get_or, Float}
+use Rattle.std.specs.Prelude.{Bool, true, not, List, [], ◌≡◌, ℕ, ◌+◌, ◌*◌, eqb, get_or, Float}
 use Rattle.std.proofs.Common.{sym, eqb-true}
 use Rattle.laws.specs.Tests.{both}
 use Rattle.numbers.specs.Float.{◌⊗◌}

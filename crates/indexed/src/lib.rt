@@ -1,4 +1,4 @@
-// The nodes and edges of a paving's state (src/alt_crossfield.rs: `NodeIndex` and `EdgeIndex`), filed in pools of `index`, and the searches that go by them:
+// The nodes and edges of a paving's state (src/alt_crossfield.rs: `NodeIndex` and `EdgeIndex`), filed in pools of `pools`, and the searches that go by them:
 // a walk for those that are filed, and a scan of those that came after the pool was full.
 #![tactic(auto)]
 
@@ -11,204 +11,170 @@ ghost use Rattle.paving.specs.Checks.{is_corner, share_end, blocks_at, crosses_a
 ghost use Rattle.indexed.specs.Rects.{node_rects, edge_rects, NodesFiled, EdgesFiled, listed, close_at, inside_at, crossing_at};
 
 use domain::{Point, Settings};
-use front::Corner;
+use front::{Corner, Mesh};
 use geometry::Corners;
+use lent_mesh::QuadIds;
+
+// The pools as they are read: one in which nodes are filed, and one in which edges are.
+#[derive(Clone, Copy)]
+pub struct Pools<'a> {
+    pub nodes: &'a [u32],
+    pub edges: &'a [u32],
+}
+
+// A new edge: its ends a and b, which are or will be the nodes u and v.
+#[derive(Clone, Copy)]
+pub struct NewEdge {
+    pub a: Point,
+    pub b: Point,
+    pub u: u32,
+    pub v: u32,
+}
 
 // ---- reading
 
-// An entry of the list of edges; past its end 0.
-fn end_at(edges: &[u32], i: usize) -> u32
-    ensures { result ≡ get_or edges.now i 0 }
-{
-    edges.get(i).copied().unwrap_or(0)
-}
-
 // The ends of edge k; past the list's end 0.
-fn ends_of(edges: &[u32], k: usize) -> (u32, u32)
+fn ends_of(mesh: &Mesh<'_>, k: usize) -> (u32, u32)
     requires { k < 9223372036854775807 }
-    ensures { (result.0 ≡ get_or edges.now (2 * k) 0) × (result.1 ≡ get_or edges.now (2 * k + 1) 0) }
+    ensures { (result.0 ≡ get_or mesh.now.edges.now (2 * k) 0) × (result.1 ≡ get_or mesh.now.edges.now (2 * k + 1) 0) }
 {
-    (end_at(edges, 2 * k), end_at(edges, 2 * k + 1))
+    (
+        lent_mesh::entry_at(mesh.edges, 2 * k),
+        lent_mesh::entry_at(mesh.edges, 2 * k + 1),
+    )
 }
 
 // ---- filing
 
-// Files the nodes `from` to `to` - 1, where those before are filed: all that find places, up to the first that doesn't.
-pub fn file_nodes(pool: &mut [u32], size: f64, xs: &[f64], ys: &[f64], from: u32, to: u32)
-    requires { NodesFiled pool.old size xs.now ys.now from to }
-    ensures { Indexed pool.new (node_rects size xs.now ys.now) to }
+// Files the nodes from `from` on that the mesh counts, where those before are filed: all that find places, up to the first that doesn't.
+pub fn file_nodes(pool: &mut [u32], size: f64, mesh: &Mesh<'_>, from: u32)
+    requires { NodesFiled pool.old size mesh.now.xs.now mesh.now.ys.now from mesh.now.counts.nodes }
+    ensures { Indexed pool.new (node_rects size mesh.now.xs.now mesh.now.ys.now) mesh.now.counts.nodes }
 {
-    pools::file_items(pool, from as usize, to as usize, |id| {
-        key_rects::node_rect(size, front::node_at(xs, ys, id))
+    let to = mesh.counts.nodes as usize;
+    pools::file_items(pool, from as usize, to, |id| {
+        key_rects::node_rect(size, mesh.node(id))
     });
 }
 
-// Files the edges `from` to `to` - 1, as `file_nodes`, and none that 32 bits can't number.
-pub fn file_edges(
-    pool: &mut [u32],
-    size: f64,
-    xs: &[f64],
-    ys: &[f64],
-    edges: &[u32],
-    from: usize,
-    to: usize,
-)
-    requires { EdgesFiled pool.old size xs.now ys.now edges.now from to }
-    ensures { Indexed pool.new (edge_rects size xs.now ys.now edges.now) to }
+// Files the edges from `from` on, as `file_nodes`, and none that 32 bits can't number.
+pub fn file_edges(pool: &mut [u32], size: f64, mesh: &Mesh<'_>, from: usize)
+    requires { EdgesFiled pool.old size mesh.now.xs.now mesh.now.ys.now mesh.now.edges.now from mesh.now.counts.edges }
+    ensures { Indexed pool.new (edge_rects size mesh.now.xs.now mesh.now.ys.now mesh.now.edges.now) mesh.now.counts.edges }
 {
-    pools::file_items(pool, from, to, |k| {
-        let (c, d) = ends_of(edges, k as usize);
-        key_rects::edge_rect(size, front::node_at(xs, ys, c), front::node_at(xs, ys, d))
+    pools::file_items(pool, from, mesh.counts.edges, |k| {
+        let (c, d) = ends_of(mesh, k as usize);
+        key_rects::edge_rect(size, mesh.node(c), mesh.node(d))
     });
 }
 
 // ---- the tests of the searches: what is cheap first, and the keys last
 
-// Whether id is one of the corners a, b, d, c.
-fn is_corner(a: u32, b: u32, d: u32, c: u32, id: u32) -> bool
-    ensures { result ≡ is_corner a b d c id }
+// Whether id is one of the corners.
+fn is_corner(ids: QuadIds, id: u32) -> bool
+    ensures { result ≡ is_corner ids.a ids.b ids.d ids.c id }
 {
-    id == a || id == b || id == d || id == c
+    [ids.a, ids.b, ids.d, ids.c].contains(&id)
 }
 
 // Whether the node q of number id, not a corner, lies in the quad p and in its key rectangle.
-fn blocks_at(size: f64, p: Corners, a: u32, b: u32, d: u32, c: u32, id: u32, q: Point) -> bool
-    ensures { result ≡ blocks_at size p a b d c id q }
+fn blocks_at(size: f64, p: Corners, ids: QuadIds, id: u32, q: Point) -> bool
+    ensures { result ≡ blocks_at size p ids.a ids.b ids.d ids.c id q }
 {
-    !is_corner(a, b, d, c, id) && geometry::point_in_convex(p, q) && geometry::is_in_box(size, p, q)
+    !is_corner(ids, id) && geometry::point_in_convex(p, q) && geometry::is_in_box(size, p, q)
 }
 
 // Whether the edges c to d and u to v have an end in common.
 fn share_end(c: u32, d: u32, u: u32, v: u32) -> bool
     ensures { result ≡ share_end c d u v }
 {
-    c == u || c == v || d == u || d == v
+    [u, v].contains(&c) || [u, v].contains(&d)
 }
 
-// Whether the edge c to d is a candidate for the new edge a to b, whose ends are the nodes u and v, shares no end with it, and crosses it.
-fn crosses_at(
-    size: f64,
-    xs: &[f64],
-    ys: &[f64],
-    a: Point,
-    b: Point,
-    u: u32,
-    v: u32,
-    c: u32,
-    d: u32,
-) -> bool
-    ensures { result ≡ crosses_at size (listed xs.now ys.now []) a b u v c d }
+// Whether the edge c to d is a candidate for the new edge, shares no end with it, and crosses it.
+fn crosses_at(size: f64, mesh: &Mesh<'_>, new: NewEdge, c: u32, d: u32) -> bool
+    ensures { result ≡ crosses_at size (listed mesh.now.xs.now mesh.now.ys.now []) new.a new.b new.u new.v c d }
 {
-    if share_end(c, d, u, v) {
+    if share_end(c, d, new.u, new.v) {
         return false;
     }
-    let p = front::node_at(xs, ys, c);
-    let q = front::node_at(xs, ys, d);
+    let NewEdge { a, b, .. } = new;
+    let p = mesh.node(c);
+    let q = mesh.node(d);
     geometry::segments_cross(a, b, p, q) && geometry::is_candidate(size, a, b, p, q)
 }
 
 // ---- searching
 
-// Whether some node is too close to p: a walk round its key.
-pub fn any_close(pool: &[u32], size: f64, xs: &[f64], ys: &[f64], nodes: u32, p: Point) -> bool
-    requires { Indexed pool.now (node_rects size xs.now ys.now) nodes }
-    ensures { result ≡ any_up nodes (close_at size xs.now ys.now p) }
-{
-    let radius = Settings::CLEARANCE * size;
-    let radius2 = radius * radius;
-    let key = geometry::key_of(size, p);
-    index::any_item(pool, key_rects::rect_around(key), nodes as usize, |id| {
-        geometry::too_close_at(key, p, radius2, size, front::node_at(xs, ys, id as u32))
-    })
-}
-
-// Whether some node other than the corners a, b, d, c lies in the quad p: a walk of its key rectangle.
-pub fn any_inside(
-    pool: &[u32],
-    size: f64,
-    xs: &[f64],
-    ys: &[f64],
-    nodes: u32,
-    p: Corners,
-    a: u32,
-    b: u32,
-    d: u32,
-    c: u32,
-) -> bool
-    requires { Indexed pool.now (node_rects size xs.now ys.now) nodes }
-    ensures { result ≡ any_up nodes (inside_at size xs.now ys.now p a b d c) }
-{
-    let low = geometry::key_of(size, geometry::lowest(p));
-    let high = geometry::key_of(size, geometry::highest(p));
-    index::any_item(pool, key_rects::rect_of(low, high), nodes as usize, |id| {
-        let q = front::node_at(xs, ys, id as u32);
-        blocks_at(size, p, a, b, d, c, id as u32, q)
-    })
-}
-
-// Whether some edge crosses the new edge a to b, whose ends are the nodes u and v: a walk of its key rectangle, of no key where its spans are above 4,096.
-pub fn any_crossing(
-    pool: &[u32],
-    size: f64,
-    xs: &[f64],
-    ys: &[f64],
-    edges: &[u32],
-    count: usize,
-    a: Point,
-    b: Point,
-    u: u32,
-    v: u32,
-) -> bool
-    requires { (2 * count ≤ length edges.now) × Indexed pool.now (edge_rects size xs.now ys.now edges.now) count }
-    ensures { result ≡ any_up count (crossing_at size xs.now ys.now edges.now a b u v) }
-{
-    index::any_item(pool, key_rects::edge_rect(size, a, b), count, |k| {
-        let (c, d) = ends_of(edges, k);
-        crosses_at(size, xs, ys, a, b, u, v, c, d)
-    })
-}
-
-// Whether one of the first `count` edges joins u and v, u the smaller: a walk of the cell of u. Where the spans of such an edge are above 4,096 it is
-// filed nowhere, and all edges are searched.
-pub fn is_known(
-    pool: &[u32],
-    size: f64,
-    xs: &[f64],
-    ys: &[f64],
-    edges: &[u32],
-    count: usize,
-    u: u32,
-    v: u32,
-) -> bool
-    requires { (2 * count ≤ length edges.now) × Indexed pool.now (edge_rects size xs.now ys.now edges.now) count }
-    ensures { result ≡ any_up count (edge_is edges.now u v) }
-{
-    let bucket = 2.0 * size;
-    let m = geometry::key_of(bucket, front::node_at(xs, ys, u));
-    let n = geometry::key_of(bucket, front::node_at(xs, ys, v));
-    let joins = |k| ends_of(edges, k) == (u, v);
-    if !geometry::spans_kept(m, n) {
-        return (0..count).any(joins);
+impl Pools<'_> {
+    // Whether some node is too close to p: a walk round its key.
+    pub fn any_close(self, size: f64, mesh: &Mesh<'_>, p: Point) -> bool
+        requires { Indexed self.nodes.now (node_rects size mesh.now.xs.now mesh.now.ys.now) mesh.now.counts.nodes }
+        ensures { result ≡ any_up mesh.now.counts.nodes (close_at size mesh.now.xs.now mesh.now.ys.now p) }
+    {
+        let radius = Settings::CLEARANCE * size;
+        let radius2 = radius * radius;
+        let key = geometry::key_of(size, p);
+        let nodes = mesh.counts.nodes as usize;
+        index::any_item(self.nodes, key_rects::rect_around(key), nodes, |id| {
+            geometry::too_close_at(key, p, radius2, size, mesh.node(id as u32))
+        })
     }
-    index::any_item(pool, key_rects::rect_at(m), count, joins)
-}
 
-// Whether the far corners are joined already. Only two reused ones can be: they alone are searched for.
-pub fn is_known_across(
-    pool: &[u32],
-    size: f64,
-    xs: &[f64],
-    ys: &[f64],
-    edges: &[u32],
-    n: usize,
-    c: Corner,
-    d: Corner,
-) -> bool
-    requires { (2 * n ≤ length edges.now) × Indexed pool.now (edge_rects size xs.now ys.now edges.now) n }
-    ensures { result ≡ known_across edges.now n c d }
-{
-    let (Corner::Reused(u), Corner::Reused(v)) = (c, d) else {
-        return false;
-    };
-    is_known(pool, size, xs, ys, edges, n, v.min(u), v.max(u))
+    // Whether some node other than the corners lies in the quad p: a walk of its key rectangle.
+    pub fn any_inside(self, size: f64, mesh: &Mesh<'_>, p: Corners, ids: QuadIds) -> bool
+        requires { Indexed self.nodes.now (node_rects size mesh.now.xs.now mesh.now.ys.now) mesh.now.counts.nodes }
+        ensures { result ≡ any_up mesh.now.counts.nodes (inside_at size mesh.now.xs.now mesh.now.ys.now p ids.a ids.b ids.d ids.c) }
+    {
+        let low = geometry::key_of(size, geometry::lowest(p));
+        let high = geometry::key_of(size, geometry::highest(p));
+        let nodes = mesh.counts.nodes as usize;
+        index::any_item(self.nodes, key_rects::rect_of(low, high), nodes, |id| {
+            blocks_at(size, p, ids, id as u32, mesh.node(id as u32))
+        })
+    }
+
+    // Whether some edge crosses the new one: a walk of its key rectangle, of no key where its spans are above 4,096.
+    pub fn any_crossing(self, size: f64, mesh: &Mesh<'_>, new: NewEdge) -> bool
+        requires { (2 * mesh.now.counts.edges ≤ length mesh.now.edges.now)
+            × Indexed self.edges.now (edge_rects size mesh.now.xs.now mesh.now.ys.now mesh.now.edges.now) mesh.now.counts.edges }
+        ensures { result ≡ any_up mesh.now.counts.edges
+            (crossing_at size mesh.now.xs.now mesh.now.ys.now mesh.now.edges.now new.a new.b new.u new.v) }
+    {
+        let rect = key_rects::edge_rect(size, new.a, new.b);
+        index::any_item(self.edges, rect, mesh.counts.edges, |k| {
+            let (c, d) = ends_of(mesh, k);
+            crosses_at(size, mesh, new, c, d)
+        })
+    }
+
+    // Whether an edge joins u and v, u the smaller: a walk of the cell of u. Where the spans of such an edge are above 4,096 it is filed nowhere, and
+    // all edges are searched.
+    pub fn is_known(self, size: f64, mesh: &Mesh<'_>, u: u32, v: u32) -> bool
+        requires { (2 * mesh.now.counts.edges ≤ length mesh.now.edges.now)
+            × Indexed self.edges.now (edge_rects size mesh.now.xs.now mesh.now.ys.now mesh.now.edges.now) mesh.now.counts.edges }
+        ensures { result ≡ any_up mesh.now.counts.edges (edge_is mesh.now.edges.now u v) }
+    {
+        let bucket = 2.0 * size;
+        let m = geometry::key_of(bucket, mesh.node(u));
+        let n = geometry::key_of(bucket, mesh.node(v));
+        let count = mesh.counts.edges;
+        let joins = |k| ends_of(mesh, k) == (u, v);
+        if !geometry::spans_kept(m, n) {
+            return (0..count).any(joins);
+        }
+        index::any_item(self.edges, key_rects::rect_at(m), count, joins)
+    }
+
+    // Whether the far corners are joined already. Only two reused ones can be: they alone are searched for.
+    pub fn is_known_across(self, size: f64, mesh: &Mesh<'_>, c: Corner, d: Corner) -> bool
+        requires { (2 * mesh.now.counts.edges ≤ length mesh.now.edges.now)
+            × Indexed self.edges.now (edge_rects size mesh.now.xs.now mesh.now.ys.now mesh.now.edges.now) mesh.now.counts.edges }
+        ensures { result ≡ known_across mesh.now.edges.now mesh.now.counts.edges c d }
+    {
+        let (Corner::Reused(u), Corner::Reused(v)) = (c, d) else {
+            return false;
+        };
+        self.is_known(size, mesh, v.min(u), v.max(u))
+    }
 }

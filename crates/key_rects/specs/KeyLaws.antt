@@ -1,11 +1,8 @@
 -- Laws of shifted keys: they stay in order, no two move apart, and rectangles that overlap as keys meet as shifted keys.
-use Rattle.std.specs.Prelude.{Bool, true, false, cond, ◌&&◌, ◌≡◌, ℕ, zero, suc, ◌+◌, ◌-◌, ◌≤◌, min, max, leb, ℤ, pos, negsuc, ◌+ℤ◌, Float}
+use Rattle.std.specs.Prelude.{Bool, true, false, cond, ◌&&◌, ◌≡◌, ℕ, zero, suc, ◌+◌, ◌≤◌, min, max, leb, ℤ, pos, negsuc, ◌+ℤ◌, Float}
 use Rattle.std.proofs.Common.{true≢false, sym, ap, ◌∙◌, arith, leb-true, leb-false, le-ltb}
 use Rattle.std.proofs.Math.IntN.{pos-+ℤ-pos}
 use Rattle.std.specs.Int.Signed.{le_z}
-use Rattle.std.specs.Int.{int_min, int_max}
-use Rattle.std.proofs.lemmas.Int.{ints}
-use Rattle.std.proofs.lemmas.Bool.Decides.{nat_tests}
 use Rattle.laws.specs.Tests.{both}
 use Rattle.domain.specs.declared.Point.{Point}
 use Rattle.geometry.specs.declared.Key.{Key}
@@ -32,11 +29,6 @@ pub shifted_mid : (k : ℤ) → le_z k (negsuc 1048575) ≡ false → le_z (pos 
 unfolding shifted
 shifted_mid (pos n) e f = let h = leb-false 1048576 n f in pos-+ℤ-pos n 1048578 ∙ ap pos (omega arith)
 shifted_mid (negsuc n) e f = let h = leb-false 1048575 n e in rw (le-ltb 1048578 (suc n) (omega arith)) (ap pos (omega arith))
-
-pub shifted_clamped : (k : ℤ) → int_max (negsuc 1048575) (int_min k (pos 1048576)) +ℤ pos 1048578 ≡ pos (shifted k)
-unfolding shifted
-shifted_clamped (pos n) = grind (arith, ints, nat_tests)
-shifted_clamped (negsuc n) = grind (arith, ints, nat_tests)
 
 pub shifted_range : (k : ℤ) → (2 ≤ shifted k) × (shifted k ≤ 2097154)
 unfolding shifted

@@ -1,7 +1,7 @@
 // A mesh as it is lent: its counts, which stop at the last whole node and quad, and its quads by their four ids.
 #![tactic(auto)]
 
-ghost use Rattle.std.specs.Prelude.{◌≡◌, ◌<◌, ◌≤◌, get_or};
+ghost use Rattle.std.specs.Prelude.{◌≡◌, ◌<◌, ◌≤◌, ◌||◌, eqb, get_or};
 ghost use Rattle.lent_mesh.specs.Mesh.{node_count_of, quad_count_of, quad_in, mesh_lent, quad_of};
 
 use domain::Settings;
@@ -13,6 +13,15 @@ pub struct QuadIds {
     pub b: u32,
     pub d: u32,
     pub c: u32,
+}
+
+impl QuadIds {
+    // Whether one of the four is id.
+    pub fn has(self, id: u32) -> bool
+        ensures { result ≡ (eqb self.a id || (eqb self.b id || (eqb self.d id || eqb self.c id))) }
+    {
+        [self.a, self.b, self.d, self.c].contains(&id)
+    }
 }
 
 // A mesh where its coordinates don't matter: its nodes, counted as they stop, and its quads as they are lent.

@@ -1,10 +1,9 @@
 -- The definitions of Listing by the cases that the code tells apart.
-use Rattle.std.specs.Prelude.{◌≡◌, refl, cond, List, [], ◌∷◌, ◌++◌, ℕ, zero, suc, ◌+◌, ◌-◌, ◌/◌, ◌%◌, ◌^◌, ◌≤◌, ◌<◌, ltb, Float}
+use Rattle.std.specs.Prelude.{◌≡◌, refl, cond, List, [], ◌∷◌, ◌++◌, ℕ, zero, suc, ◌+◌, ◌-◌, ◌/◌, ◌%◌, ◌^◌, ◌≤◌, ◌<◌, ltb}
 use Rattle.std.proofs.Math.Path.{ap}
 use Prim.Native.Char.{code}
 use Rattle.std.proofs.Common.{pow-suc, arith, lt-ltb, le-ltb}
-use Rattle.listing.specs.declared.Heading.{Heading}
-use Rattle.listing.specs.Listing.{decimal_of, decimal, hex_of, hex_digit, end_word, refused_listing, mesh_listing, listing}
+use Rattle.listing.specs.Listing.{decimal_of, decimal, hex_of, hex_digit, end_word}
 
 -- ---- digits
 
@@ -41,16 +40,3 @@ end_full zero h₀ h₁ h₂ = absurd (h₀ refl)
 end_full (suc zero) h₀ h₁ h₂ = absurd (h₁ refl)
 end_full (suc (suc zero)) h₀ h₁ h₂ = absurd (h₂ refl)
 end_full (suc (suc (suc n))) h₀ h₁ h₂ = refl
-
--- ---- refused, or a mesh
-
-module _ (n : ℕ) (h : Heading) (xs ys : List Float) (quads loops lengths : List ℕ) where
-  pub listing_mesh : n ≡ 0 → listing n h xs ys quads loops lengths ≡ mesh_listing h xs ys quads loops lengths
-  unfolding listing
-  listing_mesh e = ap (λ (k : ℕ). listing k h xs ys quads loops lengths) e
-
-pub listing_refused : (n : ℕ) (h : Heading) (xs ys : List Float) (quads loops lengths : List ℕ) → (n ≡ 0 → ⊥)
-    → listing n h xs ys quads loops lengths ≡ refused_listing n
-unfolding listing
-listing_refused zero h xs ys quads loops lengths e = absurd (e refl)
-listing_refused (suc n) h xs ys quads loops lengths e = refl

@@ -1,5 +1,5 @@
 -- Worked listings, byte for byte: document 01's square, a mesh with two loops left open, one with no loop that is open all the same, and a refusal.
-use Rattle.std.specs.Prelude.{◌≡◌, refl, true, false, [], ◌∷◌, ◌++◌, Float}
+use Rattle.std.specs.Prelude.{◌≡◌, refl, true, false, [], ◌∷◌, ◌++◌, Float, Ok, Err}
 use Rattle.std.specs.Float.{binary64}
 use Rattle.std.specs.Float.Ieee.{of_bits, to_bits}
 use Rattle.listing.specs.Text.{ascii}
@@ -26,7 +26,7 @@ abbrev f : Float
 f = of_bits binary64 0x4010_0000_0000_0000
 
 -- Document 01's square as the run leaves it, in lists of ten nodes and five quads.
-square_listed : listing 0 (heading 9 4 2 0 true 0)
+square_listed : listing (Ok (heading 9 4 2 0 true 0))
     (o ∷ i ∷ t ∷ t ∷ t ∷ i ∷ o ∷ o ∷ i ∷ f ∷ []) (o ∷ o ∷ o ∷ i ∷ t ∷ t ∷ t ∷ i ∷ i ∷ f ∷ [])
     (0 ∷ 1 ∷ 8 ∷ 7 ∷ 1 ∷ 2 ∷ 3 ∷ 8 ∷ 3 ∷ 4 ∷ 5 ∷ 8 ∷ 5 ∷ 6 ∷ 7 ∷ 8 ∷ 7 ∷ 7 ∷ 7 ∷ 7 ∷ []) (7 ∷ []) (7 ∷ [])
     ≡ ascii "mesh 9 4 2 still whole\n"
@@ -47,7 +47,7 @@ unfolding opened
 square_listed = refl
 
 -- One node, no quad, and two loops, of four ids and three.
-loops : listing 0 (heading 1 0 1234567 3 false 2) (i ∷ o ∷ []) (t ∷ o ∷ []) (1 ∷ 2 ∷ 3 ∷ 4 ∷ [])
+loops : listing (Ok (heading 1 0 1234567 3 false 2)) (i ∷ o ∷ []) (t ∷ o ∷ []) (1 ∷ 2 ∷ 3 ∷ 4 ∷ [])
     (0 ∷ 10 ∷ 101 ∷ 799 ∷ 2 ∷ 3 ∷ 4 ∷ 5 ∷ []) (4 ∷ 3 ∷ 1 ∷ [])
     ≡ ascii "mesh 1 0 1234567 full open\n"
     ++ ascii "n 3ff0000000000000 4000000000000000\n"
@@ -57,10 +57,10 @@ unfolding opened
 loops = refl
 
 -- Nothing is listed, and the outline is unsound: only the first line says so.
-unsound : listing 0 (heading 1 0 2 0 false 0) (i ∷ []) (t ∷ []) [] [] [] ≡ ascii "mesh 1 0 2 still open\n" ++ ascii "n 3ff0000000000000 4000000000000000\n"
+unsound : listing (Ok (heading 1 0 2 0 false 0)) (i ∷ []) (t ∷ []) [] [] [] ≡ ascii "mesh 1 0 2 still open\n" ++ ascii "n 3ff0000000000000 4000000000000000\n"
 unfolding opened
 unsound = refl
 
-refused : listing 13 (heading 0 0 0 0 false 0) [] [] [] [] [] ≡ ascii "refused 13\n"
+refused : listing (Err 13) [] [] [] [] [] ≡ ascii "refused 13\n"
 unfolding opened
 refused = refl

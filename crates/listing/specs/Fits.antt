@@ -1,5 +1,5 @@
 -- How long a listing is at most, whatever the lists hold, and what a buffer with room for it holds.
-use Rattle.std.specs.Prelude.{◌≡◌, refl, Bool, true, false, cond, List, [], ◌∷◌, ◌++◌, ltb, Float, length, take, drop, replicate}
+use Rattle.std.specs.Prelude.{◌≡◌, refl, Bool, true, false, cond, List, [], ◌∷◌, ◌++◌, ltb, Float, length, take, drop, replicate, Result, Ok, Err}
 use Rattle.std.proofs.Common.{ap, ◌∙◌, length-drop}
 use Prim.Native.Nat.{ℕ, zero, suc, ◌+◌, ◌*◌, ◌/◌, ◌%◌, ◌≤◌, min}
 use Prim.Native.Char.{code}
@@ -108,11 +108,24 @@ module _ (h : Heading) (xs ys : List Float) (quads loops lengths : List ℕ) whe
       ))
 
   -- The program lends 800 nodes and 800 quads: no listing of its lists is longer than this.
-  pub listing_fits : (n : ℕ) → length xs ≤ 800 → length quads ≤ 3200 → length loops ≤ 800 → length lengths ≤ 800
-      → length (listing n h xs ys quads loops lengths) ≤ 117681
+  pub mesh_fits : length xs ≤ 800 → length quads ≤ 3200 → length loops ≤ 800 → length lengths ≤ 800
+      → length (mesh_listing h xs ys quads loops lengths) ≤ 117681
+  mesh_fits hx hq hl hn = omega (arith, mesh_length)
+
+pub refused_fits : (n : ℕ) → length (refused_listing n) ≤ 117681
+refused_fits n = omega (arith, refused_length n)
+
+module _ (r : Result Heading ℕ) (xs ys : List Float) (quads loops lengths : List ℕ) where
+  -- The same of both.
+  pub listing_fits : length xs ≤ 800 → length quads ≤ 3200 → length loops ≤ 800 → length lengths ≤ 800
+      → length (listing r xs ys quads loops lengths) ≤ 117681
   unfolding listing
-  listing_fits zero hx hq hl hn = omega (arith, mesh_length)
-  listing_fits (suc n) hx hq hl hn = omega (arith, refused_length (suc n))
+  listing_fits = by r
+    where
+      by : (r : Result Heading ℕ) → length xs ≤ 800 → length quads ≤ 3200 → length loops ≤ 800 → length lengths ≤ 800
+          → length (listing r xs ys quads loops lengths) ≤ 117681
+      by (Ok h) hx hq hl hn = mesh_fits h xs ys quads loops lengths hx hq hl hn
+      by (Err n) hx hq hl hn = refused_fits n
 
 -- ---- the buffer
 

@@ -1,6 +1,6 @@
 -- The listing: the bytes that the program prints (document 01, "File and listing"), from what the run answers and the lists as it leaves
 -- them. Definitions only.
-use Rattle.std.specs.Prelude.{Bool, cond, List, [], ◌∷◌, ◌++◌, ℕ, zero, suc, ◌+◌, ◌-◌, ◌/◌, ◌%◌, min, ltb, length, take, drop, replicate, Float}
+use Rattle.std.specs.Prelude.{Bool, cond, List, [], ◌∷◌, ◌++◌, ℕ, zero, suc, ◌+◌, ◌-◌, ◌/◌, ◌%◌, min, ltb, length, take, drop, replicate, Float, Result, Ok, Err}
 use Prim.Native.Char.{code}
 use Rattle.std.specs.Float.{binary64}
 use Rattle.std.specs.Float.Ieee.{to_bits}
@@ -95,7 +95,7 @@ unfoldable pub mesh_listing : Heading → List Float → List Float → List ℕ
 mesh_listing h xs ys quads loops lengths =
     head_line h ++ node_lines (take h.nodes xs) (take h.nodes ys) ++ quad_lines h.quads quads ++ loop_lines (take h.loops lengths) loops
 
--- refused, or a mesh: 0 is no refusal
-unfoldable pub listing : ℕ → Heading → List Float → List Float → List ℕ → List ℕ → List ℕ → List ℕ
-listing zero h xs ys quads loops lengths = mesh_listing h xs ys quads loops lengths
-listing (suc n) h xs ys quads loops lengths = refused_listing (suc n)
+-- refused, or a mesh
+unfoldable pub listing : Result Heading ℕ → List Float → List Float → List ℕ → List ℕ → List ℕ → List ℕ
+listing (Ok h) xs ys quads loops lengths = mesh_listing h xs ys quads loops lengths
+listing (Err number) xs ys quads loops lengths = refused_listing number

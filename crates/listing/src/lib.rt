@@ -6,7 +6,7 @@ ghost use Rattle.listing.specs.Text.{ascii};
 ghost use Rattle.listing.specs.Buffer.{buffer, buffer_written};
 ghost use Rattle.listing.specs.Output.{Started, Put};
 ghost use Rattle.listing.specs.Listing.{decimal, hex_digit, hex_of, spaced, row, node_line, node_lines, quad_lines, loop_lines};
-ghost use Rattle.listing.specs.Listing.{end_word, head_line, refused_listing, mesh_listing, listing};
+ghost use Rattle.listing.specs.Listing.{end_word, head_line, refused_listing, mesh_listing};
 
 use std::num;
 
@@ -16,10 +16,20 @@ pub struct Heading {
     pub nodes: u32,
     pub quads: usize,
     pub front: usize,
-    // Stays a number: the enum `End` is in `paving`, on which a listing needn't depend.
+    // Stays a number: each number has its word, from 3 on `full`, and the enum would take fewer.
     pub end: u32,
     pub whole: bool,
     pub loops: usize,
+}
+
+// The lists of a mesh as a listing reads them: of each only what the heading counts.
+#[derive(Clone, Copy)]
+pub struct MeshLists<'a> {
+    pub xs: &'a [f64],
+    pub ys: &'a [f64],
+    pub quads: &'a [u32],
+    pub loops: &'a [u32],
+    pub lengths: &'a [u32],
 }
 
 // ---- the buffer
@@ -185,7 +195,8 @@ fn end_word(end: u32) -> &'static [u8]
 
 // ---- the listing
 
-// The listing of a refusal. The answer is how many bytes are written, as of the two below.
+// The listing of a refusal. The answer is how many bytes are written, as of the one below.
+// Stays a number: any number is listed, and the enum would take fewer.
 pub fn write_refused(out: &mut [u8], number: u32) -> usize
     ensures { buffer out.new result ≡ buffer_written (refused_listing number) out.old }
 {
@@ -197,45 +208,15 @@ pub fn write_refused(out: &mut [u8], number: u32) -> usize
 }
 
 // The listing of a mesh, in the lists as the run leaves them.
-pub fn write_mesh(
-    out: &mut [u8],
-    h: Heading,
-    xs: &[f64],
-    ys: &[f64],
-    quads: &[u32],
-    loops: &[u32],
-    lengths: &[u32],
-) -> usize
+pub fn write_mesh(out: &mut [u8], h: Heading, lists: MeshLists<'_>) -> usize
     ensures { buffer out.new result
-        ≡ buffer_written (mesh_listing h xs.now ys.now quads.now loops.now lengths.now)
+        ≡ buffer_written (mesh_listing h lists.entry.xs.now lists.entry.ys.now lists.entry.quads.now lists.entry.loops.now lists.entry.lengths.now)
         out.old }
 {
     let mut output = Output::new(out);
     output.put_heading(h);
-    output.put_nodes(h.nodes as usize, xs, ys);
-    output.put_quads(h.quads, quads);
-    output.put_loops(h.loops, lengths, loops);
+    output.put_nodes(h.nodes as usize, lists.xs, lists.ys);
+    output.put_quads(h.quads, lists.quads);
+    output.put_loops(h.loops, lists.lengths, lists.loops);
     output.used
-}
-
-// The listing of what the run answers: `refusal` is 0 where nothing is refused.
-// Stays a number: the run's answer has it beside its counts, and a `Result` would only be made here to be taken apart.
-pub fn write_listing(
-    out: &mut [u8],
-    refusal: u32,
-    h: Heading,
-    xs: &[f64],
-    ys: &[f64],
-    quads: &[u32],
-    loops: &[u32],
-    lengths: &[u32],
-) -> usize
-    ensures { buffer out.new result
-        ≡ buffer_written (listing refusal h xs.now ys.now quads.now loops.now lengths.now)
-        out.old }
-{
-    if refusal == 0 {
-        return write_mesh(out, h, xs, ys, quads, loops, lengths);
-    }
-    write_refused(out, refusal)
 }

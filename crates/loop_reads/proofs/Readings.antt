@@ -1,8 +1,8 @@
 -- What a link reads, when two nodes are linked to each other, what is found as loop k, and what reading it answers with its refusal and its length.
-use Rattle.std.specs.Prelude.{Bool, ◌≢◌, ◌≡◌, refl, ℕ, zero, suc, ◌<◌, ◌≤◌, eqb, ltb, length, get_or, take}
+use Rattle.std.specs.Prelude.{Bool, not, ◌≢◌, ◌≡◌, refl, ℕ, zero, suc, ◌+◌, ◌<◌, ◌≤◌, eqb, ltb, length, get_or, take}
 use Rattle.std.proofs.Math.Bool.{true, false, cond}
 use mathlib.Core.List.{List, [], ◌∷◌, ◌++◌}
-use Rattle.std.proofs.Common.{sym, ◌∙◌}
+use Rattle.std.proofs.Common.{sym, ◌∙◌, length-append, length-drop, length-take-le}
 use Rattle.std.proofs.Math.Path.{ap}
 use native.Mathlib.Omega.{arith}
 use Rattle.std.proofs.Math.ListN.{drop, get_or-eq_default}
@@ -13,7 +13,8 @@ use Rattle.topology.specs.Walk.{walk_by}
 use Rattle.topology.specs.Listing.{walks}
 use Rattle.laws.specs.Overlay.{overlay}
 use Rattle.loop_reads.specs.declared.FoundLoop.{FoundLoop}
-use Rattle.loop_reads.specs.Code.{FoundAt, Finding, finding_end, finding_hit, Writable}
+use Rattle.loop_reads.specs.Code.{FoundAt, Finding, finding_end, finding_hit, Writable, Writing}
+use Rattle.laws.specs.Loop.{Scan, scan_hit, scan_next, scan_none}
 use Rattle.exam_loops.specs.Loops.{links_back, are_paired, links_sound, linked_loops, loop_numbered, loop_reading, loop_read, read_into, read_loop}
 
 -- ---- links
@@ -49,6 +50,23 @@ module _ (n : ℕ) (next prev : List ℕ) where
     unfolding are_paired
     pair_if t w g s forth = rw (← e, ← back, t, ← g) forth
 
+module _ (n : ℕ) (next prev : List ℕ) where
+  -- the links of the nodes below u are answered
+  abbrev pub Paired : ℕ → Type 0
+  Paired u = Scan (λ v. not (are_paired n next prev v)) n u
+
+  module _ {u : ℕ} (s : Paired u) where
+    pub paired_not : u < n → (r : Bool) → r ≡ are_paired n next prev u → r ≡ false → false ≡ links_sound n next prev
+    unfolding links_sound
+    paired_not h r e f = ap not (scan_hit (λ v. not (are_paired n next prev v)) s h (ap not (sym e ∙ f)))
+
+    pub paired_next : u < n → (r : Bool) → r ≡ are_paired n next prev u → r ≡ true → Paired (u + 1)
+    paired_next h r e t = scan_next (λ v. not (are_paired n next prev v)) s h (ap not (sym e ∙ t))
+
+    pub paired_all : n ≤ u → true ≡ links_sound n next prev
+    unfolding links_sound
+    paired_all h = ap not (scan_none (λ v. not (are_paired n next prev v)) s h)
+
 -- ---- loop k
 
 -- loop k of the walks along f, where it starts and how many ids it has; no ids where there is none
@@ -70,6 +88,27 @@ module _ (f : ℕ → ℕ) (n k : ℕ) where
 
     pub hit_is_loop : u < n → (m : ℕ) → m ≡ length (walk_by f n u u) → 3 ≤ m → left ≡ 0 → IsLoop f n k (found_loop u m)
     hit_is_loop h m e long none = found_is_loop (finding_hit f n k s h m e long none)
+
+-- ---- the ids written
+
+-- as many places as there were
+module _ (f : ℕ → ℕ) (n start count : ℕ) (reply₀ : List ℕ) where
+  abbrev w : List ℕ
+  w = walk_by f n start start
+
+  module _ (can : Writable (walk_by f n start start) count reply₀) {reply : List ℕ} {u i : ℕ}
+      (s : Writing (walk_by f n start start) count reply₀ reply u i) where
+    pub writing_length : length reply ≡ length reply₀
+    writing_length =
+        omega (
+          arith,
+          ap length s.same,
+          length-append (take i w) (drop i reply₀),
+          length-take-le i w (omega (arith, s.within, can.ids)),
+          length-drop i reply₀,
+          s.within,
+          can.places,
+        )
 
 -- ---- the reading
 

@@ -1,42 +1,23 @@
 -- What the code's loops and branches go by.
-use Rattle.std.specs.Prelude.{Bool, ◌≢◌, ◌≡◌, refl, ℕ, zero, suc, ◌+◌, ◌-◌, ◌<◌, ◌≤◌, length, get_or, set, take, Option, MatchOption, Ok, Err}
-use Rattle.std.proofs.Math.Bool.{true, false, not}
+use Rattle.std.specs.Prelude.{◌≢◌, ◌≡◌, refl, ℕ, zero, suc, ◌+◌, ◌-◌, ◌<◌, ◌≤◌, leb, length, get_or, set, take, Option, Some, None, MatchOption, Ok, Err}
+use Rattle.std.proofs.Math.Bool.{true, false, cond}
 use mathlib.Core.List.{List, [], ◌∷◌, ◌++◌}
-use Rattle.std.proofs.Common.{sym, ◌∙◌, add-one, length-append, length-drop, length-take-le}
+use Rattle.std.proofs.Common.{sym, ◌∙◌, add-one, length-append}
 use Rattle.std.proofs.Math.Path.{ap}
 use native.Mathlib.Omega.{arith}
 use Rattle.std.proofs.Math.ListN.{drop}
 use Rattle.std.proofs.Math.Seq.{take-length}
 use borrow.Author.Tests.{lt-ltb, le-ltb}
-use Rattle.laws.specs.Loop.{for_up, Scan, scan_hit, scan_next, scan_none}
+use Rattle.laws.specs.Loop.{for_up}
 use Rattle.topology.specs.Links.{off, link_of}
 use Rattle.topology.specs.Walk.{walk_by, prepend, walk_off}
 use Rattle.topology.specs.Listing.{long_loops, walks}
 use Rattle.laws.specs.Overlay.{overlay}
 use Rattle.loop_reads.specs.declared.FoundLoop.{FoundLoop}
-use Rattle.exam_loops.specs.Loops.{are_paired, links_sound, linked_loops, loop_numbered, loop_reading, read_into, read_loop}
+use Rattle.exam_loops.specs.Loops.{links_sound, linked_loops, loop_numbered, loop_reading, read_into, read_loop}
 use Rattle.exam_loops.specs.Walks.{walk_under, walk_closed, walk_onward, walk_first, walk_along}
 use Rattle.exam_loops.proofs.Walks.{starts_none}
 use Rattle.exam_loops.specs.Walks.{numbered_last, numbered_past, listing_long, listing_short, listing_stays}
-
--- ---- links
-
-module _ (n : ℕ) (next prev : List ℕ) where
-  -- the invariant of `links_sound`: the links of the nodes below u are answered
-  abbrev pub Paired : ℕ → Type 0
-  Paired u = Scan (λ v. not (are_paired n next prev v)) n u
-
-  module _ {u : ℕ} (s : Paired u) where
-    pub paired_not : u < n → (r : Bool) → r ≡ are_paired n next prev u → r ≡ false → false ≡ links_sound n next prev
-    unfolding links_sound
-    paired_not h r e f = ap not (scan_hit (λ v. not (are_paired n next prev v)) s h (ap not (sym e ∙ f)))
-
-    pub paired_next : u < n → (r : Bool) → r ≡ are_paired n next prev u → r ≡ true → Paired (u + 1)
-    paired_next h r e t = scan_next (λ v. not (are_paired n next prev v)) s h (ap not (sym e ∙ t))
-
-    pub paired_all : n ≤ u → true ≡ links_sound n next prev
-    unfolding links_sound
-    paired_all h = ap not (scan_none (λ v. not (are_paired n next prev v)) s h)
 
 -- ---- how many nodes a walk takes
 
@@ -49,6 +30,27 @@ prepend_length : (u : ℕ) (l : List ℕ) → length (prepend u l) ≡ walk_afte
 unfolding prepend walk_after
 prepend_length u [] = refl
 prepend_length u (x ∷ l) = omega arith
+
+-- how many nodes a walk takes; none where it takes none
+abbrev pub some_length : List ℕ → Option ℕ
+some_length [] = None
+some_length (x ∷ w) = Some (length (x ∷ w))
+
+pub length_none : (w : List ℕ) → 0 ≡ length w → None ≡ some_length w
+length_none [] e = refl
+length_none (x ∷ w) e = absurd (omega (arith, e))
+
+pub length_some : (w : List ℕ) (m : ℕ) → m ≡ length w → 0 < m → Some m ≡ some_length w
+length_some [] m e h = absurd (omega (arith, e))
+length_some (x ∷ w) m e h = ap Some e
+
+pub none_length : (w : List ℕ) → None ≡ some_length w → length w ≡ 0
+none_length [] e = refl
+none_length (x ∷ w) e = cc
+
+pub some_length_lem : (w : List ℕ) {m : ℕ} → Some m ≡ some_length w → m ≡ length w
+some_length_lem [] e = cc
+some_length_lem (x ∷ w) e = cc
 
 after_none : (m : ℕ) → walk_after 0 m ≡ m
 unfolding walk_after
@@ -121,6 +123,10 @@ low_none n next prev sound u few v e low = sym (starts_none n next prev sound u 
 pub record FoundAt (f : ℕ → ℕ) (n k : ℕ) (r : FoundLoop) : Type 0 where
   pub long : r.length ≡ length (walk_by f n r.start r.start)
   pub walk : walk_by f n r.start r.start ≡ loop_numbered (walks 3 n n f) k
+
+-- the loop from u, where it has three nodes or more
+abbrev pub long_from : (ℕ → ℕ) → ℕ → ℕ → Option FoundLoop
+long_from f n u = cond (leb 3 (length (walk_by f n u u))) (Some (record { start = u; length = length (walk_by f n u u) })) None
 
 -- none where it has no id
 abbrev pub Found : (ℕ → ℕ) → ℕ → ℕ → Option FoundLoop → Type 0
@@ -206,18 +212,6 @@ module _ (f : ℕ → ℕ) (n start count : ℕ) (reply₀ : List ℕ) where
 
   module _ (can : Writable (walk_by f n start start) count reply₀) {reply : List ℕ} {u i : ℕ}
       (s : Writing (walk_by f n start start) count reply₀ reply u i) where
-    pub writing_length : length reply ≡ length reply₀
-    writing_length =
-        omega (
-          arith,
-          ap length s.same,
-          length-append (take i w) (drop i reply₀),
-          length-take-le i w (omega (arith, s.within, can.ids)),
-          length-drop i reply₀,
-          s.within,
-          can.places,
-        )
-
     pub writing_next : i < count → (v : ℕ) → v ≡ f u → Writing (walk_by f n start start) count reply₀ (set reply i u) v (i + 1)
     writing_next h v e =
         let here : u ≡ get_or w i 0 = s.node (omega (arith, can.ids)) in

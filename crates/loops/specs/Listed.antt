@@ -9,6 +9,7 @@ use Rattle.topology.specs.Front.{Loops}
 use Rattle.topology.specs.Listing.{walks}
 use Rattle.front.specs.declared.Counts.{Counts}
 use Rattle.loops.specs.declared.Listed.{Listed}
+use Rattle.loops.specs.declared.LoopLists.{LoopLists}
 
 -- The lists that `front_loops` changes, and its answer. `marks` is the list of a pass's snapshot, which is scratch by then.
 pub record Lists : Type 0 where
@@ -19,6 +20,16 @@ pub record Lists : Type 0 where
 
 abbrev pub lists : List ℕ → List ℕ → List ℕ → Listed → Lists
 lists marks loops lengths listed = record { marks = marks; loops = loops; lengths = lengths; listed = listed }
+
+-- the lists that are lent, and what is listed so far
+abbrev pub listed_so_far : LoopLists → Lists
+listed_so_far p = lists p.marks.now p.loops.now p.lengths.now p.listed
+
+-- q has the lists that p has
+pub record SameLoopLists (p q : LoopLists) : Type 0 where
+  pub marks : q.marks.ghost_name ≡ p.marks.ghost_name
+  pub loops : q.loops.ghost_name ≡ p.loops.ghost_name
+  pub lengths : q.lengths.ghost_name ≡ p.lengths.ghost_name
 
 -- so many loops, with so many ids in all of them
 abbrev pub listed_of : ℕ → ℕ → Listed

@@ -2,14 +2,14 @@
 #![tactic(auto)]
 
 ghost use Rattle.std.specs.Prelude.{◌≡◌, ◌≤◌, length};
-ghost use Rattle.loops.specs.Listed.{lists, listed_in, Listable};
+ghost use Rattle.loops.specs.Listed.{lists, listed_of, listed_so_far, SameLoopLists, listed_in, Listable};
 ghost use Rattle.loops.specs.Walked.{walk_in, Walkable, Walked};
 ghost use Rattle.loops.specs.Visits.{loop_visited, visit_all, Visitable, Startable};
 ghost use Rattle.loops.specs.ListedLaws.{cleared_marks};
 
 use front::{Counts, OFF};
 
-// How many loops are listed, and how many ids in all of them. A paving is whole where `count` is 0.
+// How many loops are listed, and how many ids in all of them. A run is whole where `count` is 0 and its outline is sound (`soundness::is_whole`).
 #[derive(Clone, Copy)]
 pub struct Listed {
     pub count: usize,
@@ -24,77 +24,77 @@ fn clear_marks(marks: &mut [u32], n: usize)
     marks[..n].fill(0);
 }
 
-// Walks along the loop from `start`, marks its nodes and writes their ids from place `at` on. The answer is the place after them.
-fn list_loop(next: &[u32], marks: &mut [u32], loops: &mut [u32], start: u32, at: usize) -> usize
-    requires { Walkable next.now marks.old loops.old start at }
-    ensures { Walked next.now marks.old loops.old start at marks.new loops.new result }
-{
-    let mut u = start;
-    let mut i = at;
-    // Stays a `loop`: the next node is where the link leads, so no range has it.
-    loop {
-        let node = u as usize;
-        marks[node] = 1;
-        loops[i] = u;
-        i += 1;
-        u = next[node];
-        if u == start {
-            return i;
+// The lists that the loops are written into, and what is listed so far.
+#[derive(Drop)]
+struct LoopLists<'a> {
+    marks: &'a mut [u32],
+    loops: &'a mut [u32],
+    lengths: &'a mut [u32],
+    listed: Listed,
+}
+
+impl<'a> LoopLists<'a> {
+    // Walks along the loop from `start`, marks its nodes and writes their ids past those listed. The answer is the place after them.
+    fn write_loop(&mut self, next: &[u32], start: u32) -> usize
+        requires { Walkable next.now self.old.marks.now self.old.loops.now start self.old.listed.ids }
+        ensures same { SameLoopLists self.old self.new }
+        ensures walked { Walked next.now self.old.marks.now self.old.loops.now start self.old.listed.ids self.new.marks.now self.new.loops.now result }
+        ensures rest { (self.new.lengths.now ≡ self.old.lengths.now) × (self.new.listed ≡ self.old.listed) }
+    {
+        let mut u = start;
+        let mut i = self.listed.ids;
+        // Stays a `loop`: a node's link says after its turn whether there is another. A `for` over the places left would have an end that is never reached.
+        loop {
+            let node = u as usize;
+            self.marks[node] = 1;
+            self.loops[i] = u;
+            i += 1;
+            u = next[node];
+            if u == start {
+                return i;
+            }
         }
     }
-}
 
-// Stays with the lists as parameters: one value of three `&mut` would have each function promise too that none is exchanged, which is no plainer.
-// The turn of node `u`. Where it is on the front and not marked, it is the smallest id of its loop.
-fn list_from(
-    next: &[u32],
-    marks: &mut [u32],
-    loops: &mut [u32],
-    lengths: &mut [u32],
-    so_far: Listed,
-    u: u32,
-) -> Listed
-    requires { Visitable next.now (lists marks.old loops.old lengths.old so_far) u }
-    ensures { lists marks.new loops.new lengths.new result
-        ≡ loop_visited (walk_in next.now u) (lists marks.old loops.old lengths.old so_far) }
-{
-    let node = u as usize;
-    let v = next[node];
-    if v == OFF {
-        return so_far;
+    // The turn of node `u`. Where it is on the front and not marked, it is the smallest id of its loop.
+    fn visit(&mut self, next: &[u32], u: u32)
+        requires { Visitable next.now (listed_so_far self.old) u }
+        ensures same { SameLoopLists self.old self.new }
+        ensures visited { listed_so_far self.new ≡ loop_visited (walk_in next.now u) (listed_so_far self.old) }
+    {
+        let node = u as usize;
+        let v = next[node];
+        if v == OFF {
+            return;
+        }
+        if self.marks[node] == 1 {
+            return;
+        }
+        let second = v as usize;
+        if next[second] == u {
+            self.marks[node] = 1;
+            self.marks[second] = 1;
+            return;
+        }
+        let Listed { count, ids } = self.listed;
+        let end = self.write_loop(next, u);
+        self.lengths[count] = (end - ids) as u32;
+        self.listed = Listed {
+            count: count + 1,
+            ids: end,
+        };
     }
-    let mark = marks[node];
-    if mark == 1 {
-        return so_far;
-    }
-    let second = v as usize;
-    let third = next[second];
-    if third == u {
-        marks[node] = 1;
-        marks[second] = 1;
-        return so_far;
-    }
-    let at = so_far.ids;
-    let k = so_far.count;
-    let end = list_loop(next, marks, loops, u, at);
-    lengths[k] = (end - at) as u32;
-    Listed {
-        count: k + 1,
-        ids: end,
-    }
-}
 
-// The turns of all nodes, in rising order.
-fn list_all(next: &[u32], marks: &mut [u32], loops: &mut [u32], lengths: &mut [u32]) -> Listed
-    requires { Startable next.now marks.old loops.old lengths.old }
-    ensures { lists marks.new loops.new lengths.new result
-        ≡ visit_all next.now marks.old loops.old lengths.old }
-{
-    let mut listed = Listed { count: 0, ids: 0 };
-    for i in 0..next.len() {
-        listed = list_from(next, marks, loops, lengths, listed, i as u32);
+    // The turns of all nodes, in rising order.
+    fn visit_all(&mut self, next: &[u32])
+        requires { Startable next.now self.old.marks.now self.old.loops.now self.old.lengths.now × (self.old.listed ≡ listed_of 0 0) }
+        ensures same { SameLoopLists self.old self.new }
+        ensures visited { listed_so_far self.new ≡ visit_all next.now self.old.marks.now self.old.loops.now self.old.lengths.now }
+    {
+        for u in 0..next.len() {
+            self.visit(next, u as u32);
+        }
     }
-    listed
 }
 
 // Lists the loops of three nodes or more, each from its smallest id, in the order of these ids: all ids one after the other, and
@@ -112,5 +112,12 @@ pub fn front_loops(
 {
     let n = k.nodes as usize;
     clear_marks(snapshot, n);
-    list_all(&next[..n], snapshot, loops, lengths)
+    let mut lists = LoopLists {
+        marks: snapshot,
+        loops,
+        lengths,
+        listed: Listed { count: 0, ids: 0 },
+    };
+    lists.visit_all(&next[..n]);
+    lists.listed
 }

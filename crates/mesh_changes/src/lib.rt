@@ -1,109 +1,91 @@
-// The changes that a placing makes of a lent mesh, each on the lists that it needs: an edge, a front edge, a node. Nothing is asked of the
-// front's loops, nor of which edges are known.
+// The changes that a placing makes of the edges of a paving, one at a time: a mesh edge, a front edge. Nothing is asked of the front's loops, nor of
+// which edges are known. A node is `Paving::push_node`.
 #![tactic(auto)]
 
-ghost use Rattle.std.specs.Prelude.{◌≡◌, ℕ, ◌+◌, ◌-◌, ◌*◌, ◌^◌, ◌≤◌, ◌<◌, length};
-ghost use Rattle.domain.specs.Outline.{point};
-ghost use Rattle.front.specs.State.{edge_in, push_node, add_edge, remove_front, add_front};
+ghost use Rattle.std.specs.Prelude.{◌≡◌, ◌+◌, ◌*◌, ◌^◌, ◌≤◌, ◌<◌, length};
+ghost use Rattle.front.specs.State.{has_edge, add_edge, remove_front, add_front};
+ghost use Rattle.front.specs.Lent.{mesh_state, SameLists};
 ghost use Rattle.front.specs.Place.{missing, edges_added};
-ghost use Rattle.front.specs.Stores.{unless};
-ghost use Rattle.mesh_changes.specs.Parts.{front_in, edges_in, nodes_alone, NodesFit};
+ghost use Rattle.mesh_changes.specs.Parts.{LinkFits, EdgeFits, ChangedBy, LinksKept};
 
-use front::OFF;
+use front::{Mesh, OFF, Paving};
 
 // ---- the mesh edges
 
-// Whether one of the first n edges joins u and v.
-fn has_edge(edges: &[u32], n: usize, u: u32, v: u32) -> bool
-    requires { 2 * n ≤ length edges.now }
-    ensures { result ≡ edge_in edges.now n u v }
+// Whether a mesh edge joins u and v.
+#[tactic(auto, unfolding(front::specs::State::has_edge))]
+fn has_edge(mesh: &Mesh<'_>, u: u32, v: u32) -> bool
+    requires { 2 * mesh.now.counts.edges ≤ length mesh.now.edges.now }
+    ensures { result ≡ has_edge (mesh_state mesh.now) u v }
 {
     let lo = u.min(v);
     let hi = u.max(v);
-    (0..n).any(|k| edges[2 * k] == lo && edges[2 * k + 1] == hi)
+    (0..mesh.counts.edges).any(|k| mesh.edges[2 * k] == lo && mesh.edges[2 * k + 1] == hi)
 }
 
-// Adds the mesh edge u to v, unless one of the first n is that edge: the count after it.
+// Adds the mesh edge u to v, unless there is one.
 #[tactic(auto, unfolding(front::specs::State::add_edge, front::specs::State::has_edge, front::specs::State::push_edge))]
-pub fn add_edge(edges: &mut [u32], n: usize, u: u32, v: u32) -> usize
-    requires { 2 * (n + unless (edge_in edges.old n u v)) ≤ length edges.old }
-    ensures { edges_in edges.new result ≡ add_edge u v (edges_in edges.old n) }
+pub fn add_edge(paving: &mut Paving<'_>, u: u32, v: u32)
+    requires { EdgeFits paving.old u v }
+    ensures same { SameLists paving.old paving.new }
+    ensures added { ChangedBy (add_edge u v) paving.old paving.new }
 {
-    if has_edge(edges, n, u, v) {
-        return n;
+    if has_edge(&paving.mesh(), u, v) {
+        return;
     }
-    front::write_edge(edges, n, u, v);
-    n + 1
+    let n = paving.counts.edges;
+    front::write_edge(paving.edges, n, u, v);
+    paving.counts.edges = n + 1;
 }
 
 // How many edges u to v adds.
-#[tactic(auto, unfolding(front::specs::State::has_edge))]
-fn missing(edges: &[u32], n: usize, u: u32, v: u32) -> usize
-    requires { 2 * n ≤ length edges.now }
-    ensures { (result ≡ missing (edges_in edges.now n) u v) × (result ≤ 1) }
+fn missing(mesh: &Mesh<'_>, u: u32, v: u32) -> usize
+    requires { 2 * mesh.now.counts.edges ≤ length mesh.now.edges.now }
+    ensures { (result ≡ missing (mesh_state mesh.now) u v) × (result ≤ 1) }
 {
-    usize::from(!has_edge(edges, n, u, v))
+    usize::from(!has_edge(mesh, u, v))
 }
 
 // How many distinct edges the quad a, b, d, c adds.
 #[tactic(auto, unfolding(front::specs::Place::edges_added))]
-pub fn edges_added(edges: &[u32], n: usize, a: u32, b: u32, d: u32, c: u32) -> usize
-    requires { 2 * n ≤ length edges.now }
-    ensures { (result ≡ edges_added (edges_in edges.now n) a b d c) × (result ≤ 4) }
+pub fn edges_added(mesh: &Mesh<'_>, a: u32, b: u32, d: u32, c: u32) -> usize
+    requires { 2 * mesh.now.counts.edges ≤ length mesh.now.edges.now }
+    ensures { (result ≡ edges_added (mesh_state mesh.now) a b d c) × (result ≤ 4) }
 {
-    missing(edges, n, a, b)
-        + missing(edges, n, b, d)
-        + missing(edges, n, d, c)
-        + missing(edges, n, c, a)
+    missing(mesh, a, b) + missing(mesh, b, d) + missing(mesh, d, c) + missing(mesh, c, a)
 }
 
 // ---- the front
 
-// Takes the front edge u to v off, where it is there: the count of front edges after it.
+// Takes the front edge u to v off, where it is there.
 #[tactic(auto, unfolding(front::specs::State::remove_front, topology::specs::Links::link_of))]
-pub fn remove_front(next: &mut [u32], prev: &mut [u32], n: u32, f: usize, u: u32, v: u32) -> usize
-    requires { (n ≤ length next.old) × (u < n) × (v < length prev.old) }
-    ensures { (front_in next.new prev.new n result ≡ remove_front u v (front_in next.old prev.old n f)) × (result ≤ f) }
+pub fn remove_front(paving: &mut Paving<'_>, u: u32, v: u32)
+    requires { LinkFits paving.old u v }
+    ensures same { SameLists paving.old paving.new }
+    ensures removed { ChangedBy (remove_front u v) paving.old paving.new }
+    ensures kept { LinksKept paving.old paving.new }
+    ensures few { paving.new.counts.front ≤ paving.old.counts.front }
 {
-    if next[u as usize] != v {
-        return f;
+    if paving.next()[u as usize] != v {
+        return;
     }
-    next[u as usize] = OFF;
-    prev[v as usize] = OFF;
-    f.saturating_sub(1)
+    paving.next[u as usize] = OFF;
+    paving.prev[v as usize] = OFF;
+    paving.counts.front = paving.counts.front.saturating_sub(1);
 }
 
-// Makes u to v a front edge: the count of front edges after it.
+// Makes u to v a front edge.
 #[tactic(auto, unfolding(front::specs::State::add_front, topology::specs::Links::link_of))]
-pub fn add_front(next: &mut [u32], prev: &mut [u32], n: u32, f: usize, u: u32, v: u32) -> usize
-    requires { (n ≤ length next.old) × (u < n) × (v < length prev.old) × (f < 2 ^ 63) }
-    ensures { (front_in next.new prev.new n result ≡ add_front u v (front_in next.old prev.old n f)) × (result ≤ f + 1) }
+pub fn add_front(paving: &mut Paving<'_>, u: u32, v: u32)
+    requires { LinkFits paving.old u v × (paving.old.counts.front < 2 ^ 63) }
+    ensures same { SameLists paving.old paving.new }
+    ensures added { ChangedBy (add_front u v) paving.old paving.new }
+    ensures kept { LinksKept paving.old paving.new }
+    ensures few { paving.new.counts.front ≤ paving.old.counts.front + 1 }
 {
-    let was = next[u as usize];
-    front::link(next, prev, u, v);
-    if was == OFF { f + 1 } else { f }
-}
-
-// ---- nodes
-
-// Node n is new: it is off the front, whatever stood in its place.
-#[tactic(auto, unfolding(front::specs::State::push_node))]
-pub fn new_node(
-    xs: &mut [f64],
-    ys: &mut [f64],
-    next: &mut [u32],
-    prev: &mut [u32],
-    n: u32,
-    x: f64,
-    y: f64,
-)
-    requires { NodesFit xs.old ys.old next.old prev.old (n + 1) }
-    ensures { nodes_alone xs.new ys.new next.new prev.new (n + 1)
-        ≡ push_node (point x y) (nodes_alone xs.old ys.old next.old prev.old n) }
-{
-    let i = n as usize;
-    xs[i] = x;
-    ys[i] = y;
-    next[i] = OFF;
-    prev[i] = OFF;
+    let was = paving.next()[u as usize];
+    front::link(paving.next, paving.prev, u, v);
+    if was == OFF {
+        paving.counts.front += 1;
+    }
 }

@@ -6,7 +6,10 @@ use Rattle.numbers.specs.Float.{bits}
 use Rattle.topology.specs.Links.{off, link_of}
 use Rattle.direction.specs.Direction.{within}
 use Rattle.front.specs.declared.Counts.{Counts}
+use Rattle.front.specs.declared.Mesh.{Mesh}
+use Rattle.front.specs.declared.Paving.{Paving}
 use Rattle.front.specs.State.{State, state_of, counted, node_places, quad_places, edge_places}
+use Rattle.front.specs.Lent.{paving_state}
 use Rattle.paving.specs.Advance.{is_there}
 
 -- a list as long as the given one, with `off` in every place
@@ -17,6 +20,14 @@ all_off l = replicate (length l) off
 -- count as node places. So a snapshot of as many places stands in the state, and what the numbers are decides nothing.
 abbrev pub lent_state : List Float → List Float → List ℕ → List ℕ → List ℕ → List ℕ → List ℕ → Counts → State
 lent_state xs ys next prev origins quads edges k = state_of xs ys next prev (all_off origins) quads edges k
+
+-- that of a mesh that is read, with the numbers of its nodes' loops
+abbrev pub lent_in : Mesh → List ℕ → State
+lent_in m origins = lent_state m.xs.now m.ys.now m.next.now m.prev.now origins m.quads.now m.edges.now m.counts
+
+-- and that of a paving
+abbrev pub lent_paving : Paving → List ℕ → State
+lent_paving p origins = paving_state p (all_off origins)
 
 -- ---- 23: the lent mesh isn't sound
 

@@ -7,6 +7,7 @@ use Rattle.laws.specs.Loop.{any_up, any_none, sum_up, sum_turn, for_up_keeps}
 use Rattle.laws.specs.Tests.{neither}
 use Rattle.topology.specs.Links.{off, link_of}
 use Rattle.front.specs.declared.Counts.{Counts}
+use Rattle.front.specs.declared.Mesh.{Mesh}
 use Rattle.front.specs.State.{State, node_places, quad_places, edge_places}
 use Rattle.mesh_check.specs.Check.{lent_state, beyond_places, counts_beyond, beyond_nodes, ids_beyond, link_unsound, is_linked, link_count, front_unsound}
 use Rattle.mesh_check.specs.Check.{node_unsound, mesh_unsound, mesh_refusal}
@@ -28,6 +29,11 @@ pub record MeshRoom (xs ys : List Float) (next prev origins quads edges : List �
   pub nodes : NodesRoom xs ys next prev origins n
   pub quads_fit : 4 * q ≤ length quads
   pub edges_fit : 2 * e ≤ length edges
+
+-- a mesh that is read has the places of what it counts
+abbrev pub CountsFit : Mesh → List ℕ → Type 0
+CountsFit m origins =
+    MeshRoom m.xs.now m.ys.now m.next.now m.prev.now origins m.quads.now m.edges.now m.counts.nodes m.counts.quads m.counts.edges
 
 module _ (xs ys : List Float) (next prev origins quads edges : List ℕ) (k : Counts) (n q e : ℕ) where
   pub room : beyond_places (lent_state xs ys next prev origins quads edges k) n q e ≡ false → MeshRoom xs ys next prev origins quads edges n q e

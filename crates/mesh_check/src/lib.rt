@@ -4,12 +4,11 @@
 ghost use Rattle.std.specs.Prelude.{◌≡◌, ◌*◌, ◌≤◌, ◌<◌, length};
 ghost use Rattle.laws.specs.Loop.{any_up};
 ghost use Rattle.domain.specs.Refusals.{refused};
-ghost use Rattle.front.specs.declared.Counts.{Counts};
-ghost use Rattle.mesh_check.specs.Check.{lent_state, beyond_places, beyond_nodes, ids_beyond, link_unsound, link_count, front_unsound};
+ghost use Rattle.mesh_check.specs.Check.{lent_in, beyond_places, beyond_nodes, ids_beyond, link_unsound, link_count, front_unsound};
 ghost use Rattle.mesh_check.specs.Check.{coordinate_unsound, node_unsound, mesh_refusal, links_of, edge_refusal};
 
 use domain::Refusal;
-use front::{Counts, OFF};
+use front::{Mesh, OFF};
 
 // The farthest coordinate of a node, either way: a rounded inside test may let one pass 1,000.
 pub const FARTHEST_NODE: f64 = 1001.0;
@@ -17,26 +16,11 @@ pub const FARTHEST_NODE: f64 = 1001.0;
 // ---- counts beyond the buffers
 
 // Whether n nodes, q quads or e edges are beyond the places lent.
-#[tactic(auto, using(crate::specs::CheckLaws::length_off), unfolding(crate::specs::Check::beyond_places, front::specs::State::node_places, front::specs::State::quad_places, front::specs::State::edge_places))]
-pub fn beyond_places(
-    xs: &[f64],
-    ys: &[f64],
-    next: &[u32],
-    prev: &[u32],
-    origins: &[u16],
-    quads: &[u32],
-    edges: &[u32],
-    n: usize,
-    q: usize,
-    e: usize,
-) -> bool
-    ensures { (k : Counts) → result ≡ beyond_places
-        (lent_state xs.now ys.now next.now prev.now origins.now quads.now
-        edges.now k) n q e }
+#[tactic(auto, using(crate::specs::CheckLaws::length_off), unfolding(crate::specs::Check::beyond_places, front::specs::Stores::places_exceeded, front::specs::State::node_places, front::specs::State::quad_places, front::specs::State::edge_places))]
+pub fn beyond_places(mesh: &Mesh<'_>, origins: &[u16], n: usize, q: usize, e: usize) -> bool
+    ensures { result ≡ beyond_places (lent_in mesh.now origins.now) n q e }
 {
-    n > front::node_places(xs, ys, next, prev, origins.len())
-        || q > quads.len() / 4
-        || e > edges.len() / 2
+    mesh.is_beyond(origins.len(), n, q, e)
 }
 
 // ---- ids out of range
@@ -50,16 +34,18 @@ fn any_beyond(ids: &[u32], m: usize, n: u32) -> bool
 }
 
 #[tactic(auto, unfolding(crate::specs::Check::ids_beyond))]
-fn ids_beyond(n: u32, quads: &[u32], q: usize, edges: &[u32], e: usize) -> bool
-    requires { (4 * q ≤ length quads.now) × (2 * e ≤ length edges.now) }
-    ensures { result ≡ ids_beyond n quads.now q edges.now e }
+fn ids_beyond(mesh: &Mesh<'_>) -> bool
+    requires { (4 * mesh.now.counts.quads ≤ length mesh.now.quads.now) × (2 * mesh.now.counts.edges ≤ length mesh.now.edges.now) }
+    ensures { result ≡ ids_beyond mesh.now.counts.nodes mesh.now.quads.now mesh.now.counts.quads mesh.now.edges.now mesh.now.counts.edges }
 {
-    any_beyond(quads, 4 * q, n) || any_beyond(edges, 2 * e, n)
+    let k = mesh.counts;
+    any_beyond(mesh.quads, 4 * k.quads, k.nodes) || any_beyond(mesh.edges, 2 * k.edges, k.nodes)
 }
 
 // ---- the front's links
 
 // Whether the link of node u is out of range, or isn't answered by the link back.
+// Stays on two lists, and not on the mesh: it is asked of the links forward and of the links back.
 #[tactic(auto, unfolding(crate::specs::Check::link_unsound, topology::specs::Links::link_of))]
 fn link_unsound(n: u32, links: &[u32], back: &[u32], u: u32) -> bool
     requires { (u < n) × (n ≤ length links.now) × (n ≤ length back.now) }
@@ -85,54 +71,46 @@ fn count_links(n: u32, links: &[u32]) -> usize
 }
 
 #[tactic(auto, unfolding(crate::specs::Check::front_unsound))]
-fn front_unsound(n: u32, next: &[u32], prev: &[u32], f: usize) -> bool
-    requires { (n ≤ length next.now) × (n ≤ length prev.now) }
-    ensures { result ≡ front_unsound n next.now prev.now f }
+fn front_unsound(mesh: &Mesh<'_>) -> bool
+    requires { (mesh.now.counts.nodes ≤ length mesh.now.next.now) × (mesh.now.counts.nodes ≤ length mesh.now.prev.now) }
+    ensures { result ≡ front_unsound mesh.now.counts.nodes mesh.now.next.now mesh.now.prev.now mesh.now.counts.front }
 {
-    any_link_unsound(n, next, prev) || any_link_unsound(n, prev, next) || count_links(n, next) != f
+    let n = mesh.counts.nodes;
+    any_link_unsound(n, mesh.next, mesh.prev)
+        || any_link_unsound(n, mesh.prev, mesh.next)
+        || count_links(n, mesh.next) != mesh.counts.front
 }
 
 // ---- coordinates
 
 // Whether a coordinate isn't finite, or is beyond 1,001 either way.
-#[tactic(auto, unfolding(crate::specs::Check::coordinate_unsound, direction::specs::Direction::within))]
+#[tactic(auto, unfolding(crate::specs::Check::coordinate_unsound))]
 fn coordinate_unsound(x: f64) -> bool
     ensures { result ≡ coordinate_unsound x }
 {
-    !(numbers::is_finite_f64(x) && numbers::abs_f64(x) <= FARTHEST_NODE)
+    !direction::is_within(FARTHEST_NODE, x)
 }
 
-fn any_node_unsound(xs: &[f64], ys: &[f64], n: u32) -> bool
-    requires { (n ≤ length xs.now) × (n ≤ length ys.now) }
-    ensures { result ≡ any_up n (node_unsound xs.now ys.now) }
+fn any_node_unsound(mesh: &Mesh<'_>) -> bool
+    requires { (mesh.now.counts.nodes ≤ length mesh.now.xs.now) × (mesh.now.counts.nodes ≤ length mesh.now.ys.now) }
+    ensures { result ≡ any_up mesh.now.counts.nodes (node_unsound mesh.now.xs.now mesh.now.ys.now) }
 {
-    (0..n as usize).any(|i| coordinate_unsound(xs[i]) || coordinate_unsound(ys[i]))
+    let n = mesh.counts.nodes as usize;
+    (0..n).any(|i| coordinate_unsound(mesh.xs[i]) || coordinate_unsound(mesh.ys[i]))
 }
 
 // ---- 23 and 24
 
 // Refusal 23, on every input.
 #[tactic(auto, unfolding(crate::specs::Check::mesh_refusal, crate::specs::Check::mesh_unsound))]
-pub fn check_mesh(
-    xs: &[f64],
-    ys: &[f64],
-    next: &[u32],
-    prev: &[u32],
-    origins: &[u16],
-    quads: &[u32],
-    edges: &[u32],
-    k: Counts,
-) -> Result<(), Refusal>
-    ensures { refused result ≡ mesh_refusal
-        (lent_state xs.now ys.now next.now prev.now origins.now quads.now
-        edges.now k) }
+pub fn check_mesh(mesh: &Mesh<'_>, origins: &[u16]) -> Result<(), Refusal>
+    ensures { refused result ≡ mesh_refusal (lent_in mesh.now origins.now) }
 {
-    let n = k.nodes;
-    if beyond_places(
-        xs, ys, next, prev, origins, quads, edges, n as usize, k.quads, k.edges,
-    ) || ids_beyond(n, quads, k.quads, edges, k.edges)
-        || front_unsound(n, next, prev, k.front)
-        || any_node_unsound(xs, ys, n)
+    let k = mesh.counts;
+    if beyond_places(mesh, origins, k.nodes as usize, k.quads, k.edges)
+        || ids_beyond(mesh)
+        || front_unsound(mesh)
+        || any_node_unsound(mesh)
     {
         return Err(Refusal::UnsoundMesh);
     }
@@ -141,11 +119,11 @@ pub fn check_mesh(
 
 // Refusal 24.
 #[tactic(auto, unfolding(crate::specs::Check::edge_refusal, topology::specs::Links::link_of))]
-pub fn check_edge(next: &[u32], n: u32, a: u32, b: u32) -> Result<(), Refusal>
-    requires { n ≤ length next.now }
-    ensures { refused result ≡ edge_refusal (links_of next.now n) a b }
+pub fn check_edge(mesh: &Mesh<'_>, a: u32, b: u32) -> Result<(), Refusal>
+    requires { mesh.now.counts.nodes ≤ length mesh.now.next.now }
+    ensures { refused result ≡ edge_refusal (links_of mesh.now.next.now mesh.now.counts.nodes) a b }
 {
-    if b == OFF || a >= n || next[a as usize] != b {
+    if b == OFF || a >= mesh.counts.nodes || mesh.next[a as usize] != b {
         return Err(Refusal::NotOnFront);
     }
     Ok(())

@@ -7,8 +7,10 @@ ghost use Rattle.domain.specs.Outline.{outline};
 ghost use Rattle.run.specs.Run.{settings, lent, scratch, Spares};
 ghost use Rattle.mesher.specs.Answers.{HostPaves};
 
-use domain::Domain;
+use domain::{Domain, Settings};
 use pave_answer::PaveAnswer;
+use paving::Scratch;
+use run::RunLists;
 
 // The run whole, from the field to the loops of the front, in the lists lent. `origins` gets for each node the number of the outline's loop that it came from.
 // Nothing is written on a refusal. The pools, the list of blocks and `tried` are scratch of any length, which searches go by as far as they have room, and
@@ -48,8 +50,29 @@ pub extern "C" fn sitjorbe_pave<'a>(
         (scratch node_pool.new edge_pool.new blocks.new tried.new) }
 {
     let domain = Domain { outer, holes, lens };
-    PaveAnswer::from(run::pave(
-        domain, size, sweeps, passes, values, marks, xs, ys, next, prev, snapshot, origins, quads,
-        edges, loops, lengths, node_pool, edge_pool, blocks, tried,
-    ))
+    let settings = Settings {
+        size,
+        sweeps,
+        passes,
+    };
+    let mut lists = RunLists {
+        values,
+        marks,
+        xs,
+        ys,
+        next,
+        prev,
+        snapshot,
+        origins,
+        quads,
+        edges,
+        loops,
+        lengths,
+    };
+    let mut scratch = Scratch {
+        node_pool,
+        edge_pool,
+        tried,
+    };
+    PaveAnswer::from(run::pave(domain, settings, &mut lists, &mut scratch, blocks))
 }

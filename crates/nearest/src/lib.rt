@@ -80,13 +80,11 @@ fn search_part(
     requires { (from ≤ to) × (to ≤ points s.now) }
     ensures { result ≡ for_between from to (search_turn p s.now loop_index) best }
 {
-    let mut found = best;
-    for i in from..to {
+    (from..to).fold(best, |found, i| {
         let a = outlines::point_at(s, i);
         let b = outlines::point_after(s, i);
-        found = outlines::search_segment(p, a, b, loop_index, i, found);
-    }
-    found
+        outlines::search_segment(p, a, b, loop_index, i, found)
+    })
 }
 
 fn search_loop(

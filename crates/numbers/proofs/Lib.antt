@@ -1,8 +1,8 @@
 mod Patterns
-mod Whole
-mod Casts
 mod Sign
 mod Sqrt
 mod Digits
 mod Square
 mod TakenApart
+mod LibraryRoot
+mod LibraryWhole

@@ -21,15 +21,6 @@ not_nan nan h = absurd (true≢false (sym nan_differs ∙ h))
 not_nan (inf s) h = refl
 not_nan (fin s m e) h = refl
 
--- what `x.is_nan()` told
-pub nan_told : (x : Float) {b t : Bool} → b ≡ is_nan x → b ≡ t → ne x x ≡ t
-unfolding is_nan
-nan_told x e f = by (ne x x) refl ∙ sym e ∙ f
-  where
-    by : (d : Bool) → ne x x ≡ d → d ≡ is_nan x
-    by true g = rw (is_nan_lem x g)
-    by false g = sym (not_nan x g)
-
 -- as a need of `f64::to_bits` has it
 pub no_nan : (x : Float) → ne x x ≡ false → T (not (is_nan x))
 no_nan x h = rw (not_nan x h) tt

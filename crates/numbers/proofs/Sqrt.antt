@@ -1,4 +1,4 @@
--- The cases of `sqrt_f64`, by the value's sign and bits, and the pattern that `root_bits` puts together. Assumes nothing.
+-- The cases of `root_in_whole_numbers`, by the value's sign and bits, and the pattern that `root_bits` puts together. Assumes nothing.
 use Rattle.std.proofs.Common.{◌≡◌, ℕ, suc, ◌+◌, ◌-◌, ◌*◌, ◌/◌, ◌%◌, ◌^◌, ◌<◌, ◌≤◌, true, false, T, ◌⊎◌, sym, refl, ap, ◌∙◌, inl, inr, ⊎_elim, le_trans, le_of_eq, lt_of_lt_of_le, le_of_suc-le-suc, mul-le-mul_right, mod-eq_of_lt, mul_assoc, mul-lt-mul_of_pos_right, lt_of_not-le, not-le_of_lt, arith, pow_pos, pow_mono, pow-add}
 use lib.Count.{count_leading_zeros, leading_top}
 use lib.Ieee.{Float, nan, inf, binary64, of_bits, to_bits, is_nan, fits, ne, div}

@@ -1,5 +1,4 @@
--- Floats: the operations of f64 under circled signs, the constants that all layers share, and the functions of f64 that Rattle lacks
--- (document 01, "What stands in the way"). Definitions only.
+-- Floats: the operations of f64 under circled signs, the constants that all layers share, and functions of f64. Definitions only.
 -- Each sign is lib.Ieee's operation, rounded once, so a definition shows the Rust's operations in the Rust's order.
 use Rattle.std.specs.Prelude.{ℕ, Bool, true, false, cond, pos, from_bits, is_nan, Float}
 use Rattle.std.specs.Float.{nan, inf, fin, binary64}

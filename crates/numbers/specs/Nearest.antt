@@ -165,6 +165,8 @@ pub record Rounded (x : Float) (n : ℕ) : Type 0 where
   pub least : 2 ^ 104 ≤ N
   pub near : NearRoot N Q
   pub digits : 2 ^ 52 ≤ Q
+  pub short : Q < 2 ^ 53
+  pub rounds : root x ≡ units binary64 false Q k
   pub value : IsUnits (root x) (Q * 2 ^ k)
   pub held : T (fits binary64 (root x))
 
@@ -192,6 +194,8 @@ is_rounded x n f v h =
       least = L;
       near = near;
       digits = r.reach;
+      short = r.under;
+      rounds = e;
       value = subst (λ (y : Float). IsUnits y (Q * 2 ^ k)) (sym e) (units_val binary64 false Q k top);
       held = subst (λ (y : Float). T (fits binary64 y)) (sym e) (units_fits Q k r.under top);
     }

@@ -47,7 +47,7 @@ root_minus (fin true (suc m) e) a v h = refl
 
 -- ---- `root_units` of N * 4 ^ k
 
-size_over : (n j : ℕ) → 2 ^ j ≤ n → j < size n
+pub size_over : (n j : ℕ) → 2 ^ j ≤ n → j < size n
 size_over n j h = lt_of_not-le (λ (g : size n ≤ j). not-le_of_lt (size-lt n) (le_trans (pow_mono g) h))
 
 shifted : (j k : ℕ) → 2 ^ (j + (k + k)) ≡ 2 ^ j * 4 ^ k

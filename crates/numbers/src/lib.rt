@@ -1,13 +1,13 @@
-// Number routines that Rattle lacks, each equal to a definition of specs/ on every input (`to_f64`: on every count below 2^32).
+// Roots, roundings, comparisons and bounds of f64s, each equal to a definition of specs/ on every input (`to_f64`: on every count below 2^32).
 #![tactic(auto)]
 
 ghost use Rattle.std.specs.Prelude.{◌≡◌, ◌+◌, ◌*◌, ◌/◌, ◌%◌, ◌^◌, ◌<◌, ◌≤◌, T};
-ghost use Rattle.std.specs.Float.Ieee.{to_bits};
-ghost use Rattle.std.specs.Float.{binary64};
 ghost use Rattle.numbers.specs.Root.{NearRoot, RootBits, root_units, root};
 ghost use Rattle.numbers.specs.Float.{to_float, is_finite, abs_f, min_f, max_f, clamp_f};
-ghost use Rattle.numbers.specs.Whole.{IsWholePart, ceil_div, size_of_bits, floor_int, floor_quotient, ceil_count};
+ghost use Rattle.numbers.specs.Whole.{floor_quotient, ceil_count};
 ghost use Rattle.numbers.specs.TakenApart.{IsParts};
+
+use std::num;
 
 // The whole number nearest to the root of s * 2^52, digit by digit.
 fn root_by_digits(s: u64) -> u64
@@ -117,9 +117,9 @@ fn root_of_normal(x: f64, b: u64) -> f64
     f64::from_bits(k)
 }
 
-// `x.sqrt()`, as IEEE 754 has it.
-#[unsafe(no_mangle)]
-pub extern "C" fn sqrt_f64(x: f64) -> f64
+// The root of x with no root instruction: a guess in floats, checked in whole numbers.
+// Stays beside `sqrt_f64`: it is proved where that trusts the toolchain for the instruction.
+pub fn root_in_whole_numbers(x: f64) -> f64
     ensures { result ≡ root x }
 {
     if x != x {
@@ -145,56 +145,13 @@ pub extern "C" fn sqrt_f64(x: f64) -> f64
     0.0 / 0.0
 }
 
-// The value of the bits b, whose sign is clear and which is below 2^64: its whole part, and whether a fraction is left.
-fn whole_part(b: u64) -> (u64, bool)
-    requires { b < 0x43f0_0000_0000_0000 }
-    ensures { IsWholePart (size_of_bits b) result.0 result.1 }
+// `x.sqrt()`, as IEEE 754 has it.
+#[tactic(auto, using(crate::proofs::LibraryRoot::root_library))]
+#[unsafe(no_mangle)]
+pub extern "C" fn sqrt_f64(x: f64) -> f64
+    ensures { result ≡ root x }
 {
-    let e = b / 4503599627370496;
-    if e < 1023 {
-        return (0, b != 0);
-    }
-    let d = b % 4503599627370496 + 4503599627370496;
-    if e < 1075 {
-        let whole = d >> (1075 - e);
-        (whole, whole << (1075 - e) != d)
-    } else {
-        (d << (e - 1075), false)
-    }
-}
-
-// That value rounded up.
-fn ceil_bits(b: u64) -> u64
-    requires { b < 0x43f0_0000_0000_0000 }
-    ensures { result ≡ ceil_div (size_of_bits b) (2 ^ 1074) }
-{
-    let (whole, fraction) = whole_part(b);
-    whole + u64::from(fraction)
-}
-
-// `x.floor() as i64`
-fn floor_int(x: f64) -> i64
-    ensures { result ≡ floor_int x }
-{
-    if x.is_nan() {
-        return 0;
-    }
-    let b = f64::to_bits(x);
-    if b < 0x8000_0000_0000_0000 {
-        if b < 0x43e0_0000_0000_0000 {
-            return whole_part(b).0 as i64;
-        }
-        return 9223372036854775807;
-    }
-    let m = b - 0x8000_0000_0000_0000;
-    if m == 0 {
-        return 0;
-    }
-    if m <= 0x43e0_0000_0000_0000 {
-        let c = ceil_bits(m);
-        return -1 - ((c - 1) as i64);
-    }
-    -9223372036854775808
+    x.sqrt()
 }
 
 // `(x / b).floor() as i64`
@@ -202,35 +159,16 @@ fn floor_int(x: f64) -> i64
 pub extern "C" fn floor_quotient(x: f64, b: f64) -> i64
     ensures { result ≡ floor_quotient x b }
 {
-    floor_int(x / b)
+    num::saturating_f64_to_i64((x / b).floor())
 }
 
 // `x.ceil() as usize`
+#[tactic(auto, using(crate::proofs::LibraryWhole::ceil_library))]
 #[unsafe(no_mangle)]
 pub extern "C" fn ceil_count(x: f64) -> u64
     ensures { result ≡ ceil_count x }
 {
-    if x.is_nan() {
-        return 0;
-    }
-    let b = f64::to_bits(x);
-    if b < 0x43f0_0000_0000_0000 {
-        return ceil_bits(b);
-    }
-    if b < 0x8000_0000_0000_0000 {
-        return 0xffff_ffff_ffff_ffff;
-    }
-    0
-}
-
-// `x.to_bits()`, where every NaN gives one pattern.
-pub fn bits_of(x: f64) -> u64
-    ensures { result ≡ to_bits binary64 x }
-{
-    if x.is_nan() {
-        return 0x7ff8_0000_0000_0000;
-    }
-    f64::to_bits(x)
+    num::saturating_f64_to_u64(x.ceil())
 }
 
 // A finite f64: its sign, and its size as significand * 2^exponent times the smallest f64 above 0.
@@ -263,12 +201,12 @@ pub fn parts_of(x: f64) -> Parts
 }
 
 // `n as f64`
+// Stays beside the library's `nearest_usize_to_f64`, which takes any n, but by two casts, a product and a sum.
 pub fn to_f64(n: usize) -> f64
     requires { n < 4294967296 }
     ensures { result ≡ to_float n }
 {
-    let m = n as u32;
-    m as f64
+    n as u32 as f64
 }
 
 // `x.min(y)`; of equal zeros, which Rust leaves open, x.
@@ -282,6 +220,7 @@ pub extern "C" fn min_f64(x: f64, y: f64) -> f64
 }
 
 // `x.max(y)`; of equal zeros, which Rust leaves open, x.
+// Stays by hand, for the reason of `min_f64`.
 #[tactic(auto, unfolding(crate::specs::Float::max_f))]
 #[unsafe(no_mangle)]
 pub extern "C" fn max_f64(x: f64, y: f64) -> f64

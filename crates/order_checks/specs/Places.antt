@@ -1,6 +1,6 @@
 -- First places kept in a lent list of any length: the list as it is filled, from the last entry down, so that the first place stays.
 use Rattle.std.specs.Prelude.{ℕ, suc, ◌+◌, ◌-◌, ◌≤◌, ◌<◌, ◌≡◌, refl, Bool, true, false, List, length, get_or, set, drop, eqb}
-use Rattle.std.proofs.Common.{sym, ◌∙◌, ap, subst, arith, length-set, get_or-set_same, get_or-set_other, eqb-true}
+use Rattle.std.proofs.Common.{sym, ◌∙◌, ap, arith, length-set, get_or-set_same, get_or-set_other, eqb-true}
 use Rattle.std.proofs.lemmas.Bool.{eqb-false}
 use Rattle.order.specs.Order.{first_place}
 use Rattle.order.specs.PlaceLaws.{place_step, place_end}

@@ -45,7 +45,16 @@ fn needs(quads: &[u32], j: usize, i: usize) -> bool
 
 // ---- the list's places
 
+// A list of quads, as it is lent, and the first place there of each id that `places` has a place for.
+#[derive(Clone, Copy)]
+pub struct Presentation<'a> {
+    pub order: &'a [u32],
+    pub places: &'a [usize],
+    ghost first: { FirstPlaces places.now order.now },
+}
+
 // The first place of i; the list's length where it has none.
+// Stays a number: lent scratch holds it, and who has no place comes after every place.
 fn first_place(order: &[u32], i: usize) -> usize
     ensures { result ≡ first_place order.now i }
 {
@@ -59,75 +68,73 @@ fn first_place(order: &[u32], i: usize) -> usize
 fn set_place(places: &mut [usize], i: usize, x: usize)
     ensures { places.new ≡ set places.old i x }
 {
+    // Stays a test and a write: a slice's `get_mut` tells a proof nothing of what is written.
     if i < places.len() {
         places[i] = x;
     }
 }
 
 // The first place of each i that `places` has a place for: the last entry goes first, so that the first place stays.
-pub fn fill_places(order: &[u32], places: &mut [usize])
+fn fill_places(order: &[u32], places: &mut [usize])
     ensures { FirstPlaces places.new order.now }
 {
     places.fill(order.len());
-    for p in (0..order.len()).rev() {
-        set_place(places, order[p] as usize, p);
+    for (p, &x) in order.iter().enumerate().rev() {
+        set_place(places, x as usize, p);
     }
 }
 
-// The first place of i, read where it is kept and searched elsewhere.
-pub fn place_at(order: &[u32], places: &[usize], i: usize) -> usize
-    requires { FirstPlaces places.now order.now }
-    ensures { result ≡ first_place order.now i }
-{
-    if i < places.len() {
-        places[i]
-    } else {
-        first_place(order, i)
+impl<'a> Presentation<'a> {
+    // Of a list, with scratch of any length.
+    pub fn new(order: &'a [u32], places: &'a mut [usize]) -> Presentation<'a>
+        ensures { result.order.now ≡ order.now }
+    {
+        fill_places(order, places);
+        Presentation { order, places }
     }
 }
 
-// ---- every quad once
+impl Presentation<'_> {
+    // The first place of i, read where it is kept and searched elsewhere.
+    pub fn place_of(&self, i: usize) -> usize
+        ensures { result ≡ first_place self.now.order.now i }
+    {
+        match self.places.get(i) {
+            Some(&place) => place,
+            None => first_place(self.order, i),
+        }
+    }
 
-// Whether the entry at p is unknown or repeated.
-fn is_wrong(n: usize, order: &[u32], places: &[usize], p: usize) -> bool
-    requires { FirstPlaces places.now order.now }
-    ensures { result ≡ is_wrong n order.now p }
-{
-    let x = lent_mesh::entry_at(order, p) as usize;
-    n <= x || place_at(order, places, x) != p
-}
+    // Whether the entry at p is unknown or repeated.
+    fn is_wrong(&self, n: usize, p: usize) -> bool
+        ensures { result ≡ is_wrong n self.now.order.now p }
+    {
+        let x = lent_mesh::entry_at(self.order, p) as usize;
+        n <= x || self.place_of(x) != p
+    }
 
-// Whether none of n quads is absent, repeated or unknown.
-pub fn names_each_once(n: usize, order: &[u32], places: &[usize]) -> bool
-    requires { FirstPlaces places.now order.now }
-    ensures { result ≡ names_each_once n order.now }
-{
-    let any_wrong = (0..order.len()).any(|p| is_wrong(n, order, places, p));
-    !any_wrong && !(0..n).any(|i| place_at(order, places, i) == order.len())
-}
+    // Whether none of n quads is absent, repeated or unknown.
+    pub fn names_each_once(&self, n: usize) -> bool
+        ensures { result ≡ names_each_once n self.now.order.now }
+    {
+        let length = self.order.len();
+        !(0..length).any(|p| self.is_wrong(n, p)) && !(0..n).any(|i| self.place_of(i) == length)
+    }
 
-// ---- too early, by a scan
+    // Whether quad i keeps quad j from place p.
+    fn waits_for(&self, quads: &[u32], p: usize, j: usize, i: usize) -> bool
+        requires { j < 4294967296 }
+        ensures { result ≡ waits_for quads.now self.now.order.now p j i }
+    {
+        needs(quads, j, i) && p < self.place_of(i)
+    }
 
-// Whether quad i keeps quad j from place p.
-fn waits_for(quads: &[u32], order: &[u32], places: &[usize], p: usize, j: usize, i: usize) -> bool
-    requires { (j < 4294967296) × FirstPlaces places.now order.now }
-    ensures { result ≡ waits_for quads.now order.now p j i }
-{
-    needs(quads, j, i) && p < place_at(order, places, i)
-}
-
-// Whether the quad at p stands too early: a scan of the quads from `from` on, where none before keeps it from p.
-pub fn early_from(
-    quads: &[u32],
-    from: usize,
-    n: usize,
-    order: &[u32],
-    places: &[usize],
-    p: usize,
-) -> bool
-    requires { Unfound (waits_for quads.now order.now p (get_or order.now p 0)) from n × FirstPlaces places.now order.now }
-    ensures { result ≡ too_early quads.now n order.now p }
-{
-    let j = lent_mesh::entry_at(order, p) as usize;
-    (from..n).any(|i| waits_for(quads, order, places, p, j, i))
+    // Whether the quad at p stands too early: a scan of the quads from `from` on, where none before keeps it from p.
+    pub fn early_from(&self, quads: &[u32], from: usize, n: usize, p: usize) -> bool
+        requires { Unfound (waits_for quads.now self.now.order.now p (get_or self.now.order.now p 0)) from n }
+        ensures { result ≡ too_early quads.now n self.now.order.now p }
+    {
+        let j = lent_mesh::entry_at(self.order, p) as usize;
+        (from..n).any(|i| self.waits_for(quads, p, j, i))
+    }
 }

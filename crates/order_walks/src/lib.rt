@@ -1,4 +1,4 @@
-// Paper 10's entry. Who stands too early is found by walks over the steps that quads lay, each filed under its own key in a pool of `index`, and by a scan
+// Paper 10's entry. Who stands too early is found by walks over the steps that quads lay, each filed under its own key in a pool of `pools`, and by a scan
 // of the quads that came after the pool was full.
 #![tactic(auto)]
 
@@ -6,12 +6,12 @@ ghost use Rattle.std.specs.Prelude.{◌≡◌, ◌*◌, ◌<◌, ◌≤◌};
 ghost use Rattle.laws.specs.Loop.{any_up};
 ghost use Rattle.pools.specs.Pool.{filed, Indexed};
 ghost use Rattle.order.specs.Order.{too_early, first_early, order_answer};
-ghost use Rattle.order_checks.specs.Places.{FirstPlaces};
 ghost use Rattle.order_walks.specs.Steps.{laid_from, laid_to, step_key, step_rect, keeps_back, early_answer};
 
 use domain::Refusal;
 use lent_mesh::QuadIds;
 use order::OrderAnswer;
+use order_checks::Presentation;
 use pools::Rect;
 
 // ---- the steps laid
@@ -62,89 +62,84 @@ fn file_steps(pool: &mut [u32], quads: &[u32], n: usize)
 
 // ---- too early
 
-// Whether item k is a step v to u, of a quad that keeps quad j from place p.
-fn keeps_back(
-    quads: &[u32],
-    order: &[u32],
-    places: &[usize],
-    p: usize,
-    j: usize,
-    u: u32,
-    v: u32,
-    k: usize,
-) -> bool
-    requires { (k < 4294967296) × FirstPlaces places.now order.now }
-    ensures { result ≡ keeps_back quads.now order.now p j u v k }
-{
-    let i = k / 3;
-    let q = lent_mesh::quad_at(quads, i);
-    laid_step(q, k % 3) == (v, u) && i < j && p < order_checks::place_at(order, places, i)
+// The quads that are tested, the steps that they lay, filed in a pool as far as it had room, and the order in which they are presented.
+#[derive(Clone, Copy)]
+struct Tested<'a> {
+    quads: &'a [u32],
+    n: usize,
+    pool: &'a [u32],
+    presentation: Presentation<'a>,
+    ghost indexed: { ∥ Indexed pool.now (step_rect quads.now) (3 * n) ∥₁ },
 }
 
-// Whether some item that is filed is: a walk of the cell of the key (u, v).
-fn any_back(
-    pool: &[u32],
-    quads: &[u32],
-    n: usize,
-    order: &[u32],
-    places: &[usize],
-    p: usize,
-    j: usize,
-    u: u32,
-    v: u32,
-) -> bool
-    requires { Indexed pool.now (step_rect quads.now) (3 * n) × FirstPlaces places.now order.now }
-    ensures { result ≡ any_up (filed pool.now) (keeps_back quads.now order.now p j u v) }
-{
-    let r = step_key(u, v);
-    index::any_visited(pool, r, |k| keeps_back(quads, order, places, p, j, u, v, k))
+impl<'a> Tested<'a> {
+    // With a pool of any length.
+    fn new(
+        quads: &'a [u32],
+        n: usize,
+        presentation: Presentation<'a>,
+        pool: &'a mut [u32],
+    ) -> Tested<'a>
+        requires { n ≤ 250000 }
+        ensures { (result.quads.now ≡ quads.now) × (result.n ≡ n) × (result.presentation.order.now ≡ presentation.entry.order.now) }
+    {
+        file_steps(pool, quads, n);
+        Tested {
+            quads,
+            n,
+            pool,
+            presentation,
+        }
+    }
 }
 
-// Whether the quad at p stands too early: a walk for each of its steps a to b, b to d and c to a, and then a scan from the first quad that has a step
-// which isn't filed.
-fn is_early(
-    pool: &[u32],
-    quads: &[u32],
-    n: usize,
-    order: &[u32],
-    places: &[usize],
-    p: usize,
-) -> bool
-    requires { Indexed pool.now (step_rect quads.now) (3 * n) × FirstPlaces places.now order.now }
-    ensures { result ≡ too_early quads.now n order.now p }
-{
-    let j = lent_mesh::entry_at(order, p) as usize;
-    let q = lent_mesh::quad_at(quads, j);
-    let from = pools::filed(pool) as usize / 3;
-    any_back(pool, quads, n, order, places, p, j, q.a, q.b)
-        || any_back(pool, quads, n, order, places, p, j, q.b, q.d)
-        || any_back(pool, quads, n, order, places, p, j, q.c, q.a)
-        || order_checks::early_from(quads, from, n, order, places, p)
+impl Tested<'_> {
+    // Whether item k is a step v to u, of a quad that keeps quad j from place p.
+    fn keeps_back(&self, p: usize, j: usize, u: u32, v: u32, k: usize) -> bool
+        requires { k < 4294967296 }
+        ensures { result ≡ keeps_back self.now.quads.now self.now.presentation.order.now p j u v k }
+    {
+        let i = k / 3;
+        let q = lent_mesh::quad_at(self.quads, i);
+        laid_step(q, k % 3) == (v, u) && i < j && p < self.presentation.place_of(i)
+    }
+
+    // Whether some item that is filed is: a walk of the cell of the key (u, v).
+    fn any_back(&self, p: usize, j: usize, u: u32, v: u32) -> bool
+        ensures { result
+            ≡ any_up (filed self.now.pool.now) (keeps_back self.now.quads.now self.now.presentation.order.now p j u v) }
+    {
+        let r = step_key(u, v);
+        index::any_visited(self.pool, r, |k| self.keeps_back(p, j, u, v, k))
+    }
+
+    // Whether the quad at p stands too early: a walk for each of its steps a to b, b to d and c to a, and then a scan from the first quad that has a step
+    // which isn't filed.
+    fn is_early(&self, p: usize) -> bool
+        ensures { result ≡ too_early self.now.quads.now self.now.n self.now.presentation.order.now p }
+    {
+        let j = lent_mesh::entry_at(self.presentation.order, p) as usize;
+        let q = lent_mesh::quad_at(self.quads, j);
+        let from = pools::filed(self.pool) as usize / 3;
+        self.any_back(p, j, q.a, q.b)
+            || self.any_back(p, j, q.b, q.d)
+            || self.any_back(p, j, q.c, q.a)
+            || self.presentation.early_from(self.quads, from, self.n, p)
+    }
+
+    // The first place where a quad stands too early.
+    fn first_early(&self) -> Option<usize>
+        ensures { early_answer result ≡ first_early self.now.quads.now self.now.n self.now.presentation.order.now }
+    {
+        (0..self.presentation.order.len()).find(|&p| self.is_early(p))
+    }
 }
 
 // ---- the answer
 
-// The first place where a quad stands too early.
-fn first_early(
-    pool: &[u32],
-    quads: &[u32],
-    n: usize,
-    order: &[u32],
-    places: &[usize],
-) -> Option<usize>
-    requires { Indexed pool.now (step_rect quads.now) (3 * n) × FirstPlaces places.now order.now }
-    ensures { early_answer result ≡ first_early quads.now n order.now }
-{
-    for p in 0..order.len() {
-        if is_early(pool, quads, n, order, places, p) {
-            return Some(p);
-        }
-    }
-    None
-}
-
 // Whether the quads may be tested in this order: each of them once, and after every quad that laid a front edge which it used up. `places` and `pool`
 // are scratch of any length: what they hold doesn't change the answer.
+// Stays a row of numbers and slices: C calls it.
 #[unsafe(no_mangle)]
 pub extern "C" fn sitjorbe_order(
     quad_count: usize,
@@ -156,15 +151,14 @@ pub extern "C" fn sitjorbe_order(
     ensures { result ≡ order_answer quad_count quads.now order.now }
 {
     let n = lent_mesh::quad_count(quad_count, quads);
-    order_checks::fill_places(order, places);
-    if !order_checks::names_each_once(n, order, places) {
+    let presentation = Presentation::new(order, places);
+    if !presentation.names_each_once(n) {
         return OrderAnswer {
             refusal: u32::from(Refusal::NotEachOnce),
             place: 0,
         };
     }
-    file_steps(pool, quads, n);
-    match first_early(pool, quads, n, order, places) {
+    match Tested::new(quads, n, presentation, pool).first_early() {
         Some(place) => OrderAnswer {
             refusal: u32::from(Refusal::TooEarly),
             place,

@@ -18,8 +18,7 @@ fn number_loop(number: u16, s: &[f64], size: f64, origins: &mut [u16], n: usize)
     ensures { (result ≡ n + even_up (loop_parts size s.now))
         × (origins.new ≡ sets origins.old n (replicate (even_up (loop_parts size s.now)) number)) }
 {
-    let parts = boundary::loop_parts(s, size) as usize;
-    let count = parts + parts % 2;
+    let count = boundary::loop_nodes(s, size) as usize;
     origins[n..n + count].fill(number);
     n + count
 }
@@ -50,6 +49,7 @@ fn push_origin(origins: &mut [u16], n: usize, a: u32, id: u32) -> usize
     n + 1
 }
 
+// Stays counted: its clauses take any count, also past the list's end, where pieces of the list would stop.
 // The numbers of a run's nodes, from the outline, the size and the first `count` of the quads answered. Places past the nodes aren't written.
 pub fn number_nodes(domain: Domain<'_>, size: f64, quads: &[u32], count: usize, origins: &mut [u16])
     requires { Numberable (outline_of domain) size quads.now count (length origins.old) }

@@ -1,7 +1,7 @@
 // The outline file: 512-byte blocks with a check, read from a slice. Refusals 12 and 13.
 #![tactic(auto)]
 
-ghost use Rattle.std.specs.Prelude.{◌≡◌, ◌+◌, ◌*◌, ◌/◌, ◌≤◌, ◌<◌, length};
+ghost use Rattle.std.specs.Prelude.{◌≡◌, ◌+◌, ◌*◌, ◌/◌, ◌≤◌, ◌<◌, length, IfOk};
 ghost use Rattle.domain.specs.Refusals.{refused, numbered};
 ghost use Rattle.laws.specs.Overlay.{overlay};
 ghost use Rattle.laws.specs.Tabulate.{tabulate};
@@ -15,13 +15,13 @@ use domain::{Refusal, Settings};
 use std::num;
 
 // Of a block, and of its contents, after which its check stands.
-pub const BLOCK: usize = 512;
+pub const FILE_BLOCK: usize = 512;
 
 pub const CONTENTS: usize = 510;
 
 pub const MOST_LOOPS: usize = 8;
 
-pub const MOST_POINTS: usize = 248;
+pub const MOST_FILE_POINTS: usize = 248;
 
 pub const BLOCK_POINTS: usize = 31;
 
@@ -49,21 +49,21 @@ pub struct Head {
 
 // ---- bytes
 
-// The `n` bytes from place `i` on as a number, low byte first.
-fn number_at(n: usize, b: &[u8], i: usize) -> u64
-    requires { (n ≤ 8) × (i + n ≤ length b.now) }
-    ensures { NumberOf n b.now i result }
+// The two bytes from place `i` on as a number, low byte first.
+fn number_at(b: &[u8], i: usize) -> u16
+    requires { i + 2 ≤ length b.now }
+    ensures { NumberOf 2 b.now i result }
 {
-    let mut bytes = [0u8; 8];
-    bytes[..n].copy_from_slice(&b[i..i + n]);
-    u64::from_le_bytes(bytes)
+    u16::from_le_bytes([b[i], b[i + 1]])
 }
 
 fn float_at(b: &[u8], i: usize) -> f64
     requires { i + 8 ≤ length b.now }
     ensures { result ≡ float_at b.now i }
 {
-    num::f64_from_bits_with_nan(number_at(8, b, i))
+    let mut bytes = [0; 8];
+    bytes.copy_from_slice(&b[i..i + 8]);
+    num::f64_from_bits_with_nan(u64::from_le_bytes(bytes))
 }
 
 // ---- blocks
@@ -73,8 +73,8 @@ fn block(file: &[u8], k: usize) -> &[u8]
     requires { k ≤ 8 }
     ensures { result.now ≡ block_at file.now k }
 {
-    let from = (BLOCK * k).min(file.len());
-    let to = file.len().min(from + BLOCK);
+    let from = (FILE_BLOCK * k).min(file.len());
+    let to = file.len().min(from + FILE_BLOCK);
     &file[from..to]
 }
 
@@ -90,21 +90,23 @@ pub fn check_of(b: &[u8]) -> u64
     sum % 65521
 }
 
-fn check_block(b: &[u8]) -> Result<(), Refusal>
-    ensures { refused result ≡ block_refusal b.now }
+fn check_block(b: &[u8]) -> Result<&[u8; FILE_BLOCK], Refusal>
+    requires { length b.now ≤ 512 }
+    ensures refused { refused result ≡ block_refusal b.now }
+    ensures same { IfOk result (λ whole. whole.now ≡ b.now) }
 {
-    if b.len() < BLOCK {
+    let Some(whole) = b.as_array() else {
         return Err(Refusal::WrongFile);
-    }
-    if check_of(b) != number_at(2, b, CONTENTS) {
+    };
+    if check_of(whole) != u64::from(number_at(whole, CONTENTS)) {
         return Err(Refusal::WrongCheck);
     }
-    Ok(())
+    Ok(whole)
 }
 
 // Whether the bytes from place `at` to 509 are 0.
-fn zero_from(b: &[u8], at: usize) -> bool
-    requires { (510 ≤ length b.now) × (at ≤ 510) }
+fn zero_from(b: &[u8; FILE_BLOCK], at: usize) -> bool
+    requires { at ≤ 510 }
     ensures { result ≡ zero_from b.now at }
 {
     b[at..CONTENTS].iter().all(|&x| x == 0)
@@ -113,35 +115,36 @@ fn zero_from(b: &[u8], at: usize) -> bool
 // ---- the head
 
 // The points of the first `n` loops.
-fn head_points(h: &[u8], n: usize) -> usize
-    requires { (n ≤ 8) × (510 ≤ length h.now) }
+fn head_points(h: &[u8; FILE_BLOCK], n: usize) -> usize
+    requires { n ≤ 8 }
     ensures { result ≡ head_points h.now n }
 {
     let mut sum = 0;
     for k in 0..n {
-        sum += number_at(2, h, LENGTHS_AT + 2 * k) as usize;
+        sum += usize::from(number_at(h, LENGTHS_AT + 2 * k));
     }
     sum
 }
 
 #[tactic(auto, unfolding(crate::specs::File::head_sound))]
-fn head_sound(h: &[u8]) -> bool
-    requires { 510 ≤ length h.now }
+fn head_sound(h: &[u8; FILE_BLOCK]) -> bool
     ensures { result ≡ head_sound h.now }
 {
-    let loops = number_at(2, h, LOOPS_AT) as usize;
+    let loops = usize::from(number_at(h, LOOPS_AT));
     1 <= loops
         && loops <= MOST_LOOPS
-        && head_points(h, loops) <= MOST_POINTS
+        && head_points(h, loops) <= MOST_FILE_POINTS
         && zero_from(h, LENGTHS_AT + 2 * loops)
 }
 
-fn check_head(h: &[u8]) -> Result<(), Refusal>
-    ensures { refused result ≡ head_refusal h.now }
+fn check_head(h: &[u8]) -> Result<&[u8; FILE_BLOCK], Refusal>
+    requires { length h.now ≤ 512 }
+    ensures refused { refused result ≡ head_refusal h.now }
+    ensures same { IfOk result (λ whole. whole.now ≡ h.now) }
 {
-    check_block(h)?;
-    if head_sound(h) {
-        Ok(())
+    let whole = check_block(h)?;
+    if head_sound(whole) {
+        Ok(whole)
     } else {
         Err(Refusal::WrongFile)
     }
@@ -154,8 +157,7 @@ fn check_points(file: &[u8], n: usize, k: usize) -> Result<(), Refusal>
     requires { (n ≤ 248) × (31 * k < n) }
     ensures { refused result ≡ points_refusal file.now n k }
 {
-    let b = block(file, k + 1);
-    check_block(b)?;
+    let b = check_block(block(file, k + 1))?;
     let here = (n - BLOCK_POINTS * k).min(BLOCK_POINTS);
     if zero_from(b, 16 * here) {
         Ok(())
@@ -182,20 +184,28 @@ pub fn file_length(n: usize) -> usize
     requires { n ≤ 248 }
     ensures { result ≡ file_length n }
 {
-    BLOCK * (n.div_ceil(BLOCK_POINTS) + 1)
+    FILE_BLOCK * (n.div_ceil(BLOCK_POINTS) + 1)
+}
+
+// The head of a file that isn't refused.
+fn checked_head(file: &[u8]) -> Result<&[u8; FILE_BLOCK], Refusal>
+    ensures refused { refused result ≡ file_refusal file.now }
+    ensures head { IfOk result (λ h. h.now ≡ block_at file.now 0) }
+{
+    let h = check_head(block(file, 0))?;
+    let n = head_points(h, usize::from(number_at(h, LOOPS_AT)));
+    check_blocks(file, n)?;
+    if file_length(n) < file.len() {
+        return Err(Refusal::WrongFile);
+    }
+    Ok(h)
 }
 
 // Refusals 12 and 13: the head first, then block by block, last the end.
 pub fn check_file(file: &[u8]) -> Result<(), Refusal>
     ensures { refused result ≡ file_refusal file.now }
 {
-    let h = block(file, 0);
-    check_head(h)?;
-    let n = head_points(h, number_at(2, h, LOOPS_AT) as usize);
-    check_blocks(file, n)?;
-    if file_length(n) < file.len() {
-        return Err(Refusal::WrongFile);
-    }
+    checked_head(file)?;
     Ok(())
 }
 
@@ -221,29 +231,29 @@ fn read_points(file: &[u8], n: usize, points: &mut [f64])
 }
 
 // Puts the lengths of a head's first `n` loops on the first places of `lens`.
-fn read_lengths(h: &[u8], n: usize, lens: &mut [usize])
-    requires { (n ≤ 8) × (510 ≤ length h.now) × (n ≤ length lens.old) }
+fn read_lengths(h: &[u8; FILE_BLOCK], n: usize, lens: &mut [usize])
+    requires { (n ≤ 8) × (n ≤ length lens.old) }
     ensures { lens.new ≡ overlay (tabulate n (head_length h.now)) lens.old }
 {
     for (k, place) in lens[..n].iter_mut().enumerate() {
-        *place = number_at(2, h, LENGTHS_AT + 2 * k) as usize;
+        *place = usize::from(number_at(h, LENGTHS_AT + 2 * k));
     }
 }
 
-fn read_head(h: &[u8]) -> Head
+fn read_head(h: &[u8; FILE_BLOCK]) -> Head
     requires { Headed h.now }
     ensures { result ≡ block_head h.now }
 {
-    let loops = number_at(2, h, LOOPS_AT) as usize;
+    let loops = usize::from(number_at(h, LOOPS_AT));
     let settings = Settings {
         size: float_at(h, 0),
-        sweeps: number_at(2, h, SWEEPS_AT) as usize,
-        passes: number_at(2, h, PASSES_AT) as usize,
+        sweeps: usize::from(number_at(h, SWEEPS_AT)),
+        passes: usize::from(number_at(h, PASSES_AT)),
     };
     Head {
         settings,
         loops,
-        outer: number_at(2, h, LENGTHS_AT) as usize,
+        outer: usize::from(number_at(h, LENGTHS_AT)),
         points: head_points(h, loops),
     }
 }
@@ -253,13 +263,12 @@ fn read_head(h: &[u8]) -> Head
 // loop's length, and places after these keep their contents.
 pub fn read_file(
     file: &[u8],
-    points: &mut [f64; 496],
-    lens: &mut [usize; 8],
+    points: &mut [f64; 2 * MOST_FILE_POINTS],
+    lens: &mut [usize; MOST_LOOPS],
 ) -> Result<Head, Refusal>
     ensures { reading (numbered result) points.new lens.new ≡ read_file file.now points.old lens.old }
 {
-    check_file(file)?;
-    let h = block(file, 0);
+    let h = checked_head(file)?;
     let head = read_head(h);
     read_lengths(h, head.loops, lens);
     read_points(file, head.points, points);

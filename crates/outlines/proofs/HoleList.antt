@@ -1,16 +1,19 @@
 -- The list of an outline's holes is as long as that of their lengths, and has hole k at place k.
 use Rattle.std.specs.Iterator.{Yields, YieldsFirstBy}
-use Rattle.std.specs.Prelude.{Option, Some, None, false, List, [], ◌∷◌, ◌≡◌, refl, ℕ, zero, suc, ◌+◌, ◌*◌, ◌≤◌, ◌<◌, ◌^◌, length, get_or, take, drop, sum, Float}
+use Rattle.std.specs.Prelude.{Option, Some, None, Bool, false, ◌||◌, List, [], ◌∷◌, ◌≡◌, refl, ℕ, zero, suc, ◌+◌, ◌*◌, ◌≤◌, ◌<◌, ◌^◌, length, get_or, take, drop, sum, Float}
 use Rattle.std.proofs.Common.{sym, ap, ap₂, ◌∙◌, arith, add-one, length-take, get_or-take}
 use Rattle.std.proofs.lemmas.List.{drop-drop}
 use Rattle.std.proofs.lemmas.List.Sums.{sum_by-cons}
 use Rattle.std.proofs.lemmas.Iterator.Consumers.{YieldsList-from_first, YieldsList-turn, YieldsList-end}
 use Rattle.std.proofs.lemmas.Iterator.{YieldsList}
+use Rattle.std.specs.List.{list_any}
+use Rattle.laws.specs.Loop.{for_up_same, any_turn, any_up}
+use Rattle.laws.proofs.Lists.{any_list}
 use Rattle.domain.specs.Outline.{Outline, hole_length, hole_start, hole_at, loop_at, misshapen}
 use Rattle.domain.specs.OutlineLaws.{start_first, start_next, shaped, HolesPassed}
 use Rattle.outlines.specs.declared.Hole.{Hole}
 use Rattle.outlines.specs.declared.Holes.{Holes}
-use Rattle.outlines.specs.Holes.{placed, cut, hole_list, Filled}
+use Rattle.outlines.specs.Holes.{placed, cut, hole_list, Filled, HolePlace}
 
 -- the points before a hole, the first hole's apart
 start_front : (n : ℕ) (lens : List ℕ) (k : ℕ) → hole_start (n ∷ lens) (suc k) ≡ n + hole_start lens k
@@ -54,6 +57,24 @@ hole_list_at : (o : Outline) (d : ℕ × (ℕ × List Float)) (k : ℕ) → k < 
 unfolding hole_list hole_at
 hole_list_at o d k h = cut_at 0 0 o.lens o.holes d k h ∙ ap₂ (λ (a b : ℕ). (a, (b, hole_at o k))) (omega arith) (omega arith)
 
+-- a test of some hole of the list, or of the first n, is one of some place
+module _ (o : Outline) (test : ℕ × (ℕ × List Float) → Bool) (other : ℕ → Bool)
+    (same : (k : ℕ) → k < length o.lens → test (k, (hole_start o.lens k, hole_at o k)) ≡ other k) where
+  any_place : (n : ℕ) (s : List (ℕ × (ℕ × List Float))) → n ≤ length o.lens → length s ≡ n → ((k : ℕ) → k < n → get_or s k (0, (0, [])) ≡ get_or (hole_list o) k (0, (0, [])))
+      → list_any test s ≡ any_up n other
+  unfolding any_up
+  any_place n s few long e =
+      any_list test (0, (0, [])) s ∙ ap (λ (m : ℕ). any_up m (λ k. test (get_or s k (0, (0, []))))) long
+      ∙ for_up_same n (any_turn (λ k. test (get_or s k (0, (0, []))))) (any_turn other) false
+      (λ k b h. ap (λ (x : Bool). b || x) (ap test (e k h ∙ hole_list_at o (0, (0, [])) k (omega arith)) ∙ same k (omega arith)))
+
+  pub any_hole : list_any test (hole_list o) ≡ any_up (length o.lens) other
+  any_hole = any_place (length o.lens) (hole_list o) (omega arith) (hole_list_length o) (λ k h. refl)
+
+  pub any_first_hole : (n : ℕ) → n ≤ length o.lens → list_any test (take n (hole_list o)) ≡ any_up n other
+  any_first_hole n few =
+      any_place n (take n (hole_list o)) few (omega (arith, length-take n (hole_list o), hole_list_length o)) (λ k h. get_or-take n (hole_list o) k (0, (0, [])) h)
+
 -- ---- a loop `for hole in outlines::holes_of(..)`: what its iterator gave so far, and gives next
 
 abbrev left : Holes → List (ℕ × (ℕ × List Float))
@@ -65,14 +86,7 @@ GivesHoles = YieldsFirstBy placed left
 pub holes_yield : (o : Outline) (first : Holes) → left first ≡ hole_list o → YieldsList GivesHoles placed first (hole_list o)
 holes_yield o first all = YieldsList-from_first placed left (hole_list o) all
 
--- the hole is the outline's k-th
-pub record HolePlace (o : Outline) (k : ℕ) (h : Hole) : Type 0 where
-  pub within : k < length o.lens
-  pub index : h.index ≡ k
-  pub start : h.start ≡ hole_start o.lens k
-  pub points : h.points.now ≡ hole_at o k
-
-hole_place : (o : Outline) (k : ℕ) (h : Hole) → k < length o.lens → placed h ≡ get_or (hole_list o) k (placed h) → HolePlace o k h
+pub hole_place : (o : Outline) (k : ℕ) (h : Hole) → k < length o.lens → placed h ≡ get_or (hole_list o) k (placed h) → HolePlace o k h
 hole_place o k h within e =
     let same = e ∙ hole_list_at o (placed h) k within in
     record {
@@ -81,6 +95,16 @@ hole_place o k h within e =
       start = ap (λ (p : ℕ × (ℕ × List Float)). p.1.0) same;
       points = ap (λ (p : ℕ × (ℕ × List Float)). p.1.1) same;
     }
+
+-- so is a hole of the list
+pub listed_place : (o : Outline) (k : ℕ) (h : Hole) → k < length (hole_list o) → placed h ≡ get_or (hole_list o) k (placed h) → HolePlace o k h
+listed_place o k h within e = hole_place o k h (omega (arith, hole_list_length o)) e
+
+-- and one of the first n
+pub first_place : (o : Outline) (n : ℕ) → n ≤ length o.lens → (k : ℕ) (h : Hole) → k < length (take n (hole_list o)) → placed h ≡ get_or (take n (hole_list o)) k (placed h) → HolePlace o k h
+first_place o n few k h within e =
+    let i : k < n = omega (arith, length-take n (hole_list o)) in
+    hole_place o k h (omega arith) (e ∙ get_or-take n (hole_list o) k (placed h) i)
 
 module _ (o : Outline) (first here next : Holes) (given : List Hole) (all : left first ≡ hole_list o) (so_far : Yields GivesHoles first given here) where
   -- it gives the next hole

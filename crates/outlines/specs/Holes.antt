@@ -1,6 +1,6 @@
 -- The holes of an outline as a list. Definitions only.
-use Rattle.std.specs.Prelude.{List, [], ◌∷◌, ℕ, ◌+◌, ◌*◌, ◌≤◌, ◌<◌, ◌^◌, length, take, drop, sum, Float}
-use Rattle.domain.specs.Outline.{Outline, most_points}
+use Rattle.std.specs.Prelude.{List, [], ◌∷◌, ◌≡◌, ℕ, ◌+◌, ◌*◌, ◌≤◌, ◌<◌, ◌^◌, length, take, drop, sum, Float}
+use Rattle.domain.specs.Outline.{Outline, hole_start, hole_at, most_points}
 use Rattle.outlines.specs.declared.Hole.{Hole}
 
 -- a hole's index, how many hole points stand before it, and its coordinates
@@ -20,3 +20,10 @@ pub record Filled (k start : ℕ) (lens : List ℕ) (s : List Float) : Type 0 wh
   pub there : 2 * sum lens ≤ length s
   pub few : 2 * start + length s ≤ 2 * most_points
   pub numbered : k + length lens < 2 ^ 64
+
+-- the hole is the outline's k-th
+pub record HolePlace (o : Outline) (k : ℕ) (h : Hole) : Type 0 where
+  pub within : k < length o.lens
+  pub index : h.index ≡ k
+  pub start : h.start ≡ hole_start o.lens k
+  pub points : h.points.now ≡ hole_at o k

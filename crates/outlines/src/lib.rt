@@ -2,7 +2,7 @@
 #![tactic(auto)]
 
 ghost use Rattle.std.specs.Prelude.{◌≡◌, false, ◌+◌, ◌*◌, ◌<◌, eqb, length};
-ghost use Rattle.domain.specs.Outline.{outline_of, hole_start, loop_at, point_at, after, point_after, any_float, not_finite, beyond, misshapen, LoopPlace};
+ghost use Rattle.domain.specs.Outline.{outline_of, hole_start, point_at, after, point_after, any_float, not_finite, beyond, misshapen};
 ghost use Rattle.domain.specs.Outline.{loop_refusal, loops_refusal, outline_refusal, point_refusal};
 ghost use Rattle.domain.specs.Refusals.{refused};
 ghost use Rattle.std.specs.Iterator.{YieldsFirstBy, item_count};
@@ -28,6 +28,7 @@ fn is_beyond(x: f64) -> bool
 }
 
 // Whether the lengths add up to the total. They are taken off it one by one, so that no sum overflows.
+// Stays a loop: `try_fold` with `checked_sub` would say it in a line, but its contract tells only which calls it made, and no lemma makes a sum of these.
 fn add_up(lens: &[usize], total: usize) -> bool
     ensures { result ≡ eqb (hole_start lens.now (length lens.now)) total }
 {
@@ -64,19 +65,6 @@ fn check_loop(s: &[f64]) -> Result<(), Refusal>
         return Err(Refusal::NotFinite);
     }
     Ok(())
-}
-
-// The points of loop k, a part of one of the two slices: loop 0 is the outer one, and `start` hole points stand before loop k.
-pub fn loop_points<'a>(domain: Domain<'a>, k: usize, start: usize) -> &'a [f64]
-    requires { LoopPlace (outline_of domain) k start }
-    ensures { result.now ≡ loop_at (outline_of domain.entry) k }
-{
-    if k == 0 {
-        return domain.outer;
-    }
-    let from = 2 * start;
-    let to = from + 2 * domain.lens[k - 1];
-    &domain.holes[from..to]
 }
 
 // A hole of an outline: its index, how many hole points stand before it, and its coordinates.
@@ -213,7 +201,7 @@ pub fn ray_crosses(p: Point, a: Point, b: Point) -> bool
 
 // ---- the lower and the higher of two numbers, neither of which is a NaN
 
-// One instruction tells them apart; `min_f64` and `max_f64` ask for a NaN first.
+// Stays by hand, here and below: one instruction tells them apart; `min_f64` and `max_f64` ask for a NaN first (docs/DECISIONS.md, "Blocks of the outline").
 pub fn lower_of(x: f64, y: f64) -> f64
     ensures { result ≡ lower_of x y }
 {

@@ -2,16 +2,19 @@
 #![tactic(auto)]
 
 ghost use Rattle.std.specs.Prelude.{◌≡◌};
+ghost use Rattle.domain.specs.Refusals.{numbered};
 ghost use Rattle.pave_answer.specs.Numbers.{pave_numbers};
 
+use domain::Refusal;
 use run::Paved;
 
 // A run's end (0 still, 1 passes, 2 cap, 3 full) and whether it is whole, its field record's floats and counts, how many nodes, quads, distinct
 // edges and front edges it has, how many loops of the front are listed, and the ids in all of them. All else is in the lists lent. All is 0 on
 // a refusal.
 #[repr(C)]
-#[derive(Clone, Copy)]
+#[derive(Clone, Copy, Default)]
 pub struct PaveAnswer {
+    // Stays a number beside the values: the C interface needs it.
     pub refusal: u32,
     pub end: u32,
     pub whole: bool,
@@ -28,26 +31,32 @@ pub struct PaveAnswer {
     pub ids: usize,
 }
 
-impl From<Paved> for PaveAnswer {
-    ghost from_gives = { λ paved answer. answer ≡ pave_numbers paved };
+impl From<Result<Paved, Refusal>> for PaveAnswer {
+    ghost from_gives = { λ run answer. answer ≡ pave_numbers (numbered run) };
 
     #[tactic(auto, unfolding(crate::specs::Numbers::pave_numbers))]
-    fn from(paved: Paved) -> PaveAnswer {
-        PaveAnswer {
-            refusal: paved.refusal,
-            end: paved.end,
-            whole: paved.whole,
-            xmin: paved.grid.xmin,
-            ymin: paved.grid.ymin,
-            h: paved.grid.h,
-            nx: paved.grid.nx,
-            ny: paved.grid.ny,
-            nodes: paved.counts.nodes,
-            quads: paved.counts.quads,
-            edges: paved.counts.edges,
-            front: paved.counts.front,
-            loops: paved.listed.count,
-            ids: paved.listed.ids,
+    fn from(run: Result<Paved, Refusal>) -> PaveAnswer {
+        match run {
+            Err(refusal) => PaveAnswer {
+                refusal: u32::from(refusal),
+                ..PaveAnswer::default()
+            },
+            Ok(paved) => PaveAnswer {
+                refusal: 0,
+                end: u32::from(paved.end),
+                whole: paved.whole,
+                xmin: paved.grid.xmin,
+                ymin: paved.grid.ymin,
+                h: paved.grid.h,
+                nx: paved.grid.nx,
+                ny: paved.grid.ny,
+                nodes: paved.counts.nodes,
+                quads: paved.counts.quads,
+                edges: paved.counts.edges,
+                front: paved.counts.front,
+                loops: paved.listed.count,
+                ids: paved.listed.ids,
+            },
         }
     }
 }

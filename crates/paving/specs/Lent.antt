@@ -10,7 +10,7 @@ outline_in s = outline_of s.domain
 
 -- no attempt reads the marks
 abbrev pub field_in : Surroundings → FieldRecord
-field_in s = field_record s.grid s.values.now []
+field_in s = field_record s.field.grid s.field.values.now []
 
 -- t has the lists that s has
 pub record SameScratch (s t : Scratch) : Type 0 where

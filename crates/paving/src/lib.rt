@@ -1,10 +1,10 @@
-// The paving of src/alt_crossfield.rs: `attempt_quad`, `try_edge`, `advance` and `front_loops`.
+// What a run reads and how it ends; in specs/ the paving of src/alt_crossfield.rs: `attempt_quad`, `try_edge`, `advance` and `front_loops`.
 #![tactic(auto)]
 
 ghost use Rattle.std.specs.Prelude.{◌≡◌};
 ghost use Rattle.paving.specs.Ends.{end_number};
 
-use direction::Grid;
+use direction::CrossField;
 use domain::Domain;
 use front::Corner;
 
@@ -44,8 +44,7 @@ pub struct Surroundings<'a> {
     pub domain: Domain<'a>,
     pub blocks: &'a [u32],
     pub size: f64,
-    pub grid: Grid,
-    pub values: &'a [f64],
+    pub field: CrossField<'a>,
 }
 
 // Lists lent for scratch: the pools in which nodes and edges are filed, so that searches go by them, and the edges that were tried in vain.

@@ -6,11 +6,12 @@ ghost use Rattle.domain.specs.Outline.{outline, outline_of};
 ghost use Rattle.crossfield.specs.Field.{drawn_refusal};
 ghost use Rattle.places.specs.Needed.{places_answer, PlacesGiven};
 
-use domain::{Domain, Settings};
+use domain::Domain;
 
+// Stays a number beside the values: the C interface needs it.
 // `refusal` is document 01's number, 0 where nothing is refused; on a refusal both counts are 0.
 #[repr(C)]
-#[derive(Clone, Copy)]
+#[derive(Clone, Copy, Default)]
 pub struct PlacesAnswer {
     pub refusal: u32,
     pub field_nodes: usize,
@@ -32,6 +33,7 @@ fn count_places(domain: Domain<'_>, size: f64) -> PlacesAnswer
 }
 
 // The places that a run of this outline and size can't do without. Quads, and the nodes and edges that they add, need more.
+// Stays a row of numbers and slices: C calls it.
 #[unsafe(no_mangle)]
 pub extern "C" fn sitjorbe_places<'a>(
     outer: &'a [f64],
@@ -42,12 +44,10 @@ pub extern "C" fn sitjorbe_places<'a>(
     ensures { PlacesGiven (outline outer.now holes.now lens.now) size result }
 {
     let domain = Domain { outer, holes, lens };
-    // Neither 8 nor 9: no sweeps are asked for, and no field has more nodes.
-    match crossfield::check_field(domain, size, 0, Settings::MOST_FIELD_NODES) {
+    match crossfield::check_drawn(domain, size) {
         Err(refusal) => PlacesAnswer {
             refusal: u32::from(refusal),
-            field_nodes: 0,
-            sampled_nodes: 0,
+            ..PlacesAnswer::default()
         },
         Ok(()) => count_places(domain, size),
     }

@@ -33,6 +33,7 @@ impl Rect {
 }
 
 // No place.
+// Stays a number: lent lists hold it.
 pub const NONE: u32 = u32::MAX;
 
 // As many places as 32 bits number beside `NONE`.

@@ -1,7 +1,7 @@
 -- Paper 11: the front after a quad, read from the front before it, and what a preview answers and writes. Definitions only.
 use Rattle.std.specs.Prelude.{cond, List, Result, Ok, Err, ◌≡◌, ℕ, ◌+◌, ◌*◌, ◌/◌, leb, ltb, eqb, length, set, Float, Option, Some, None}
 use Rattle.laws.specs.Loop.{for_up}
-use Rattle.topology.specs.Links.{off, update}
+use Rattle.topology.specs.Links.{off, update, link_of}
 use Rattle.domain.specs.Outline.{Outline, first_of}
 use Rattle.direction.specs.Record.{FieldRecord}
 use Rattle.front.specs.declared.Corner.{Corner}
@@ -112,3 +112,10 @@ shown_links (Some q) a b n g x = moved_links q.c q.d a b (corner_id (n + added q
 abbrev pub shown_nodes : Option FarCorners → ℕ → ℕ
 shown_nodes None n = n
 shown_nodes (Some q) n = n + (added q.c + added q.d)
+
+-- the links as the code reads them, before the quad and after it
+abbrev pub links_before : ℕ → List ℕ → ℕ → ℕ
+links_before n next = link_of n next
+
+abbrev pub links_after : Option FarCorners → ℕ → ℕ → ℕ → List ℕ → ℕ → ℕ
+links_after q a b n next = shown_links q a b n (links_before n next)

@@ -12,14 +12,14 @@ use domain::{Domain, Near, Point, Refusal};
 // `refusal` is document 01's number, 0 where nothing is refused. The values of a refused query are false, 0.0 or 0.
 // Stays a number beside the values, here and below: the C interface needs it.
 #[repr(C)]
-#[derive(Clone, Copy)]
+#[derive(Clone, Copy, Default)]
 pub struct ContainsAnswer {
     pub refusal: u32,
     pub inside: bool,
 }
 
 #[repr(C)]
-#[derive(Clone, Copy)]
+#[derive(Clone, Copy, Default)]
 pub struct NearestAnswer {
     pub refusal: u32,
     pub ax: f64,
@@ -32,7 +32,7 @@ pub struct NearestAnswer {
 }
 
 #[repr(C)]
-#[derive(Clone, Copy)]
+#[derive(Clone, Copy, Default)]
 pub struct DistanceAnswer {
     pub refusal: u32,
     pub distance: f64,
@@ -48,6 +48,7 @@ fn check_query(domain: Domain<'_>, p: Point) -> Result<(), Refusal>
     outlines::check_point(p)
 }
 
+// Stays two functions, this and the next: each is its check and its search; one that takes the search says besides when it may be called, and is no shorter.
 #[tactic(auto, unfolding(crate::specs::Answers::contains_answer), using(domain::proofs::Refused::refused_answer))]
 pub fn query_contains(domain: Domain<'_>, p: Point) -> Result<bool, Refusal>
     ensures { numbered result ≡ contains_answer (outline_of domain.entry) p }
@@ -64,17 +65,17 @@ pub fn query_nearest(domain: Domain<'_>, p: Point) -> Result<Near, Refusal>
     Ok(nearest::search_outline(domain, &[], p))
 }
 
-#[tactic(auto, unfolding(crate::specs::Answers::distance_answer), using(domain::proofs::Refused::refused_answer))]
+#[tactic(auto, using(crate::proofs::Mapped::distance_found, crate::proofs::Mapped::distance_refused))]
 pub fn query_distance(domain: Domain<'_>, p: Point) -> Result<f64, Refusal>
     ensures { numbered result ≡ distance_answer (outline_of domain.entry) p }
 {
-    check_query(domain, p)?;
-    Ok(nearest::search_outline(domain, &[], p).distance)
+    query_nearest(domain, p).map(|near| near.distance)
 }
 
 // ---- the entries
 
 // Whether the point is inside the outer loop and outside every hole.
+// Stays a row of slices and numbers, here and below: C calls it.
 #[unsafe(no_mangle)]
 #[tactic(auto, unfolding(crate::specs::Answers::contains_numbers))]
 pub extern "C" fn sitjorbe_contains<'a>(
@@ -90,7 +91,7 @@ pub extern "C" fn sitjorbe_contains<'a>(
     match query_contains(domain, Point { x, y }) {
         Err(refusal) => ContainsAnswer {
             refusal: u32::from(refusal),
-            inside: false,
+            ..ContainsAnswer::default()
         },
         Ok(inside) => ContainsAnswer { refusal: 0, inside },
     }
@@ -111,13 +112,7 @@ pub extern "C" fn sitjorbe_nearest_segment<'a>(
     match query_nearest(domain, Point { x, y }) {
         Err(refusal) => NearestAnswer {
             refusal: u32::from(refusal),
-            ax: 0.0,
-            ay: 0.0,
-            bx: 0.0,
-            by: 0.0,
-            distance: 0.0,
-            loop_index: 0,
-            segment_index: 0,
+            ..NearestAnswer::default()
         },
         Ok(near) => NearestAnswer {
             refusal: 0,
@@ -148,7 +143,7 @@ pub extern "C" fn sitjorbe_distance_to_boundary<'a>(
     match query_distance(domain, Point { x, y }) {
         Err(refusal) => DistanceAnswer {
             refusal: u32::from(refusal),
-            distance: 0.0,
+            ..DistanceAnswer::default()
         },
         Ok(distance) => DistanceAnswer {
             refusal: 0,

@@ -12,6 +12,13 @@ use file_reading::read_full;
 use std::rt::Files;
 use std::{fs, io, str};
 
+// So much is read of the list and of an outline's file, of which 4,609 bytes decide.
+// Stays the length of an array, as the one below: the program allocates nothing.
+const MOST_READ: usize = 65536;
+
+// So much is read of a stored listing: more than any has.
+const MOST_STORED: usize = 120000;
+
 // ---- on slices
 
 fn first_unlike(a: &[u8], b: &[u8]) -> Option<usize>
@@ -69,7 +76,7 @@ fn read_bytes<'a>(files: &impl Files, path: &[u8], bytes: &'a mut [u8]) -> io::R
     Ok(&bytes[..length])
 }
 
-// Puts a file at the start of `bytes`, as far as they go: 65,536 for an outline, of which 4,609 decide, and more for a listing than any has.
+// The same, where a file that can't be read is none.
 fn read_file<'a>(rt: &(impl Files + Eprint), path: &[u8], bytes: &'a mut [u8]) -> Option<&'a [u8]> {
     match read_bytes(rt, path, bytes) {
         Ok(read) => Some(read),
@@ -107,12 +114,12 @@ fn say_counts(rt: &impl Print, files: usize, differences: usize) -> io::Result<(
 // Runs one file, and answers whether it differs: then a line is printed. A file that is missing does. That a line can't be written changes no
 // answer.
 fn differs(rt: &(impl Files + Print + Eprint), outline: &[u8], listing: &[u8]) -> bool {
-    let mut file = [0u8; 65536];
+    let mut file = [0u8; MOST_READ];
     let Some(read) = read_file(rt, outline, &mut file) else {
         let _ = say_missing(rt, outline);
         return true;
     };
-    let mut stored = [0u8; 120000];
+    let mut stored = [0u8; MOST_STORED];
     let Some(kept) = read_file(rt, listing, &mut stored) else {
         let _ = say_missing(rt, listing);
         return true;
@@ -143,7 +150,7 @@ fn replay_all(rt: &(impl Files + Print + Eprint), list: &[u8]) -> io::Result<()>
 }
 
 fn main(rt: HostRuntime) -> io::Result<()> {
-    let mut list = [0u8; 65536];
+    let mut list = [0u8; MOST_READ];
     let lines = read_file(&rt, b"list", &mut list).unwrap_or(&[]);
     replay_all(&rt, lines)
 }

@@ -1,5 +1,5 @@
 -- What holds of the definitions of specs/VainLaws.antt.
-use Prim.Native.Nat.{ℕ, ◌+◌, ◌-◌, ◌*◌, ◌/◌, ◌<◌, ◌≤◌}
+use Prim.Native.Nat.{ℕ, ◌+◌, ◌*◌, ◌/◌, ◌<◌, ◌≤◌}
 use mathlib.Core.List.{List}
 use Rattle.std.specs.Prelude.{◌≡◌, Bool, true, false, cond, ◌≢◌, eqb, ltb, get_or, set, Float, None}
 use Rattle.std.proofs.Math.Path.{refl, sym, ap}

@@ -1,5 +1,5 @@
 -- What the code of a try that asks the list first is lent, and what each of its ends leaves.
-use Rattle.std.specs.Prelude.{List, [], ◌≡◌, true, ℕ, ◌<◌, Float}
+use Rattle.std.specs.Prelude.{List, ◌≡◌, true, ℕ, ◌<◌, Float}
 use Rattle.domain.specs.Outline.{Outline}
 use Rattle.direction.specs.Record.{FieldRecord}
 use Rattle.front.specs.State.{State}

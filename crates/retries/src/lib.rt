@@ -12,6 +12,7 @@ ghost use Rattle.retries.specs.Vain.{is_vain, noted, tried_after, forgotten, Rem
 ghost use Rattle.retries.specs.Untried.{Untried};
 
 use front::Mesh;
+use indexed::Pools;
 use paving::{FarCorners, Scratch, Surroundings};
 
 // ---- the list
@@ -41,9 +42,7 @@ pub fn note(tried: &mut [u32], a: u32, b: u32, p: u32, q: u32)
 {
     let i = a as usize;
     if i < tried.len() / 3 {
-        tried[3 * i] = b;
-        tried[3 * i + 1] = p;
-        tried[3 * i + 2] = q;
+        tried[3 * i..3 * i + 3].copy_from_slice(&[b, p, q]);
     }
 }
 
@@ -58,7 +57,7 @@ pub fn try_untried(
     a: u32,
     b: u32,
 ) -> Option<FarCorners>
-    requires lent { TryLent (outline_in around.now) around.now.blocks.now around.now.grid around.now.values.now around.now.size mesh.now.xs.now
+    requires lent { TryLent (outline_in around.now) around.now.blocks.now around.now.field.grid around.now.field.values.now around.now.size mesh.now.xs.now
         mesh.now.ys.now mesh.now.next.now mesh.now.prev.now mesh.now.edges.now scratch.old.node_pool.now scratch.old.edge_pool.now mesh.now.counts }
     requires untried { Untried (outline_in around.now) around.now.size (field_in around.now) (seen_of (mesh_state mesh.now)) scratch.old.tried.now a b }
     ensures pools { (scratch.new.node_pool ≡ scratch.old.node_pool) × (scratch.new.edge_pool ≡ scratch.old.edge_pool) }
@@ -75,23 +74,11 @@ pub fn try_untried(
     if is_vain(scratch.tried(), a, b, p, q) {
         return None;
     }
-    let attempt = attempts::try_edge(
-        around.domain,
-        around.blocks,
-        around.size,
-        around.grid,
-        around.values,
-        mesh.xs,
-        mesh.ys,
-        mesh.next,
-        mesh.prev,
-        mesh.edges,
-        scratch.node_pool(),
-        scratch.edge_pool(),
-        mesh.counts,
-        a,
-        b,
-    );
+    let pools = Pools {
+        nodes: scratch.node_pool(),
+        edges: scratch.edge_pool(),
+    };
+    let attempt = attempts::try_edge(around, mesh, pools, a, b);
     if attempt.is_none() {
         note(scratch.tried, a, b, p, q);
     }

@@ -1,8 +1,8 @@
 -- Laws of the run: what each stage asks follows from the refusals, the stages make up the definition, and what a caller gets.
-use Rattle.std.specs.Prelude.{Bool, true, false, cond, ◌≡◌, ℕ, ◌*◌, ◌/◌, ◌≤◌, min, T, ltb, take, Float}
+use Rattle.std.specs.Prelude.{Bool, true, false, cond, ◌≡◌, ℕ, ◌*◌, ◌/◌, ◌≤◌, min, T, ltb, take, Float, Result, Ok, Err, IfOk, OnErr, IsOk}
 use mathlib.Core.List.{List, [], ◌++◌, map, flatten}
 use Rattle.std.proofs.Math.Path.{refl, ap, subst⁻¹, fun_ext}
-use Rattle.std.proofs.Common.{sym, ◌∙◌, subst, arith, ltb-false, length-take-le}
+use Rattle.std.proofs.Common.{sym, ◌∙◌, arith, ltb-false, length-take-le}
 use Rattle.std.proofs.Math.ListN.{length, drop, length-map}
 use Rattle.std.proofs.Math.Seq.{take-append_seam}
 use Rattle.std.specs.Float.{binary64}
@@ -15,7 +15,7 @@ use Rattle.domain.specs.Accepted.{OutlineFits, first_zero}
 use Rattle.domain.specs.RefusalLaws.{answer_refused}
 use Rattle.blocks.specs.Blocks.{Drawn}
 use Rattle.direction.specs.declared.Grid.{Grid}
-use Rattle.direction.specs.Record.{grid_nodes, FieldRecord, field_record}
+use Rattle.direction.specs.Record.{grid_nodes, FieldLists, FieldRecord, field_record}
 use Rattle.direction.specs.Cells as field-places
 use Rattle.direction.specs.Direction.{nearest_direction}
 use Rattle.crossfield.specs.Grid.{bounds, grid_of}
@@ -30,7 +30,7 @@ use Rattle.paving.specs.Attempt.{try_toward, try_edge}
 use Rattle.paving.specs.Advance.{Passed, passing, pass_turn, after_pass, with_snapshot, pass, most_passes, all_used, advance}
 use Rattle.paving.specs.Advance as paving
 use Rattle.paving.specs.Loops.{front_loops}
-use Rattle.whole_run.specs.Run.{run_refusal, run_of}
+use Rattle.whole_run.specs.Run.{run_refusal, WholeRun, run_of}
 use Rattle.loops.specs.Listed.{Lists, written, listed_in}
 use Rattle.loops.specs.ListedLaws.{listed_front}
 use Rattle.books.specs.Book.{Book, quad_at, new_node, side, book_quad, book_after, quads_area}
@@ -43,8 +43,8 @@ use Rattle.origins.proofs.Writing.{booked_answered}
 use Rattle.run_refusal.specs.Lengths.{lengths_refusal}
 use Rattle.sampled_advance.specs.Asked.{CanPave}
 use Rattle.run.specs.declared.Paved.{Paved}
-use Rattle.run.specs.Run.{Lent, Ran, ran, lent, field_part, state_part, snapshot_places, other_snapshot, narrowed, broadened}
-use Rattle.run.specs.Run.{refused_answer, paved_answer, refusal_of, accepted_in, accepted_run, run_answer, PavesBooks, PavesOrigins, Paves}
+use Rattle.run.specs.Run.{Lent, Ran, ran, lent, drawn_and_paved, field_part, state_part, snapshot_places, other_snapshot, narrowed, broadened}
+use Rattle.run.specs.Run.{paved_answer, refusal_of, accepted_in, accepted_run, run_answer, PavesBooks, PavesOrigins, Paves}
 use Rattle.run.specs.Asked.{CanRun}
 
 -- ---- a paving doesn't read the field's marks
@@ -67,33 +67,33 @@ module _ (o : Outline) (size : Float) (g : Grid) (values : List Float) (marks ot
 halves : (n floats bytes : ℕ) → n ≤ min (floats / 2) bytes → 2 * n ≤ floats
 halves n floats bytes h = omega arith
 
-module _ (o : Outline) (set : Settings) (l : Lent) (C : CanRun o set l) where
-  pub none_field : field_refusal o set.size set.sweeps (field_part l) ≡ 0
+module _ (o : Outline) (set : Settings) (f : FieldLists) (lent : State) (none : run_refusal o set f lent ≡ 0) where
+  pub none_field : field_refusal o set.size set.sweeps f ≡ 0
   unfolding run_refusal
-  none_field = (first_zero _ _ C.none).0
+  none_field = (first_zero _ _ none).0
 
-  none_front : front_refusal o set.size (state_part l) ≡ 0
+  pub none_front : front_refusal o set.size lent ≡ 0
   unfolding run_refusal
-  none_front = (first_zero (field_refusal o set.size set.sweeps (field_part l)) (front_refusal o set.size (state_part l)) C.none).1
+  none_front = (first_zero (field_refusal o set.size set.sweeps f) (front_refusal o set.size lent) none).1
 
-  none_for : refusal_for o set.size set.sweeps (field_places (field_part l)) ≡ 0
+  pub none_for : refusal_for o set.size set.sweeps (field_places f) ≡ 0
   unfolding field_refusal
   none_for = none_field
 
-  lent_made : OutlineFits o → T (fits binary64 set.size) → field-places.FieldLent (grid_of (bounds o) set.size) l.values
+  lent_made : OutlineFits o → T (fits binary64 set.size) → field-places.FieldLent (grid_of (bounds o) set.size) f.values
   lent_made doubles held =
-      let u = field_unrefused o set.size set.sweeps (field_places (field_part l)) none_for in
+      let u = field_unrefused o set.size set.sweeps (field_places f) none_for in
       let two = grid_sides (bounds o) set.size in
       record {
         columns = two.0;
         rows = two.1;
-        few = few_made o set.size set.sweeps (field_places (field_part l)) doubles held none_for refl;
-        room = halves (grid_nodes (grid_of (bounds o) set.size)) (length l.values) (length l.marks) u.room;
+        few = few_made o set.size set.sweeps (field_places f) doubles held none_for refl;
+        room = halves (grid_nodes (grid_of (bounds o) set.size)) (length f.values) (length f.marks) u.room;
       }
 
   pub can_pave : T (fits binary64 set.size) → (g : Grid) (values : List Float) (marks : List ℕ)
-      → field_record g values marks ≡ field_of o set.size set.sweeps (field_part l) → length values ≡ length l.values
-      → (blocks : List ℕ) → Drawn o blocks → CanPave o blocks set.size g values (state_part l)
+      → field_record g values marks ≡ field_of o set.size set.sweeps f → length values ≡ length f.values
+      → (blocks : List ℕ) → Drawn o blocks → CanPave o blocks set.size g values lent
   unfolding field_of
   can_pave held g values marks e long blocks D =
       let L = lent_made D.fits held in
@@ -146,17 +146,31 @@ module _ (o : Outline) (s : State) (marks loops lengths : List ℕ) (p : Lists)
 
 -- ---- the stages make up the run
 
-pub run_whole : (o : Outline) (set : Settings) (l : Lent) (g : Grid) (values : List Float) (marks : List ℕ)
-    → field_record g values marks ≡ field_of o set.size set.sweeps (field_part l)
-    → (a : paving.EndedPaving) → a ≡ advance o set.size (field_record g values []) set.passes (from_boundary o set.size (state_part l))
+-- the field and the paving
+pub run_made : (o : Outline) (set : Settings) (f : FieldLists) (lent : State) (g : Grid) (values : List Float) (marks : List ℕ)
+    → field_record g values marks ≡ field_of o set.size set.sweeps f
+    → (a : paving.EndedPaving) → a ≡ advance o set.size (field_record g values []) set.passes (from_boundary o set.size lent)
+    → drawn_and_paved (field_record g values marks) a ≡ run_of o set f lent
+unfolding run_of
+run_made o set f lent g values marks ef a ea =
+    rw (← ef, advance_unread o set.size g values marks [] set.passes (from_boundary o set.size lent), ← ea) refl
+
+pub paving_made : (o : Outline) (set : Settings) (f : FieldLists) (lent : State) (r : FieldRecord) (a : paving.EndedPaving)
+    → drawn_and_paved r a ≡ run_of o set f lent
+    → a ≡ advance o set.size (field_of o set.size set.sweeps f) set.passes (from_boundary o set.size lent)
+unfolding run_of
+paving_made o set f lent r a e = ap (λ (w : WholeRun). w.paving) e
+
+-- and the rest
+pub run_whole : (o : Outline) (set : Settings) (l : Lent) (g : Grid) (values : List Float) (marks : List ℕ) (a : paving.EndedPaving)
+    → drawn_and_paved (field_record g values marks) a ≡ run_of o set (field_part l) (state_part l)
     → (n : List ℕ) → n ≡ overlay (origins_after o set.size a.state.quads a.state.counts.quads) l.origins
     → (p : Lists) → p ≡ listed_in a.state.counts a.state.next a.state.snapshot l.loops l.lengths
     → (w : Bool) → w ≡ is_whole o p.listed.count → (r : Paved) → r ≡ paved_answer g a.end a.state.counts p.listed w
-    → ran r (lent values marks a.state.xs a.state.ys a.state.next a.state.prev p.marks n a.state.quads a.state.edges
+    → ran (Ok r) (lent values marks a.state.xs a.state.ys a.state.next a.state.prev p.marks n a.state.quads a.state.edges
     p.loops p.lengths) ≡ accepted_in o set l
-unfolding accepted_in run_of
-run_whole o set l g values marks ef a ea n en p ep w ew r er =
-    rw (er, ew, en, ← ef, advance_unread o set.size g values marks [] set.passes (from_boundary o set.size (state_part l)), ← ea, ← ep) refl
+unfolding accepted_in
+run_whole o set l g values marks a e n en p ep w ew r er = rw (er, ew, en, ← e, ← ep) refl
 
 -- ---- the refusals, by the numbers of places
 
@@ -194,45 +208,47 @@ module _ (o : Outline) (set : Settings) (l : Lent) (m : ℕ) (e : m ≡ snapshot
           by false e h = ltb-false (length l.lengths) (loop_count o) e
           by true e h = absurd (omega arith)
 
-  -- ---- what a caller gets
+-- the snapshot's other places keep their contents
+pub run_broadened : (o : Outline) (set : Settings) (l : Lent) (r : Result Paved ℕ) (after : Lent) → ran r after ≡ accepted_in o set (narrowed l)
+    → ran r (broadened l after) ≡ accepted_run o set l
+unfolding accepted_run
+run_broadened o set l r after e = ap (λ (w : Ran). ran w.answer (broadened l w.lists)) e
 
-  pub paves_accepted : refusal_of o set l ≡ 0 → OutlineFits o → (r : Paved) (after : Lent)
-      → ran r after ≡ accepted_in o set (other_snapshot l (take m l.snapshot))
-      → Paves o set l r (other_snapshot after (after.snapshot ++ drop m l.snapshot))
-  unfolding run_answer accepted_run accepted_in
-  paves_accepted z doubles r after q =
-      let same : ran r after ≡ accepted_in o set (narrowed l) = rw e at q in
-      let snapshot = after.snapshot ++ drop m l.snapshot in
+-- ---- what a caller gets
+
+module _ (o : Outline) (set : Settings) (l : Lent) where
+  pub paves_accepted : refusal_of o set l ≡ 0 → OutlineFits o → (r : Result Paved ℕ) (after : Lent) → ran r after ≡ accepted_run o set l
+      → Paves o set l r after
+  unfolding refusal_of run_answer accepted_run accepted_in
+  paves_accepted z doubles r after same =
       let part = state_part (narrowed l) in
+      let none = (first_zero (run_refusal o set (field_part l) part) (lengths_refusal o (length l.lengths)) z).0 in
       let s = (run_of o set (field_part l) part).paving.state in
-      let A = accepted_run_lem o set (field_part l) part doubles (none_of z).0 in
-      let B = books_unread o set.size s snapshot (books_hold o set (field_part l) part doubles (none_of z).0) in
+      let A = accepted_run_lem o set (field_part l) part doubles none in
+      let p = listed_in s.counts s.next s.snapshot l.loops l.lengths in
+      let B = books_unread o set.size s (p.marks ++ drop (snapshot_places l) l.snapshot) (books_hold o set (field_part l) part doubles none) in
       record {
-        equal = rw (z, e) (ap (λ (w : Ran). ran w.answer (broadened l w.lists)) same);
-        refused = λ n. absurd (n (ap (λ (w : Ran). w.answer.refusal) same));
+        equal = rw z same;
+        refused = subst⁻¹ (λ (w : Ran). OnErr w.answer (w.lists ≡ l)) same tt;
         books =
-            λ _.
-            let p = listed_in s.counts s.next s.snapshot l.loops l.lengths in
-            subst⁻¹ (λ (w : Ran). PavesBooks o set w.answer (other_snapshot w.lists snapshot)) same
+            subst⁻¹ (λ (w : Ran). IfOk w.answer (λ p. PavesBooks o set p w.lists)) same
             (record { books = B; front = λ b q. loops_answered o _ s.snapshot l.loops l.lengths p refl b (B.closes b q) });
         origins =
-            λ _.
-            subst⁻¹ (λ (w : Ran). PavesOrigins o set l.origins w.answer (other_snapshot w.lists snapshot)) same
+            subst⁻¹ (λ (w : Ran). IfOk w.answer (λ p. PavesOrigins o set l.origins p w.lists)) same
             (booked_answered o set.size part _ A.outline A.front B l.origins);
       }
 
--- a run that is made refuses nothing
-pub accepted_number : (o : Outline) (set : Settings) (l : Lent) (r : Paved) (after : Lent) → ran r after ≡ accepted_in o set l → r.refusal ≡ 0
-unfolding accepted_in
-accepted_number o set l r after e = ap (λ (w : Ran). w.answer.refusal) e
+  -- a run that is made refuses nothing
+  pub accepted_answers : (r : Result Paved ℕ) (after : Lent) → ran r after ≡ accepted_run o set l → IsOk r
+  unfolding accepted_run accepted_in
+  accepted_answers r after e = subst⁻¹ (λ (w : Ran). IsOk w.answer) e refl
 
-pub paves_refused : (o : Outline) (set : Settings) (l : Lent) (number : ℕ) → number ≡ refusal_of o set l → (number ≡ 0 → ⊥)
-    → (r : Paved) → r ≡ refused_answer number → Paves o set l r l
-unfolding run_answer refused_answer
-paves_refused o set l number e n r q =
-    record {
-      equal = rw (← e, q) (sym (answer_refused (λ (number : ℕ). ran (refused_answer number) l) (accepted_run o set l) number n));
-      refused = λ _. refl;
-      books = λ z. absurd (n (sym (ap (λ (v : Paved). v.refusal) q) ∙ z));
-      origins = λ z. absurd (n (sym (ap (λ (v : Paved). v.refusal) q) ∙ z));
-    }
+  pub paves_refused : (number : ℕ) → number ≡ refusal_of o set l → (number ≡ 0 → ⊥) → Paves o set l (Err number) l
+  unfolding run_answer
+  paves_refused number e n =
+      record {
+        equal = rw (← e) (sym (answer_refused (λ (number : ℕ). ran (Err number) l) (accepted_run o set l) number n));
+        refused = refl;
+        books = tt;
+        origins = tt;
+      }

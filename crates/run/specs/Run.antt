@@ -1,17 +1,16 @@
 -- THE RUN: what is lent, what is answered, and what a caller gets. Definitions only.
-use Rattle.std.specs.Prelude.{Bool, false, List, ◌++◌, ◌≡◌, ℕ, min, length, take, drop, Float}
+use Rattle.std.specs.Prelude.{Bool, List, ◌++◌, ◌≡◌, ℕ, min, length, take, drop, Float, Result, Ok, Err, IfOk, OnErr}
 use Rattle.laws.specs.Overlay.{overlay}
-use Rattle.numbers.specs.Float.{zero_f}
 use Rattle.domain.specs.declared.Settings.{Settings}
 use Rattle.domain.specs.Outline.{Outline, first_of}
 use Rattle.domain.specs.Queries.{answer_by}
 use Rattle.direction.specs.declared.Grid.{Grid}
-use Rattle.direction.specs.Record.{FieldLists, field_lists}
+use Rattle.direction.specs.Record.{FieldLists, field_lists, FieldRecord}
 use Rattle.front.specs.declared.Counts.{Counts}
 use Rattle.front.specs.State.{State, state_of}
 use Rattle.paving.specs.declared.End.{End}
-pub use Rattle.paving.specs.Ends.{end_number}
-use Rattle.whole_run.specs.Run.{run_refusal, run_of}
+use Rattle.paving.specs.Advance.{EndedPaving}
+use Rattle.whole_run.specs.Run.{run_refusal, WholeRun, run_of}
 use Rattle.loops.specs.declared.Listed.{Listed}
 use Rattle.loops.specs.Listed as loops
 use Rattle.sound_outlines.specs.Whole.{is_whole}
@@ -96,30 +95,22 @@ broadened l after = other_snapshot after (after.snapshot ++ drop (snapshot_place
 
 -- ---- the answer
 
-unfoldable pub refused_answer : ℕ → Paved
-refused_answer number =
-    record {
-      refusal = number;
-      end = 0;
-      grid = record { xmin = zero_f; ymin = zero_f; h = zero_f; nx = 0; ny = 0 };
-      counts = unused;
-      listed = loops.listed_of 0 0;
-      whole = false;
-    }
-
 abbrev pub paved_answer : Grid → End → Counts → Listed → Bool → Paved
-paved_answer grid end counts listed whole =
-    record { refusal = 0; end = end_number end; grid = grid; counts = counts; listed = listed; whole = whole }
+paved_answer grid end counts listed whole = record { end = end; grid = grid; counts = counts; listed = listed; whole = whole }
 
--- the answer, and every list as the run leaves it
+-- the answer, a refusal by its number, and every list as the run leaves it
 pub record Ran : Type 0 where
-  pub answer : Paved
+  pub answer : Result Paved ℕ
   pub lists : Lent
 
-abbrev pub ran : Paved → Lent → Ran
+abbrev pub ran : Result Paved ℕ → Lent → Ran
 ran r l = record { answer = r; lists = l }
 
 -- ---- the run
+
+-- the field, and the paving in it
+abbrev pub drawn_and_paved : FieldRecord → EndedPaving → WholeRun
+drawn_and_paved field paving = record { field = field; paving = paving }
 
 -- 1 to 10, in rising number
 unfoldable pub refusal_of : Outline → Settings → Lent → ℕ
@@ -131,7 +122,7 @@ accepted_in o set l =
     let r = run_of o set (field_part l) (state_part l) in
     let s = r.paving.state in
     let p = loops.listed_in s.counts s.next s.snapshot l.loops l.lengths in
-    ran (paved_answer r.field.grid r.paving.end s.counts p.listed (is_whole o p.listed.count))
+    ran (Ok (paved_answer r.field.grid r.paving.end s.counts p.listed (is_whole o p.listed.count)))
     (lent r.field.lists.values r.field.lists.marks s.xs s.ys s.next s.prev p.marks
     (overlay (origins_after o set.size s.quads s.counts.quads) l.origins) s.quads s.edges p.loops p.lengths)
 
@@ -140,7 +131,7 @@ accepted_run o set l = let r = accepted_in o set (narrowed l) in ran r.answer (b
 
 -- refused, with nothing written; or run
 unfoldable pub run_answer : Outline → Settings → Lent → Ran
-run_answer o set l = answer_by (λ number. ran (refused_answer number) l) (accepted_run o set l) (refusal_of o set l)
+run_answer o set l = answer_by (λ number. ran (Err number) l) (accepted_run o set l) (refusal_of o set l)
 
 -- ---- what a caller gets
 
@@ -158,15 +149,15 @@ PavesBooks o set r after =
 abbrev pub PavesOrigins : Outline → Settings → List ℕ → Paved → Lent → Type 0
 PavesOrigins o set before r after = OriginsAnswered o set.size (answered_state r after) before after.origins
 
-pub record Paves (o : Outline) (set : Settings) (before : Lent) (r : Paved) (after : Lent) : Type 0 where
+pub record Paves (o : Outline) (set : Settings) (before : Lent) (r : Result Paved ℕ) (after : Lent) : Type 0 where
   -- the answer and every list are the definition's: demand 2
   pub equal : ran r after ≡ run_answer o set before
   -- a refusal leaves every list as it was
-  pub refused : (r.refusal ≡ 0 → ⊥) → after ≡ before
+  pub refused : OnErr r (after ≡ before)
   -- the exact books hold: demand 3
-  pub books : r.refusal ≡ 0 → PavesBooks o set r after
+  pub books : IfOk r (λ p. PavesBooks o set p after)
   -- the numbers of the nodes are written, and no front loop and no quad has nodes of two: paper 9
-  pub origins : r.refusal ≡ 0 → PavesOrigins o set before.origins r after
+  pub origins : IfOk r (λ p. PavesOrigins o set before.origins p after)
 
 -- of scratch, before and after: a refusal leaves it as it was, and what a run leaves in it is free
 abbrev pub Spares : {A : Type 0} → ℕ → A → A → Type 0

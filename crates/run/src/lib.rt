@@ -1,59 +1,172 @@
 // The run whole in one call: field, sampling, paving, the loops that nodes came from and the loops of the front, in the lists lent.
 #![tactic(auto)]
 
-ghost use Rattle.std.specs.Prelude.{◌≡◌};
+ghost use Rattle.std.specs.Prelude.{◌≡◌, Ok};
 ghost use Rattle.domain.specs.Outline.{outline_of};
-ghost use Rattle.domain.specs.Refusals.{refusal_number};
-ghost use Rattle.run.specs.Run.{settings, lent, scratch, ran, refused_answer, paved_answer, accepted_in, Paves, Spares};
-ghost use Rattle.run.specs.Asked.{CanRun};
+ghost use Rattle.domain.specs.Refusals.{refused, numbered};
+ghost use Rattle.direction.specs.Record.{field_lists, field_record};
+ghost use Rattle.front.specs.Lent.{paving_state, SameLists};
+ghost use Rattle.paving.specs.Advance.{paved};
+ghost use Rattle.paving.specs.Lent.{SameScratch};
+ghost use Rattle.whole_run.specs.Run.{run_refusal, run_of};
+ghost use Rattle.sampled_advance.specs.Asked.{unsampled, CanPave};
+ghost use Rattle.run.specs.Run.{settings, snapshot_places, refusal_of, drawn_and_paved, accepted_run, ran, Paves, Spares};
+ghost use Rattle.run.specs.Lent.{lent_in, scratch_in, SameRunLists};
 
-use direction::Grid;
-use domain::{Domain, Refusal};
+use direction::{CrossField, Grid};
+use domain::{Domain, Refusal, Settings};
 use front::{Counts, Paving};
 use loops::Listed;
 use paving::{End, Scratch, Surroundings};
 
-// `refusal` is document 01's number, 0 where nothing is refused; `end` is 0 for still, 1 for passes, 2 for cap and 3 for full. All is 0 or false on a
-// refusal.
+// What is answered of a run: how its paving ended, the field's grid, how much of the lists is in use, and whether it is whole.
 #[derive(Clone, Copy)]
 pub struct Paved {
-    pub refusal: u32,
-    pub end: u32,
+    pub end: End,
     pub grid: Grid,
     pub counts: Counts,
     pub listed: Listed,
     pub whole: bool,
 }
 
-// ---- the answer
+// The lists that a run fills, as they are lent: the field's values and marks; the nodes' coordinates and links; the snapshot of a pass; the number of
+// the loop that each node came from; the quads and the edges; the ids of the front's loops and their lengths. Of the lists of nodes the shortest counts,
+// `loops` and `origins` among them. `lengths` holds a number for each loop of the outline.
+#[derive(Drop)]
+pub struct RunLists<'a> {
+    pub values: &'a mut [f64],
+    pub marks: &'a mut [u8],
+    pub xs: &'a mut [f64],
+    pub ys: &'a mut [f64],
+    pub next: &'a mut [u32],
+    pub prev: &'a mut [u32],
+    pub snapshot: &'a mut [u32],
+    pub origins: &'a mut [u16],
+    pub quads: &'a mut [u32],
+    pub edges: &'a mut [u32],
+    pub loops: &'a mut [u32],
+    pub lengths: &'a mut [u32],
+}
 
-// Stays a literal: a derived `Default` would have to be that of a floating-point grid, whose contract says no more and is longer.
-#[tactic(auto, unfolding(crate::specs::Run::refused_answer))]
-fn refused(refusal: Refusal) -> Paved
-    ensures { result ≡ refused_answer (refusal_number refusal) }
-{
-    Paved {
-        refusal: u32::from(refusal),
-        end: 0,
-        grid: Grid {
-            xmin: 0.0,
-            ymin: 0.0,
-            h: 0.0,
-            nx: 0,
-            ny: 0,
-        },
-        counts: Counts::default(),
-        listed: Listed { count: 0, ids: 0 },
-        whole: false,
+impl<'a> RunLists<'a> {
+    // So many places of the snapshot count.
+    fn snapshot_places(&self) -> usize
+        ensures { result ≡ snapshot_places (lent_in self.now) }
+    {
+        self.snapshot
+            .len()
+            .min(self.loops.len())
+            .min(self.origins.len())
+    }
+
+    // Of a run in these lists, 1 to 10.
+    fn check_places(&self, domain: Domain<'_>, settings: Settings) -> Result<(), Refusal>
+        ensures { refused result ≡ refusal_of (outline_of domain.entry) settings (lent_in self.now) }
+    {
+        let field = (self.values.len() / 2).min(self.marks.len());
+        let nodes = front::node_places(
+            self.xs,
+            self.ys,
+            self.next,
+            self.prev,
+            self.snapshot_places(),
+        );
+        run_refusal::check_run(
+            domain,
+            settings.size,
+            settings.sweeps,
+            field,
+            nodes,
+            self.edges.len() / 2,
+            self.lengths.len(),
+        )
     }
 }
 
-fn answer(grid: Grid, end: End, counts: Counts, listed: Listed, whole: bool) -> Paved
-    ensures { result ≡ paved_answer grid end counts listed whole }
+// ---- the stages
+
+// The field, and the paving in it: the field's grid, and how the paving ended.
+// Stays a size, sweeps and passes: of a parameter `size` it is known that it is a double, and not of a field of `Settings`.
+// Stays lists side by side: behind a `&mut RunLists` the values can't be lent for reading while a paving has other lists of it.
+fn draw_and_pave(
+    domain: Domain<'_>,
+    size: f64,
+    sweeps: usize,
+    passes: usize,
+    values: &mut [f64],
+    marks: &mut [u8],
+    paving: &mut Paving<'_>,
+    snapshot: &mut [u32],
+    scratch: &mut Scratch<'_>,
+    blocks: &mut [u32],
+) -> (Grid, End)
+    requires { run_refusal (outline_of domain) (settings size sweeps passes) (field_lists values.old marks.old) (unsampled paving.old snapshot.old) ≡ 0 }
+    ensures same_lists { SameLists paving.old paving.new }
+    ensures same_scratch { SameScratch scratch.old scratch.new }
+    ensures can { CanPave (outline_of domain.entry) blocks.new size result.0 values.new (unsampled paving.old snapshot.old) }
+    ensures runs { drawn_and_paved (field_record result.0 values.new marks.new) (paved (paving_state paving.new snapshot.new) result.1)
+        ≡ run_of (outline_of domain.entry) (settings size sweeps passes) (field_lists values.old marks.old) (unsampled paving.old snapshot.old) }
 {
+    let grid = crossfield::make_field(domain, size, sweeps, values, marks, blocks);
+    let field = CrossField { grid, values };
+    let around = Surroundings {
+        domain,
+        blocks,
+        size,
+        field,
+    };
+    let end = sampled_advance::sample_and_advance(&around, paving, snapshot, scratch, passes);
+    (grid, end)
+}
+
+// A run that isn't refused.
+fn pave_in(
+    domain: Domain<'_>,
+    settings: Settings,
+    lists: &mut RunLists<'_>,
+    scratch: &mut Scratch<'_>,
+    blocks: &mut [u32],
+) -> Paved
+    requires { refusal_of (outline_of domain) settings (lent_in lists.old) ≡ 0 }
+    ensures same_lists { SameRunLists lists.old lists.new }
+    ensures same_scratch { SameScratch scratch.old scratch.new }
+    ensures runs { ran (Ok result) (lent_in lists.new) ≡ accepted_run (outline_of domain.entry) settings (lent_in lists.old) }
+{
+    let m = lists.snapshot_places();
+    let mut paving = Paving {
+        xs: lists.xs,
+        ys: lists.ys,
+        next: lists.next,
+        prev: lists.prev,
+        quads: lists.quads,
+        edges: lists.edges,
+        counts: Counts::default(),
+    };
+    let snapshot = &mut lists.snapshot[..m];
+    let (grid, end) = draw_and_pave(
+        domain,
+        settings.size,
+        settings.sweeps,
+        settings.passes,
+        lists.values,
+        lists.marks,
+        &mut paving,
+        snapshot,
+        scratch,
+        blocks,
+    );
+    let counts = paving.counts;
+    origins::number_nodes(
+        domain,
+        settings.size,
+        paving.quads(),
+        counts.quads,
+        lists.origins,
+    );
+    let listed = loops::front_loops(counts, paving.next(), snapshot, lists.loops, lists.lengths);
+    let whole = soundness::is_whole(domain, listed.count);
     Paved {
-        refusal: 0,
-        end: u32::from(end),
+        end,
         grid,
         counts,
         listed,
@@ -61,149 +174,23 @@ fn answer(grid: Grid, end: End, counts: Counts, listed: Listed, whole: bool) -> 
     }
 }
 
-// ---- the stages
-
-// A run that isn't refused, where `snapshot` is no longer than `loops` and `origins`.
-fn pave_in(
-    domain: Domain<'_>,
-    size: f64,
-    sweeps: usize,
-    passes: usize,
-    values: &mut [f64],
-    marks: &mut [u8],
-    xs: &mut [f64],
-    ys: &mut [f64],
-    next: &mut [u32],
-    prev: &mut [u32],
-    snapshot: &mut [u32],
-    origins: &mut [u16],
-    quads: &mut [u32],
-    edges: &mut [u32],
-    loops: &mut [u32],
-    lengths: &mut [u32],
-    node_pool: &mut [u32],
-    edge_pool: &mut [u32],
-    blocks: &mut [u32],
-    tried: &mut [u32],
-) -> Paved
-    requires { CanRun (outline_of domain) (settings size sweeps passes)
-        (lent values.old marks.old xs.old ys.old next.old prev.old snapshot.old origins.old quads.old edges.old loops.old
-        lengths.old) }
-    ensures { ran result
-        (lent values.new marks.new xs.new ys.new next.new prev.new snapshot.new
-        origins.new quads.new edges.new loops.new lengths.new)
-        ≡ accepted_in (outline_of domain.entry) (settings size sweeps passes)
-        (lent values.old marks.old xs.old ys.old next.old prev.old
-        snapshot.old origins.old quads.old edges.old loops.old lengths.old) }
-{
-    let grid = crossfield::make_field(domain, size, sweeps, values, marks, blocks);
-    let around = Surroundings {
-        domain,
-        blocks,
-        size,
-        grid,
-        values,
-    };
-    let mut paving = Paving {
-        xs,
-        ys,
-        next,
-        prev,
-        quads,
-        edges,
-        counts: Counts::default(),
-    };
-    let mut spare = Scratch {
-        node_pool,
-        edge_pool,
-        tried,
-    };
-    let end = sampled_advance::sample_and_advance(
-        &around,
-        &mut paving,
-        snapshot,
-        &mut spare,
-        passes,
-    );
-    let counts = paving.counts;
-    origins::number_nodes(domain, size, paving.quads(), counts.quads, origins);
-    let listed = loops::front_loops(counts, paving.next(), snapshot, loops, lengths);
-    let whole = soundness::is_whole(domain, listed.count);
-    answer(grid, end, counts, listed, whole)
-}
-
 // ---- the run
 
-// Paves an outline, in the lists that the caller lends; on a refusal nothing is written. Of the lists of nodes the shortest counts, `loops` and
-// `origins` among them: so the run gets no more of `snapshot` than they have places. `lengths` holds a number for each loop. The pools, the list of blocks
-// and `tried` are scratch of any length: searches go by the first three as far as they have room, and the last has three numbers for a node from which an
-// edge was tried in vain. The answer doesn't depend on what they hold, and what a run leaves in them is free.
+// Paves an outline, in the lists that the caller lends; on a refusal nothing is written. The scratch and the list of blocks are of any length: searches go
+// by the pools and the blocks as far as these have room, and `tried` has three numbers for a node from which an edge was tried in vain. The answer doesn't
+// depend on what they hold, and what a run leaves in them is free.
 pub fn pave(
     domain: Domain<'_>,
-    size: f64,
-    sweeps: usize,
-    passes: usize,
-    values: &mut [f64],
-    marks: &mut [u8],
-    xs: &mut [f64],
-    ys: &mut [f64],
-    next: &mut [u32],
-    prev: &mut [u32],
-    snapshot: &mut [u32],
-    origins: &mut [u16],
-    quads: &mut [u32],
-    edges: &mut [u32],
-    loops: &mut [u32],
-    lengths: &mut [u32],
-    node_pool: &mut [u32],
-    edge_pool: &mut [u32],
+    settings: Settings,
+    lists: &mut RunLists<'_>,
+    scratch: &mut Scratch<'_>,
     blocks: &mut [u32],
-    tried: &mut [u32],
-) -> Paved
-    ensures { Paves (outline_of domain.entry) (settings size sweeps passes)
-        (lent values.old marks.old xs.old ys.old next.old prev.old
-        snapshot.old origins.old quads.old edges.old loops.old lengths.old)
-        result
-        (lent values.new marks.new xs.new ys.new next.new prev.new snapshot.new
-        origins.new quads.new edges.new loops.new lengths.new)
-        × Spares result.refusal (scratch node_pool.old edge_pool.old blocks.old tried.old)
-        (scratch node_pool.new edge_pool.new blocks.new tried.new) }
+) -> Result<Paved, Refusal>
+    ensures same_lists { SameRunLists lists.old lists.new }
+    ensures same_scratch { SameScratch scratch.old scratch.new }
+    ensures paves { Paves (outline_of domain.entry) settings (lent_in lists.old) (numbered result) (lent_in lists.new) }
+    ensures spares { Spares (refused result) (scratch_in scratch.old blocks.old) (scratch_in scratch.new blocks.new) }
 {
-    let m = snapshot.len().min(loops.len()).min(origins.len());
-    let field = (values.len() / 2).min(marks.len());
-    let nodes = front::node_places(xs, ys, next, prev, m);
-    let edge_places = edges.len() / 2;
-    match run_refusal::check_run(
-        domain,
-        size,
-        sweeps,
-        field,
-        nodes,
-        edge_places,
-        lengths.len(),
-    ) {
-        Err(refusal) => refused(refusal),
-        Ok(()) => pave_in(
-            domain,
-            size,
-            sweeps,
-            passes,
-            values,
-            marks,
-            xs,
-            ys,
-            next,
-            prev,
-            &mut snapshot[..m],
-            origins,
-            quads,
-            edges,
-            loops,
-            lengths,
-            node_pool,
-            edge_pool,
-            blocks,
-            tried,
-        ),
-    }
+    lists.check_places(domain, settings)?;
+    Ok(pave_in(domain, settings, lists, scratch, blocks))
 }

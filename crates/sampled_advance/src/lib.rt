@@ -19,21 +19,13 @@ pub fn sample_and_advance(
     scratch: &mut Scratch<'_>,
     passes: usize,
 ) -> End
-    requires { CanPave (outline_in around.now) around.now.blocks.now around.now.size around.now.grid around.now.values.now (unsampled paving.old snapshot.old) }
+    requires { CanPave (outline_in around.now) around.now.blocks.now around.now.size around.now.field.grid around.now.field.values.now (unsampled paving.old snapshot.old) }
     ensures same_lists { SameLists paving.old paving.new }
     ensures same_scratch { SameScratch scratch.old scratch.new }
     ensures advances { paved (paving_state paving.new snapshot.new) result
         ≡ advance (outline_in around.now) around.now.size (field_in around.now) passes
         (from_boundary (outline_in around.now) around.now.size (unsampled paving.old snapshot.old)) }
 {
-    paving.counts = boundary::from_boundary(
-        around.domain,
-        around.size,
-        paving.xs,
-        paving.ys,
-        paving.next,
-        paving.prev,
-        paving.edges,
-    );
+    boundary::from_boundary(around.domain, around.size, paving);
     advance::advance(around, paving, snapshot, scratch, passes)
 }

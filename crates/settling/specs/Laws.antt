@@ -13,9 +13,8 @@ use Rattle.domain.specs.Outline.{Outline}
 use Rattle.direction.specs.declared.Grid.{Grid}
 use Rattle.direction.specs.Record.{FieldRecord, field_record}
 use Rattle.front.specs.declared.Corner.{Corner}
-use Rattle.front.specs.declared.Counts.{Counts}
 use Rattle.front.specs.declared.Full.{Full as NoPlaces}
-use Rattle.front.specs.State.{State, state_of, next_of}
+use Rattle.front.specs.State.{State, next_of}
 use Rattle.front.specs.Place.{place}
 use Rattle.front.specs.Stores.{PlacesQuad}
 use Rattle.front.specs.KnownLaws.{placed_full, placed_done}

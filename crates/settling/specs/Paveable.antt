@@ -35,7 +35,7 @@ pub record Paveable (o : Outline) (blocks : List ℕ) (g : Grid) (values : List 
   pub known : Known s
 
 abbrev pub PaveableIn : Surroundings → State → Type 0
-PaveableIn a s = Paveable (outline_in a) a.blocks.now a.grid a.values.now s
+PaveableIn a s = Paveable (outline_in a) a.blocks.now a.field.grid a.field.values.now s
 
 -- t comes after s in one run
 pub record Later (o : Outline) (blocks : List ℕ) (g : Grid) (values : List Float) (s t : State) : Type 0 where

@@ -1,5 +1,5 @@
 -- What the pools of a paving have filed and the list of tries remembers, and that a placing keeps it.
-use Rattle.std.specs.Prelude.{Bool, true, false, cond, List, ◌≡◌, refl, ℕ, ◌+◌, ◌*◌, ◌/◌, ◌<◌, ◌≤◌, leb, ltb, length, get_or, Float, Ok, Err}
+use Rattle.std.specs.Prelude.{Bool, true, false, List, ◌≡◌, refl, ℕ, ◌+◌, ◌*◌, ◌/◌, ◌<◌, ◌≤◌, ltb, length, get_or, Float, Ok, Err}
 use Rattle.std.proofs.Common.{sym, ◌∙◌, ap, subst, arith, ltb-true, ltb-false}
 use Rattle.pools.specs.Pool.{cleared_pool, Indexed}
 use Rattle.key_rects.specs.Rects.{node_rect}
@@ -12,7 +12,7 @@ use Rattle.front.specs.declared.Corner.{Corner}
 use Rattle.front.specs.declared.Counts.{Counts}
 use Rattle.front.specs.declared.Full.{Full}
 use Rattle.topology.specs.Links.{off, link_read}
-use Rattle.front.specs.State.{State, state_of, next_of, edge_from, edge_to}
+use Rattle.front.specs.State.{State, next_of, edge_from, edge_to}
 use Rattle.front.specs.Place.{place}
 use Rattle.front.specs.Stores.{PlacesQuad}
 use Rattle.front.specs.Sound.{Frame}
@@ -57,14 +57,6 @@ pub record Helped (o : Outline) (size : Float) (field : FieldRecord) (xs ys : Li
 abbrev pub HelpedIn : Surroundings → State → Scratch → Type 0
 HelpedIn a s t =
     Helped (outline_in a) a.size (field_in a) s.xs s.ys s.next s.snapshot s.edges s.counts t.node_pool.now t.edge_pool.now t.tried.now
-
--- in a loop: the pools and the list are as long as they were
-pub record Pools (o : Outline) (size : Float) (field : FieldRecord) (xs ys : List Float) (next snapshot edges : List ℕ) (counts : Counts)
-    (node_pool₀ edge_pool₀ tried₀ node_pool edge_pool tried : List ℕ) : Type 0 where
-  pub help : Helped o size field xs ys next snapshot edges counts node_pool edge_pool tried
-  pub node_long : length node_pool ≡ length node_pool₀
-  pub edge_long : length edge_pool ≡ length edge_pool₀
-  pub tried_long : length tried ≡ length tried₀
 
 -- ---- what was there is filed where it was
 

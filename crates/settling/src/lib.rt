@@ -1,18 +1,17 @@
 // One edge of a pass of the paving (src/alt_crossfield.rs): it is tried, and the quad that is answered is placed and filed.
 #![tactic(auto)]
 
-ghost use Rattle.std.specs.Prelude.{◌≡◌, [], ◌*◌, ◌≤◌, ◌<◌, length};
+ghost use Rattle.std.specs.Prelude.{◌≡◌, ◌*◌, ◌≤◌, ◌<◌, length};
 ghost use Rattle.front.specs.Lent.{paving_state, mesh_state, SameLists};
-ghost use Rattle.pools.specs.Pool.{Indexed};
-ghost use Rattle.front.specs.Stores.{known_across};
-ghost use Rattle.indexed.specs.Rects.{NodesFiled, EdgesFiled, edge_rects};
+ghost use Rattle.indexed.specs.Rects.{NodesFiled, EdgesFiled};
 ghost use Rattle.retries.specs.Vain.{forgotten};
 ghost use Rattle.paving.specs.Lent.{outline_in, field_in, SameScratch};
 ghost use Rattle.ends.specs.Answers.{Settles};
 ghost use Rattle.settling.specs.Paveable.{PaveableIn};
 ghost use Rattle.settling.specs.Searchable.{SearchableIn, HelpedIn};
 
-use front::{Corner, Counts, Full, Mesh, Paving};
+use front::{Counts, Full, Mesh, Paving};
+use indexed::Pools;
 use paving::{End, Scratch, Surroundings};
 use std::ops::ControlFlow;
 
@@ -24,36 +23,9 @@ fn file_added(size: f64, mesh: &Mesh<'_>, scratch: &mut Scratch<'_>, k: Counts)
     ensures filed { SearchableIn size (mesh_state mesh.now) scratch.new.node_pool.now scratch.new.edge_pool.now }
     ensures tried { scratch.new.tried.now ≡ forgotten k.nodes mesh.now.counts.nodes scratch.old.tried.now }
 {
-    let m = mesh.counts;
-    indexed::file_nodes(scratch.node_pool, size, mesh.xs, mesh.ys, k.nodes, m.nodes);
-    indexed::file_edges(
-        scratch.edge_pool,
-        size,
-        mesh.xs,
-        mesh.ys,
-        mesh.edges,
-        k.edges,
-        m.edges,
-    );
-    retries::forget(scratch.tried, k.nodes, m.nodes);
-}
-
-// Whether the far corners are joined already.
-fn knows_across(size: f64, mesh: &Mesh<'_>, edge_pool: &[u32], c: Corner, d: Corner) -> bool
-    requires fit { 2 * mesh.now.counts.edges ≤ length mesh.now.edges.now }
-    requires filed { Indexed edge_pool.now (edge_rects size mesh.now.xs.now mesh.now.ys.now mesh.now.edges.now) mesh.now.counts.edges }
-    ensures { result ≡ known_across mesh.now.edges.now mesh.now.counts.edges c d }
-{
-    indexed::is_known_across(
-        edge_pool,
-        size,
-        mesh.xs,
-        mesh.ys,
-        mesh.edges,
-        mesh.counts.edges,
-        c,
-        d,
-    )
+    indexed::file_nodes(scratch.node_pool, size, mesh, k.nodes);
+    indexed::file_edges(scratch.edge_pool, size, mesh, k.edges);
+    retries::forget(scratch.tried, k.nodes, mesh.counts.nodes);
 }
 
 // Tries the snapshot's edge from node a, and places and files the quad that is answered: whether there is one, or how the paving ends.
@@ -81,13 +53,11 @@ pub fn settle(
         return ControlFlow::Continue(false);
     };
     let k = paving.counts;
-    let across = knows_across(
-        around.size,
-        &paving.mesh(),
-        scratch.edge_pool(),
-        far.c,
-        far.d,
-    );
+    let pools = Pools {
+        nodes: scratch.node_pool(),
+        edges: scratch.edge_pool(),
+    };
+    let across = pools.is_known_across(around.size, &paving.mesh(), far.c, far.d);
     if let Err(Full) = paving.place(snapshot, a, b, far.c, far.d, across) {
         return ControlFlow::Break(End::Full);
     }
@@ -104,11 +74,5 @@ pub fn file_all(size: f64, mesh: &Mesh<'_>, scratch: &mut Scratch<'_>)
 {
     pools::clear(scratch.node_pool);
     pools::clear(scratch.edge_pool);
-    let none = Counts {
-        nodes: 0,
-        quads: 0,
-        edges: 0,
-        front: 0,
-    };
-    file_added(size, mesh, scratch, none);
+    file_added(size, mesh, scratch, Counts::default());
 }

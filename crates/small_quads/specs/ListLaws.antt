@@ -1,4 +1,4 @@
--- The laws of the code's two loops: how many fours it counts, and what it writes. Assumes nothing.
+-- Laws of two loops: one that counts the fours, and the one of the code that writes them. Assumes nothing.
 use Rattle.std.specs.Prelude.{◌≡◌, Bool, true, false, cond, ℕ, zero, suc, ◌+◌, ◌-◌, ◌*◌, ◌/◌, ◌≤◌, ◌<◌, set}
 use Rattle.std.proofs.Math.Path.{refl, sym, ap}
 use Rattle.std.proofs.Common.{ap₂, ◌∙◌, subst, add-one, arith, length-append, lt-ltb, le-ltb}

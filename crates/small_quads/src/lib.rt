@@ -1,7 +1,7 @@
 // Every small quad: the fours of points of a 4 by 4 lattice that `convex_ccw` accepts at 20 degrees, worked out in integers.
 #![tactic(auto)]
 
-ghost use Rattle.std.specs.Prelude.{◌≡◌, cond, ◌+◌, ◌*◌, ◌<◌, ◌≤◌, length};
+ghost use Rattle.std.specs.Prelude.{◌≡◌, cond, ◌+◌, ◌-◌, ◌*◌, ◌/◌, ◌%◌, ◌<◌, ◌≤◌, length};
 ghost use Rattle.std.proofs.lemmas.List.Edits.{sets};
 ghost use Rattle.lattice.specs.Fours.{corner_turns, above_third, points_of, fours, fours_answer, small_quads};
 ghost use Rattle.small_quads.specs.Integers.{step_squared, left_turn};
@@ -9,9 +9,10 @@ ghost use Rattle.small_quads.specs.ListLaws.{FourFits};
 
 use domain::Refusal;
 
+// Stays a number beside the value: the C interface needs it.
 // `refusal` is 26 where the lent list is too short, 0 otherwise; `count` is how many fours are listed.
 #[repr(C)]
-#[derive(Clone, Copy)]
+#[derive(Clone, Copy, Default)]
 pub struct SmallQuadsAnswer {
     pub refusal: u32,
     pub count: usize,
@@ -22,28 +23,48 @@ const FOURS: u32 = 65_536;
 
 // ---- a corner
 
-// The squared length of the step (x - 3, y - 3).
-fn step_squared(x: u32, y: u32) -> u32
-    requires { (x ≤ 6) × (y ≤ 6) }
-    ensures { (result ≡ step_squared x y) × (result ≤ 72) }
-{
-    let a = x.abs_diff(3);
-    let b = y.abs_diff(3);
-    a * a + b * b
+// The step (x - 3, y - 3) of a lattice of 4 by 4 points.
+#[derive(Clone, Copy)]
+struct Step {
+    x: u32,
+    y: u32,
 }
 
-// Whether the step (ux - 3, uy - 3) and then (vx - 3, vy - 3) turn left with a sine above 1/3.
-fn left_turn(ux: u32, uy: u32, vx: u32, vy: u32) -> bool
-    requires { (ux ≤ 6) × (uy ≤ 6) × (vx ≤ 6) × (vy ≤ 6) }
-    ensures { result ≡ left_turn ux uy vx vy }
-{
-    let plus = ux * vy + 3 * uy + 3 * vx;
-    let minus = uy * vx + 3 * ux + 3 * vy;
-    if plus <= minus {
-        return false;
+impl Step {
+    // From the point p to the point q.
+    fn between(p: u32, q: u32) -> Step
+        requires { (p < 16) × (q < 16) }
+        ensures { (result.x ≡ q % 4 + 3 - p % 4) × (result.y ≡ q / 4 + 3 - p / 4) }
+    {
+        Step {
+            x: q % 4 + 3 - p % 4,
+            y: q / 4 + 3 - p / 4,
+        }
     }
-    let p = plus - minus;
-    step_squared(ux, uy) * step_squared(vx, vy) < 9 * (p * p)
+
+    // Its squared length.
+    fn squared(self) -> u32
+        requires { (self.x ≤ 6) × (self.y ≤ 6) }
+        ensures { (result ≡ step_squared self.x self.y) × (result ≤ 72) }
+    {
+        let a = self.x.abs_diff(3);
+        let b = self.y.abs_diff(3);
+        a * a + b * b
+    }
+
+    // Whether it and then the step `next` turn left with a sine above 1/3.
+    fn turns_left(self, next: Step) -> bool
+        requires { (self.x ≤ 6) × (self.y ≤ 6) × (next.x ≤ 6) × (next.y ≤ 6) }
+        ensures { result ≡ left_turn self.x self.y next.x next.y }
+    {
+        let plus = self.x * next.y + 3 * self.y + 3 * next.x;
+        let minus = self.y * next.x + 3 * self.x + 3 * next.y;
+        if plus <= minus {
+            return false;
+        }
+        let p = plus - minus;
+        self.squared() * next.squared() < 9 * (p * p)
+    }
 }
 
 // The same of the way from p to q to r, points of the lattice.
@@ -51,12 +72,7 @@ fn corner_turns(p: u32, q: u32, r: u32) -> bool
     requires { (p < 16) × (q < 16) × (r < 16) }
     ensures { result ≡ corner_turns p q r }
 {
-    left_turn(
-        q % 4 + 3 - p % 4,
-        q / 4 + 3 - p / 4,
-        r % 4 + 3 - q % 4,
-        r / 4 + 3 - q / 4,
-    )
+    Step::between(p, q).turns_left(Step::between(q, r))
 }
 
 // ---- a four
@@ -80,13 +96,7 @@ fn is_small_quad(k: u32) -> bool
 fn count_quads() -> usize
     ensures { (length (fours above_third) ≡ 4 * result) × (result ≤ 65536) }
 {
-    let mut n: usize = 0;
-    for k in 0..FOURS {
-        if is_small_quad(k) {
-            n += 1;
-        }
-    }
-    n
+    (0..FOURS).filter(|&k| is_small_quad(k)).count()
 }
 
 // The four k at the places from n on.
@@ -109,6 +119,7 @@ fn list_four(list: &mut [u32], n: usize, k: u32) -> usize
     n
 }
 
+// Stays a place handed on: of what is written through `chunks_exact_mut` a proof learns the length alone.
 fn list_quads(list: &mut [u32])
     requires { length (fours above_third) ≤ length list.old }
     ensures { list.new ≡ sets list.old 0 (fours above_third) }
@@ -128,7 +139,7 @@ pub extern "C" fn sitjorbe_small_quads(fours: &mut [u32]) -> SmallQuadsAnswer
     if fours.len() < 4 * count {
         return SmallQuadsAnswer {
             refusal: u32::from(Refusal::FoursNeedSpace),
-            count: 0,
+            ..SmallQuadsAnswer::default()
         };
     }
     list_quads(fours);

@@ -16,6 +16,7 @@ pub struct SoundAnswer {
 }
 
 // Whether the outline is sound; refusals 1 to 4 come first, with false.
+// Stays a row of slices and numbers: C calls it.
 #[unsafe(no_mangle)]
 pub extern "C" fn sitjorbe_sound<'a>(
     outer: &'a [f64],
@@ -26,6 +27,7 @@ pub extern "C" fn sitjorbe_sound<'a>(
 {
     let domain = Domain { outer, holes, lens };
     match outlines::check_outline(domain) {
+        // Stays written out: a default for the one value besides is no plainer.
         Err(refusal) => SoundAnswer {
             refusal: u32::from(refusal),
             sound: false,

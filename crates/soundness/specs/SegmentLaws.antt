@@ -186,6 +186,22 @@ module _ (s : List Float) (i j : ℕ) {r : ℕ} (e : r ≡ after (points s) i) w
       l ∙ ap (λ (p : Point). folds_back (in_units p) (in_units b) (in_units c)) f ∙ ap₂ (folds_back (segment_start s i)) (ap in_units g) (end_is s j k)
       ∙ ap (λ (z : Bool). z && folds_back (segment_start s i) (segment_start s j) (segment_end s j)) (sym (eq-eqb j (after (points s) i) (h ∙ e)))
 
+-- the same, by the places of the segments' ends
+module _ (s : List Float) (i j : ℕ) {n r : ℕ} (k : n ≡ points s) (e : r ≡ after n i) where
+  folds_place : r ≡ after (points s) i
+  folds_place = rw (← k) e
+
+  pub folds_apart : {x : Bool} → (j ≡ r → ⊥) → eqb j r ≡ x → x ≡ folds_at s i j
+  folds_apart h f = sym f ∙ ne_eqb j r h ∙ folds_off s i j folds_place h
+
+  pub folds_along : {u v w : Vector} {x : Bool} → j ≡ r → u ≡ segment_start s i → v ≡ segment_end s i → w ≡ segment_end s j
+      → x ≡ folds_back u v w → x ≡ folds_at s i j
+  unfolding folds_at
+  folds_along {u} {v} {w} h f g l q =
+      q ∙ ap (λ (p : Vector). folds_back p v w) f
+      ∙ ap₂ (folds_back (segment_start s i)) (g ∙ ap (segment_start s) (sym (h ∙ folds_place))) l
+      ∙ ap (λ (z : Bool). z && folds_back (segment_start s i) (segment_start s j) (segment_end s j)) (sym (eq-eqb j (after (points s) i) (h ∙ folds_place)))
+
 -- two segments, by their points as read
 pub meets_at : (a b : Vector) (t : List Float) (j : ℕ) {c d : Point} {x : Bool} → c ≡ point_at t j → d ≡ point_after t j
     → x ≡ meets a b (in_units c) (in_units d) → x ≡ meets a b (segment_start t j) (segment_end t j)
@@ -209,6 +225,9 @@ module _ (s : List Float) (i j : ℕ) {x y : Bool} (e : x ≡ folds_at s i j) (f
 
       pub clash_last : i ≡ t → false ≡ clash s i j
       clash_last z = clash_of no_next (sym (eq-eqb i (after (points s) j) (z ∙ m))) refl
+
+      pub clash_apart : {z : Bool} → (i ≡ t → ⊥) → z ≡ meets (segment_start s i) (segment_end s i) (segment_start s j) (segment_end s j) → z ≡ clash s i j
+      clash_apart never q = q ∙ clash_of no_next (sym (ne_eqb i (after (points s) j) (λ z. never (z ∙ sym m)))) refl
 
       pub clash_other : {a b c d : Point} {z : Bool} → (i ≡ t → ⊥) → a ≡ point_at s i → b ≡ point_after s i → c ≡ point_at s j → d ≡ point_after s j
           → z ≡ meets (in_units a) (in_units b) (in_units c) (in_units d) → z ≡ clash s i j

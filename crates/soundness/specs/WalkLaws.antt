@@ -12,6 +12,7 @@ use Rattle.domain.specs.Accepted.{OutlineFits, LoopWithin, loop_within}
 use Rattle.domain.proofs.Accepted.{accepted}
 use Rattle.sound_outlines.specs.Sound.{segment_start, crosses_itself, touch, is_inside, strays_out, lies_in, outline_sound}
 use Rattle.sound_outlines.specs.Whole.{is_whole}
+use Rattle.soundness.specs.AcceptedLoops.{AcceptedLoop, accepted_loop}
 
 -- ---- one walk over the holes
 
@@ -202,17 +203,26 @@ sound_walk o =
 
 -- ---- what the code asks of an outline
 
--- its shape isn't refused, and every point of every loop is within 1,000
+-- its shape isn't refused, and every point of every loop is accepted, and so within 1,000
 pub record Judged (o : Outline) : Type 0 where
   pub shape : misshapen o ≡ false
   pub within : (k : ℕ) → k ≤ length o.lens → LoopWithin (loop_at o k)
+  pub loops : (k : ℕ) → k ≤ length o.lens → AcceptedLoop (loop_at o k)
 
 pub judged : (o : Outline) → OutlineFits o → outline_refusal o ≡ 0 → Judged o
-judged o f e = let a = accepted o e in record { shape = a.shape; within = loop_within o f a }
+judged o f e = let a = accepted o e in record { shape = a.shape; within = loop_within o f a; loops = accepted_loop o f a }
 
 pub outer_within : {o : Outline} → Judged o → LoopWithin o.outer
 unfolding loop_at
 outer_within j = j.within 0 (omega arith)
+
+pub outer_accepted : {o : Outline} → Judged o → AcceptedLoop o.outer
+unfolding loop_at
+outer_accepted j = j.loops 0 (omega arith)
+
+pub hole_accepted : {o : Outline} → Judged o → (k : ℕ) → k < length o.lens → AcceptedLoop (hole_at o k)
+unfolding loop_at
+hole_accepted j k h = j.loops (suc k) (omega arith)
 
 -- what the walk answers, where it is left and at its end
 module _ (o : Outline) {x : Bool} (e : x ≡ crosses_itself o.outer) where

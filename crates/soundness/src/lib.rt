@@ -2,21 +2,21 @@
 // every hole lies inside the outer loop, and no hole lies in another. Each float is taken as the fraction it is; nothing is rounded.
 #![tactic(auto)]
 
-ghost use Rattle.std.specs.Prelude.{not, ◌≡◌, ◌+◌, ◌*◌, ◌≤◌, ◌<◌, length};
+ghost use Rattle.std.specs.Prelude.{◌≡◌, ◌≤◌, ◌<◌, length};
 ghost use Rattle.laws.specs.Loop.{any_up};
 ghost use Rattle.exact.specs.Units.{units, Within};
 ghost use Rattle.domain.specs.Outline.{outline_of, points, hole_at, outline_refusal};
-ghost use Rattle.domain.specs.Accepted.{PointWithin, LoopWithin};
 ghost use Rattle.orientation.specs.Orient.{in_units};
 ghost use Rattle.sound_outlines.specs.Sound.{segment_start, segment_end, overlap, parted, meets, folds_back, folds_at, clash, crosses_itself, touch};
 ghost use Rattle.sound_outlines.specs.Sound.{ray_meets, is_inside, outline_sound};
 ghost use Rattle.sound_outlines.specs.Whole.{is_whole};
 ghost use Rattle.sound_outlines.specs.FoldsLaws.{is_extreme};
+ghost use Rattle.soundness.specs.AcceptedLoops.{AcceptedPoint, AcceptedLoop};
 ghost use Rattle.soundness.specs.WalkLaws.{any_point, holes_clash, hole_unsound, Judged};
 
 use domain::{Domain, Point};
 
-// ---- two segments, a to b and c to d
+// ---- segments
 
 // Whether the numbers from u to v and those from s to t have one in common.
 fn overlaps(u: f64, v: f64, s: f64, t: f64) -> bool
@@ -25,27 +25,6 @@ fn overlaps(u: f64, v: f64, s: f64, t: f64) -> bool
 {
     !(outlines::higher_of(u, v) < outlines::lower_of(t, s))
         && !(outlines::higher_of(s, t) < outlines::lower_of(v, u))
-}
-
-// Whether c and d are on the same side of the line through a and b, neither of them on it.
-fn is_parted(a: Point, b: Point, c: Point, d: Point) -> bool
-    requires { PointWithin 1000 1000 a × PointWithin 1000 1000 b × PointWithin 1000 1000 c × PointWithin 1000 1000 d }
-    ensures { result ≡ parted (in_units a) (in_units b) (in_units c) (in_units d) }
-{
-    let first = orientation::side(a, b, c);
-    first.is_ne() && first == orientation::side(a, b, d)
-}
-
-// Whether they have a point in common, ends included.
-#[tactic(auto, unfolding(sound_outlines::specs::Sound::meets))]
-fn meets(a: Point, b: Point, c: Point, d: Point) -> bool
-    requires { PointWithin 1000 1000 a × PointWithin 1000 1000 b × PointWithin 1000 1000 c × PointWithin 1000 1000 d }
-    ensures { result ≡ meets (in_units a) (in_units b) (in_units c) (in_units d) }
-{
-    overlaps(a.x, b.x, c.x, d.x)
-        && overlaps(a.y, b.y, c.y, d.y)
-        && !is_parted(a, b, c, d)
-        && !is_parted(c, d, a, b)
 }
 
 // Whether v is above both u and w, or below both.
@@ -57,177 +36,205 @@ fn is_extreme(u: f64, v: f64, w: f64) -> bool
     (u < v && w < v) || (v < u && v < w)
 }
 
-// Whether the way from a to b and on to c goes back on itself at b.
-fn folds_back(a: Point, b: Point, c: Point) -> bool
-    requires { PointWithin 1000 1000 a × PointWithin 1000 1000 b × PointWithin 1000 1000 c }
-    ensures { result ≡ folds_back (in_units a) (in_units b) (in_units c) }
-{
-    (is_extreme(a.x, b.x, c.x) || is_extreme(a.y, b.y, c.y)) && orientation::side(a, b, c).is_eq()
+// A segment between two points that refusals 3 and 4 let pass.
+#[derive(Clone, Copy)]
+struct Segment {
+    a: Point,
+    b: Point,
+    ghost start: { AcceptedPoint a },
+    ghost end: { AcceptedPoint b },
 }
 
-// ---- one loop
+impl Segment {
+    // Whether both ends of the other are on the same side of its line, neither of them on it.
+    fn is_parted(self, other: Segment) -> bool
+        ensures { result ≡ parted (in_units self.a) (in_units self.b) (in_units other.a) (in_units other.b) }
+    {
+        let first = orientation::side(self.a, self.b, other.a);
+        first.is_ne() && first == orientation::side(self.a, self.b, other.b)
+    }
 
-// Whether segment j of the loop comes after segment i and folds back on it.
-fn folds_at(s: &[f64], i: usize, j: usize) -> bool
-    requires { LoopWithin s.now × (i < points s.now) × (j < points s.now) }
-    ensures { result ≡ folds_at s.now i j }
-{
-    j == outlines::after(s.len() / 2, i)
-        && folds_back(
-            outlines::point_at(s, i),
-            outlines::point_at(s, j),
-            outlines::point_after(s, j),
+    // Whether they have a point in common, ends included.
+    #[tactic(auto, unfolding(sound_outlines::specs::Sound::meets))]
+    fn meets(self, other: Segment) -> bool
+        ensures { result ≡ meets (in_units self.a) (in_units self.b) (in_units other.a) (in_units other.b) }
+    {
+        overlaps(self.a.x, self.b.x, other.a.x, other.b.x)
+            && overlaps(self.a.y, self.b.y, other.a.y, other.b.y)
+            && !self.is_parted(other)
+            && !other.is_parted(self)
+    }
+
+    // Whether the way along it and on to the end of the next one goes back on itself at its own end.
+    fn folds_back(self, next: Segment) -> bool
+        ensures { result ≡ folds_back (in_units self.a) (in_units self.b) (in_units next.b) }
+    {
+        (is_extreme(self.a.x, self.b.x, next.b.x) || is_extreme(self.a.y, self.b.y, next.b.y))
+            && orientation::side(self.a, self.b, next.b).is_eq()
+    }
+
+    // Whether the ray to the right from the start of the other meets it, the lower end counted.
+    fn meets_ray(self, other: Segment) -> bool
+        ensures { result ≡ ray_meets (in_units other.a) (in_units self.a) (in_units self.b) }
+    {
+        let p = other.a;
+        match (p.y < self.a.y, p.y < self.b.y) {
+            (true, false) => orientation::side(self.a, self.b, p).is_lt(),
+            (false, true) => orientation::side(self.a, self.b, p).is_gt(),
+            _ => false,
+        }
+    }
+}
+
+// ---- loops
+
+// A loop of an outline, whose points refusals 3 and 4 let pass.
+#[derive(Clone, Copy)]
+struct Ring<'a> {
+    points: &'a [f64],
+    ghost accepted: { AcceptedLoop points.now },
+}
+
+impl<'a> Ring<'a> {
+    fn new(points: &'a [f64]) -> Ring<'a>
+        requires { AcceptedLoop points.now }
+        ensures { result.points.now ≡ points.now }
+    {
+        Ring { points }
+    }
+
+    // How many points it has, and segments.
+    fn len(self) -> usize
+        ensures { result ≡ points self.entry.points.now }
+    {
+        self.points.len() / 2
+    }
+
+    fn segment(self, i: usize) -> Segment
+        requires { i < points self.points.now }
+        ensures start { in_units result.a ≡ segment_start self.entry.points.now i }
+        ensures end { in_units result.b ≡ segment_end self.entry.points.now i }
+    {
+        Segment {
+            a: outlines::point_at(self.points, i),
+            b: outlines::point_after(self.points, i),
+        }
+    }
+
+    // Whether segment j comes after segment i and folds back on it.
+    fn folds_at(self, i: usize, j: usize) -> bool
+        requires { (i < points self.points.now) × (j < points self.points.now) }
+        ensures { result ≡ folds_at self.entry.points.now i j }
+    {
+        j == outlines::after(self.len(), i) && self.segment(i).folds_back(self.segment(j))
+    }
+
+    // Whether segments i and j have in common what they may not: neighbours more than their common end, others anything.
+    #[tactic(auto, unfolding(sound_outlines::specs::Sound::clash))]
+    fn clash(self, i: usize, j: usize) -> bool
+        requires { (i < points self.points.now) × (j < points self.points.now) }
+        ensures { result ≡ clash self.entry.points.now i j }
+    {
+        let n = self.len();
+        self.folds_at(i, j)
+            || self.folds_at(j, i)
+            || (j != outlines::after(n, i)
+                && i != outlines::after(n, j)
+                && self.segment(i).meets(self.segment(j)))
+    }
+
+    // Whether segment i clashes with one before it.
+    fn clash_before(self, i: usize) -> bool
+        requires { i < points self.points.now }
+        ensures { result ≡ any_up i (λ j. clash self.entry.points.now j i) }
+    {
+        (0..i).any(|j| self.clash(j, i))
+    }
+
+    // Whether some two of its segments clash.
+    fn crosses_itself(self) -> bool
+        ensures { result ≡ crosses_itself self.entry.points.now }
+    {
+        (0..self.len()).any(|i| self.clash_before(i))
+    }
+
+    // Whether the segment meets some segment of it.
+    fn meets(self, segment: Segment) -> bool
+        ensures { result ≡ any_up (points self.entry.points.now) (λ j. meets (in_units segment.a) (in_units segment.b)
+            (segment_start self.entry.points.now j) (segment_end self.entry.points.now j)) }
+    {
+        (0..self.len()).any(|j| segment.meets(self.segment(j)))
+    }
+
+    // Whether some segment of it meets some segment of the other.
+    fn touches(self, other: Ring<'_>) -> bool
+        ensures { result ≡ touch self.entry.points.now other.entry.points.now }
+    {
+        (0..self.len()).any(|i| other.meets(self.segment(i)))
+    }
+
+    // Whether the segment starts inside: the ray from its start meets an odd number of segments.
+    fn surrounds(self, segment: Segment) -> bool
+        ensures { result ≡ is_inside (in_units segment.a) self.entry.points.now }
+    {
+        (0..self.len()).fold(
+            false,
+            |inside, i| inside ^ self.segment(i).meets_ray(segment),
         )
-}
-
-// Whether segments i and j have in common what they may not: neighbours more than their common end, others anything.
-fn clash(s: &[f64], i: usize, j: usize) -> bool
-    requires { LoopWithin s.now × (i < points s.now) × (j < points s.now) }
-    ensures { result ≡ clash s.now i j }
-{
-    let n = s.len() / 2;
-    if folds_at(s, i, j) || folds_at(s, j, i) {
-        return true;
     }
-    if j == outlines::after(n, i) || i == outlines::after(n, j) {
-        return false;
-    }
-    let a = outlines::point_at(s, i);
-    let b = outlines::point_after(s, i);
-    let c = outlines::point_at(s, j);
-    meets(a, b, c, outlines::point_after(s, j))
-}
 
-// Whether some two segments of the loop clash.
-fn crosses_itself(s: &[f64]) -> bool
-    requires { LoopWithin s.now }
-    ensures { result ≡ crosses_itself s.now }
-{
-    for i in 0..s.len() / 2 {
-        for j in 0..i {
-            if clash(s, j, i) {
-                return true;
-            }
-        }
+    // Whether some point of it is inside the other; where `inside` is false, whether some point of it isn't.
+    fn any_point(self, other: Ring<'_>, inside: bool) -> bool
+        ensures { result ≡ any_point self.entry.points.now other.entry.points.now inside }
+    {
+        (0..self.len()).any(|i| other.surrounds(self.segment(i)) == inside)
     }
-    false
-}
 
-// ---- two loops
-
-// Whether the segment a to b meets some segment of the loop.
-fn meets_loop(a: Point, b: Point, t: &[f64]) -> bool
-    requires { PointWithin 1000 1000 a × PointWithin 1000 1000 b × LoopWithin t.now }
-    ensures { result ≡ any_up (points t.now) (λ j. meets (in_units a) (in_units b) (segment_start t.now j) (segment_end t.now j)) }
-{
-    for j in 0..t.len() / 2 {
-        if meets(a, b, outlines::point_at(t, j), outlines::point_after(t, j)) {
-            return true;
-        }
+    // Whether two holes touch, or one has a point inside the other.
+    #[tactic(auto, unfolding(crate::specs::WalkLaws::holes_clash))]
+    fn clashes(self, other: Ring<'_>) -> bool
+        ensures { result ≡ holes_clash self.entry.points.now other.entry.points.now }
+    {
+        self.touches(other) || self.any_point(other, true) || other.any_point(self, true)
     }
-    false
-}
 
-// Whether some segment of s meets some segment of t.
-fn touches(s: &[f64], t: &[f64]) -> bool
-    requires { LoopWithin s.now × LoopWithin t.now }
-    ensures { result ≡ touch s.now t.now }
-{
-    for i in 0..s.len() / 2 {
-        if meets_loop(outlines::point_at(s, i), outlines::point_after(s, i), t) {
-            return true;
-        }
+    // Whether it clashes with one of the first k holes.
+    fn clashes_before(self, domain: Domain<'_>, k: usize) -> bool
+        requires { Judged (outline_of domain) × (k ≤ length domain.lens.now) }
+        ensures { result ≡ any_up k (λ l. holes_clash self.entry.points.now (hole_at (outline_of domain.entry) l)) }
+    {
+        outlines::holes_of(domain)
+            .take(k)
+            .any(|hole| self.clashes(Ring::new(hole.points)))
     }
-    false
-}
 
-// Whether the ray from p to the right meets the segment a to b, the lower end counted.
-fn ray_meets(p: Point, a: Point, b: Point) -> bool
-    requires { PointWithin 1000 1000 p × PointWithin 1000 1000 a × PointWithin 1000 1000 b }
-    ensures { result ≡ ray_meets (in_units p) (in_units a) (in_units b) }
-{
-    match (p.y < a.y, p.y < b.y) {
-        (true, false) => orientation::side(a, b, p).is_lt(),
-        (false, true) => orientation::side(a, b, p).is_gt(),
-        _ => false,
+    // What is asked of it as hole k: whether it crosses itself, touches or strays out of the outer loop, or clashes with a hole before it.
+    #[tactic(auto, unfolding(crate::specs::WalkLaws::hole_unsound))]
+    fn is_unsound(self, domain: Domain<'_>, k: usize) -> bool
+        requires { Judged (outline_of domain) × (k ≤ length domain.lens.now) }
+        ensures { result ≡ hole_unsound (outline_of domain.entry) self.entry.points.now k }
+    {
+        let outer = Ring::new(domain.outer);
+        self.crosses_itself()
+            || self.touches(outer)
+            || self.any_point(outer, false)
+            || self.clashes_before(domain, k)
     }
-}
-
-// Whether p is inside the loop: the ray meets an odd number of its segments.
-fn is_inside(p: Point, s: &[f64]) -> bool
-    requires { PointWithin 1000 1000 p × LoopWithin s.now }
-    ensures { result ≡ is_inside (in_units p) s.now }
-{
-    let mut inside = false;
-    for i in 0..s.len() / 2 {
-        inside ^= ray_meets(p, outlines::point_at(s, i), outlines::point_after(s, i));
-    }
-    inside
-}
-
-// Whether some point of s is inside t; where `inside` is false, whether some point of s isn't.
-fn any_point(s: &[f64], t: &[f64], inside: bool) -> bool
-    requires { LoopWithin s.now × LoopWithin t.now }
-    ensures { result ≡ any_point s.now t.now inside }
-{
-    for i in 0..s.len() / 2 {
-        if is_inside(outlines::point_at(s, i), t) == inside {
-            return true;
-        }
-    }
-    false
 }
 
 // ---- the outline
-
-// Whether two holes touch, or one has a point inside the other.
-#[tactic(auto, unfolding(crate::specs::WalkLaws::holes_clash))]
-fn holes_clash(s: &[f64], t: &[f64]) -> bool
-    requires { LoopWithin s.now × LoopWithin t.now }
-    ensures { result ≡ holes_clash s.now t.now }
-{
-    touches(s, t) || any_point(s, t, true) || any_point(t, s, true)
-}
-
-// Whether the loop s clashes with one of the first k holes.
-fn clashes_before(domain: Domain<'_>, s: &[f64], k: usize) -> bool
-    requires { Judged (outline_of domain) × LoopWithin s.now × (k ≤ length domain.lens.now) }
-    ensures { result ≡ any_up k (λ l. holes_clash s.now (hole_at (outline_of domain.entry) l)) }
-{
-    for hole in outlines::holes_of(domain).take(k) {
-        if holes_clash(s, hole.points) {
-            return true;
-        }
-    }
-    false
-}
-
-// What is asked of hole k, whose points are s: whether it crosses itself, touches or strays out of the outer loop, or clashes with a hole before it.
-#[tactic(auto, unfolding(crate::specs::WalkLaws::hole_unsound))]
-fn is_hole_unsound(domain: Domain<'_>, s: &[f64], k: usize) -> bool
-    requires { Judged (outline_of domain) × LoopWithin s.now × (k ≤ length domain.lens.now) }
-    ensures { result ≡ hole_unsound (outline_of domain.entry) s.now k }
-{
-    crosses_itself(s)
-        || touches(s, domain.outer)
-        || any_point(s, domain.outer, false)
-        || clashes_before(domain, s, k)
-}
 
 // Whether the outline, which refusals 1 to 4 let pass, is sound.
 pub fn is_sound(domain: Domain<'_>) -> bool
     requires { outline_refusal (outline_of domain) ≡ 0 }
     ensures { result ≡ outline_sound (outline_of domain.entry) }
 {
-    if crosses_itself(domain.outer) {
-        return false;
-    }
-    for hole in outlines::holes_of(domain) {
-        if is_hole_unsound(domain, hole.points, hole.index) {
-            return false;
-        }
-    }
-    true
+    let outer = Ring::new(domain.outer);
+    !outer.crosses_itself()
+        && !outlines::holes_of(domain).any(|hole| {
+            let ring = Ring::new(hole.points);
+            ring.is_unsound(domain, hole.index)
+        })
 }
 
 // Whether a run is whole: so many loops of its front are listed, that is none, and the outline, which refusals 1 to 4 let pass, is sound. It is judged

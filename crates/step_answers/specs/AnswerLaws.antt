@@ -4,7 +4,8 @@ use Rattle.front.specs.declared.Corner.{Corner}
 use Rattle.front.specs.Place.{added, corner_id}
 use Rattle.previews.specs.declared.View.{View}
 use Rattle.step_answers.specs.declared.PreviewAnswer.{PreviewAnswer}
-use Rattle.step_answers.specs.Answers.{outcome_number, fresh_x, fresh_y, view_numbers}
+use Rattle.hand_steps.specs.Outcomes.{outcome_number}
+use Rattle.step_answers.specs.Answers.{fresh_x, fresh_y, view_numbers}
 use Rattle.paving.specs.Attempt.{far}
 
 pub view_made : (v : View) (n a b : ℕ) (c d : Corner) → v.quad ≡ Some (far c d) → {o C D p q : ℕ} {cx cy dx dy : Float} → o ≡ outcome_number v.outcome

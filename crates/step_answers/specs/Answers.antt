@@ -5,21 +5,14 @@ use Rattle.front.specs.declared.Counts.{Counts}
 use Rattle.front.specs.declared.Corner.{Corner}
 use Rattle.front.specs.declared.Corner.TheVariants.{Reused, Fresh}
 use Rattle.front.specs.Place.{added, corner_id}
-use Rattle.hand_steps.specs.declared.HandPlacing.{HandPlacing}
 use Rattle.paving.specs.declared.FarCorners.{FarCorners}
 use Rattle.hand_steps.specs.declared.StepOutcome.{StepOutcome}
-use Rattle.hand_steps.specs.declared.StepOutcome.TheVariants.{Placed, None as NoQuad, Full, Cap}
+use Rattle.hand_steps.specs.Outcomes.{outcome_number}
 use Rattle.previews.specs.declared.View.{View}
 use Rattle.step_answers.specs.declared.StepAnswer.{StepAnswer}
 use Rattle.step_answers.specs.declared.PreviewAnswer.{PreviewAnswer}
 
 -- ---- a step
-
-abbrev pub outcome_number : StepOutcome → ℕ
-outcome_number Placed = 0
-outcome_number NoQuad = 1
-outcome_number Full = 2
-outcome_number Cap = 3
 
 abbrev pub refused_step : ℕ → StepAnswer
 refused_step n = record { refusal = n; outcome = 0; nodes = 0; quads = 0; edges = 0; front = 0 }
@@ -27,9 +20,10 @@ refused_step n = record { refusal = n; outcome = 0; nodes = 0; quads = 0; edges 
 abbrev pub done_step : StepOutcome → Counts → StepAnswer
 done_step w k = record { refusal = 0; outcome = outcome_number w; nodes = k.nodes; quads = k.quads; edges = k.edges; front = k.front }
 
-abbrev pub step_numbers : Result HandPlacing ℕ → StepAnswer
-step_numbers (Err n) = refused_step n
-step_numbers (Ok h) = done_step h.outcome h.counts
+-- with the counts after it
+abbrev pub step_numbers : Result StepOutcome ℕ → Counts → StepAnswer
+step_numbers (Err n) k = refused_step n
+step_numbers (Ok w) k = done_step w k
 
 -- ---- a preview
 

@@ -3,11 +3,11 @@
 
 ghost use Rattle.std.specs.Prelude.{◌≡◌, ◌≤◌, Ok};
 ghost use Rattle.domain.specs.Refusals.{refusal_number, numbered};
-ghost use Rattle.step_answers.specs.Answers.{outcome_number, refused_step, step_numbers, refused_preview, fresh_x, fresh_y, view_numbers, preview_numbers};
+ghost use Rattle.step_answers.specs.Answers.{refused_step, step_numbers, refused_preview, fresh_x, fresh_y, view_numbers, preview_numbers};
 
 use domain::Refusal;
-use front::Corner;
-use hand_steps::{HandPlacing, StepOutcome};
+use front::{Corner, Counts};
+use hand_steps::StepOutcome;
 use paving::FarCorners;
 use previews::View;
 
@@ -16,6 +16,7 @@ use previews::View;
 #[repr(C)]
 #[derive(Clone, Copy, Default)]
 pub struct StepAnswer {
+    // Stays a number beside the values: the C interface needs it.
     pub refusal: u32,
     pub outcome: u32,
     pub nodes: u32,
@@ -29,6 +30,7 @@ pub struct StepAnswer {
 #[repr(C)]
 #[derive(Clone, Copy, Default)]
 pub struct PreviewAnswer {
+    // Stays a number beside the values: the C interface needs it.
     pub refusal: u32,
     pub outcome: u32,
     pub a: u32,
@@ -43,49 +45,46 @@ pub struct PreviewAnswer {
     pub front: usize,
 }
 
-// Stays a `match` here: a `From` would have to stand beside `StepOutcome`, and these numbers are the host's alone.
-fn outcome_number(w: StepOutcome) -> u32
-    ensures { result ≡ outcome_number w }
-{
-    match w {
-        StepOutcome::Placed => 0,
-        StepOutcome::None => 1,
-        StepOutcome::Full => 2,
-        StepOutcome::Cap => 3,
+// A refused step.
+impl From<Refusal> for StepAnswer {
+    ghost from_gives = { λ refusal answer. answer ≡ refused_step (refusal_number refusal) };
+
+    fn from(refusal: Refusal) -> StepAnswer {
+        StepAnswer {
+            refusal: u32::from(refusal),
+            ..StepAnswer::default()
+        }
     }
 }
 
-pub fn refused_step(refusal: Refusal) -> StepAnswer
-    ensures { result ≡ refused_step (refusal_number refusal) }
-{
-    StepAnswer {
-        refusal: u32::from(refusal),
-        ..StepAnswer::default()
+impl StepAnswer {
+    // What a step answers, with the counts after it.
+    pub fn new(step: Result<StepOutcome, Refusal>, counts: Counts) -> StepAnswer
+        ensures { result ≡ step_numbers (numbered step) counts }
+    {
+        match step {
+            Err(refusal) => StepAnswer::from(refusal),
+            Ok(outcome) => StepAnswer {
+                refusal: 0,
+                outcome: u32::from(outcome),
+                nodes: counts.nodes,
+                quads: counts.quads,
+                edges: counts.edges,
+                front: counts.front,
+            },
+        }
     }
 }
 
-pub fn step_numbers(step: Result<HandPlacing, Refusal>) -> StepAnswer
-    ensures { result ≡ step_numbers (numbered step) }
-{
-    match step {
-        Err(refusal) => refused_step(refusal),
-        Ok(h) => StepAnswer {
-            refusal: 0,
-            outcome: outcome_number(h.outcome),
-            nodes: h.counts.nodes,
-            quads: h.counts.quads,
-            edges: h.counts.edges,
-            front: h.counts.front,
-        },
-    }
-}
+// A refused preview.
+impl From<Refusal> for PreviewAnswer {
+    ghost from_gives = { λ refusal answer. answer ≡ refused_preview (refusal_number refusal) };
 
-pub fn refused_preview(refusal: Refusal) -> PreviewAnswer
-    ensures { result ≡ refused_preview (refusal_number refusal) }
-{
-    PreviewAnswer {
-        refusal: u32::from(refusal),
-        ..PreviewAnswer::default()
+    fn from(refusal: Refusal) -> PreviewAnswer {
+        PreviewAnswer {
+            refusal: u32::from(refusal),
+            ..PreviewAnswer::default()
+        }
     }
 }
 
@@ -99,46 +98,48 @@ fn fresh(c: Corner) -> (f64, f64)
     }
 }
 
-// A preview on the edge a to b, where there are n nodes.
-fn view_numbers(v: View, n: u32, a: u32, b: u32) -> PreviewAnswer
-    requires { n ≤ 4294967294 }
-    ensures { result ≡ view_numbers v n a b }
-{
-    let outcome = outcome_number(v.outcome);
-    let front = v.front;
-    let Some(FarCorners { c, d }) = v.quad else {
-        return PreviewAnswer {
-            outcome,
-            front,
-            ..PreviewAnswer::default()
-        };
-    };
-    let more_c = c.added();
-    let (cx, cy) = fresh(c);
-    let (dx, dy) = fresh(d);
-    PreviewAnswer {
-        refusal: 0,
-        outcome,
-        a,
-        b,
-        d: d.id(n + more_c),
-        c: c.id(n),
-        new_nodes: more_c + d.added(),
-        cx,
-        cy,
-        dx,
-        dy,
-        front,
+impl PreviewAnswer {
+    // What a preview on the edge a to b answers, where there are n nodes.
+    pub fn new(preview: Result<View, Refusal>, n: u32, a: u32, b: u32) -> PreviewAnswer
+        requires { (v : View) → preview ≡ Ok v → n ≤ 4294967294 }
+        ensures { result ≡ preview_numbers (numbered preview) n a b }
+    {
+        match preview {
+            Err(refusal) => PreviewAnswer::from(refusal),
+            Ok(v) => PreviewAnswer::of_view(v, n, a, b),
+        }
     }
-}
 
-// What a preview on the edge a to b answers, where there are n nodes.
-pub fn preview_numbers(preview: Result<View, Refusal>, n: u32, a: u32, b: u32) -> PreviewAnswer
-    requires { (v : View) → preview ≡ Ok v → n ≤ 4294967294 }
-    ensures { result ≡ preview_numbers (numbered preview) n a b }
-{
-    match preview {
-        Err(refusal) => refused_preview(refusal),
-        Ok(v) => view_numbers(v, n, a, b),
+    // One that isn't refused.
+    fn of_view(v: View, n: u32, a: u32, b: u32) -> PreviewAnswer
+        requires { n ≤ 4294967294 }
+        ensures { result ≡ view_numbers v n a b }
+    {
+        let outcome = u32::from(v.outcome);
+        let front = v.front;
+        let Some(FarCorners { c, d }) = v.quad else {
+            return PreviewAnswer {
+                outcome,
+                front,
+                ..PreviewAnswer::default()
+            };
+        };
+        let more_c = c.added();
+        let (cx, cy) = fresh(c);
+        let (dx, dy) = fresh(d);
+        PreviewAnswer {
+            refusal: 0,
+            outcome,
+            a,
+            b,
+            d: d.id(n + more_c),
+            c: c.id(n),
+            new_nodes: more_c + d.added(),
+            cx,
+            cy,
+            dx,
+            dy,
+            front,
+        }
     }
 }

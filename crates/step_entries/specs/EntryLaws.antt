@@ -16,8 +16,8 @@ use Rattle.crossfield.specs.Field.{drawn_refusal}
 use Rattle.front.specs.declared.Counts.{Counts}
 use Rattle.front.specs.State.{State}
 use Rattle.mesh_check.specs.Check.{lent_state}
-use Rattle.hand_steps.specs.declared.HandPlacing.{HandPlacing}
-use Rattle.hand_steps.specs.Hand.{hand_refusal, Handled, place_on, step_on, step_answer, counts_left, StepTaken}
+use Rattle.hand_steps.specs.declared.StepOutcome.{StepOutcome}
+use Rattle.hand_steps.specs.Hand.{hand_refusal, Handled, place_on, step_on, step_answer, StepTaken}
 use Rattle.hand_steps.specs.Lent.{Around, OnFront}
 use Rattle.hand_steps.specs.UseLaws.{on_front_lem, front_room}
 use Rattle.hand_steps.specs.StepLaws.{origins_same}
@@ -71,12 +71,12 @@ module _ (o : Outline) (size : Float) (field : FieldRecord) (a b : ℕ) (s : Sta
       first (suc r) q h = refl
 
   -- where nothing of it is refused, it is the step of a sequence
-  pub host_stepped : r ≡ 0 → (w : Result HandPlacing ℕ) (t : State) (after : List ℕ) → StepTaken o size field a b s before w t after
-      → HostSteps o size field a b s before (step_numbers w) t after
+  pub host_stepped : r ≡ 0 → (w : Result StepOutcome ℕ) (t : State) (after : List ℕ) → StepTaken o size field a b s before w t after
+      → HostSteps o size field a b s before (step_numbers w t.counts) t after
   unfolding step_reply step_left step_refusal step_answer step_on
   host_stepped z w t after T =
       record {
-        answer = rw (sym e ∙ z) (ap step_numbers T.answer ∙ by (eqb (hand_refusal s a b) 0));
+        answer = rw (sym e ∙ z) (by (eqb (hand_refusal s a b) 0) w t T.answer T.state);
         state = rw (sym e ∙ z) T.state;
         origins = rw (sym e ∙ z) T.origins;
       }
@@ -84,24 +84,24 @@ module _ (o : Outline) (size : Float) (field : FieldRecord) (a b : ℕ) (s : Sta
       h : Handled
       h = place_on o size field a b s
 
-      by : (done : Bool) → step_numbers (cond done (Ok (record { outcome = h.outcome; counts = h.state.counts })) (Err (hand_refusal s a b)))
-          ≡ cond done (done_step h.outcome h.state.counts) (refused_step (hand_refusal s a b))
-      by true = refl
-      by false = refl
+      by : (done : Bool) (w : Result StepOutcome ℕ) (t : State) → w ≡ cond done (Ok h.outcome) (Err (hand_refusal s a b)) → t ≡ cond done h.state s
+          → step_numbers w t.counts ≡ cond done (done_step h.outcome h.state.counts) (refused_step (hand_refusal s a b))
+      by true w t e f = rw (e, f) refl
+      by false w t e f = rw e refl
 
 -- the counts that a host reads off the answer
-pub counts_read : (k : Counts) (o : Outline) (size : Float) (field : FieldRecord) (a b : ℕ) (s : State) (w : Result HandPlacing ℕ)
-    → w ≡ step_answer o size field a b s → counts_left k w ≡ counts_given k (step_numbers w)
-unfolding step_answer
-counts_read k o size field a b s w e = by (eqb (hand_refusal s a b) 0) refl w e
+pub counts_read : (o : Outline) (size : Float) (field : FieldRecord) (a b : ℕ) (s : State) (before : List ℕ) (w : Result StepOutcome ℕ) (t : State) (after : List ℕ)
+    → StepTaken o size field a b s before w t after → t.counts ≡ counts_given s.counts (step_numbers w t.counts)
+unfolding step_answer step_on
+counts_read o size field a b s before w t after T = by (eqb (hand_refusal s a b) 0) refl w t T.answer T.state
   where
     h : Handled
     h = place_on o size field a b s
 
-    by : (done : Bool) → eqb (hand_refusal s a b) 0 ≡ done → (w : Result HandPlacing ℕ)
-        → w ≡ cond done (Ok (record { outcome = h.outcome; counts = h.state.counts })) (Err (hand_refusal s a b)) → counts_left k w ≡ counts_given k (step_numbers w)
-    by true z w e = rw e refl
-    by false z w e = rw (e, z) refl
+    by : (done : Bool) → eqb (hand_refusal s a b) 0 ≡ done → (w : Result StepOutcome ℕ) (t : State)
+        → w ≡ cond done (Ok h.outcome) (Err (hand_refusal s a b)) → t ≡ cond done h.state s → t.counts ≡ counts_given s.counts (step_numbers w t.counts)
+    by true z w t e f = rw e refl
+    by false z w t e f = rw (e, z) (ap (λ (u : State). u.counts) f)
 
 -- the same over the lists as they are lent and left, with the counts that the answer gives
 module _ (o : Outline) (size : Float) (field : FieldRecord) (a b : ℕ) (xs ys : List Float) (next prev origins quads edges : List ℕ) (k : Counts)
@@ -113,11 +113,11 @@ module _ (o : Outline) (size : Float) (field : FieldRecord) (a b : ℕ) (xs ys :
       → HostSteps o size field a b lent origins r (lent_state xs ys next prev origins quads edges (counts_given k r)) origins
   step_lists_refused h q = rw (q, ne_eqb n 0 h) (host_refused o size field a b lent origins e h)
 
-  pub lists_stepped : n ≡ 0 → (w : Result HandPlacing ℕ) (xs' ys' : List Float) (next' prev' after quads' edges' : List ℕ)
-      → StepTaken o size field a b lent origins w (lent_state xs' ys' next' prev' after quads' edges' (counts_left k w)) after → r ≡ step_numbers w
+  pub lists_stepped : n ≡ 0 → (w : Result StepOutcome ℕ) (xs' ys' : List Float) (next' prev' after quads' edges' : List ℕ) (m : Counts)
+      → StepTaken o size field a b lent origins w (lent_state xs' ys' next' prev' after quads' edges' m) after → r ≡ step_numbers w m
       → HostSteps o size field a b lent origins r (lent_state xs' ys' next' prev' after quads' edges' (counts_given k r)) after
-  lists_stepped z w xs' ys' next' prev' after quads' edges' T q =
-      rw (q, ← counts_read k o size field a b lent w T.answer) (host_stepped o size field a b lent origins e z w _ after T)
+  lists_stepped z w xs' ys' next' prev' after quads' edges' m T q =
+      rw (q, ← counts_read o size field a b lent origins w _ after T) (host_stepped o size field a b lent origins e z w _ after T)
 
 -- ---- a preview
 

@@ -1,6 +1,6 @@
 -- The quad and its new nodes, as a preview answers them, are those of the mesh after the placing. Assumes nothing.
 use Rattle.std.proofs.Math.Bool.{Bool, cond}
-use Rattle.std.specs.Prelude.{true, false, ◌≡◌, ℕ, ◌+◌, ◌-◌, ◌*◌, ◌≤◌, leb, length, get_or, set, Float, ◌<◌, Option, Some, None}
+use Rattle.std.specs.Prelude.{true, false, ◌≡◌, ℕ, ◌+◌, ◌-◌, ◌*◌, ◌≤◌, leb, length, get_or, set, Float, Option, Some, None}
 use mathlib.Core.List.{List}
 use Rattle.std.proofs.Math.Path.{refl, ap}
 use Rattle.std.proofs.Common.{◌∙◌, arith, length-set, get_or-set_same, get_or-set_other, le-leb}
@@ -21,9 +21,8 @@ use Rattle.paving.specs.Attempt.{try_edge, far}
 use Rattle.paving.specs.Advance.{most_quads}
 use Rattle.mesh_check.specs.Check.{lent_state}
 use Rattle.hand_placing.specs.Local.{placed_nodes, placed_quads, placed_xs, placed_ys}
-use Rattle.hand_steps.specs.declared.StepOutcome.TheVariants.{Placed, Cap, None as NoQuad, Full}
-use Rattle.hand_steps.specs.Hand.{handled, settled_on, place_on, Handled}
-use Rattle.hand_steps.specs.declared.StepOutcome.{StepOutcome}
+use Rattle.hand_steps.specs.declared.StepOutcome.TheVariants.{Placed, Cap}
+use Rattle.hand_steps.specs.Hand.{handled, settled_on, place_on}
 use Rattle.hand_steps.specs.Lent.{OnFront}
 use Rattle.hand_steps.specs.UseLaws.{Below, quad_below, quad_fits_lem}
 use Rattle.previews.specs.Preview.{foresight, foreseen, foreseen_on, view_on}

@@ -5,15 +5,18 @@
 ghost use Rattle.std.specs.Prelude.{◌≡◌};
 ghost use Rattle.domain.specs.Outline.{outline, outline_of};
 ghost use Rattle.domain.specs.Refusals.{refused};
-ghost use Rattle.direction.specs.Record.{field_record};
+ghost use Rattle.direction.specs.Record.{field_record, field_lent};
 ghost use Rattle.crossfield.specs.Field.{drawn_refusal};
 ghost use Rattle.front.specs.State.{counted};
-ghost use Rattle.mesh_check.specs.Check.{lent_state};
+ghost use Rattle.paving.specs.Lent.{outline_in};
+ghost use Rattle.front.specs.Lent.{SameLists};
+ghost use Rattle.mesh_check.specs.Check.{lent_state, lent_in, lent_paving};
 ghost use Rattle.step_entries.specs.Entries.{grid_given, given_refusal, counts_given, HostSteps, HostPreviews};
 
-use direction::Grid;
+use direction::{CrossField, Grid};
 use domain::{Domain, Refusal, Settings};
-use front::Counts;
+use front::{Counts, Mesh, Paving};
+use paving::Surroundings;
 use step_answers::{PreviewAnswer, StepAnswer};
 
 // ---- refusals 1 to 7 and 11
@@ -25,18 +28,69 @@ fn check_drawn(domain: Domain<'_>, size: f64) -> Result<(), Refusal>
     crossfield::check_field(domain, size, 0, Settings::MOST_FIELD_NODES)
 }
 
-fn check_given(
-    domain: Domain<'_>,
-    size: f64,
-    grid: Grid,
-    values: &[f64],
-    marks: &[u8],
-) -> Result<(), Refusal>
-    ensures { refused result ≡ given_refusal (outline_of domain.entry) size
-        (field_record grid values.now marks.now) }
+fn check_given(around: &Surroundings<'_>, marks: &[u8]) -> Result<(), Refusal>
+    ensures { refused result ≡ given_refusal (outline_in around.now) around.now.size (field_lent around.now.field marks.now) }
 {
-    check_drawn(domain, size)?;
-    direction::check_record(grid, values, marks)
+    check_drawn(around.domain, around.size)?;
+    direction::check_record(around.field, marks)
+}
+
+// ---- a step and a preview in what is lent
+
+fn step_in<'a>(
+    domain: Domain<'a>,
+    size: f64,
+    field: CrossField<'a>,
+    marks: &[u8],
+    paving: &mut Paving<'_>,
+    origins: &mut [u16],
+    a: u32,
+    b: u32,
+) -> StepAnswer
+    ensures same { SameLists paving.old paving.new }
+    ensures steps { HostSteps (outline_of domain.entry) size (field_lent field.entry marks.now) a b
+        (lent_paving paving.old origins.old) origins.old result
+        (lent_state paving.new.xs.now paving.new.ys.now paving.new.next.now paving.new.prev.now origins.new
+        paving.new.quads.now paving.new.edges.now (counts_given paving.old.counts result)) origins.new }
+{
+    let around = Surroundings {
+        domain,
+        blocks: &[],
+        size,
+        field,
+    };
+    if let Err(refusal) = check_given(&around, marks) {
+        return StepAnswer::from(refusal);
+    }
+    let step = stepping::step(&around, paving, origins, a, b);
+    StepAnswer::new(step, paving.counts)
+}
+
+fn preview_in<'a>(
+    domain: Domain<'a>,
+    size: f64,
+    field: CrossField<'a>,
+    marks: &[u8],
+    mesh: &Mesh<'_>,
+    origins: &[u16],
+    a: u32,
+    b: u32,
+    list: &mut [u32],
+) -> PreviewAnswer
+    ensures { HostPreviews (outline_of domain.entry) size (field_lent field.entry marks.now) a b
+        (lent_in mesh.now origins.now) list.old result list.new }
+{
+    let around = Surroundings {
+        domain,
+        blocks: &[],
+        size,
+        field,
+    };
+    if let Err(refusal) = check_given(&around, marks) {
+        return PreviewAnswer::from(refusal);
+    }
+    let preview = previews::preview(&around, mesh, origins, a, b, list);
+    PreviewAnswer::new(preview, mesh.counts.nodes, a, b)
 }
 
 // ---- the entries
@@ -78,26 +132,31 @@ pub extern "C" fn sitjorbe_step<'a>(
         edges.new (counts_given (counted node_count quad_count edge_count front_count) result)) origins.new }
 {
     let domain = Domain { outer, holes, lens };
-    let grid = Grid {
-        xmin,
-        ymin,
-        h,
-        nx,
-        ny,
+    let field = CrossField {
+        grid: Grid {
+            xmin,
+            ymin,
+            h,
+            nx,
+            ny,
+        },
+        values,
     };
-    if let Err(refusal) = check_given(domain, size, grid, values, marks) {
-        return step_answers::refused_step(refusal);
-    }
-    let k = Counts {
-        nodes: node_count,
-        quads: quad_count,
-        edges: edge_count,
-        front: front_count,
+    let mut paving = Paving {
+        xs,
+        ys,
+        next,
+        prev,
+        quads,
+        edges,
+        counts: Counts {
+            nodes: node_count,
+            quads: quad_count,
+            edges: edge_count,
+            front: front_count,
+        },
     };
-    let step = stepping::step(
-        domain, size, grid, values, xs, ys, next, prev, origins, quads, edges, k, a, b,
-    );
-    step_answers::step_numbers(step)
+    step_in(domain, size, field, marks, &mut paving, origins, a, b)
 }
 
 // What a step on the front edge a to b would do, and in the list the front edges that it would leave, u then v, by their first node: an edge takes two
@@ -136,24 +195,29 @@ pub extern "C" fn sitjorbe_preview<'a>(
         edges.now (counted node_count quad_count edge_count front_count)) list.old result list.new }
 {
     let domain = Domain { outer, holes, lens };
-    let grid = Grid {
-        xmin,
-        ymin,
-        h,
-        nx,
-        ny,
+    let field = CrossField {
+        grid: Grid {
+            xmin,
+            ymin,
+            h,
+            nx,
+            ny,
+        },
+        values,
     };
-    if let Err(refusal) = check_given(domain, size, grid, values, marks) {
-        return step_answers::refused_preview(refusal);
-    }
-    let k = Counts {
-        nodes: node_count,
-        quads: quad_count,
-        edges: edge_count,
-        front: front_count,
+    let mesh = Mesh {
+        xs,
+        ys,
+        next,
+        prev,
+        quads,
+        edges,
+        counts: Counts {
+            nodes: node_count,
+            quads: quad_count,
+            edges: edge_count,
+            front: front_count,
+        },
     };
-    let preview = previews::preview(
-        domain, size, grid, values, xs, ys, next, prev, origins, quads, edges, k, a, b, list,
-    );
-    step_answers::preview_numbers(preview, node_count, a, b)
+    preview_in(domain, size, field, marks, &mesh, origins, a, b, list)
 }

@@ -2,107 +2,47 @@
 #![tactic(auto)]
 
 ghost use Rattle.std.specs.Prelude.{◌≡◌, List, [], ℕ, ◌<◌, ◌≤◌, leb, length};
-ghost use Rattle.domain.specs.Outline.{outline_of};
 ghost use Rattle.domain.specs.Refusals.{refused, numbered};
-ghost use Rattle.direction.specs.Record.{field_record};
-ghost use Rattle.front.specs.State.{state_of};
+ghost use Rattle.direction.specs.Record.{field_lent};
+ghost use Rattle.front.specs.Lent.{mesh_state, SameLists};
+ghost use Rattle.paving.specs.Lent.{outline_in, field_in};
 ghost use Rattle.paving.specs.Attempt.{try_edge};
 ghost use Rattle.paving.specs.Advance.{most_quads};
-ghost use Rattle.attempts.specs.Seen.{seen_state, TryLent};
-ghost use Rattle.mesh_check.specs.Check.{lent_state, all_off};
-ghost use Rattle.hand_steps.specs.Hand.{hand_refusal, handled, settled_on, place_on, new_origins, counts_left, StepTaken};
-ghost use Rattle.hand_steps.specs.Lent.{Around, OnFront, Settleable};
+ghost use Rattle.attempts.specs.Seen.{seen_of, TryLent};
+ghost use Rattle.mesh_check.specs.Check.{lent_in, lent_paving};
+ghost use Rattle.hand_steps.specs.Hand.{hand_refusal, handled, quad_on, place_on, new_origins, StepTaken};
+ghost use Rattle.hand_steps.specs.Lent.{Around, OnFront};
 
-use direction::Grid;
-use domain::{Domain, Refusal, Settings};
-use front::Counts;
-use hand_steps::{HandPlacing, StepOutcome};
-use paving::FarCorners;
+use domain::{Refusal, Settings};
+use front::{Counts, Mesh, Paving};
+use hand_steps::StepOutcome;
+use indexed::Pools;
+use paving::{FarCorners, Surroundings};
 
 // Refusal 23, then 24: on every input.
-pub fn check_hand(
-    xs: &[f64],
-    ys: &[f64],
-    next: &[u32],
-    prev: &[u32],
-    origins: &[u16],
-    quads: &[u32],
-    edges: &[u32],
-    k: Counts,
-    a: u32,
-    b: u32,
-) -> Result<(), Refusal>
-    ensures { refused result ≡ hand_refusal
-        (lent_state xs.now ys.now next.now prev.now origins.now quads.now
-        edges.now k) a b }
+pub fn check_hand(mesh: &Mesh<'_>, origins: &[u16], a: u32, b: u32) -> Result<(), Refusal>
+    ensures { refused result ≡ hand_refusal (lent_in mesh.now origins.now) a b }
 {
-    mesh_check::check_mesh(xs, ys, next, prev, origins, quads, edges, k)?;
-    mesh_check::check_edge(next, k.nodes, a, b)
+    mesh_check::check_mesh(mesh, origins)?;
+    mesh_check::check_edge(mesh, a, b)
 }
 
 // The two attempts on the edge a to b. Nothing is filed, since a step reads the whole mesh in any case.
-pub fn attempt_on(
-    domain: Domain<'_>,
-    size: f64,
-    grid: Grid,
-    values: &[f64],
-    xs: &[f64],
-    ys: &[f64],
-    next: &[u32],
-    prev: &[u32],
-    edges: &[u32],
-    k: Counts,
-    a: u32,
-    b: u32,
-) -> Option<FarCorners>
-    requires { TryLent (outline_of domain) [] grid values.now size xs.now ys.now next.now prev.now edges.now [] [] k }
-    ensures { result ≡ try_edge (outline_of domain.entry) size (field_record grid values.now [])
-        (seen_state xs.now ys.now next.now prev.now edges.now k) a b }
+// Stays an edge as two ids, here and below: hosts give two, and each definition that a contract names takes a and b one by one.
+pub fn attempt_on(around: &Surroundings<'_>, mesh: &Mesh<'_>, a: u32, b: u32) -> Option<FarCorners>
+    requires { TryLent (outline_in around.now) [] around.now.field.grid around.now.field.values.now around.now.size mesh.now.xs.now mesh.now.ys.now
+        mesh.now.next.now mesh.now.prev.now mesh.now.edges.now [] [] mesh.now.counts }
+    ensures { result ≡ try_edge (outline_in around.now) around.now.size (field_in around.now) (seen_of (mesh_state mesh.now)) a b }
 {
-    let none = &next[0..0];
-    attempts::try_edge(
-        domain, none, size, grid, values, xs, ys, next, prev, edges, none, none, k, a, b,
-    )
-}
-
-// Places the quad that was answered, where the places lent suffice.
-fn settle(
-    xs: &mut [f64],
-    ys: &mut [f64],
-    next: &mut [u32],
-    prev: &mut [u32],
-    origins: &[u16],
-    quads: &mut [u32],
-    edges: &mut [u32],
-    k: Counts,
-    a: u32,
-    b: u32,
-    attempt: Option<FarCorners>,
-) -> HandPlacing
-    requires { Settleable xs.old ys.old next.old prev.old origins.now quads.old edges.old k a b attempt }
-    ensures { handled
-        (state_of xs.new ys.new next.new prev.new (all_off origins.now) quads.new
-        edges.new result.counts) result.outcome
-        ≡ settled_on a b attempt (lent_state xs.old ys.old next.old prev.old origins.now
-        quads.old edges.old k) }
-{
-    let Some(FarCorners { c, d }) = attempt else {
-        return HandPlacing {
-            outcome: StepOutcome::None,
-            counts: k,
-        };
+    let around = Surroundings {
+        blocks: &[],
+        ..*around
     };
-    if hand_placing::is_full(xs, ys, next, prev, origins, quads, edges, k, a, b, c, d) {
-        return HandPlacing {
-            outcome: StepOutcome::Full,
-            counts: k,
-        };
-    }
-    let m = hand_placing::place_quad(xs, ys, next, prev, quads, edges, k, a, b, c, d);
-    HandPlacing {
-        outcome: StepOutcome::Placed,
-        counts: m,
-    }
+    let pools = Pools {
+        nodes: &[],
+        edges: &[],
+    };
+    attempts::try_edge(&around, mesh, pools, a, b)
 }
 
 // Whether as many quads stand as a run may lay.
@@ -112,42 +52,52 @@ pub fn is_capped(k: Counts) -> bool
     k.quads >= Settings::MOST_QUADS
 }
 
-// One placing on the front edge a to b; none at all where 250,000 quads stand.
-fn place_on(
-    domain: Domain<'_>,
-    size: f64,
-    grid: Grid,
-    values: &[f64],
-    xs: &mut [f64],
-    ys: &mut [f64],
-    next: &mut [u32],
-    prev: &mut [u32],
+// The quad that a placing on the front edge a to b places, or why it places none. None at all is placed where 250,000 quads stand.
+pub fn quad_on(
+    around: &Surroundings<'_>,
+    mesh: &Mesh<'_>,
     origins: &[u16],
-    quads: &mut [u32],
-    edges: &mut [u32],
-    k: Counts,
     a: u32,
     b: u32,
-) -> HandPlacing
-    requires { Around (outline_of domain) grid values.now
-        × OnFront (lent_state xs.old ys.old next.old prev.old origins.now quads.old edges.old k) a b }
-    ensures { (marks : List ℕ) → handled
-        (state_of xs.new ys.new next.new prev.new (all_off origins.now) quads.new
-        edges.new result.counts) result.outcome
-        ≡ place_on (outline_of domain.entry) size (field_record grid values.now marks) a b
-        (lent_state xs.old ys.old next.old prev.old origins.now quads.old
-        edges.old k) }
+) -> Result<FarCorners, StepOutcome>
+    requires { Around (outline_in around.now) around.now.field.grid around.now.field.values.now × OnFront (lent_in mesh.now origins.now) a b }
+    ensures { (marks : List ℕ) → result
+        ≡ quad_on (outline_in around.now) around.now.size (field_lent around.now.field marks) a b (lent_in mesh.now origins.now) }
 {
-    if is_capped(k) {
-        return HandPlacing {
-            outcome: StepOutcome::Cap,
-            counts: k,
-        };
+    if is_capped(mesh.counts) {
+        return Err(StepOutcome::Cap);
     }
-    let attempt = attempt_on(
-        domain, size, grid, values, xs, ys, next, prev, edges, k, a, b,
-    );
-    settle(xs, ys, next, prev, origins, quads, edges, k, a, b, attempt)
+    let Some(quad) = attempt_on(around, mesh, a, b) else {
+        return Err(StepOutcome::None);
+    };
+    if hand_placing::is_full(mesh, origins, a, b, quad.c, quad.d) {
+        return Err(StepOutcome::Full);
+    }
+    Ok(quad)
+}
+
+// One placing on the front edge a to b.
+#[tactic(auto, using(front::proofs::Lent::lists_same))]
+fn place_on(
+    around: &Surroundings<'_>,
+    paving: &mut Paving<'_>,
+    origins: &[u16],
+    a: u32,
+    b: u32,
+) -> StepOutcome
+    requires { Around (outline_in around.now) around.now.field.grid around.now.field.values.now × OnFront (lent_paving paving.old origins.now) a b }
+    ensures same { SameLists paving.old paving.new }
+    ensures placed { (marks : List ℕ) → handled (lent_paving paving.new origins.now) result
+        ≡ place_on (outline_in around.now) around.now.size (field_lent around.now.field marks) a b (lent_paving paving.old origins.now) }
+{
+    let answer = quad_on(around, &paving.mesh(), origins, a, b);
+    match answer {
+        Ok(FarCorners { c, d }) => {
+            hand_placing::place_quad(paving, a, b, c, d);
+            StepOutcome::Placed
+        }
+        Err(outcome) => outcome,
+    }
 }
 
 // The places of the nodes n to m - 1 take the number that stands at node a's.
@@ -160,34 +110,22 @@ fn number_new(origins: &mut [u16], a: u32, n: u32, m: u32)
 }
 
 // A step of the front by hand: 23, 24, or one placing on the named edge. New nodes take the number of node a's loop.
+#[tactic(auto, using(front::proofs::Lent::lists_same))]
 pub fn step(
-    domain: Domain<'_>,
-    size: f64,
-    grid: Grid,
-    values: &[f64],
-    xs: &mut [f64],
-    ys: &mut [f64],
-    next: &mut [u32],
-    prev: &mut [u32],
+    around: &Surroundings<'_>,
+    paving: &mut Paving<'_>,
     origins: &mut [u16],
-    quads: &mut [u32],
-    edges: &mut [u32],
-    k: Counts,
     a: u32,
     b: u32,
-) -> Result<HandPlacing, Refusal>
-    requires { Around (outline_of domain) grid values.now }
-    ensures { (marks : List ℕ) → StepTaken (outline_of domain.entry) size
-        (field_record grid values.now marks) a b
-        (lent_state xs.old ys.old next.old prev.old origins.old quads.old
-        edges.old k) origins.old (numbered result)
-        (lent_state xs.new ys.new next.new prev.new origins.new quads.new
-        edges.new (counts_left k (numbered result))) origins.new }
+) -> Result<StepOutcome, Refusal>
+    requires { Around (outline_in around.now) around.now.field.grid around.now.field.values.now }
+    ensures same { SameLists paving.old paving.new }
+    ensures taken { (marks : List ℕ) → StepTaken (outline_in around.now) around.now.size (field_lent around.now.field marks) a b
+        (lent_paving paving.old origins.old) origins.old (numbered result) (lent_paving paving.new origins.new) origins.new }
 {
-    check_hand(xs, ys, next, prev, origins, quads, edges, k, a, b)?;
-    let h = place_on(
-        domain, size, grid, values, xs, ys, next, prev, origins, quads, edges, k, a, b,
-    );
-    number_new(origins, a, k.nodes, h.counts.nodes);
-    Ok(h)
+    check_hand(&paving.mesh(), origins, a, b)?;
+    let nodes = paving.counts.nodes;
+    let outcome = place_on(around, paving, origins, a, b);
+    number_new(origins, a, nodes, paving.counts.nodes);
+    Ok(outcome)
 }

@@ -1,5 +1,5 @@
 -- What holds of the definitions of specs/Worst.antt.
-use Rattle.std.specs.Prelude.{◌≡◌, refl, Bool, true, false, not, ◌&&◌, cond, List, ℕ, ◌*◌, ◌^◌, T, eqb, ℤ, get_or, ◌<ℤ◌, Float}
+use Rattle.std.specs.Prelude.{◌≡◌, refl, Bool, true, false, not, ◌&&◌, cond, List, ℕ, ◌*◌, ◌^◌, T, eqb, ℤ, get_or, Float}
 use Rattle.std.proofs.Common.{ap, ◌∙◌, subst, true≢false}
 use Rattle.std.specs.Int.Signed.{<ℤ-≤ℤ_trans, clash_ℤ}
 use Rattle.std.specs.Float.{nan, inf, fin, binary64}

@@ -1,128 +1,150 @@
 // The sweeps of a cross field (src/alt_crossfield.rs): the nodes that are not fixed take their neighbours' average.
 #![tactic(auto)]
 
-ghost use Rattle.std.specs.Prelude.{◌≡◌, ◌+◌, ◌≤◌, ◌<◌, length};
-ghost use Rattle.averages.specs.Places.{Node, Row, FieldRoom};
-ghost use Rattle.sweeps.specs.Sweeps.{swept, change, relaxed, sweep_node, sweep_row, sweep, sweeps};
+ghost use Rattle.std.specs.Prelude.{◌≡◌, ◌+◌, ◌*◌, ◌≤◌, ◌<◌, length};
+ghost use Rattle.averages.specs.Places.{NodeIn, RowIn, FieldRoom};
+ghost use Rattle.sweeps.specs.Sweeps.{swept, change, set_value, relaxed, sweep_node, sweep_row, sweep, sweeps};
 
-use direction::Grid;
+use averages::{GridNode, GridRow};
+use direction::{CrossField, Grid};
 use domain::Point;
+
+// The grid of a field whose values are swept, and a mark for each of its nodes: 0 where the node is not fixed.
+#[derive(Clone, Copy)]
+pub struct MarkedGrid<'a> {
+    pub grid: Grid,
+    pub marks: &'a [u8],
+}
 
 // ---- one node
 
 // How much a value changes, in sum.
+#[tactic(auto, unfolding(crate::specs::Sweeps::change))]
 fn change(old: Point, new: Point) -> f64
     ensures { result ≡ change old new }
 {
     numbers::abs_f64(new.x - old.x) + numbers::abs_f64(new.y - old.y)
 }
 
-// A node that is not fixed takes its neighbours' average; the answer is whether the sweep is still quiet.
-fn relax(g: Grid, values: &mut [f64], quiet: bool, j: usize, i: usize, id: usize) -> bool
-    requires { Node g.nx g.ny j i id (length values.old) }
-    ensures { swept values.new result ≡ relaxed g j i (swept values.old quiet) }
+// Node id's value is v.
+#[tactic(auto, unfolding(crate::specs::Sweeps::set_value))]
+pub fn set_value(values: &mut [f64], id: usize, v: Point)
+    requires { 2 * id + 1 < length values.old }
+    ensures { values.new ≡ set_value values.old id v }
 {
-    let v = averages::average(g, values, j, i, id);
-    let k = 2 * id;
-    let old = Point {
-        x: values[k],
-        y: values[k + 1],
-    };
-    values[k] = v.x;
-    values[k + 1] = v.y;
-    let moved = 1.0e-7 <= change(old, v);
-    quiet && !moved
+    values[2 * id] = v.x;
+    values[2 * id + 1] = v.y;
 }
 
-fn sweep_node(
-    g: Grid,
-    marks: &[u8],
-    values: &mut [f64],
-    quiet: bool,
-    j: usize,
-    i: usize,
-    id: usize,
-) -> bool
-    requires node { Node g.nx g.ny j i id (length values.old) }
-    requires id_in_bounds { id < length marks.now }
-    ensures { swept values.new result ≡ sweep_node g marks.now j i (swept values.old quiet) }
-{
-    if marks[id] == 0 {
-        relax(g, values, quiet, j, i, id)
-    } else {
-        quiet
+impl MarkedGrid<'_> {
+    // A node that is not fixed takes its neighbours' average; the answer is whether the sweep is still quiet.
+    // Stays a flag handed on, here and below: a sweep goes on past a node that moves, so `ControlFlow` doesn't fit, and contracts hand on values and flag as one.
+    #[tactic(auto, using(averages::specs::Places::here_in), unfolding(crate::specs::Sweeps::relaxed))]
+    fn relax(self, values: &mut [f64], quiet: bool, node: GridNode) -> bool
+        requires { NodeIn self.grid node values.old }
+        ensures { swept values.new result
+            ≡ relaxed self.entry.grid node.j node.i (swept values.old quiet) }
+    {
+        let field = CrossField {
+            grid: self.grid,
+            values,
+        };
+        let v = averages::average(field, node);
+        let moved = 1.0e-7 <= change(outlines::point_at(values, node.id), v);
+        set_value(values, node.id, v);
+        quiet && !moved
     }
-}
 
-// ---- rows, and sweeps
+    #[tactic(auto, unfolding(crate::specs::Sweeps::sweep_node))]
+    fn sweep_node(self, values: &mut [f64], quiet: bool, node: GridNode) -> bool
+        requires node { NodeIn self.grid node values.old }
+        requires id_in_bounds { node.id < length self.marks.now }
+        ensures { swept values.new result
+            ≡ sweep_node self.entry.grid self.entry.marks.now node.j node.i (swept values.old quiet) }
+    {
+        if self.marks[node.id] == 0 {
+            self.relax(values, quiet, node)
+        } else {
+            quiet
+        }
+    }
 
-// Row j, whose first node's number is base.
-fn sweep_row(g: Grid, marks: &[u8], values: &mut [f64], quiet: bool, j: usize, base: usize) -> bool
-    requires row { Row g.nx g.ny j base (length values.old) }
-    requires nx_in_bounds { base + g.nx ≤ length marks.now }
-    ensures { swept values.new result ≡ sweep_row g marks.now j (swept values.old quiet) }
-{
-    let mut still = quiet;
-    for i in 0..g.nx {
-        still = sweep_node(g, marks, values, still, j, i, base + i);
-    }
-    still
-}
+    // ---- rows, and sweeps
 
-// Rows j and j + 1, the first node of row j having the number base. The upper row is a column behind, so that two roots are under way at once.
-fn sweep_two_rows(
-    g: Grid,
-    marks: &[u8],
-    values: &mut [f64],
-    quiet: bool,
-    j: usize,
-    base: usize,
-) -> bool
-    requires row { Row g.nx g.ny j base (length values.old) }
-    requires j_bound { (j + 1 < g.ny) × (base + g.nx + g.nx ≤ length marks.now) }
-    ensures { swept values.new result
-        ≡ sweep_row g marks.now (j + 1) (sweep_row g marks.now j (swept values.old quiet)) }
-{
-    let nx = g.nx;
-    if nx == 0 {
-        return quiet;
+    fn sweep_row(self, values: &mut [f64], quiet: bool, row: GridRow) -> bool
+        requires row { RowIn self.grid row values.old }
+        requires nx_in_bounds { row.first + self.grid.nx ≤ length self.marks.now }
+        ensures { swept values.new result
+            ≡ sweep_row self.entry.grid self.entry.marks.now row.j (swept values.old quiet) }
+    {
+        let mut still = quiet;
+        for i in 0..self.grid.nx {
+            still = self.sweep_node(values, still, row.node(i));
+        }
+        still
     }
-    let last = nx - 1;
-    let above = j + 1;
-    let up = base + nx;
-    let mut still = sweep_node(g, marks, values, quiet, j, 0, base);
-    for i in 0..last {
-        still = sweep_node(g, marks, values, still, j, i + 1, base + (i + 1));
-        still = sweep_node(g, marks, values, still, above, i, up + i);
-    }
-    sweep_node(g, marks, values, still, above, last, up + last)
-}
 
-// One sweep, two rows at a time; the answer is whether it was quiet.
-fn sweep(g: Grid, marks: &[u8], values: &mut [f64]) -> bool
-    requires { FieldRoom g.nx g.ny (length values.old) (length marks.now) }
-    ensures { swept values.new result ≡ sweep g marks.now values.old }
-{
-    let mut quiet = true;
-    for k in 0..g.ny / 2 {
-        quiet = sweep_two_rows(g, marks, values, quiet, 2 * k, 2 * k * g.nx);
+    // A row and the one above it. The upper row is a column behind, so that two roots are under way at once.
+    fn sweep_two_rows(self, values: &mut [f64], quiet: bool, row: GridRow) -> bool
+        requires row { RowIn self.grid row values.old }
+        requires j_bound { (row.j + 1 < self.grid.ny)
+            × (row.first + self.grid.nx + self.grid.nx ≤ length self.marks.now) }
+        ensures { swept values.new result
+            ≡ sweep_row self.entry.grid self.entry.marks.now (row.j + 1)
+            (sweep_row self.entry.grid self.entry.marks.now row.j (swept values.old quiet)) }
+    {
+        let nx = self.grid.nx;
+        if nx == 0 {
+            return quiet;
+        }
+        let last = nx - 1;
+        let above = GridRow {
+            j: row.j + 1,
+            first: row.first + nx,
+        };
+        let mut still = self.sweep_node(values, quiet, row.node(0));
+        for i in 0..last {
+            still = self.sweep_node(values, still, row.node(i + 1));
+            still = self.sweep_node(values, still, above.node(i));
+        }
+        self.sweep_node(values, still, above.node(last))
     }
-    if g.ny % 2 == 1 {
-        let j = g.ny - 1;
-        sweep_row(g, marks, values, quiet, j, j * g.nx)
-    } else {
-        quiet
-    }
-}
 
-// At most n sweeps: a quiet one is the last.
-pub fn sweeps(n: usize, g: Grid, marks: &[u8], values: &mut [f64])
-    requires { FieldRoom g.nx g.ny (length values.old) (length marks.now) }
-    ensures { values.new ≡ sweeps n g marks.now values.old }
-{
-    for _ in 0..n {
-        if sweep(g, marks, values) {
-            return;
+    // One sweep, two rows at a time; the answer is whether it was quiet.
+    fn sweep(self, values: &mut [f64]) -> bool
+        requires { FieldRoom self.grid.nx self.grid.ny (length values.old) (length self.marks.now) }
+        ensures { swept values.new result
+            ≡ sweep self.entry.grid self.entry.marks.now values.old }
+    {
+        let Grid { nx, ny, .. } = self.grid;
+        let mut quiet = true;
+        for k in 0..ny / 2 {
+            let row = GridRow {
+                j: 2 * k,
+                first: 2 * k * nx,
+            };
+            quiet = self.sweep_two_rows(values, quiet, row);
+        }
+        if ny % 2 == 1 {
+            let row = GridRow {
+                j: ny - 1,
+                first: (ny - 1) * nx,
+            };
+            self.sweep_row(values, quiet, row)
+        } else {
+            quiet
+        }
+    }
+
+    // At most n sweeps: a quiet one is the last.
+    pub fn sweeps(self, n: usize, values: &mut [f64])
+        requires { FieldRoom self.grid.nx self.grid.ny (length values.old) (length self.marks.now) }
+        ensures { values.new ≡ sweeps n self.entry.grid self.entry.marks.now values.old }
+    {
+        for _ in 0..n {
+            if self.sweep(values) {
+                return;
+            }
         }
     }
 }

@@ -29,7 +29,7 @@ lent s = paving_state s.args.paving.now s.args.snapshot.now
 
 -- the state in the loop comes after the one that is lent
 later : (s : Start) {t : State} {n i : ℕ} → Run (passes_turn (around s) s.args.around.now.size (field s)) all_used (lent s) n i t
-    → Later (around s) s.args.around.now.blocks.now s.args.around.now.grid s.args.around.now.values.now (lent s) t
+    → Later (around s) s.args.around.now.blocks.now s.args.around.now.field.grid s.args.around.now.field.values.now (lent s) t
 later s L = in_advance (around s) _ s.args.around.now.size _ _ (field s) (lent s) s.requires L
 
 pub file_all-requires : goal.file_all-requires

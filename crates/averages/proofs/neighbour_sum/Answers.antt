@@ -1,32 +1,56 @@
 -- `averages::neighbour_sum` meets its contract. Assumes nothing.
-use Rattle.std.proofs.Common.{arith}
-use Rattle.direction.specs.Cells.{row_in}
-use Rattle.averages.specs.Places.{here_in, left_in, right_in, under_in, over_in}
-use Rattle.averages.specs.Average.{neighbour_sum}
+use Rattle.std.proofs.Common.{◌≡◌, refl, ◌∙◌, true, false, Bool, ltb, ◌+◌, ◌-◌, arith, lt-ltb, le-ltb}
+use Rattle.domain.specs.declared.Point.{Point}
+use Rattle.domain.specs.Outline.{point, point_at}
+use Rattle.numbers.specs.Float.{zero_f}
+use Rattle.direction.specs.Cells.{row_over}
+use Rattle.averages.specs.Average.{plus_if, neighbour_sum}
 use Rattle.averages.proofs.neighbour_sum.Goals as goal
+use Rattle.averages.proofs.neighbour_sum.Goals.{Joined-j-gt0, then-i-gt0, else-i-gt0, then-i-nx, else-i-nx, then-j-gt0, else-j-gt0}
 
-pub plus_if-left-requires : goal.plus_if-left-requires
-plus_if-left-requires c = λ there. omega (arith, left_in c.requires there, here_in c.requires)
+-- a neighbour that is there, and one that isn't
+added : {t : Bool} {r : Point} (v sum : Point) → t ≡ true → r ≡ plus_if true v sum → r ≡ plus_if t v sum
+added v sum e f = rw e f
 
-pub plus_if-right-requires : goal.plus_if-right-requires
-plus_if-right-requires c = right_in c.requires
+absent : {t : Bool} {r : Point} (v : Point) {sum : Point} → t ≡ false → r ≡ sum → r ≡ plus_if t v sum
+unfolding plus_if
+absent v e f = rw e f
 
-pub plus_if-under-requires : goal.plus_if-under-requires
-plus_if-under-requires c = λ there. omega (arith, under_in c.requires there, here_in c.requires)
+-- the sum of the first three
+three : (c : Joined-j-gt0) → c.if-j-gt0.sum ≡ plus_if (ltb 0 c.args.node.j) (point_at c.args.field.values.now (c.args.node.id - c.args.field.grid.nx))
+    (plus_if (ltb (c.args.node.i + 1) c.args.field.grid.nx) (point_at c.args.field.values.now (c.args.node.id + 1))
+    (plus_if (ltb 0 c.args.node.i) (point_at c.args.field.values.now (c.args.node.id - 1)) (point zero_f zero_f)))
+three c =
+    let g = c.args.field.grid in
+    let values = c.args.field.values.now in
+    let node = c.args.node in
+    let left : c.if-i-gt0.sum ≡ plus_if (ltb 0 node.i) (point_at values (node.id - 1)) (point zero_f zero_f)
+    = elim c.if-i-gt0.branch [
+      | then-i-gt0 w ↦ w.sum-is ∙ added _ _ (lt-ltb _ _ w.if-i-gt0.true) w.plus_node-sum.ensures
+      | else-i-gt0 w ↦ w.sum-is ∙ absent _ (le-ltb _ _ w.if-i-gt0.false) refl
+    ] in
+    let right : c.if-i-nx.sum ≡ plus_if (ltb (node.i + 1) g.nx) (point_at values (node.id + 1)) c.if-i-gt0.sum
+    = elim c.if-i-nx.branch [
+      | then-i-nx w ↦ w.sum-is ∙ added _ _ (lt-ltb _ _ w.if-i-nx.true) w.plus_node-sum-then-i-nx.ensures
+      | else-i-nx w ↦ w.sum-is ∙ absent _ (le-ltb _ _ w.if-i-nx.false) refl
+    ] in
+    rw (← left, ← right)
+    (elim c.if-j-gt0.branch [
+      | then-j-gt0 w ↦ w.sum-is ∙ added _ _ (lt-ltb _ _ w.if-j-gt0.true) w.plus_node-sum-then-j-gt0.ensures
+      | else-j-gt0 w ↦ w.sum-is ∙ absent _ (le-ltb _ _ w.if-j-gt0.false) refl
+    ])
 
-pub overflow_add-id : goal.overflow_add-id
-overflow_add-id c = omega (arith, here_in c.requires)
+pub plus_node-sum-requires-then-j-field : goal.plus_node-sum-requires-then-j-field
+plus_node-sum-requires-then-j-field c =
+    omega (arith, c.requires.at, c.requires.column, c.requires.room, row_over c.args.node.j c.args.field.grid.ny c.args.field.grid.nx c.if-j-field.true)
 
-pub plus_if-requires : goal.plus_if-requires
-plus_if-requires c = over_in c.requires
-
-pub returns : goal.returns
+pub returns-then-j-field : goal.returns-then-j-field
 unfolding neighbour_sum
-returns c = rw (
-  ← c.requires.at,
-  ← c.saturating_sub.ensures,
-  ← c.plus_if-left.ensures,
-  ← c.plus_if-right.ensures,
-  ← c.saturating_sub-2.ensures,
-  ← c.plus_if-under.ensures,
-) c.plus_if.ensures
+returns-then-j-field c =
+    rw (← c.requires.at, ← three (goal.at.returns-then-j-field c).Joined-j-gt0)
+    (added _ _ (lt-ltb _ _ c.if-j-field.true) c.plus_node-sum-then-j-field.ensures)
+
+pub returns-else-j-field : goal.returns-else-j-field
+unfolding neighbour_sum
+returns-else-j-field c =
+    rw (← c.requires.at, ← three (goal.at.returns-else-j-field c).Joined-j-gt0) (absent _ (le-ltb _ _ c.if-j-field.false) refl)

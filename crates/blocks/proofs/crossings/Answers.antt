@@ -1,14 +1,18 @@
--- `blocks::crossings` meets its contract: the loop's invariant is `LoopBetween` of the polygon's turn.
-use Rattle.blocks.specs.BetweenLaws.{between_start, between_next, between_end}
+-- `blocks::crossings` meets its contract: the fold is `for_between` of the polygon's turn.
+use Rattle.std.specs.Prelude.{Bool, ℕ, ◌-◌, refl}
+use Rattle.std.proofs.Common.{◌∙◌, rules, tests}
+use Rattle.std.proofs.lemmas.Iterator.{YieldsList-from_range}
+use Rattle.std.proofs.lemmas.Iterator.Consumers.{fold_from_yields_List}
+use Rattle.laws.proofs.Ranges.{fold_ranged_from}
+use Rattle.domain.specs.Queries.{polygon_turn}
+use Rattle.blocks.specs.Blocks.{for_between}
 use Rattle.blocks.proofs.crossings.Goals as goal
 
-pub loop-i-init : goal.loop-i-init
-loop-i-init c = between_start _ _ _ _ c.requires.0
-
-pub loop-i-preserved : goal.loop-i-preserved
-loop-i-preserved c =
-    rw (c.ray_crosses-odd.ensures, c.point_at.ensures, c.point_after.ensures)
-    (between_next _ _ c.loop-i.invariant c.loop-i-test.true)
-
 pub returns : goal.returns
-returns c = between_end _ _ c.loop-i.invariant c.loop-i-test.false
+unfolding for_between
+returns c =
+    let from = c.args.from in
+    let n = c.args.to - from in
+    let turn : ℕ → Bool → Bool = polygon_turn c.args.p c.args.s.now in
+    fold_from_yields_List _ (λ odd i. turn i odd) _ c.fold.result c.fold.ensures.ran (YieldsList-from_range from c.args.to n (cc) refl) (λ a x b q k. search (rules, tests))
+    ∙ fold_ranged_from turn c.args.inside from n

@@ -1,46 +1,30 @@
--- `in_some_hole` meets its contract: the loop's invariant is a search that has found nothing.
-use Rattle.std.proofs.Common.{sym, arith, le_of_eq}
-use Rattle.std.proofs.lemmas.List.{length_push}
-use Rattle.laws.specs.Loop.{scan_start, scan_next, scan_hit, scan_none}
+-- `in_some_hole` meets its contract: each hole that the iterator gives is the outline's.
+use Rattle.std.specs.Prelude.{Bool, List, ℕ, Float}
+use Rattle.std.proofs.Common.{◌∙◌, sym, rules, tests, of_calls, refl}
+use Rattle.std.proofs.lemmas.Iterator.Adapters.{serves_from_places}
+use Rattle.std.proofs.lemmas.Iterator.Search.{any_from_yields_List}
 use Rattle.domain.specs.Outline.{outline_of}
-use Rattle.outlines.proofs.HoleList.{hole_given, holes_given, place_passed, place_loop}
-use Rattle.blocks.specs.BlockLaws.{drawn_shape, hole_asks, hole_drawn}
+use Rattle.domain.specs.Queries.{point_in_polygon}
+use Rattle.outlines.proofs.HoleList.{holes_yield, listed_place, any_hole}
+use Rattle.blocks.specs.BlockLaws.{drawn_shape}
 use Rattle.blocks.proofs.in_some_hole.Goals as goal
 
-pub holes_of-hole-items-requires : goal.holes_of-hole-items-requires
-holes_of-hole-items-requires c = drawn_shape c.requires
+pub holes_of-requires : goal.holes_of-requires
+holes_of-requires c = drawn_shape c.requires
 
-pub loop-hole-init : goal.loop-hole-init
-loop-hole-init c = scan_start _ _
-
-pub first_block-first-requires : goal.first_block-first-requires
-first_block-first-requires c =
-    let place = hole_given (outline_of c.args.domain) _ _ c.next.new.self _ (cc) c.loop-hole.yielded_by c.in-Some.hole c.in-Some.is c.next.ensures.steps in
-    rw place.index (hole_asks (place_passed place (drawn_shape c.requires)) place.within c.requires.taken)
-
-pub overflow_add-hole : goal.overflow_add-hole
-overflow_add-hole c =
-    let place = hole_given (outline_of c.args.domain) _ _ c.next.new.self _ (cc) c.loop-hole.yielded_by c.in-Some.hole c.in-Some.is c.next.ensures.steps in
-    omega (arith, place.index, hole_asks (place_passed place (drawn_shape c.requires)) place.within c.requires.taken)
-
-pub point_in_polygon-requires : goal.point_in_polygon-requires
-point_in_polygon-requires c =
-    let place = hole_given (outline_of c.args.domain) _ _ c.next.new.self _ (cc) c.loop-hole.yielded_by c.in-Some.hole c.in-Some.is c.next.ensures.steps in
-    hole_drawn (place_passed place (drawn_shape c.requires)) place.within c.requires (place_loop place) (rw place.index at c.first_block-first.ensures)
-
-pub returns-then-point_in_polygon : goal.returns-then-point_in_polygon
-returns-then-point_in_polygon c =
-    let place = hole_given (outline_of c.args.domain) _ _ c.next.new.self _ (cc) c.loop-hole.yielded_by c.in-Some.hole c.in-Some.is c.next.ensures.steps in
-    scan_hit _ c.loop-hole.invariant place.within
-    (rw (← place.points, ← c.point_in_polygon.ensures) c.if-point_in_polygon.true)
-
-pub loop-hole-preserved : goal.loop-hole-preserved
-loop-hole-preserved c =
-    let place = hole_given (outline_of c.args.domain) _ _ c.next.new.self _ (cc) c.loop-hole.yielded_by c.in-Some.hole c.in-Some.is c.next.ensures.steps in
-    rw (length_push c.loop-hole.yielded c.in-Some.hole)
-    (scan_next _ c.loop-hole.invariant place.within (rw (← place.points, ← c.point_in_polygon.ensures) c.if-point_in_polygon.false))
+pub any-requires-clause-callable : goal.any-requires-clause-callable
+any-requires-clause-callable c =
+    let o = outline_of c.args.domain in
+    serves_from_places (holes_yield o c.holes_of.result (cc))
+    (λ hole q k. search rules)
+    (λ hole k within e.
+    let place = listed_place o k hole within e in
+    let here = rw (sym place.index) at place in
+    search (rules, of_calls))
 
 pub returns : goal.returns
 returns c =
-    let all = holes_given (outline_of c.args.domain) _ _ c.next.new.self _ (cc) c.loop-hole.yielded_by c.in-None.is c.next.ensures.steps in
-    scan_none _ c.loop-hole.invariant (le_of_eq (sym all))
+    let o = outline_of c.args.domain in
+    let test : ℕ × (ℕ × List Float) → Bool = λ p. point_in_polygon c.args.p p.1.1 in
+    any_from_yields_List test c.any.new.self _ c.any.result c.any.ensures.ran (holes_yield o c.holes_of.result (cc)) (λ hole b q k. search (rules, tests))
+    ∙ any_hole o test _ (λ k h. refl)

@@ -1,22 +1,19 @@
--- `boundary::from_boundary` meets its contract: the loop's invariant is `Loop` of `boundary_turn`, whatever the lists that are not written.
-use mathlib.Core.Path.{◌≡◌}
-use mathlib.Core.List.{List}
-use Prim.Native.Nat.{ℕ, ◌+◌}
-use lib.ListN.{length}
+-- `boundary::from_boundary` meets its contract: the loop's invariant is `Loop` of `boundary_turn`, whatever the snapshot, the quads and the counts.
+use Rattle.std.specs.Prelude.{◌≡◌, List, ℕ, ◌+◌, length}
 use Rattle.laws.specs.Loop.{Loop}
 use Rattle.domain.specs.Outline.{outline_of, loop_start}
 use Rattle.front.specs.Sampling.{loop_count, front_refusal, boundary_turn}
-use Rattle.front.specs.State.{state_of, cleared}
+use Rattle.front.specs.State.{counted, cleared}
 use Rattle.front.specs.declared.Counts.{Counts}
 use Rattle.boundary.specs.Progress.{Progress}
-use Rattle.boundary.specs.Laying.{between_loops}
+use Rattle.boundary.specs.Laying.{SameRoom, between_in, lent_with}
 use Rattle.boundary.proofs.from_boundary.Given as goal
 
 abbrev pub invariant-loop-hole : goal.invariant-loop-hole
 invariant-loop-hole l =
-    Progress (outline_of l.domain) l.size (length l.yielded + 1) (loop_start l.domain.lens.now (length l.yielded + 1)) l.nodes
-    × (length l.xs ≡ length l.fn.xs) × (length l.ys ≡ length l.fn.ys) × (length l.next ≡ length l.fn.next) × (length l.prev ≡ length l.fn.prev) × (length l.edges ≡ length l.fn.edges)
-    × ((snapshot quads : List ℕ) (counts : Counts) → front_refusal (outline_of l.domain) l.size (state_of l.fn.xs l.fn.ys l.fn.next l.fn.prev snapshot quads l.fn.edges counts) ≡ 0
-    → Loop (boundary_turn (outline_of l.domain) l.size) (cleared (state_of l.fn.xs l.fn.ys l.fn.next l.fn.prev snapshot quads l.fn.edges counts))
-    (loop_count (outline_of l.domain)) (length l.yielded + 1)
-    (between_loops snapshot quads l.xs l.ys l.next l.prev l.edges l.nodes))
+    let o = outline_of l.domain in
+    let k = length l.yielded + 1 in
+    let n = l.paving.counts.nodes in
+    Progress o l.size k (loop_start l.domain.lens.now k) n × SameRoom l.fn.paving l.paving × (l.paving.counts ≡ counted n 0 n n)
+    × ((snapshot quads : List ℕ) (counts : Counts) → front_refusal o l.size (lent_with l.fn.paving snapshot quads counts) ≡ 0
+    → Loop (boundary_turn o l.size) (cleared (lent_with l.fn.paving snapshot quads counts)) (loop_count o) k (between_in snapshot quads l.paving))

@@ -1,66 +1,37 @@
--- `boundary::link_ring` meets its contract: the loop's invariant is `Loop` of `link_turn`, whatever the rest of the state.
-use mathlib.Core.Path.{refl, ◌∙◌}
-use Prim.Native.Nat.{◌+◌}
-use native.Mathlib.Omega.{arith}
-use Rattle.laws.specs.Loop.{loop_start_lem}
-use Rattle.boundary.specs.LayingLaws.{loop_as, loop_last, plus_none, plus_one}
-use Rattle.boundary.specs.Laying.{with_front_edges, link_ring}
+-- `boundary::link_ring` meets its contract: after i turns the edges of `link_turn` are written.
+use Rattle.std.specs.Prelude.{◌≡◌}
+use Rattle.std.proofs.Common.{◌∙◌, ap, le_antisymm, arith}
+use Rattle.front.specs.declared.Counts.{Counts}
+use Rattle.front.specs.Sampling.{ring_count}
+use Rattle.boundary.specs.Laying.{link_ring, link_turn}
+use Rattle.boundary.proofs.Written.{edges_start, edges_turn}
 use Rattle.boundary.proofs.link_ring.Goals as goal
 
 pub loop-i-init : goal.loop-i-init
-loop-i-init c = (c.ring_count-n.ensures, refl, refl, refl, λ st. rw plus_none (loop_start_lem _ _ _))
+loop-i-init c = (c.len-n.ensures, omega arith, edges_start _ _)
 
-pub ring_at-u-requires : goal.ring_at-u-requires
-ring_at-u-requires c = (c.requires.0, rw (← c.loop-i.invariant.0) c.loop-i-test.true)
+pub link-requires-clause-ids : goal.link-requires-clause-ids
+link-requires-clause-ids c =
+    let room = c.loop-i.invariant.2.more.places in
+    (omega (arith, c.at.ensures.1, c.requires.in_next, room.next), omega (arith, c.at-in-loop-i.ensures.1, c.requires.in_prev, room.prev))
 
-pub after-requires : goal.after-requires
-after-requires c = c.loop-i-test.true
-
-pub ring_at-v-requires : goal.ring_at-v-requires
-ring_at-v-requires c =
-    (c.requires.0, rw (← c.loop-i.invariant.0) c.after.ensures.1)
-
-pub overflow_add-e : goal.overflow_add-e
-overflow_add-e c =
-    omega (arith, c.requires.3, c.loop-i.invariant.0, c.loop-i-test.true)
-
-pub link-requires : goal.link-requires
-link-requires c = (
-  omega (arith, c.ring_at-u.ensures.1, c.ring_at-v.ensures.1, c.requires.1, c.loop-i.invariant.1),
-  omega (arith, c.ring_at-u.ensures.1, c.ring_at-v.ensures.1, c.requires.2, c.loop-i.invariant.2),
-  omega (arith, c.requires.3, c.loop-i.invariant.0, c.loop-i-test.true, c.loop-i.invariant.3),
-)
+pub link-requires-clause-edges : goal.link-requires-clause-edges
+link-requires-clause-edges c =
+    let inv = c.loop-i.invariant in
+    let counts = inv.2.more.counts in
+    let edges = ap (λ (k : Counts). k.edges) counts in (
+      omega (arith, c.requires.in_edges, inv.0, c.loop-i-test.true, inv.2.more.places.edges, edges),
+      omega (arith, c.requires.front, edges, ap (λ (k : Counts). k.front) counts),
+    )
 
 pub loop-i-preserved : goal.loop-i-preserved
 loop-i-preserved c =
     let inv = c.loop-i.invariant in
-    let kept = c.link.auto in (
-      inv.0,
-      kept.next ∙ inv.1,
-      kept.prev ∙ inv.2,
-      kept.edges ∙ inv.3,
-      λ st. loop_as _ _ _ (inv.4 st) c.loop-i-test.true
-          (rw (
-            plus_one,
-            c.link.ensures st,
-            c.ring_at-u.ensures.0,
-            c.ring_at-v.ensures.0,
-            c.after.ensures.0,
-            inv.0,
-          )),
-    )
-
-pub shape_of-next : goal.shape_of-next
-shape_of-next c = c.loop-i.invariant.1
-
-pub shape_of-prev : goal.shape_of-prev
-shape_of-prev c = c.loop-i.invariant.2
-
-pub shape_of-edges : goal.shape_of-edges
-shape_of-edges c = c.loop-i.invariant.3
+    let linked = rw (c.at.ensures.0, c.at-in-loop-i.ensures.0, c.after.ensures.0, inv.0) at c.link.ensures in
+    (inv.0, omega (arith, c.loop-i-test.true), edges_turn (link_turn _) inv.2 linked)
 
 pub returns : goal.returns
 unfolding link_ring
 returns c =
-    λ st. rw (← c.loop-i.invariant.0) (loop_last _ _ (λ n. with_front_edges st c.loop-i.next c.loop-i.prev c.loop-i.edges
-    (c.args.e + n)) (c.loop-i.invariant.4 st) c.loop-i-test.false)
+    let all : c.loop-i.i ≡ ring_count c.args.ring = le_antisymm c.loop-i.invariant.1 c.loop-i-test.false ∙ c.loop-i.invariant.0 in
+    rw all at c.loop-i.invariant.2

@@ -3,7 +3,7 @@ use mathlib.Core.Bool.{◌&&◌}
 use mathlib.Core.Path.{◌≡◌, sym, ◌∙◌}
 use Rattle.laws.specs.Chain.{passes, fails}
 use Rattle.bowl.specs.Steps.{turns_left, is_shown}
-use Rattle.bowl.specs.Stepped.{vector, ids}
+use Rattle.bowl.specs.Stepped.{vector}
 use Rattle.bowl.specs.StepsLaws.{shown_is}
 use Rattle.bowl.proofs.is_shown.Goals as goal
 use Rattle.bowl.proofs.is_shown.Goals.{After-way-ca, then-is_left, else-is_left, then-is_left-2, else-is_left-2}
@@ -14,9 +14,9 @@ corners : (w4 : After-way-ca)
     turns_left (vector w4.way-ca.result) (vector w4.way-ab.result)
     && (turns_left (vector w4.way-ab.result) (vector w4.way-bd.result)
     && (turns_left (vector w4.way-bd.result) (vector w4.way-dc.result) && turns_left (vector w4.way-dc.result) (vector w4.way-ca.result)))
-    ≡ is_shown w4.args.xs.now w4.args.ys.now (ids w4.args.a w4.args.b w4.args.d w4.args.c)
+    ≡ is_shown w4.args.mesh.now.xs.now w4.args.mesh.now.ys.now w4.args.q
 corners w4 =
-    shown_is _ _ _ _ _ _ _ _ _ _ _ _ _ _ w4.steps_at-at_a.ensures w4.steps_at-at_b.ensures w4.steps_at-at_d.ensures w4.steps_at-at_c.ensures
+    shown_is _ _ _ _ _ _ _ _ _ _ _ _ _ _ w4.steps_at-a.ensures w4.steps_at-b.ensures w4.steps_at-d.ensures w4.steps_at-c.ensures
     w4.way-ab.ensures w4.way-bd.ensures w4.way-dc.ensures w4.way-ca.ensures
 
 pub returns-then-is_left-3 : goal.returns-then-is_left-3

@@ -1,33 +1,18 @@
--- `bowl::lowest_hidden` meets its contract: no quad before k is hidden.
-use mathlib.Core.Path.{refl}
-use Prim.Native.Nat.{◌+◌, ◌*◌}
-use native.Mathlib.Omega.{arith}
-use borrow.Author.Tests.{not-true, not-false}
-use Rattle.laws.specs.Loop.{run_start, run_go, run_out, run_end}
+-- `bowl::lowest_hidden` meets its contract.
+use Rattle.std.proofs.Common.{rules, tests, Bool, ◌≡◌, true, false, ℕ}
+use Rattle.std.proofs.lemmas.Iterator.{serves_from_Range, first_from_Range}
 use Rattle.lent_mesh.specs.Mesh.{quad_in}
-use Rattle.bowl.specs.Steps.{steps_given, lowest_hidden}
+use Rattle.bowl.specs.Steps.{is_shown}
+use Rattle.bowl.proofs.Searched.{found_lowest}
 use Rattle.bowl.proofs.lowest_hidden.Goals as goal
 
-pub loop-k-init : goal.loop-k-init
-loop-k-init c = run_start _ (λ s. steps_given) _ _
-
-pub is_shown-requires : goal.is_shown-requires
-is_shown-requires c =
-    let k = c.loop-k.k in
-    let nodes = c.requires.nodes in
-    let less = c.loop-k-test.true in
-    (nodes (4 * k) (omega arith), nodes (4 * k + 1) (omega arith), nodes (4 * k + 2) (omega arith), nodes (4 * k + 3) (omega arith))
-
-pub returns-then-not-is_shown : goal.returns-then-not-is_shown
-unfolding lowest_hidden quad_in
-returns-then-not-is_shown c =
-    run_out _ _ _ _ c.loop-k.invariant c.loop-k-test.true (rw (← c.is_shown.ensures, not-true c.is_shown.result c.if-not-is_shown.true-raw) refl)
-
-pub loop-k-preserved : goal.loop-k-preserved
-unfolding quad_in
-loop-k-preserved c =
-    run_go _ (λ s. steps_given) _ tt c.loop-k.invariant c.loop-k-test.true (rw (← c.is_shown.ensures, not-false c.is_shown.result c.if-not-is_shown.false-raw) refl)
+pub find-requires-clause-callable : goal.find-requires-clause-callable
+find-requires-clause-callable c =
+    serves_from_Range (λ x q r. search (rules)) (λ k low high. search (rules, high, c.requires))
 
 pub returns : goal.returns
-unfolding lowest_hidden
-returns c = run_end _ _ _ c.loop-k.invariant c.loop-k-test.false
+returns c =
+    let m = c.args.mesh.now in
+    let Shown : Bool → ℕ → Type 0 = λ b k. is_shown m.xs.now m.ys.now (quad_in m.quads.now k) ≡ b in
+    found_lowest m.xs.now m.ys.now m.quads.now m.counts.quads _
+    (first_from_Range _ _ _ _ (Shown false) (Shown true) c.find.ensures.ran (λ x q k. search (rules, tests)) (λ x q k. search (rules, tests)))

@@ -1,5 +1,6 @@
 -- `bowl::sitjorbe_steps` meets its contract: `mesh_stored` and `mesh_refused`.
 use mathlib.Core.Path.{sym, ◌∙◌, ap}
+use borrow.Author.Rules.{rules}
 use Rattle.front.specs.declared.Counts.{Counts}
 use Rattle.front.specs.State.{State, counted}
 use Rattle.mesh_check.specs.Check.{lent_state}
@@ -21,8 +22,7 @@ pub store_steps-requires : goal.store_steps-requires
 store_steps-requires c =
     let given = given_passes (lent (goal.at.store_steps-requires c).Start) _ (ap (λ (r : StepsAnswer). r.refusal) (sym c.steps_answer-r.ensures) ∙ c.if-given.true) in (
       nodes_within c.args.xs.now c.args.ys.now c.args.next.now c.args.prev.now c.args.origins.now
-          c.args.quads.now c.args.edges.now (counts_of (goal.at.store_steps-requires c).Start) (λ i h. c.shared_slice_known-1.given i)
-          (λ i h. c.shared_slice_known-2-1.given i) given.0,
+          c.args.quads.now c.args.edges.now (counts_of (goal.at.store_steps-requires c).Start) (λ i h. search (rules)) (λ i h. search (rules)) given.0,
       given.1,
     )
 

@@ -6,16 +6,14 @@ use Rattle.domain.specs.Refusals.{refused}
 use Rattle.domain.proofs.Refused.{refusal_some}
 use Rattle.bowl.specs.Steps.{hidden_answer}
 use Rattle.front.specs.State.{State}
-use Rattle.mesh_check.specs.Check.{lent_state}
+use Rattle.mesh_check.specs.Check.{lent_in}
 use Rattle.bowl.specs.GivenLaws.{quads_within, answer_mesh, answer_places, answer_quads}
 use Rattle.bowl.proofs.steps_answer.Goals as goal
-use Rattle.bowl.proofs.steps_answer.Goals.{Start, then-is_err-via-then-is_err, then-is_err-via-else-is_err+then-places-k}
+use Rattle.bowl.proofs.steps_answer.Goals.{Start, then-is_err-via-then-is_err, then-is_err-via-else-is_err+then-places-mesh}
 
 -- the mesh as lent
 abbrev lent : Start → State
-lent c =
-    lent_state c.args.xs.now c.args.ys.now c.args.next.now c.args.prev.now c.args.origins.now c.args.quads.now
-    c.args.edges.now c.args.k
+lent c = lent_in c.args.mesh.now c.args.origins.now
 
 -- what `is_err` tells of a check
 err_some : {A : Type 0} (r : Result A Refusal) → true ≡ is_err r → refused r ≡ 0 → ⊥
@@ -33,22 +31,22 @@ returns-then-is_err c =
     rw c.from.ensures
     (elim c.then-is_err.branch [
       | then-is_err-via-then-is_err w ↦ answer_mesh s c.args.places _ c.check_mesh.ensures (err_some r w.if-is_err.ensures.value)
-      | then-is_err-via-else-is_err+then-places-k w ↦ answer_places s c.args.places _ c.check_mesh.ensures (ok_none r w.if-is_err.ensures.value) w.if-places-k.true
+      | then-is_err-via-else-is_err+then-places-mesh w ↦ answer_places s c.args.places _ c.check_mesh.ensures (ok_none r w.if-is_err.ensures.value) w.if-places-mesh.true
     ])
 
 pub lowest_hidden-requires : goal.lowest_hidden-requires
 lowest_hidden-requires c =
-    quads_within c.args.xs.now c.args.ys.now c.args.next.now c.args.prev.now c.args.origins.now
-    c.args.quads.now c.args.edges.now c.args.k (λ i h. c.type_inv.xs i) (λ i h. c.type_inv.ys i)
+    let m = c.args.mesh.now in
+    quads_within m.xs.now m.ys.now m.next.now m.prev.now c.args.origins.now m.quads.now m.edges.now m.counts c.requires.0 c.requires.1
     (sym c.check_mesh.ensures ∙ ok_none c.check_mesh.result c.if-is_err.ensures.value)
 
 pub returns-in-Some : goal.returns-in-Some
 returns-in-Some c =
     rw c.from-in-Some.ensures
     (ap hidden_answer (sym c.in-Some.is) ∙ c.lowest_hidden.ensures
-    ∙ answer_quads (lent (goal.at.returns-in-Some c).Start) c.args.places _ c.check_mesh.ensures (ok_none c.check_mesh.result c.if-is_err.ensures.value) c.if-places-k.false)
+    ∙ answer_quads (lent (goal.at.returns-in-Some c).Start) c.args.places _ c.check_mesh.ensures (ok_none c.check_mesh.result c.if-is_err.ensures.value) c.if-places-mesh.false)
 
 pub returns-in-None : goal.returns-in-None
 returns-in-None c =
     ap hidden_answer (sym c.in-None.is) ∙ c.lowest_hidden.ensures
-    ∙ answer_quads (lent (goal.at.returns-in-None c).Start) c.args.places _ c.check_mesh.ensures (ok_none c.check_mesh.result c.if-is_err.ensures.value) c.if-places-k.false
+    ∙ answer_quads (lent (goal.at.returns-in-None c).Start) c.args.places _ c.check_mesh.ensures (ok_none c.check_mesh.result c.if-is_err.ensures.value) c.if-places-mesh.false

@@ -11,13 +11,13 @@ use Rattle.bowl.proofs.store_steps.Goals as goal
 pub loop-i-init : goal.loop-i-init
 loop-i-init c = loop_start_lem _ _ _
 
-pub offset_bounds-xs-i : goal.offset_bounds-xs-i
-offset_bounds-xs-i c =
+pub offset_bounds-mesh-i : goal.offset_bounds-mesh-i
+offset_bounds-mesh-i c =
     let node = c.requires.0 c.loop-i.i c.loop-i-test.true in
     search (rules, node.x_lent)
 
-pub bounds-xs-i : goal.bounds-xs-i
-bounds-xs-i c =
+pub bounds-mesh-i : goal.bounds-mesh-i
+bounds-mesh-i c =
     let node = c.requires.0 c.loop-i.i c.loop-i-test.true in
     node.x_lent
 
@@ -26,13 +26,13 @@ nearest_step-requires c =
     let node = c.requires.0 c.loop-i.i c.loop-i-test.true in
     node.x
 
-pub offset_bounds-ys-i : goal.offset_bounds-ys-i
-offset_bounds-ys-i c =
+pub offset_bounds-mesh-i-in-loop-i : goal.offset_bounds-mesh-i-in-loop-i
+offset_bounds-mesh-i-in-loop-i c =
     let node = c.requires.0 c.loop-i.i c.loop-i-test.true in
     search (rules, node.y_lent)
 
-pub bounds-ys-i : goal.bounds-ys-i
-bounds-ys-i c =
+pub bounds-mesh-i-in-loop-i : goal.bounds-mesh-i-in-loop-i
+bounds-mesh-i-in-loop-i c =
     let node = c.requires.0 c.loop-i.i c.loop-i-test.true in
     node.y_lent
 

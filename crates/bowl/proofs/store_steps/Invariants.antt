@@ -4,4 +4,4 @@ use Rattle.bowl.specs.Steps.{store_turn}
 use Rattle.bowl.proofs.store_steps.Given as goal
 
 abbrev pub invariant-loop-i : goal.invariant-loop-i
-invariant-loop-i l = Loop (store_turn l.xs l.ys) l.initial.steps l.n l.i l.steps
+invariant-loop-i l = Loop (store_turn l.mesh.xs.now l.mesh.ys.now) l.initial.steps l.mesh.counts.nodes l.i l.steps

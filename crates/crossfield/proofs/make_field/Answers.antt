@@ -11,9 +11,9 @@ pub bounds_of-requires : goal.bounds_of-requires
 unfolding field_refusal
 bounds_of-requires c = (accepted _ (field_unrefused _ _ _ _ c.requires).outline).shape
 
-pub grid_of-g-requires : goal.grid_of-g-requires
+pub grid_of-grid-requires : goal.grid_of-grid-requires
 unfolding field_refusal
-grid_of-g-requires c =
+grid_of-grid-requires c =
     few_made _ _ _ _ (record { outer = λ i h. c.args.domain.doubles.outer i; holes = λ i h. c.args.domain.doubles.holes i })
     (subst T (sym c.well_formed.1.0.1) tt) c.requires c.bounds_of.ensures
 
@@ -26,9 +26,8 @@ unfolding field_refusal
 seed_all-requires c =
     let asked = seeds_ask _ _ _ _ _ (record { outer = λ i h. c.args.domain.doubles.outer i; holes = λ i h. c.args.domain.doubles.holes i })
     (subst T (sym c.well_formed.1.0.1) tt) c.requires
-    c.bounds_of.ensures c.grid_of-g.ensures in
+    c.bounds_of.ensures c.grid_of-grid.ensures in
     record {
-      drawn = c.file.ensures;
       field_room = asked.0;
       nx_le_most_field_nodes = asked.1;
     }
@@ -37,12 +36,12 @@ pub sweeps-requires : goal.sweeps-requires
 unfolding field_refusal
 sweeps-requires c =
     let seeds = c.seed_all in
-    room_of (room_made _ _ _ _ _ c.requires c.bounds_of.ensures c.grid_of-g.ensures)
+    room_of (room_made _ _ _ _ _ c.requires c.bounds_of.ensures c.grid_of-grid.ensures)
     seeds.auto.values seeds.auto.marks
 
 pub returns : goal.returns
 unfolding field_of
 returns c = (
-  rw (← c.bounds_of.ensures, ← c.grid_of-g.ensures, ← c.seed_all.ensures, ← c.sweeps.ensures),
+  rw (← c.bounds_of.ensures, ← c.grid_of-grid.ensures, ← c.seed_all.ensures, ← c.sweeps.ensures),
   c.file.ensures,
 )

@@ -4,4 +4,4 @@ use Rattle.exam_entry.specs.Code.{exam_asked}
 use Rattle.exam_entry.proofs.sitjorbe_exam.Goals as goal
 
 pub returns : goal.returns
-returns c = exam_asked _ _ _ _ _ _ _ _ (search rules) _ c.exam_numbers.ensures
+returns c = exam_asked _ _ _ _ _ _ _ _ (search rules) _ c.from.ensures

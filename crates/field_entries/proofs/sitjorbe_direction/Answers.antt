@@ -5,7 +5,7 @@ use Rattle.field_entries.proofs.sitjorbe_direction.Goals as goal
 -- refused
 pub returns-in-Err : goal.returns-in-Err
 unfolding direction_numbers
-returns-in-Err c = rw (← c.in-Err.ensures, c.from.ensures)
+returns-in-Err c = rw (← c.in-Err.ensures, c.from.ensures, c.default.ensures.1.0, c.default.ensures.1.1)
 
 -- answered
 pub returns-in-Ok : goal.returns-in-Ok

@@ -6,7 +6,10 @@ use Rattle.field_entries.proofs.sitjorbe_field.Goals as goal
 -- refused
 pub returns-in-Err : goal.returns-in-Err
 unfolding field_numbers record_numbers
-returns-in-Err c = (rw (← c.in-Err.ensures.marks_after, c.from.ensures), λ refused. c.in-Err.ensures.field_draws)
+returns-in-Err c = (
+  rw (← c.in-Err.ensures.marks_after, c.from.ensures, c.default.ensures.1.0, c.default.ensures.1.1.0, c.default.ensures.1.1.1.0, c.default.ensures.1.1.1.1.0, c.default.ensures.1.1.1.1.1),
+  λ refused. c.in-Err.ensures.field_draws,
+)
 
 -- answered
 pub returns-in-Ok : goal.returns-in-Ok

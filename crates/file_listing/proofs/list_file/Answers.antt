@@ -1,7 +1,8 @@
 -- `file_listing::list_file` meets its contract: refused as the file is, or what was read listed. Assumes nothing.
-use Rattle.std.proofs.Common.{refl, sym, ap}
+use Rattle.std.proofs.Common.{refl, sym, ap, ◌∙◌}
 use Rattle.domain.specs.Refusals.{numbered}
-use Rattle.file_listing.specs.Laws.{RequestHeld, given_as, read_held, read_listed, refused_number, refused_as, refused_listed}
+use Rattle.listing.specs.Listing.{refused_listing}
+use Rattle.file_listing.specs.Laws.{RequestHeld, given_as, read_held, read_listed, refused_as, refused_listed}
 use Rattle.file_listing.proofs.list_file.Goals as goal
 use Rattle.file_listing.proofs.list_file.Goals.{In-Ok}
 
@@ -23,7 +24,5 @@ returns-in-Ok c = given_as (read_listed _ _ _ c.read_file.ensures refl refl (ap 
 
 pub returns-in-Err : goal.returns-in-Err
 returns-in-Err c =
-    let answered = c.read_file.ensures in
-    let case = ap numbered c.in-Err.is in
-    given_as (refused_as _ _ _ answered refl refl _ case)
-    (refused_listed (refused_number _ _ _ answered refl refl _ case) (rw c.from.ensures at c.write_refused.ensures))
+    given_as (ap refused_listing c.from.ensures ∙ refused_as _ _ _ c.read_file.ensures refl refl _ (ap numbered c.in-Err.is))
+    (refused_listed _ c.write_refused.ensures)

@@ -9,4 +9,4 @@ returns c =
     let b = c.args.b.now in
     let used = c.args.used in
     let zeros = zeros_put b used (510 - used) (omega (arith, c.requires)) (c.fill.ensures.after (λ y h. h)) in
-    block_sealed b used c.requires.0 c.requires.1 zeros c.check_of-sum.ensures c.put_number.ensures
+    block_sealed b used c.requires (omega arith) zeros c.check_of-sum.ensures c.put_number.ensures

@@ -1,6 +1,7 @@
 -- `file_writing::write_blocks` meets its contract: the loop's invariant is `Blocks`.
-use Rattle.std.proofs.Common.{refl, arith}
-use Rattle.file_writing.specs.WriteLaws.{file_blocks_start, blocks_put, file_blocks_end}
+use Rattle.std.proofs.Common.{refl, ◌∙◌, arith}
+use Rattle.file_writing.specs.WriteLaws.{file_blocks_start, file_blocks_end}
+use Rattle.file_writing.proofs.Bytes.{points_put}
 use Rattle.file_writing.proofs.write_blocks.Goals as goal
 
 pub loop-k-init : goal.loop-k-init
@@ -10,7 +11,8 @@ pub loop-k-preserved : goal.loop-k-preserved
 loop-k-preserved c =
     let more = c.loop-k-test.true in
     let blocks = c.div_ceil-k-end.ensures in
-    blocks_put _ c.loop-k.invariant (omega (arith, c.requires, more, blocks)) (omega (arith, c.requires)) (omega (arith, more, blocks)) c.min-to.ensures c.write_points.ensures
+    points_put _ c.loop-k.invariant (omega (arith, c.requires, more, blocks)) (omega (arith, c.requires)) (omega (arith, more, blocks)) c.min-to.ensures
+    (c.copy_from_slice.ensures.after ∙ c.points_block.ensures)
 
 pub returns : goal.returns
 returns c = file_blocks_end _ c.loop-k.invariant refl (omega (arith, c.div_ceil-k-end.ensures, c.loop-k-test.false))

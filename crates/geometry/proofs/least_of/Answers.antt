@@ -1,9 +1,15 @@
--- `geometry::least_of` meets its contract, by that of `numbers::min_f64`.
-use Rattle.geometry.specs.InfinityLaws.{infinity}
+-- `geometry::least_of` meets its contract: the library's fold, over four numbers.
+use Rattle.std.specs.Prelude.{[], ◌∷◌}
+use Rattle.std.specs.Float.Ieee.{of_bits}
+use Rattle.std.proofs.Common.{rules}
+use Rattle.std.proofs.lemmas.Iterator.{YieldsList-from_slice}
+use Rattle.std.proofs.lemmas.Iterator.Consumers.{fold_from_yields_List}
+use Rattle.numbers.specs.Float.{min_f}
 use Rattle.geometry.specs.Keys.{least_of}
 use Rattle.geometry.proofs.least_of.Goals as goal
 
 pub returns : goal.returns
-unfolding least_of
+unfolding least_of of_bits
 returns c =
-    rw (c.min_f64-4.ensures, c.min_f64-3.ensures, c.min_f64-2.ensures, c.min_f64.ensures, infinity)
+    let s = c.args in
+    fold_from_yields_List _ min_f _ c.fold.result c.fold.ensures.ran (YieldsList-from_slice (s.x ∷ s.y ∷ s.z ∷ s.w ∷ []) cc) (λ a x b q k. search rules)

@@ -1,10 +1,15 @@
 -- `hand_placing::is_full` meets its contract.
-use Rattle.hand_placing.specs.PlaceLaws.{full_is, second_id_lem}
+use Rattle.std.proofs.Common.{ap}
+use Rattle.front.specs.declared.NewQuad.{NewQuad}
+use Rattle.front.specs.State.{has_edge}
+use Rattle.front.specs.Place.{edges_added}
+use Rattle.hand_placing.specs.PlaceLaws.{full_is}
 use Rattle.hand_placing.proofs.is_full.Goals as goal
 
 pub returns : goal.returns
+unfolding edges_added has_edge
 returns c =
     let v = c.args in
-    full_is _ _ _ v.c v.d c.id-2.ensures (second_id_lem _ v.c v.d c.added-more_c.ensures.0 c.id.ensures)
-    c.added-more_c.ensures.0
-    c.added-more_d.ensures.0 c.edges_added-e.ensures.0 (c.beyond_places.ensures v.k)
+    let is = c.new-q.ensures in
+    full_is _ _ _ v.c v.d (ap (λ (q : NewQuad). q.id_c) is) (ap (λ (q : NewQuad). q.id_d) is) c.added.ensures.0 c.added-2.ensures.0 c.edges_added-e.ensures.0
+    c.beyond_places.ensures

@@ -1,30 +1,33 @@
--- `hand_placing::place_quad` meets its contract: the parts make the placing.
-use native.Mathlib.Omega.{arith}
-use Rattle.hand_placing.specs.Local.{parts_placed}
-use Rattle.hand_placing.specs.PlaceLaws.{second_id_lem}
+-- `hand_placing::place_quad` meets its contract: the changes make the placing.
+use Rattle.hand_placing.proofs.Next.{second_corner, edges_room, quad_place, sides_room, all_placed}
 use Rattle.hand_placing.proofs.place_quad.Goals as goal
 
-pub add_edges-e-requires : goal.add_edges-e-requires
-add_edges-e-requires c =
+pub push_corner-requires-2 : goal.push_corner-requires-2
+push_corner-requires-2 c =
     let v = c.args in
-    rw (second_id_lem v.k.nodes v.c v.d c.added.ensures.0 c.id-id_d.ensures, c.id-id_c.ensures) c.requires.edges_fit
+    second_corner v.paving.now c.push_corner.new.paving v.a v.b v.c v.d c.requires c.push_corner.ensures.pushed
 
-pub move_front-after-requires : goal.move_front-after-requires
-move_front-after-requires c =
-    let m = c.new_corners-m.ensures.1 in
+pub add_edges-requires : goal.add_edges-requires
+add_edges-requires c =
     let v = c.args in
-    let P = c.requires in (
-      omega (arith, m, P.nodes.next_fit),
-      omega (arith, m, P.nodes.prev_fit),
-      rw (m, c.id-id_c.ensures, second_id_lem v.k.nodes v.c v.d c.added.ensures.0 c.id-id_d.ensures) P.ids,
-      omega (arith, P.front),
-    )
+    edges_room v.paving.now c.push_corner.new.paving v.a v.b v.c v.d c.requires c.push_corner.ensures.pushed c.push_corner-2.new.paving
+    c.new-q.result c.new-q.ensures c.push_corner-2.ensures.pushed
 
-pub returns : goal.returns
-returns c =
+pub push_quad-requires : goal.push_quad-requires
+push_quad-requires c =
     let v = c.args in
-    λ snapshot.
-    parts_placed _ _ _ _ _ _ _ _ snapshot _ _ v.k c.id-id_c.ensures
-    (second_id_lem v.k.nodes v.c v.d c.added.ensures.0 c.id-id_d.ensures)
-    c.new_corners-m.ensures.0 c.add_edges-e.ensures c.put_quad.ensures
-    c.move_front-after.ensures
+    quad_place v.paving.now c.push_corner.new.paving v.a v.b v.c v.d c.requires c.push_corner.ensures.pushed c.push_corner-2.new.paving
+    c.new-q.result c.new-q.ensures c.push_corner-2.ensures.pushed c.add_edges.new.paving c.add_edges.ensures.added
+
+pub move_front-requires : goal.move_front-requires
+move_front-requires c =
+    let v = c.args in
+    sides_room v.paving.now c.push_corner.new.paving v.a v.b v.c v.d c.requires c.push_corner.ensures.pushed c.push_corner-2.new.paving
+    c.new-q.result c.new-q.ensures c.push_corner-2.ensures.pushed c.add_edges.new.paving c.add_edges.ensures.added c.push_quad.new.paving c.push_quad.ensures.pushed
+
+pub returns-clause-placed : goal.returns-clause-placed
+returns-clause-placed c =
+    let v = c.args in
+    all_placed v.paving.now c.push_corner.new.paving v.a v.b v.c v.d c.requires c.push_corner.ensures.pushed c.push_corner-2.new.paving
+    c.new-q.result c.new-q.ensures c.push_corner-2.ensures.pushed c.add_edges.new.paving c.add_edges.ensures.added c.push_quad.new.paving c.push_quad.ensures.pushed
+    c.move_front.new.paving c.move_front.ensures.moved

@@ -1,12 +1,8 @@
 -- `index::after` meets its contract: the rest of the chain, of the row, and then the later rows.
-use mathlib.Core.List.{List, ◌++◌}
-use mathlib.Core.Path.{sym, ap, ◌∙◌}
-use Prim.Native.Nat.{ℕ, ◌+◌, ◌-◌, ◌<◌}
+use Prim.Native.Nat.{◌<◌}
 use native.Mathlib.Omega.{arith}
-use borrow.Author.Tests.{not-true, not-false}
 use lib.ListN.{length}
 use Rattle.pools.specs.Pool.{link_place}
-use Rattle.index.specs.Walk.{rows}
 use Rattle.pools.specs.FileLaws.{place_fits}
 use borrow.Author.Rules.{rules}
 use Rattle.index.specs.WalkLaws.{or_stands, after_link, after_chain, on_place}

@@ -1,9 +1,8 @@
 -- `index::first` meets its contract: the first row, and then the later ones.
-use mathlib.Core.List.{List, ◌++◌}
-use mathlib.Core.Path.{◌≡◌, sym, ap, ◌∙◌}
-use Prim.Native.Nat.{ℕ, ◌+◌, ◌-◌}
+use mathlib.Core.List.{◌++◌}
+use mathlib.Core.Path.{◌≡◌, sym}
+use Prim.Native.Nat.{◌+◌, ◌-◌}
 use native.Mathlib.Omega.{arith}
-use borrow.Author.Tests.{not-true, not-false}
 use Rattle.pools.specs.Pool.{span}
 use Rattle.index.specs.Walk.{columns, rows, visited}
 use Rattle.index.specs.AcrossLaws.{across_from, across_end}

@@ -3,7 +3,6 @@ use mathlib.Core.List.{List, ◌++◌}
 use mathlib.Core.Path.{◌≡◌, sym, ap, ◌∙◌}
 use Prim.Native.Nat.{ℕ, ◌+◌, ◌-◌}
 use native.Mathlib.Omega.{arith}
-use borrow.Author.Tests.{not-true, not-false}
 use Rattle.pools.specs.Pool.{span}
 use Rattle.index.specs.Walk.{columns, rows}
 use Rattle.index.specs.AcrossLaws.{across_more, across_end}

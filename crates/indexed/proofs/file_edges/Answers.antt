@@ -5,5 +5,5 @@ use Rattle.indexed.proofs.file_edges.Goals as goal
 
 pub returns : goal.returns
 returns c =
-    let args = c.args in
-    c.file_items.ensures (edge_rects args.size args.xs.now args.ys.now args.edges.now) (λ k r h p. search rules) c.requires.more c.requires.filed
+    let mesh = c.args.mesh.now in
+    c.file_items.ensures (edge_rects c.args.size mesh.xs.now mesh.ys.now mesh.edges.now) (λ k r h p. search rules) c.requires.more c.requires.filed

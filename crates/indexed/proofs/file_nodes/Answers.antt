@@ -5,5 +5,5 @@ use Rattle.indexed.proofs.file_nodes.Goals as goal
 
 pub returns : goal.returns
 returns c =
-    let args = c.args in
-    c.file_items.ensures (node_rects args.size args.xs.now args.ys.now) (λ k r h p. search rules) c.requires.more c.requires.filed
+    let mesh = c.args.mesh.now in
+    c.file_items.ensures (node_rects c.args.size mesh.xs.now mesh.ys.now) (λ k r h p. search rules) c.requires.more c.requires.filed

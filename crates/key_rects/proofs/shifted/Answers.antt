@@ -6,7 +6,8 @@ use mir.Syntax.{w64}
 use mir.ValLaws.{to_z_pos}
 use Rattle.geometry.specs.KeyLaws.{back, back_of}
 use Rattle.key_rects.specs.Rects.{shifted}
-use Rattle.key_rects.specs.KeyLaws.{shifted_clamped, shifted_range}
+use Rattle.key_rects.specs.KeyLaws.{shifted_range}
+use Rattle.key_rects.proofs.KeyLaws.{shifted_clamped}
 use Rattle.key_rects.proofs.shifted.Goals as goal
 use Rattle.key_rects.proofs.shifted.Goals.{After-clamp}
 

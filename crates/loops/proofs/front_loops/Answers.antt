@@ -1,22 +1,18 @@
--- `loops::front_loops` meets its contract: what `clear_marks` and `list_all` ensure makes it up.
-use mathlib.Core.Path.{sym}
-use lib.Seq.{length-take-le}
+-- `loops::front_loops` meets its contract: what `clear_marks` and `visit_all` ensure makes it up.
+use Rattle.std.proofs.Common.{refl, sym, arith, length-take-le}
 use Rattle.loops.specs.ListedLaws.{startable, listed_all}
 use Rattle.loops.proofs.front_loops.Goals as goal
 
-pub slice_bounds-list_all-end : goal.slice_bounds-list_all-end
-slice_bounds-list_all-end c =
-    sym (length-take-le _ _ c.requires.next_fits)
+pub slice_bounds-visit_all-end : goal.slice_bounds-visit_all-end
+slice_bounds-visit_all-end c = sym (length-take-le _ _ c.requires.next_fits)
 
-pub list_all-requires : goal.list_all-requires
-list_all-requires c =
-    startable c.requires _
-    c.clear_marks.ensures
+pub visit_all-requires : goal.visit_all-requires
+visit_all-requires c = (startable c.requires _ c.clear_marks.ensures, refl)
 
 pub returns : goal.returns
 returns c =
-    listed_all
-    c.requires
-    _ _
-    c.clear_marks.ensures
-    c.list_all.ensures
+    let marks = c.visit_all.ensures.same.marks in
+    let loops = c.visit_all.ensures.same.loops in
+    let lengths = c.visit_all.ensures.same.lengths in
+    let all = listed_all c.requires _ _ c.clear_marks.ensures c.visit_all.ensures.visited in
+    grind arith

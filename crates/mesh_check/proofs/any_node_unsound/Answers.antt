@@ -8,6 +8,7 @@ use Rattle.mesh_check.proofs.any_node_unsound.Goals as goal
 
 pub returns : goal.returns
 returns c =
-    let test = node_unsound c.args.xs.now c.args.ys.now in
-    any_from_yields_List test _ _ _ c.any.ensures.ran (YieldsList-from_range 0 c.args.n c.args.n (cc) (omega arith)) (λ x b q k. search (rules, tests))
-    ∙ any_ranged test c.args.n
+    let mesh = c.args.mesh.now in
+    let test = node_unsound mesh.xs.now mesh.ys.now in
+    any_from_yields_List test _ _ _ c.any.ensures.ran (YieldsList-from_range 0 mesh.counts.nodes mesh.counts.nodes (cc) (omega arith)) (λ x b q k. search (rules, tests))
+    ∙ any_ranged test mesh.counts.nodes

@@ -1,14 +1,19 @@
--- `nearest::search_part` meets its contract: the loop's invariant is `LoopBetween` of the search's turn.
-use Rattle.blocks.specs.BetweenLaws.{between_start, between_next, between_end}
+-- `nearest::search_part` meets its contract: the fold is `for_between` of the search's turn.
+use Rattle.std.specs.Prelude.{ℕ, ◌-◌, refl}
+use Rattle.std.proofs.Common.{◌∙◌, rules, tests}
+use Rattle.std.proofs.lemmas.Iterator.{YieldsList-from_range}
+use Rattle.std.proofs.lemmas.Iterator.Consumers.{fold_from_yields_List}
+use Rattle.laws.proofs.Ranges.{fold_ranged_from}
+use Rattle.domain.specs.declared.Search.{Search}
+use Rattle.domain.specs.Search.{search_turn}
+use Rattle.blocks.specs.Blocks.{for_between}
 use Rattle.nearest.proofs.search_part.Goals as goal
 
-pub loop-i-init : goal.loop-i-init
-loop-i-init c = between_start _ _ _ _ c.requires.0
-
-pub loop-i-preserved : goal.loop-i-preserved
-loop-i-preserved c =
-    rw (c.search_segment-found.ensures, c.point_at-a.ensures, c.point_after-b.ensures)
-    (between_next _ _ c.loop-i.invariant c.loop-i-test.true)
-
 pub returns : goal.returns
-returns c = between_end _ _ c.loop-i.invariant c.loop-i-test.false
+unfolding for_between
+returns c =
+    let from = c.args.from in
+    let n = c.args.to - from in
+    let turn : ℕ → Search → Search = search_turn c.args.p c.args.s.now c.args.loop_index in
+    fold_from_yields_List _ (λ found i. turn i found) _ c.fold.result c.fold.ensures.ran (YieldsList-from_range from c.args.to n (cc) refl) (λ a x b q k. search (rules, tests))
+    ∙ fold_ranged_from turn c.args.best from n

@@ -1,4 +1,4 @@
--- `order::set_place` meets its contract. Past the end nothing is set.
+-- `order_checks::set_place` meets its contract: past the end nothing is set.
 use lib.Seq.{set_out}
 use mathlib.Core.Path.{sym}
 use Rattle.order_checks.proofs.set_place.Goals as goal

@@ -1,24 +1,39 @@
 -- `order_walks::sitjorbe_order` meets its contract: the answer of its definition, on every input and whatever the scratch holds.
-use Rattle.lent_mesh.specs.Mesh.{quads_few}
-use Rattle.order.specs.Order.{order_of, order_answer}
-use borrow.Author.Tests.{not-true, not-false}
-use mathlib.Core.Path.{refl}
+use Rattle.std.specs.Prelude.{ℕ, ◌≡◌, refl, List, true, false}
+use Rattle.std.proofs.Common.{sym, ◌∙◌}
+use Rattle.lent_mesh.specs.Mesh.{quad_count_of, quads_few}
+use Rattle.order.specs.declared.OrderAnswer.{OrderAnswer}
+use Rattle.order.specs.Order.{names_each_once, first_early, order_of, order_answer}
 use Rattle.order_walks.proofs.sitjorbe_order.Goals as goal
 
-pub returns-then-not-names_each_once : goal.returns-then-not-names_each_once
-unfolding order_answer order_of
-returns-then-not-names_each_once c = rw (← c.quad_count-n.ensures, ← c.names_each_once.ensures, not-true c.names_each_once.result c.if-not-names_each_once.true-raw, c.from.ensures) refl
+-- the presentation's list l is the one lent
+module _ (count : ℕ) (quads order : List ℕ) {n : ℕ} {l : List ℕ} where
+  refuses : n ≡ quad_count_of count quads → l ≡ order → names_each_once n l ≡ false → {r : ℕ} → r ≡ 21
+      → ◌≡◌ {A = OrderAnswer} (record { refusal = r; place = 0 }) (order_answer count quads order)
+  unfolding order_answer order_of
+  refuses counted lent e f = rw (← counted, ← lent, e, f) refl
 
-pub file_steps-requires : goal.file_steps-requires
-file_steps-requires c = rw c.quad_count-n.ensures (quads_few _ _)
+  -- and so are the quads that were tested
+  passes : n ≡ quad_count_of count quads → l ≡ order → names_each_once n l ≡ true → {seen presented : List ℕ} {m : ℕ} → seen ≡ quads → m ≡ n → presented ≡ l
+      → {a : OrderAnswer} → a ≡ first_early seen m presented → a ≡ order_answer count quads order
+  unfolding order_answer order_of
+  passes counted lent e s m p f = rw (← counted, ← lent, e) (f ∙ rw (s, m, p) refl)
+
+pub new-requires : goal.new-requires
+new-requires c = rw c.quad_count-n.ensures (quads_few _ _)
+
+pub returns-then-not-names_each_once : goal.returns-then-not-names_each_once
+returns-then-not-names_each_once c =
+    refuses _ _ _ c.quad_count-n.ensures c.new-presentation.ensures (sym c.names_each_once.ensures ∙ c.if-not-names_each_once.true) c.from.ensures
 
 pub returns-in-Some : goal.returns-in-Some
-unfolding order_answer order_of
 returns-in-Some c =
-    rw (← c.quad_count-n.ensures, ← c.names_each_once.ensures, not-false c.names_each_once.result c.if-not-names_each_once.false-raw, c.from-in-Some.ensures)
-    c.in-Some.ensures
+    let made = c.new.ensures in
+    passes _ _ _ c.quad_count-n.ensures c.new-presentation.ensures (sym c.names_each_once.ensures ∙ c.if-not-names_each_once.false) made.0 made.1 made.2
+    (rw c.from-in-Some.ensures c.in-Some.ensures)
 
 pub returns-in-None : goal.returns-in-None
-unfolding order_answer order_of
 returns-in-None c =
-    rw (← c.quad_count-n.ensures, ← c.names_each_once.ensures, not-false c.names_each_once.result c.if-not-names_each_once.false-raw) c.in-None.ensures
+    let made = c.new.ensures in
+    passes _ _ _ c.quad_count-n.ensures c.new-presentation.ensures (sym c.names_each_once.ensures ∙ c.if-not-names_each_once.false) made.0 made.1 made.2
+    c.in-None.ensures

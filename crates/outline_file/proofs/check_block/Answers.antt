@@ -1,12 +1,22 @@
 -- `outline_file::check_block` meets its contract: each way out is a case of `block_refusal`.
+use Rattle.std.proofs.Common.{sym, ap, ◌∙◌, arith}
+use Rattle.std.proofs.Math.ListN.{length}
+use Rattle.outline_file.specs.File.{block_refusal}
 use Rattle.outline_file.specs.RefusalLaws.{block_refused_short, block_unrefused, block_refused_check}
 use Rattle.outline_file.proofs.check_block.Goals as goal
 
-pub returns-then-b-lt-BLOCK : goal.returns-then-b-lt-BLOCK
-returns-then-b-lt-BLOCK c = block_refused_short _ c.if-b-lt-BLOCK.true
+pub returns-in_default-clause-refused : goal.returns-in_default-clause-refused
+returns-in_default-clause-refused c = block_refused_short _ (omega (arith, c.in_default.ensures.cases, c.requires))
 
-pub returns-then-check_of-number_at : goal.returns-then-check_of-number_at
-returns-then-check_of-number_at c = block_refused_check _ c.if-b-lt-BLOCK.false c.check_of.ensures c.number_at.ensures c.if-check_of-number_at.true
+pub returns-then-check_of-from-clause-refused : goal.returns-then-check_of-from-clause-refused
+returns-then-check_of-from-clause-refused c =
+    let whole = c.in-Some.ensures.cases in
+    block_refused_check _ (omega (arith, ap length whole.same, whole.long)) c.check_of.ensures c.number_at.ensures
+    (λ same. c.if-check_of-from.true (same ∙ sym c.from.ensures))
+    ∙ ap block_refusal whole.same
 
-pub returns : goal.returns
-returns c = block_unrefused _ c.if-b-lt-BLOCK.false c.check_of.ensures c.number_at.ensures c.if-check_of-number_at.false
+pub returns-clause-refused : goal.returns-clause-refused
+returns-clause-refused c =
+    let whole = c.in-Some.ensures.cases in
+    block_unrefused _ (omega (arith, ap length whole.same, whole.long)) c.check_of.ensures c.number_at.ensures (c.if-check_of-from.false ∙ c.from.ensures)
+    ∙ ap block_refusal whole.same

@@ -1,4 +1,4 @@
--- `outline_file::blocks_refusal` meets its contract: the loop's invariant is that no block so far is refused.
+-- `outline_file::check_blocks` meets its contract: the loop's invariant is that no block so far is refused.
 use Rattle.outline_file.specs.RefusalLaws.{BlocksUnrefused}
 use Rattle.outline_file.proofs.check_blocks.Given as goal
 

@@ -1,20 +1,20 @@
 -- `outline_file::check_head` meets its contract: each way out is a case of `head_refusal`.
-use Rattle.std.proofs.Common.{refl, arith}
+use Rattle.std.proofs.Common.{refl, ap, ◌∙◌, arith}
 use Rattle.std.proofs.lemmas.Grind.{common_steps}
 use Rattle.domain.proofs.Refused.{refusal_some}
-use Rattle.outline_file.specs.RefusalLaws.{block_long, head_block_lem, head_accepted, head_refused}
+use Rattle.outline_file.specs.File.{head_sound}
+use Rattle.outline_file.specs.RefusalLaws.{head_block_lem, head_accepted, head_refused}
 use Rattle.outline_file.proofs.check_head.Goals as goal
 
-pub returns-in_err-check_block : goal.returns-in_err-check_block
-returns-in_err-check_block c =
-    let given = head_block_lem _ c.in_err-check_block.ensures (refusal_some _) in
+pub returns-in_err-whole-clause-refused : goal.returns-in_err-whole-clause-refused
+returns-in_err-whole-clause-refused c =
+    let given = head_block_lem _ c.in_err-whole.ensures.refused (refusal_some _) in
     grind (arith, common_steps)
 
-pub head_sound-requires : goal.head_sound-requires
-head_sound-requires c = omega (arith, block_long _ c.in_ok-check_block.ensures)
+pub returns-then-head_sound-clause-refused : goal.returns-then-head_sound-clause-refused
+returns-then-head_sound-clause-refused c =
+    let whole = c.in_ok-whole.ensures in head_accepted _ whole.refused refl (c.head_sound.ensures ∙ ap head_sound whole.same) c.if-head_sound.true
 
-pub returns-then-head_sound : goal.returns-then-head_sound
-returns-then-head_sound c = head_accepted _ c.in_ok-check_block.ensures refl c.head_sound.ensures c.if-head_sound.true
-
-pub returns-else-head_sound : goal.returns-else-head_sound
-returns-else-head_sound c = head_refused _ c.in_ok-check_block.ensures refl c.head_sound.ensures c.if-head_sound.false
+pub returns-else-head_sound-clause-refused : goal.returns-else-head_sound-clause-refused
+returns-else-head_sound-clause-refused c =
+    let whole = c.in_ok-whole.ensures in head_refused _ whole.refused refl (c.head_sound.ensures ∙ ap head_sound whole.same) c.if-head_sound.false

@@ -6,7 +6,7 @@ pub loop-k-init : goal.loop-k-init
 loop-k-init c = counting_start _ _
 
 pub loop-k-preserved : goal.loop-k-preserved
-loop-k-preserved c = counting_next c.loop-k.invariant c.loop-k-test.true c.number_at.ensures
+loop-k-preserved c = counting_next c.loop-k.invariant c.loop-k-test.true (rw c.from-sum.ensures c.number_at.ensures)
 
 pub returns : goal.returns
 returns c = counting_end c.loop-k.invariant c.loop-k-test.false

@@ -1,21 +1,32 @@
 -- `places::sitjorbe_places` meets its contract: `places_given_refused` and `places_given_counted`. Assumes nothing.
 use Rattle.domain.proofs.Refused.{refusal_some}
-use Rattle.places.specs.Laws.{drawn_unrefused, places_given_refused, places_given_counted}
+use Rattle.std.specs.Float.{binary64}
+use Rattle.std.specs.Float.Ieee.{fits}
+use Rattle.domain.specs.Outline.{outline}
+use Rattle.domain.specs.Accepted.{OutlineFits}
+use Rattle.crossfield.specs.FieldLaws.{drawn_is}
+use Rattle.std.specs.Prelude.{ℕ}
+use Rattle.std.proofs.Math.Path.{ap₂}
+use Rattle.places.specs.Needed.{places_answered, PlacesGiven}
+use Rattle.places.specs.Laws.{places_given_refused, places_given_counted}
 use lib.Dec.{T}
 use mathlib.Core.Path.{sym, refl, subst, ◌∙◌}
 use Rattle.places.proofs.sitjorbe_places.Goals as goal
 
 pub returns-in-Err : goal.returns-in-Err
 returns-in-Err c =
-    places_given_refused _ _ (record { outer = λ i h. c.type_inv.outer i; holes = λ i h. c.type_inv.holes i })
-    (subst T (sym c.well_formed.1.1.1.0.1) tt) (c.from.ensures ∙ c.in-Err.ensures) (λ e. refusal_some c.in-Err.refusal (sym c.from.ensures ∙ e))
+    let doubles : OutlineFits (outline c.args.outer.now c.args.holes.now c.args.lens.now) = record { outer = λ i h. c.type_inv.outer i; holes = λ i h. c.type_inv.holes i } in
+    let held : T (fits binary64 c.args.size) = subst T (sym c.well_formed.1.1.1.0.1) tt in
+    subst (PlacesGiven (outline c.args.outer.now c.args.holes.now c.args.lens.now) c.args.size)
+    (ap₂ (λ (m n : ℕ). places_answered c.from.result m n) (sym c.default.ensures.1.0) (sym c.default.ensures.1.1))
+    (places_given_refused _ _ doubles held (c.from.ensures ∙ c.in-Err.ensures ∙ sym (drawn_is _ _ doubles held))
+    (λ e. refusal_some c.in-Err.refusal (sym c.from.ensures ∙ e)))
 
 pub count_places-requires : goal.count_places-requires
-count_places-requires c =
-    drawn_unrefused _ _ (record { outer = λ i h. c.type_inv.outer i; holes = λ i h. c.type_inv.holes i })
-    (subst T (sym c.well_formed.1.1.1.0.1) tt) c.in-Ok.ensures refl
+count_places-requires c = sym c.in-Ok.ensures
 
 pub returns-in-Ok : goal.returns-in-Ok
 returns-in-Ok c =
-    places_given_counted _ _ (record { outer = λ i h. c.type_inv.outer i; holes = λ i h. c.type_inv.holes i })
-    (subst T (sym c.well_formed.1.1.1.0.1) tt) c.in-Ok.ensures refl c.count_places.ensures
+    let doubles : OutlineFits (outline c.args.outer.now c.args.holes.now c.args.lens.now) = record { outer = λ i h. c.type_inv.outer i; holes = λ i h. c.type_inv.holes i } in
+    let held : T (fits binary64 c.args.size) = subst T (sym c.well_formed.1.1.1.0.1) tt in
+    places_given_counted _ _ doubles held (c.in-Ok.ensures ∙ sym (drawn_is _ _ doubles held)) refl c.count_places.ensures

@@ -21,17 +21,17 @@ lent s = seen_of (mesh_state s.args.mesh.now)
 pub returns-then-is_vain-clause-answer : goal.returns-then-is_vain-clause-answer
 returns-then-is_vain-clause-answer c =
     let s = (goal.at.returns-then-is_vain-clause-answer c).Start in
-    untried_vain (around s) c.args.around.now.size c.args.around.now.grid c.args.around.now.values.now (lent s) _ _ _ c.requires.untried c.link_of-p.ensures
+    untried_vain (around s) c.args.around.now.size c.args.around.now.field.grid c.args.around.now.field.values.now (lent s) _ _ _ c.requires.untried c.link_of-p.ensures
     c.link_of-q.ensures (c.is_vain.ensures ∙ ap (λ (l : List ℕ). is_vain l c.args.a c.args.b c.link_of-p.result c.link_of-q.result) c.tried.ensures) c.if-is_vain.true
 
 pub returns-then-is_vain-clause-tried : goal.returns-then-is_vain-clause-tried
 returns-then-is_vain-clause-tried c =
     let s = (goal.at.returns-then-is_vain-clause-tried c).Start in
-    untried_kept (around s) c.args.around.now.size c.args.around.now.grid c.args.around.now.values.now (lent s) _ _ _ c.requires.untried c.link_of-p.ensures
+    untried_kept (around s) c.args.around.now.size c.args.around.now.field.grid c.args.around.now.field.values.now (lent s) _ _ _ c.requires.untried c.link_of-p.ensures
     c.link_of-q.ensures (c.is_vain.ensures ∙ ap (λ (l : List ℕ). is_vain l c.args.a c.args.b c.link_of-p.result c.link_of-q.result) c.tried.ensures) c.if-is_vain.true
 
 pub returns-then-is_none-clause-remembers : goal.returns-then-is_none-clause-remembers
 returns-then-is_none-clause-remembers c =
     let s = (goal.at.returns-then-is_none-clause-remembers c).Start in
-    untried_noted (around s) c.args.around.now.size c.args.around.now.grid c.args.around.now.values.now (lent s) _ _ _ c.requires.untried c.link_of-p.ensures
+    untried_noted (around s) c.args.around.now.size c.args.around.now.field.grid c.args.around.now.field.values.now (lent s) _ _ _ c.requires.untried c.link_of-p.ensures
     c.link_of-q.ensures c.try_edge-attempt.ensures (none_is _ (c.is_none.ensures ∙ ap not c.if-is_none.true)) c.note.ensures

@@ -1,63 +1,53 @@
 -- `run::pave_in` meets its contract: each stage gives what the next one asks, and together they are the run. Assumes nothing.
-use mathlib.Core.Path.{◌∙◌, sym, subst}
-use lib.Dec.{T}
+use Rattle.std.specs.Prelude.{refl, take}
 use Rattle.std.proofs.Common.{arith}
-use Rattle.domain.specs.Outline.{Outline, outline_of}
-use Rattle.domain.specs.declared.Settings.{Settings}
-use Rattle.sampled_advance.specs.Asked.{CanPave}
+use Rattle.domain.specs.Outline.{outline_of}
 use Rattle.sampled_advance.specs.Laws.{can_number, can_list}
-use Rattle.run.specs.Run.{settings, Lent, lent, state_part}
-use Rattle.run.specs.Laws.{none_field, can_pave, run_whole}
+use Rattle.run.specs.Run.{Lent, other_snapshot}
+use Rattle.run.specs.Lent.{lent_in}
+use Rattle.run.specs.Asked.{CanRun}
+use Rattle.run.specs.Laws.{can_run, paving_made, run_whole, run_broadened}
 use Rattle.run.proofs.pave_in.Goals as goal
-use Rattle.run.proofs.pave_in.Goals.{After-make_field-grid}
+use Rattle.run.proofs.pave_in.Goals.{After-snapshot_places-m}
 
--- the outline, the settings and the lists as they are lent
-abbrev around : After-make_field-grid → Outline
-around s = outline_of s.args.domain
+-- the lists of which the run is made
+abbrev given : After-snapshot_places-m → Lent
+given s = other_snapshot (lent_in s.args.lists.now) (take s.snapshot_places-m.result s.args.lists.now.snapshot.now)
 
-abbrev set : After-make_field-grid → Settings
-set s = settings s.args.size s.args.sweeps s.args.passes
+can : (s : After-snapshot_places-m) → CanRun (outline_of s.args.domain) s.args.settings (given s)
+can s = can_run (outline_of s.args.domain) s.args.settings (lent_in s.args.lists.now) _ s.snapshot_places-m.ensures s.requires
 
-abbrev given : After-make_field-grid → Lent
-given s =
-    lent s.args.values.now s.args.marks.now s.args.xs.now s.args.ys.now s.args.next.now s.args.prev.now
-    s.args.snapshot.now s.args.origins.now s.args.quads.now s.args.edges.now s.args.loops.now s.args.lengths.now
-
--- what is lent can be paved in the field made
-paves : (s : After-make_field-grid)
-    → CanPave (around s) s.make_field-grid.new.blocks s.args.size s.make_field-grid.result s.make_field-grid.new.values (state_part (given s))
-paves s =
-    can_pave (around s) (set s) (given s) s.requires (subst T (sym s.well_formed.1.0.1) tt) _ _ _ s.make_field-grid.ensures.0
-    s.make_field-grid.auto.values _ s.make_field-grid.ensures.1
-
-pub make_field-grid-requires : goal.make_field-grid-requires
-make_field-grid-requires c = none_field _ _ _ c.requires
-
-pub sample_and_advance-end-requires : goal.sample_and_advance-end-requires
-sample_and_advance-end-requires c = paves (goal.at.sample_and_advance-end-requires c).After-make_field-grid
+pub draw_and_pave-end-requires : goal.draw_and_pave-end-requires
+draw_and_pave-end-requires c = (can (goal.at.draw_and_pave-end-requires c).After-snapshot_places-m).none
 
 -- what the paving left, as the numbers and the loops ask for it
 pub number_nodes-requires : goal.number_nodes-requires
 number_nodes-requires c =
+    let s = (goal.at.number_nodes-requires c).After-snapshot_places-m in
+    let paving = c.draw_and_pave-end.ensures in
     rw c.quads.ensures
-    (can_number _ _ _ _ _ _ (paves (goal.at.number_nodes-requires c).After-make_field-grid) _ c.args.passes _
-    c.sample_and_advance-end.ensures.advances _ c.requires.origins)
+    (can_number _ _ _ _ _ _ paving.can _ c.args.settings.passes _
+    (paving_made (outline_of c.args.domain) c.args.settings _ _ _ _ paving.runs) _ (can s).origins)
 
 pub front_loops-listed-requires : goal.front_loops-listed-requires
 front_loops-listed-requires c =
+    let s = (goal.at.front_loops-listed-requires c).After-snapshot_places-m in
+    let paving = c.draw_and_pave-end.ensures in
     rw c.next.ensures
-    (can_list _ _ _ _ _ _ (paves (goal.at.front_loops-listed-requires c).After-make_field-grid) _ c.args.passes _
-    c.sample_and_advance-end.ensures.advances _ _ c.requires.loops c.requires.lengths)
+    (can_list _ _ _ _ _ _ paving.can _ c.args.settings.passes _
+    (paving_made (outline_of c.args.domain) c.args.settings _ _ _ _ paving.runs) _ _ (can s).loops (can s).lengths)
 
 pub is_whole-whole-requires : goal.is_whole-whole-requires
-is_whole-whole-requires c = c.make_field-grid.ensures.1.taken
+is_whole-whole-requires c = c.draw_and_pave-end.ensures.can.drawn.taken
 
-pub returns : goal.returns
-returns c =
-    let s = (goal.at.returns c).After-make_field-grid in
-    let whole = run_whole (around s) (set s) (given s) _ _ _ c.make_field-grid.ensures.0 _ c.sample_and_advance-end.ensures.advances _
-    (rw c.quads.ensures at c.number_nodes.ensures) _ (rw c.next.ensures at c.front_loops-listed.ensures) _ c.is_whole-whole.ensures _ c.answer.ensures in
-    let lists = c.sample_and_advance-end.ensures.same_lists in
+pub returns-clause-runs : goal.returns-clause-runs
+returns-clause-runs c =
+    let s = (goal.at.returns-clause-runs c).After-snapshot_places-m in
+    let made = run_whole (outline_of c.args.domain) c.args.settings (given s) _ _ _ _ c.draw_and_pave-end.ensures.runs _
+    (rw c.quads.ensures at c.number_nodes.ensures) _ (rw c.next.ensures at c.front_loops-listed.ensures) _ c.is_whole-whole.ensures _ refl in
+    let places = c.snapshot_places-m.ensures in
+    let run = run_broadened _ _ (lent_in c.args.lists.now) _ _ (rw places at made) in
+    let lists = c.draw_and_pave-end.ensures.same_lists in
     let xs = lists.xs in
     let ys = lists.ys in
     let next = lists.next in

@@ -1,17 +1,16 @@
 -- `settling::settle` meets its contract: the edge is gone, the attempt answers nothing, a quad that is full, or a quad that is placed.
 use Rattle.std.specs.Prelude.{◌≡◌, List, ℕ, ◌*◌, ◌≤◌, length, get_or, Option}
-use Rattle.std.proofs.Common.{◌∙◌, ap, sym, subst, arith}
+use Rattle.std.proofs.Common.{◌∙◌, ap, sym, subst, arith, rules}
 use Rattle.domain.specs.Outline.{Outline}
 use Rattle.direction.specs.Record.{FieldRecord}
 use Rattle.front.specs.State.{State}
-use Rattle.front.specs.Lent.{paving_state, mesh_state}
+use Rattle.front.specs.Lent.{paving_state}
 use Rattle.paving.specs.Lent.{outline_in, field_in}
 use Rattle.paving.specs.Attempt.{try_edge}
 use Rattle.attempts.specs.Seen.{TryLent, seen_of, seen_edges}
 use Rattle.front.specs.Stores.{known_across}
 use Rattle.retries.specs.Vain.{Remembers, forgotten}
-use Rattle.indexed.specs.Rects.{NodesFiled, EdgesFiled, edge_rects}
-use Rattle.pools.specs.Pool.{Indexed}
+use Rattle.indexed.specs.Rects.{NodesFiled, EdgesFiled}
 use Rattle.retries.specs.Untried.{Untried}
 use Rattle.retries.specs.VainLaws.{stretches_tried}
 use Rattle.ends.specs.Answers.{snapshot_edge}
@@ -45,7 +44,7 @@ pub returns-in_default-clause-settles : goal.returns-in_default-clause-settles
 returns-in_default-clause-settles c =
     let s = (goal.at.returns-in_default-clause-settles c).Start in
     let a = c.args.around.now in
-    settle_gone (around s) a.size a.grid a.values.now (lent s) c.args.a c.requires.node (held _ _ _ _ _ c.requires.paveable)
+    settle_gone (around s) a.size a.field.grid a.field.values.now (lent s) c.args.a c.requires.node (held _ _ _ _ _ c.requires.paveable)
     (edge_of _ _ c.snapshot_edge.ensures c.next.ensures) c.in_default.is
 
 pub try_untried-attempt-requires-clause-lent : goal.try_untried-attempt-requires-clause-lent
@@ -54,7 +53,7 @@ try_untried-attempt-requires-clause-lent c =
     let t = c.args.scratch.now in
     subst
     (λ (m : State).
-    TryLent (outline_in a) a.blocks.now a.grid a.values.now a.size m.xs m.ys m.next m.prev m.edges t.node_pool.now t.edge_pool.now m.counts)
+    TryLent (outline_in a) a.blocks.now a.field.grid a.field.values.now a.size m.xs m.ys m.next m.prev m.edges t.node_pool.now t.edge_pool.now m.counts)
     (sym c.mesh.ensures)
     (state_try_lent _ _ _ _ _ c.requires.paveable _ c.requires.helped.search.nodes_filed c.requires.helped.search.edges_filed)
 
@@ -63,14 +62,14 @@ try_untried-attempt-requires-clause-untried c =
     let s = (goal.at.try_untried-attempt-requires-clause-untried c).Start in
     let a = c.args.around.now in
     subst (λ (m : State). Untried (outline_in a) a.size (field_in a) (seen_of m) c.args.scratch.now.tried.now c.args.a c.in-Some.b) (sym c.mesh.ensures)
-    (settle_untried (around s) a.size a.grid a.values.now (lent s) c.args.a c.requires.node (held _ _ _ _ _ c.requires.paveable)
+    (settle_untried (around s) a.size a.field.grid a.field.values.now (lent s) c.args.a c.requires.node (held _ _ _ _ _ c.requires.paveable)
     (edge_of _ _ c.snapshot_edge.ensures c.next.ensures) c.in-Some.is _ c.requires.paveable c.requires.helped.remembers)
 
 pub returns-in_default-attempt-clause-settles : goal.returns-in_default-attempt-clause-settles
 returns-in_default-attempt-clause-settles c =
     let s = (goal.at.returns-in_default-attempt-clause-settles c).Start in
     let a = c.args.around.now in
-    settle_same (around s) a.size a.grid a.values.now (lent s) c.args.a c.requires.node (held _ _ _ _ _ c.requires.paveable)
+    settle_same (around s) a.size a.field.grid a.field.values.now (lent s) c.args.a c.requires.node (held _ _ _ _ _ c.requires.paveable)
     (edge_of _ _ c.snapshot_edge.ensures c.next.ensures) c.in-Some.is _
     (c.try_untried-attempt.ensures.answer ∙ ap (λ (m : State). try_edge (outline_in a) a.size (field_in a) (seen_of m) c.args.a c.in-Some.b) c.mesh.ensures)
     c.in_default-attempt.is
@@ -87,31 +86,33 @@ returns-in_default-attempt-clause-helped c =
           r.ensures.remembers;
       stretches = stretches_tried r.result c.args.scratch.now.tried.now c.args.a _ _ _ c.args.paving.now.counts.nodes c.args.paving.now.next.now
           c.args.snapshot.now
-          (settle_node (around s) a.size a.grid a.values.now (lent s) c.args.a c.requires.node (held _ _ _ _ _ c.requires.paveable)
+          (settle_node (around s) a.size a.field.grid a.field.values.now (lent s) c.args.a c.requires.node (held _ _ _ _ _ c.requires.paveable)
           (edge_of _ _ c.snapshot_edge.ensures c.next.ensures) c.in-Some.is) r.ensures.tried c.requires.helped.stretches;
     }
 
-pub knows_across-across-requires-clause-fit : goal.knows_across-across-requires-clause-fit
-knows_across-across-requires-clause-fit c =
-    subst (λ (m : State). 2 * m.counts.edges ≤ length m.edges) (sym c.mesh-2.ensures) (held _ _ _ _ _ c.requires.paveable).edges
+pub is_known_across-across-requires : goal.is_known_across-across-requires
+is_known_across-across-requires c = (
+  subst (λ (m : State). 2 * m.counts.edges ≤ length m.edges) (sym c.mesh-2.ensures) (held _ _ _ _ _ c.requires.paveable).edges,
+  search rules,
+)
 
 pub place-requires : goal.place-requires
 place-requires c =
     let s = (goal.at.place-requires c).Start in
     let a = c.args.around.now in (
-      settle_ready (around s) a.size a.grid a.values.now (lent s) c.args.a c.requires.node (held _ _ _ _ _ c.requires.paveable)
+      settle_ready (around s) a.size a.field.grid a.field.values.now (lent s) c.args.a c.requires.node (held _ _ _ _ _ c.requires.paveable)
           (edge_of _ _ c.snapshot_edge.ensures c.next.ensures) c.in-Some.is _
           (c.try_untried-attempt.ensures.answer
           ∙ ap (λ (m : State). try_edge (outline_in a) a.size (field_in a) (seen_of m) c.args.a c.in-Some.b) c.mesh.ensures) _ _ c.in-Some-attempt.is _
           c.requires.paveable,
-      c.knows_across-across.ensures ∙ ap (λ (m : State). known_across m.edges m.counts.edges c.in-Some-attempt.far.c c.in-Some-attempt.far.d) c.mesh-2.ensures,
+      c.is_known_across-across.ensures ∙ ap (λ (m : State). known_across m.edges m.counts.edges c.in-Some-attempt.far.c c.in-Some-attempt.far.d) c.mesh-2.ensures,
     )
 
 pub returns-in-Err-clause-settles : goal.returns-in-Err-clause-settles
 returns-in-Err-clause-settles c =
     let s = (goal.at.returns-in-Err-clause-settles c).Start in
     let a = c.args.around.now in
-    settle_full (around s) a.size a.grid a.values.now (lent s) c.args.a c.requires.node (held _ _ _ _ _ c.requires.paveable)
+    settle_full (around s) a.size a.field.grid a.field.values.now (lent s) c.args.a c.requires.node (held _ _ _ _ _ c.requires.paveable)
     (edge_of _ _ c.snapshot_edge.ensures c.next.ensures) c.in-Some.is _
     (c.try_untried-attempt.ensures.answer ∙ ap (λ (m : State). try_edge (outline_in a) a.size (field_in a) (seen_of m) c.args.a c.in-Some.b) c.mesh.ensures)
     _ _ c.in-Some-attempt.is _ _ (rw (← c.in-Err.is) c.place.ensures.placed)
@@ -121,14 +122,14 @@ returns-in-Err-clause-helped c =
     let s = (goal.at.returns-in-Err-clause-helped c).Start in
     let a = c.args.around.now in
     let r = c.try_untried-attempt in
-    let ready = settle_ready (around s) a.size a.grid a.values.now (lent s) c.args.a c.requires.node (held _ _ _ _ _ c.requires.paveable)
+    let ready = settle_ready (around s) a.size a.field.grid a.field.values.now (lent s) c.args.a c.requires.node (held _ _ _ _ _ c.requires.paveable)
     (edge_of _ _ c.snapshot_edge.ensures c.next.ensures) c.in-Some.is _
     (c.try_untried-attempt.ensures.answer
     ∙ ap (λ (m : State). try_edge (outline_in a) a.size (field_in a) (seen_of m) c.args.a c.in-Some.b) c.mesh.ensures) _ _ c.in-Some-attempt.is _ c.requires.paveable in
     let M = subst (λ (m : State). Remembers (outline_in a) a.size (field_in a) r.new.scratch.tried.now (seen_edges m.xs m.ys m.edges m.counts)) c.mesh.ensures
     r.ensures.remembers in
     let T = stretches_tried r.result c.args.scratch.now.tried.now c.args.a _ _ _ c.args.paving.now.counts.nodes c.args.paving.now.next.now c.args.snapshot.now
-    (settle_node (around s) a.size a.grid a.values.now (lent s) c.args.a c.requires.node (held _ _ _ _ _ c.requires.paveable)
+    (settle_node (around s) a.size a.field.grid a.field.values.now (lent s) c.args.a c.requires.node (held _ _ _ _ _ c.requires.paveable)
     (edge_of _ _ c.snapshot_edge.ensures c.next.ensures) c.in-Some.is) r.ensures.tried c.requires.helped.stretches in
     rw (r.ensures.pools.0, r.ensures.pools.1)
     (full_helped (around s) _ _ _ a.size (lent s) c.requires.paveable c.args.a _ _ _ ready c.requires.helped.search (field s) _ M T _
@@ -139,7 +140,7 @@ pub file_added-requires-clause-nodes : goal.file_added-requires-clause-nodes
 file_added-requires-clause-nodes c =
     let s = (goal.at.file_added-requires-clause-nodes c).Start in
     let a = c.args.around.now in
-    let ready = settle_ready (around s) a.size a.grid a.values.now (lent s) c.args.a c.requires.node (held _ _ _ _ _ c.requires.paveable)
+    let ready = settle_ready (around s) a.size a.field.grid a.field.values.now (lent s) c.args.a c.requires.node (held _ _ _ _ _ c.requires.paveable)
     (edge_of _ _ c.snapshot_edge.ensures c.next.ensures) c.in-Some.is _
     (c.try_untried-attempt.ensures.answer
     ∙ ap (λ (m : State). try_edge (outline_in a) a.size (field_in a) (seen_of m) c.args.a c.in-Some.b) c.mesh.ensures) _ _ c.in-Some-attempt.is _ c.requires.paveable in
@@ -153,7 +154,7 @@ pub file_added-requires-clause-edges : goal.file_added-requires-clause-edges
 file_added-requires-clause-edges c =
     let s = (goal.at.file_added-requires-clause-edges c).Start in
     let a = c.args.around.now in
-    let ready = settle_ready (around s) a.size a.grid a.values.now (lent s) c.args.a c.requires.node (held _ _ _ _ _ c.requires.paveable)
+    let ready = settle_ready (around s) a.size a.field.grid a.field.values.now (lent s) c.args.a c.requires.node (held _ _ _ _ _ c.requires.paveable)
     (edge_of _ _ c.snapshot_edge.ensures c.next.ensures) c.in-Some.is _
     (c.try_untried-attempt.ensures.answer
     ∙ ap (λ (m : State). try_edge (outline_in a) a.size (field_in a) (seen_of m) c.args.a c.in-Some.b) c.mesh.ensures) _ _ c.in-Some-attempt.is _ c.requires.paveable in
@@ -168,7 +169,7 @@ pub returns-clause-settles : goal.returns-clause-settles
 returns-clause-settles c =
     let s = (goal.at.returns-clause-settles c).Start in
     let a = c.args.around.now in
-    settle_done (around s) a.size a.grid a.values.now (lent s) c.args.a c.requires.node (held _ _ _ _ _ c.requires.paveable)
+    settle_done (around s) a.size a.field.grid a.field.values.now (lent s) c.args.a c.requires.node (held _ _ _ _ _ c.requires.paveable)
     (edge_of _ _ c.snapshot_edge.ensures c.next.ensures) c.in-Some.is _
     (c.try_untried-attempt.ensures.answer
     ∙ ap (λ (m : State). try_edge (outline_in a) a.size (field_in a) (seen_of m) c.args.a c.in-Some.b) c.mesh.ensures) _ _ c.in-Some-attempt.is _ (paving_state c.place.new.self c.args.snapshot.now) (rw (← c.in_default-place.is) c.place.ensures.placed) c.after_quad.ensures
@@ -178,14 +179,14 @@ returns-clause-helped c =
     let s = (goal.at.returns-clause-helped c).Start in
     let a = c.args.around.now in
     let r = c.try_untried-attempt in
-    let ready = settle_ready (around s) a.size a.grid a.values.now (lent s) c.args.a c.requires.node (held _ _ _ _ _ c.requires.paveable)
+    let ready = settle_ready (around s) a.size a.field.grid a.field.values.now (lent s) c.args.a c.requires.node (held _ _ _ _ _ c.requires.paveable)
     (edge_of _ _ c.snapshot_edge.ensures c.next.ensures) c.in-Some.is _
     (c.try_untried-attempt.ensures.answer
     ∙ ap (λ (m : State). try_edge (outline_in a) a.size (field_in a) (seen_of m) c.args.a c.in-Some.b) c.mesh.ensures) _ _ c.in-Some-attempt.is _ c.requires.paveable in
     let M = subst (λ (m : State). Remembers (outline_in a) a.size (field_in a) r.new.scratch.tried.now (seen_edges m.xs m.ys m.edges m.counts)) c.mesh.ensures
     r.ensures.remembers in
     let T = stretches_tried r.result c.args.scratch.now.tried.now c.args.a _ _ _ c.args.paving.now.counts.nodes c.args.paving.now.next.now c.args.snapshot.now
-    (settle_node (around s) a.size a.grid a.values.now (lent s) c.args.a c.requires.node (held _ _ _ _ _ c.requires.paveable)
+    (settle_node (around s) a.size a.field.grid a.field.values.now (lent s) c.args.a c.requires.node (held _ _ _ _ _ c.requires.paveable)
     (edge_of _ _ c.snapshot_edge.ensures c.next.ensures) c.in-Some.is) r.ensures.tried c.requires.helped.stretches in
     let t = paving_state c.place.new.self c.args.snapshot.now in
     done_helped (around s) _ _ _ a.size (lent s) c.requires.paveable c.args.a _ _ _ ready c.requires.helped.search (field s) _ M T _ t

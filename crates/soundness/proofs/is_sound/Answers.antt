@@ -1,53 +1,44 @@
--- `is_sound` meets its contract: `sound_walk`: the loop is a search that has found nothing yet.
-use Rattle.std.specs.Prelude.{suc}
-use Rattle.std.proofs.Common.{arith, sym, le_of_eq}
-use Rattle.std.proofs.lemmas.List.{length_push}
-use Rattle.laws.specs.Loop.{scan_start, scan_next, scan_hit, scan_none}
-use Rattle.domain.specs.Outline.{outline_of, loop_at}
+-- `is_sound` meets its contract: `sound_walk`.
+use Rattle.std.specs.Prelude.{Bool, not, List, ℕ, Float}
+use Rattle.std.proofs.Common.{ap, ◌∙◌, rules, tests, of_calls, refl}
+use Rattle.std.proofs.lemmas.Iterator.Adapters.{serves_from_places}
+use Rattle.std.proofs.lemmas.Iterator.Search.{any_from_yields_List}
+use Rattle.domain.specs.Outline.{outline_of}
 use Rattle.domain.specs.Accepted.{OutlineFits}
 use Rattle.domain.proofs.Accepted.{accepted}
-use Rattle.outlines.proofs.HoleList.{hole_given, holes_given}
-use Rattle.soundness.specs.WalkLaws.{judged, outer_within, walk_outer, walk_holes}
+use Rattle.outlines.proofs.HoleList.{holes_yield, listed_place, any_hole}
+use Rattle.soundness.specs.WalkLaws.{judged, outer_accepted, hole_accepted, hole_unsound, walk_outer, walk_holes}
 use Rattle.soundness.proofs.is_sound.Goals as goal
 
-pub crosses_itself-requires : goal.crosses_itself-requires
-crosses_itself-requires c =
-    outer_within
+pub new-outer-requires : goal.new-outer-requires
+new-outer-requires c =
+    outer_accepted
     (judged _ (record { outer = λ i h. c.args.domain.doubles.outer i; holes = λ i h. c.args.domain.doubles.holes i })
     c.requires)
 
-pub returns-then-crosses_itself : goal.returns-then-crosses_itself
-returns-then-crosses_itself c = walk_outer _ c.crosses_itself.ensures c.if-crosses_itself.true
+pub holes_of-requires : goal.holes_of-requires
+holes_of-requires c = (accepted _ c.requires).shape
 
-pub holes_of-hole-items-requires : goal.holes_of-hole-items-requires
-holes_of-hole-items-requires c = (accepted _ c.requires).shape
+pub any-requires-clause-callable : goal.any-requires-clause-callable
+any-requires-clause-callable c =
+    let o = outline_of c.args.domain in
+    let fits : OutlineFits o = record { outer = λ i h. c.args.domain.doubles.outer i; holes = λ i h. c.args.domain.doubles.holes i } in
+    let j = judged o fits c.requires in
+    serves_from_places (holes_yield o c.holes_of.result (cc))
+    (λ hole q k. search rules)
+    (λ hole k within e.
+    let place = listed_place o k hole within e in
+    let good = rw (← place.points) at (hole_accepted j k place.within) in
+    search (rules, of_calls))
 
-pub loop-hole-init : goal.loop-hole-init
-loop-hole-init c = scan_start _ _
+pub returns-then-not-crosses_itself : goal.returns-then-not-crosses_itself
+returns-then-not-crosses_itself c =
+    let o = outline_of c.args.domain in
+    let test : ℕ × (ℕ × List Float) → Bool = λ p. hole_unsound o p.1.1 p.0 in
+    let e = any_from_yields_List test c.any.new.self _ c.any.result c.any.ensures.ran (holes_yield o c.holes_of.result (cc)) (λ hole b q k. search (rules, tests)) ∙ any_hole o test _ (λ k h. refl) in
+    walk_holes o (rw c.new-outer.ensures at c.crosses_itself.ensures) c.if-not-crosses_itself.true e
 
-pub is_hole_unsound-requires : goal.is_hole_unsound-requires
-unfolding loop_at
-is_hole_unsound-requires c =
-    let place = hole_given (outline_of c.args.domain) _ _ c.next.new.self _ (cc) c.loop-hole.yielded_by c.in-Some.hole c.in-Some.is c.next.ensures.steps in
-    let fits : OutlineFits _ = record { outer = λ i h. c.args.domain.doubles.outer i; holes = λ i h. c.args.domain.doubles.holes i } in
-    let j = judged _ fits c.requires in
-    (j, rw place.points (j.within (suc _) (omega (arith, place.within))), omega (arith, place.within, place.index))
-
-pub returns-then-is_hole_unsound : goal.returns-then-is_hole_unsound
-returns-then-is_hole_unsound c =
-    let place = hole_given (outline_of c.args.domain) _ _ c.next.new.self _ (cc) c.loop-hole.yielded_by c.in-Some.hole c.in-Some.is c.next.ensures.steps in
-    walk_holes _ c.crosses_itself.ensures c.if-crosses_itself.false
-    (scan_hit _ c.loop-hole.invariant place.within
-    (rw (← place.points, ← place.index, ← c.is_hole_unsound.ensures) c.if-is_hole_unsound.true))
-
-pub loop-hole-preserved : goal.loop-hole-preserved
-loop-hole-preserved c =
-    let place = hole_given (outline_of c.args.domain) _ _ c.next.new.self _ (cc) c.loop-hole.yielded_by c.in-Some.hole c.in-Some.is c.next.ensures.steps in
-    rw (length_push c.loop-hole.yielded c.in-Some.hole)
-    (scan_next _ c.loop-hole.invariant place.within
-    (rw (← place.points, ← place.index, ← c.is_hole_unsound.ensures) c.if-is_hole_unsound.false))
-
-pub returns : goal.returns
-returns c =
-    let all = holes_given (outline_of c.args.domain) _ _ c.next.new.self _ (cc) c.loop-hole.yielded_by c.in-None.is c.next.ensures.steps in
-    walk_holes _ c.crosses_itself.ensures c.if-crosses_itself.false (scan_none _ c.loop-hole.invariant (le_of_eq (sym all)))
+pub returns-else-not-crosses_itself : goal.returns-else-not-crosses_itself
+returns-else-not-crosses_itself c =
+    let o = outline_of c.args.domain in
+    ap not c.if-not-crosses_itself.false ∙ walk_outer o (rw c.new-outer.ensures at c.crosses_itself.ensures) c.if-not-crosses_itself.false

@@ -1,39 +1,68 @@
 -- `stepping::place_on` meets its contract.
-use mathlib.Core.List.{[]}
-use mathlib.Core.Path.{refl, sym, ◌∙◌}
-use Rattle.std.proofs.lemmas.Bool.{leb-true, leb-false}
-use Rattle.domain.specs.Outline.{Outline, outline_of}
+use mathlib.Core.List.{List, []}
+use mathlib.Core.Path.{◌≡◌, sym, ap, ◌∙◌, subst}
+use Prim.Native.Nat.{ℕ}
+use Rattle.std.specs.Prelude.{Result}
+use Rattle.domain.specs.Outline.{Outline}
+use Rattle.direction.specs.Record.{FieldRecord, field_lent}
 use Rattle.front.specs.State.{State}
-use Rattle.mesh_check.specs.Check.{lent_state}
-use Rattle.hand_steps.specs.UseLaws.{try_lent}
-use Rattle.hand_steps.specs.StepLaws.{place_cap, place_tried, settleable}
+use Rattle.paving.specs.Lent.{outline_in}
+use Rattle.paving.specs.declared.FarCorners.{FarCorners}
+use Rattle.mesh_check.specs.Check.{lent_paving}
+use Rattle.hand_steps.specs.declared.StepOutcome.{StepOutcome}
+use Rattle.hand_steps.specs.declared.StepOutcome.TheVariants.{Placed}
+use Rattle.hand_steps.specs.Hand.{handled, quad_on}
+use Rattle.hand_steps.specs.Lent.{OnFront}
+use Rattle.hand_steps.specs.UseLaws.{quad_fits_lem}
+use Rattle.hand_steps.proofs.Quads.{placed_on, quad_placed, quad_tested}
+use Rattle.stepping.proofs.Lent.{lent_same}
 use Rattle.stepping.proofs.place_on.Goals as goal
-use Rattle.stepping.proofs.place_on.Goals.{Start}
+use Rattle.stepping.proofs.place_on.Goals.{Start, After-quad_on-answer}
 
--- the outline and the state as they are lent
+-- the outline, the field and the state as they are lent
 abbrev around : Start → Outline
-around s = outline_of s.args.domain
+around s = outline_in s.args.around.now
+
+abbrev field : Start → List ℕ → FieldRecord
+field s marks = field_lent s.args.around.now.field marks
 
 abbrev lent : Start → State
-lent s =
-    lent_state s.args.xs.now s.args.ys.now s.args.next.now s.args.prev.now s.args.origins.now s.args.quads.now
-    s.args.edges.now s.args.k
+lent s = lent_paving s.args.paving.now s.args.origins.now
 
-pub returns-then-is_capped : goal.returns-then-is_capped
-returns-then-is_capped c =
-    λ marks. place_cap (around (goal.at.returns-then-is_capped c).Start) c.args.size c.args.grid c.args.values.now marks c.args.a c.args.b (lent (goal.at.returns-then-is_capped c).Start) (leb-true _ _ (sym c.is_capped.ensures ∙ c.if-is_capped.true))
+-- what is answered of the mesh is answered of the state
+answer_is : (c : After-quad_on-answer) → (marks : List ℕ) → c.quad_on-answer.result
+    ≡ quad_on (outline_in c.args.around.now) c.args.around.now.size (field_lent c.args.around.now.field marks) c.args.a c.args.b (lent_paving c.args.paving.now c.args.origins.now)
+answer_is c marks =
+    c.quad_on-answer.ensures marks
+    ∙ ap (λ (s : State). quad_on (outline_in c.args.around.now) c.args.around.now.size (field_lent c.args.around.now.field marks) c.args.a c.args.b s)
+    (lent_same c.mesh.result c.args.paving.now c.mesh.ensures c.args.origins.now)
 
-pub attempt_on-attempt-requires : goal.attempt_on-attempt-requires
-attempt_on-attempt-requires c =
-    try_lent _ _ _ _ _ c.args.quads.now _ c.args.k c.args.a c.args.b c.requires.1 (around (goal.at.attempt_on-attempt-requires c).Start) _ _ _ [] [] [] c.requires.0 refl refl refl
+pub quad_on-answer-requires : goal.quad_on-answer-requires
+quad_on-answer-requires c = (
+  c.requires.0,
+  subst (λ (s : State). OnFront s c.args.a c.args.b) (sym (lent_same c.mesh.result c.args.paving.now c.mesh.ensures c.args.origins.now)) c.requires.1,
+)
 
-pub settle-requires : goal.settle-requires
-settle-requires c =
-    settleable (around (goal.at.settle-requires c).Start) c.args.size c.args.grid c.args.values.now _ _ _ _ _ _ _ c.args.k c.args.a c.args.b c.requires.1
-    c.attempt_on-attempt.ensures
+pub place_quad-requires : goal.place_quad-requires
+place_quad-requires c =
+    let s = (goal.at.place_quad-requires c).Start in
+    let T = quad_tested (around s) c.args.around.now.size (field s []) c.args.a c.args.b (lent s) _
+    (sym (answer_is (goal.at.place_quad-requires c).After-quad_on-answer []) ∙ c.in-Ok.is) in
+    quad_fits_lem _ _ _ _ _ _ _ c.args.paving.now.counts c.args.a c.args.b c.requires.1 (around s) c.args.around.now.size (field s []) _ _ T.0 T.1
 
-pub returns : goal.returns
-returns c =
+pub returns-in-Ok-clause-placed : goal.returns-in-Ok-clause-placed
+returns-in-Ok-clause-placed c =
+    let s = (goal.at.returns-in-Ok-clause-placed c).Start in
     λ marks.
-    place_tried (around (goal.at.returns c).Start) c.args.size c.args.grid c.args.values.now marks c.args.a c.args.b (lent (goal.at.returns c).Start) (leb-false _ _ (sym c.is_capped.ensures ∙ c.if-is_capped.false))
-    c.attempt_on-attempt.ensures c.settle.ensures
+    ap (λ (t : State). handled t Placed) (c.place_quad.ensures.placed _)
+    ∙ (ap (λ (r : Result FarCorners StepOutcome). placed_on c.args.a c.args.b r (lent s))
+    (sym c.in-Ok.is ∙ answer_is (goal.at.returns-in-Ok-clause-placed c).After-quad_on-answer marks)
+    ∙ quad_placed (around s) c.args.around.now.size (field s marks) c.args.a c.args.b (lent s))
+
+pub returns-in-Err-clause-placed : goal.returns-in-Err-clause-placed
+returns-in-Err-clause-placed c =
+    let s = (goal.at.returns-in-Err-clause-placed c).Start in
+    λ marks.
+    ap (λ (r : Result FarCorners StepOutcome). placed_on c.args.a c.args.b r (lent s))
+    (sym c.in-Err.is ∙ answer_is (goal.at.returns-in-Err-clause-placed c).After-quad_on-answer marks)
+    ∙ quad_placed (around s) c.args.around.now.size (field s marks) c.args.a c.args.b (lent s)

@@ -1,15 +1,17 @@
--- `crossfield::Bounds::around` meets its contract. Assumes nothing.
-use Rattle.laws.specs.Loop.{loop_start_lem, loop_next, loop_end}
-use Rattle.crossfield.specs.Grid.{loop_bounds}
+-- `crossfield::Bounds::around` meets its contract: the fold is `for_up` of a point's turn. Assumes nothing.
+use Rattle.std.specs.Prelude.{ℕ, ◌/◌, length}
+use Rattle.std.proofs.Common.{◌∙◌, arith, rules, tests}
+use Rattle.std.proofs.lemmas.Iterator.{YieldsList-from_range}
+use Rattle.std.proofs.lemmas.Iterator.Consumers.{fold_from_yields_List}
+use Rattle.laws.proofs.Ranges.{fold_ranged}
+use Rattle.crossfield.specs.declared.Bounds.{Bounds}
+use Rattle.crossfield.specs.Grid.{bounds_turn, loop_bounds}
 use Rattle.crossfield.proofs.Bounds.around.Goals as goal
-
-pub loop-i-init : goal.loop-i-init
-loop-i-init c = loop_start_lem _ _ _
-
-pub loop-i-preserved : goal.loop-i-preserved
-loop-i-preserved c = rw (c.widened-wide.ensures, c.point_at.ensures)
-    (loop_next _ _ c.loop-i.invariant c.loop-i-test.true)
 
 pub returns : goal.returns
 unfolding loop_bounds
-returns c = loop_end _ _ c.loop-i.invariant c.loop-i-test.false
+returns c =
+    let n = length c.args.s.now / 2 in
+    let turn : ℕ → Bounds → Bounds = bounds_turn c.args.s.now in
+    fold_from_yields_List _ (λ wide i. turn i wide) _ c.fold.result c.fold.ensures.ran (YieldsList-from_range 0 n n (cc) (omega arith)) (λ a x b q k. search (rules, tests))
+    ∙ fold_ranged turn c.args.self n

@@ -2,7 +2,8 @@
 use Rattle.std.proofs.Common.{length, refl, arith}
 use Rattle.std.proofs.lemmas.List.{length_push}
 use Rattle.std.proofs.lemmas.Slice.Zip.{zip_turn, zip_end}
-use Rattle.orientation.specs.Limbs.{compared_start, compared_next, compared_end, decided_then}
+use Rattle.orientation.specs.Limbs.{compared_start, compared_next, compared_end}
+use Rattle.orientation.proofs.Limbs.{decided_then}
 use Rattle.orientation.proofs.Difference.sign.Goals as goal
 
 pub loop-p-init : goal.loop-p-init

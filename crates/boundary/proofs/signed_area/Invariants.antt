@@ -1,8 +1,0 @@
--- `boundary::signed_area` meets its contract: the loop's invariant is `Loop` of `area_turn`.
-use Rattle.laws.specs.Loop.{Loop}
-use Rattle.numbers.specs.Float.{zero_f}
-use Rattle.front.specs.Sampling.{area_turn}
-use Rattle.boundary.proofs.signed_area.Given as goal
-
-abbrev pub invariant-loop-i : goal.invariant-loop-i
-invariant-loop-i l = Loop (area_turn l.xs l.ys l.base l.n) zero_f l.n l.i l.sum

@@ -1,0 +1,13 @@
+-- `crossfield::Seeding::seed_all` meets its contract. Assumes nothing.
+use mathlib.Core.Path.{◌≡◌}
+use lib.ListN.{length}
+use Rattle.laws.specs.Loop.{Loop}
+use Rattle.domain.specs.Outline.{outline_of}
+use Rattle.direction.specs.Record.{field_lists}
+use Rattle.crossfield.specs.Seeds.{seed_row}
+use Rattle.crossfield.proofs.Seeding.seed_all.Given as goal
+
+abbrev pub invariant-loop-j : goal.invariant-loop-j
+invariant-loop-j l =
+    (length l.values ≡ length l.initial.values) × (length l.marks ≡ length l.initial.marks) × Loop (seed_row (outline_of l.self.domain) l.self.grid)
+    (field_lists l.initial.values l.initial.marks) l.self.grid.ny l.j (field_lists l.values l.marks)

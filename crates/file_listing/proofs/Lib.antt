@@ -1,0 +1,2 @@
+-- Parts of a list of doubles: Slices.
+pub mod Slices

@@ -1,0 +1,2 @@
+-- What each change of a placing leaves for the next one.
+pub mod Next

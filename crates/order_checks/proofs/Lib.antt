@@ -1,0 +1,2 @@
+-- How first places are filled in: Filling.
+pub mod Filling

@@ -1,0 +1,2 @@
+-- What would become of the edge, from the quad that a placing places.
+pub mod Quads

@@ -1,4 +1,4 @@
--- `settling::settle` meets its contract: the edge is gone, the attempt answers nothing, a quad that is full, or a quad that is placed.
+-- `settling::settle_edge` meets its contract: the edge is gone, the attempt answers nothing, a quad that is full, or a quad that is placed.
 use Rattle.std.specs.Prelude.{◌≡◌, List, ℕ, ◌*◌, ◌≤◌, length, get_or, Option}
 use Rattle.std.proofs.Common.{◌∙◌, ap, sym, subst, arith, rules}
 use Rattle.domain.specs.Outline.{Outline}
@@ -17,8 +17,8 @@ use Rattle.ends.specs.Answers.{snapshot_edge}
 use Rattle.settling.specs.Searchable.{SearchableIn, placed_adds, full_helped, done_helped}
 use Rattle.settling.specs.Paveable.{held, state_try_lent}
 use Rattle.settling.specs.Laws.{settle_gone, settle_untried, settle_same, settle_node, settle_ready, settle_full, settle_done}
-use Rattle.settling.proofs.settle.Goals as goal
-use Rattle.settling.proofs.settle.Goals.{Start}
+use Rattle.settling.proofs.settle_edge.Goals as goal
+use Rattle.settling.proofs.settle_edge.Goals.{Start}
 
 -- the outline, the field and the state as they are lent
 abbrev around : Start → Outline
@@ -37,14 +37,14 @@ edge_of snapshot a h e = rw (← e) h
 
 pub snapshot_edge-requires : goal.snapshot_edge-requires
 snapshot_edge-requires c =
-    let L = held _ _ _ _ _ c.requires.paveable in
+    let L = held _ _ _ c.requires.paveable in
     rw c.next.ensures (omega (arith, L.next, c.requires.node), omega (arith, L.snapshot, c.requires.node))
 
 pub returns-in_default-clause-settles : goal.returns-in_default-clause-settles
 returns-in_default-clause-settles c =
     let s = (goal.at.returns-in_default-clause-settles c).Start in
     let a = c.args.around.now in
-    settle_gone (around s) a.size a.field.grid a.field.values.now (lent s) c.args.a c.requires.node (held _ _ _ _ _ c.requires.paveable)
+    settle_gone (around s) a.size a.field.grid a.field.values.now (lent s) c.args.a c.requires.node (held _ _ _ c.requires.paveable)
     (edge_of _ _ c.snapshot_edge.ensures c.next.ensures) c.in_default.is
 
 pub try_untried-attempt-requires-clause-lent : goal.try_untried-attempt-requires-clause-lent
@@ -53,23 +53,23 @@ try_untried-attempt-requires-clause-lent c =
     let t = c.args.scratch.now in
     subst
     (λ (m : State).
-    TryLent (outline_in a) a.blocks.now a.field.grid a.field.values.now a.size m.xs m.ys m.next m.prev m.edges t.node_pool.now t.edge_pool.now m.counts)
+    TryLent a.field.grid a.field.values.now a.size m.xs m.ys m.next m.prev m.edges t.node_pool.now t.edge_pool.now m.counts)
     (sym c.mesh.ensures)
-    (state_try_lent _ _ _ _ _ c.requires.paveable _ c.requires.helped.search.nodes_filed c.requires.helped.search.edges_filed)
+    (state_try_lent _ _ _ c.requires.paveable _ c.requires.helped.search.nodes_filed c.requires.helped.search.edges_filed)
 
 pub try_untried-attempt-requires-clause-untried : goal.try_untried-attempt-requires-clause-untried
 try_untried-attempt-requires-clause-untried c =
     let s = (goal.at.try_untried-attempt-requires-clause-untried c).Start in
     let a = c.args.around.now in
     subst (λ (m : State). Untried (outline_in a) a.size (field_in a) (seen_of m) c.args.scratch.now.tried.now c.args.a c.in-Some.b) (sym c.mesh.ensures)
-    (settle_untried (around s) a.size a.field.grid a.field.values.now (lent s) c.args.a c.requires.node (held _ _ _ _ _ c.requires.paveable)
-    (edge_of _ _ c.snapshot_edge.ensures c.next.ensures) c.in-Some.is _ c.requires.paveable c.requires.helped.remembers)
+    (settle_untried (around s) a.size a.field.grid a.field.values.now (lent s) c.args.a c.requires.node (held _ _ _ c.requires.paveable)
+    (edge_of _ _ c.snapshot_edge.ensures c.next.ensures) c.in-Some.is c.requires.paveable c.requires.helped.remembers)
 
 pub returns-in_default-attempt-clause-settles : goal.returns-in_default-attempt-clause-settles
 returns-in_default-attempt-clause-settles c =
     let s = (goal.at.returns-in_default-attempt-clause-settles c).Start in
     let a = c.args.around.now in
-    settle_same (around s) a.size a.field.grid a.field.values.now (lent s) c.args.a c.requires.node (held _ _ _ _ _ c.requires.paveable)
+    settle_same (around s) a.size a.field.grid a.field.values.now (lent s) c.args.a c.requires.node (held _ _ _ c.requires.paveable)
     (edge_of _ _ c.snapshot_edge.ensures c.next.ensures) c.in-Some.is _
     (c.try_untried-attempt.ensures.answer ∙ ap (λ (m : State). try_edge (outline_in a) a.size (field_in a) (seen_of m) c.args.a c.in-Some.b) c.mesh.ensures)
     c.in_default-attempt.is
@@ -86,13 +86,13 @@ returns-in_default-attempt-clause-helped c =
           r.ensures.remembers;
       stretches = stretches_tried r.result c.args.scratch.now.tried.now c.args.a _ _ _ c.args.paving.now.counts.nodes c.args.paving.now.next.now
           c.args.snapshot.now
-          (settle_node (around s) a.size a.field.grid a.field.values.now (lent s) c.args.a c.requires.node (held _ _ _ _ _ c.requires.paveable)
+          (settle_node (around s) a.size a.field.grid a.field.values.now (lent s) c.args.a c.requires.node (held _ _ _ c.requires.paveable)
           (edge_of _ _ c.snapshot_edge.ensures c.next.ensures) c.in-Some.is) r.ensures.tried c.requires.helped.stretches;
     }
 
 pub is_known_across-across-requires : goal.is_known_across-across-requires
 is_known_across-across-requires c = (
-  subst (λ (m : State). 2 * m.counts.edges ≤ length m.edges) (sym c.mesh-2.ensures) (held _ _ _ _ _ c.requires.paveable).edges,
+  subst (λ (m : State). 2 * m.counts.edges ≤ length m.edges) (sym c.mesh-2.ensures) (held _ _ _ c.requires.paveable).edges,
   search rules,
 )
 
@@ -100,10 +100,10 @@ pub place-requires : goal.place-requires
 place-requires c =
     let s = (goal.at.place-requires c).Start in
     let a = c.args.around.now in (
-      settle_ready (around s) a.size a.field.grid a.field.values.now (lent s) c.args.a c.requires.node (held _ _ _ _ _ c.requires.paveable)
+      settle_ready (around s) a.size a.field.grid a.field.values.now (lent s) c.args.a c.requires.node (held _ _ _ c.requires.paveable)
           (edge_of _ _ c.snapshot_edge.ensures c.next.ensures) c.in-Some.is _
           (c.try_untried-attempt.ensures.answer
-          ∙ ap (λ (m : State). try_edge (outline_in a) a.size (field_in a) (seen_of m) c.args.a c.in-Some.b) c.mesh.ensures) _ _ c.in-Some-attempt.is _
+          ∙ ap (λ (m : State). try_edge (outline_in a) a.size (field_in a) (seen_of m) c.args.a c.in-Some.b) c.mesh.ensures) _ _ c.in-Some-attempt.is
           c.requires.paveable,
       c.is_known_across-across.ensures ∙ ap (λ (m : State). known_across m.edges m.counts.edges c.in-Some-attempt.far.c c.in-Some-attempt.far.d) c.mesh-2.ensures,
     )
@@ -112,7 +112,7 @@ pub returns-in-Err-clause-settles : goal.returns-in-Err-clause-settles
 returns-in-Err-clause-settles c =
     let s = (goal.at.returns-in-Err-clause-settles c).Start in
     let a = c.args.around.now in
-    settle_full (around s) a.size a.field.grid a.field.values.now (lent s) c.args.a c.requires.node (held _ _ _ _ _ c.requires.paveable)
+    settle_full (around s) a.size a.field.grid a.field.values.now (lent s) c.args.a c.requires.node (held _ _ _ c.requires.paveable)
     (edge_of _ _ c.snapshot_edge.ensures c.next.ensures) c.in-Some.is _
     (c.try_untried-attempt.ensures.answer ∙ ap (λ (m : State). try_edge (outline_in a) a.size (field_in a) (seen_of m) c.args.a c.in-Some.b) c.mesh.ensures)
     _ _ c.in-Some-attempt.is _ _ (rw (← c.in-Err.is) c.place.ensures.placed)
@@ -122,17 +122,17 @@ returns-in-Err-clause-helped c =
     let s = (goal.at.returns-in-Err-clause-helped c).Start in
     let a = c.args.around.now in
     let r = c.try_untried-attempt in
-    let ready = settle_ready (around s) a.size a.field.grid a.field.values.now (lent s) c.args.a c.requires.node (held _ _ _ _ _ c.requires.paveable)
+    let ready = settle_ready (around s) a.size a.field.grid a.field.values.now (lent s) c.args.a c.requires.node (held _ _ _ c.requires.paveable)
     (edge_of _ _ c.snapshot_edge.ensures c.next.ensures) c.in-Some.is _
     (c.try_untried-attempt.ensures.answer
-    ∙ ap (λ (m : State). try_edge (outline_in a) a.size (field_in a) (seen_of m) c.args.a c.in-Some.b) c.mesh.ensures) _ _ c.in-Some-attempt.is _ c.requires.paveable in
+    ∙ ap (λ (m : State). try_edge (outline_in a) a.size (field_in a) (seen_of m) c.args.a c.in-Some.b) c.mesh.ensures) _ _ c.in-Some-attempt.is c.requires.paveable in
     let M = subst (λ (m : State). Remembers (outline_in a) a.size (field_in a) r.new.scratch.tried.now (seen_edges m.xs m.ys m.edges m.counts)) c.mesh.ensures
     r.ensures.remembers in
     let T = stretches_tried r.result c.args.scratch.now.tried.now c.args.a _ _ _ c.args.paving.now.counts.nodes c.args.paving.now.next.now c.args.snapshot.now
-    (settle_node (around s) a.size a.field.grid a.field.values.now (lent s) c.args.a c.requires.node (held _ _ _ _ _ c.requires.paveable)
+    (settle_node (around s) a.size a.field.grid a.field.values.now (lent s) c.args.a c.requires.node (held _ _ _ c.requires.paveable)
     (edge_of _ _ c.snapshot_edge.ensures c.next.ensures) c.in-Some.is) r.ensures.tried c.requires.helped.stretches in
     rw (r.ensures.pools.0, r.ensures.pools.1)
-    (full_helped (around s) _ _ _ a.size (lent s) c.requires.paveable c.args.a _ _ _ ready c.requires.helped.search (field s) _ M T _
+    (full_helped (around s) _ _ a.size (lent s) c.requires.paveable c.args.a _ _ _ ready c.requires.helped.search (field s) _ M T _
     (paving_state c.place.new.self c.args.snapshot.now)
     (rw (← c.in-Err.is) c.place.ensures.placed))
 
@@ -140,11 +140,11 @@ pub file_added-requires-clause-nodes : goal.file_added-requires-clause-nodes
 file_added-requires-clause-nodes c =
     let s = (goal.at.file_added-requires-clause-nodes c).Start in
     let a = c.args.around.now in
-    let ready = settle_ready (around s) a.size a.field.grid a.field.values.now (lent s) c.args.a c.requires.node (held _ _ _ _ _ c.requires.paveable)
+    let ready = settle_ready (around s) a.size a.field.grid a.field.values.now (lent s) c.args.a c.requires.node (held _ _ _ c.requires.paveable)
     (edge_of _ _ c.snapshot_edge.ensures c.next.ensures) c.in-Some.is _
     (c.try_untried-attempt.ensures.answer
-    ∙ ap (λ (m : State). try_edge (outline_in a) a.size (field_in a) (seen_of m) c.args.a c.in-Some.b) c.mesh.ensures) _ _ c.in-Some-attempt.is _ c.requires.paveable in
-    let adds = placed_adds (around s) _ _ _ a.size (lent s) c.requires.paveable c.args.a _ _ _ ready c.requires.helped.search
+    ∙ ap (λ (m : State). try_edge (outline_in a) a.size (field_in a) (seen_of m) c.args.a c.in-Some.b) c.mesh.ensures) _ _ c.in-Some-attempt.is c.requires.paveable in
+    let adds = placed_adds (around s) _ _ a.size (lent s) c.requires.paveable c.args.a _ _ _ ready c.requires.helped.search
     (paving_state c.place.new.self c.args.snapshot.now) (rw (← c.in_default-place.is) c.place.ensures.placed) in
     rw c.try_untried-attempt.ensures.pools.0
     (subst (λ (m : State). NodesFiled c.args.scratch.now.node_pool.now a.size m.xs m.ys c.args.paving.now.counts.nodes m.counts.nodes) (sym c.mesh-3.ensures)
@@ -154,11 +154,11 @@ pub file_added-requires-clause-edges : goal.file_added-requires-clause-edges
 file_added-requires-clause-edges c =
     let s = (goal.at.file_added-requires-clause-edges c).Start in
     let a = c.args.around.now in
-    let ready = settle_ready (around s) a.size a.field.grid a.field.values.now (lent s) c.args.a c.requires.node (held _ _ _ _ _ c.requires.paveable)
+    let ready = settle_ready (around s) a.size a.field.grid a.field.values.now (lent s) c.args.a c.requires.node (held _ _ _ c.requires.paveable)
     (edge_of _ _ c.snapshot_edge.ensures c.next.ensures) c.in-Some.is _
     (c.try_untried-attempt.ensures.answer
-    ∙ ap (λ (m : State). try_edge (outline_in a) a.size (field_in a) (seen_of m) c.args.a c.in-Some.b) c.mesh.ensures) _ _ c.in-Some-attempt.is _ c.requires.paveable in
-    let adds = placed_adds (around s) _ _ _ a.size (lent s) c.requires.paveable c.args.a _ _ _ ready c.requires.helped.search
+    ∙ ap (λ (m : State). try_edge (outline_in a) a.size (field_in a) (seen_of m) c.args.a c.in-Some.b) c.mesh.ensures) _ _ c.in-Some-attempt.is c.requires.paveable in
+    let adds = placed_adds (around s) _ _ a.size (lent s) c.requires.paveable c.args.a _ _ _ ready c.requires.helped.search
     (paving_state c.place.new.self c.args.snapshot.now) (rw (← c.in_default-place.is) c.place.ensures.placed) in
     rw c.try_untried-attempt.ensures.pools.1
     (subst
@@ -169,27 +169,27 @@ pub returns-clause-settles : goal.returns-clause-settles
 returns-clause-settles c =
     let s = (goal.at.returns-clause-settles c).Start in
     let a = c.args.around.now in
-    settle_done (around s) a.size a.field.grid a.field.values.now (lent s) c.args.a c.requires.node (held _ _ _ _ _ c.requires.paveable)
+    settle_done (around s) a.size a.field.grid a.field.values.now (lent s) c.args.a c.requires.node (held _ _ _ c.requires.paveable)
     (edge_of _ _ c.snapshot_edge.ensures c.next.ensures) c.in-Some.is _
     (c.try_untried-attempt.ensures.answer
-    ∙ ap (λ (m : State). try_edge (outline_in a) a.size (field_in a) (seen_of m) c.args.a c.in-Some.b) c.mesh.ensures) _ _ c.in-Some-attempt.is _ (paving_state c.place.new.self c.args.snapshot.now) (rw (← c.in_default-place.is) c.place.ensures.placed) c.after_quad.ensures
+    ∙ ap (λ (m : State). try_edge (outline_in a) a.size (field_in a) (seen_of m) c.args.a c.in-Some.b) c.mesh.ensures) _ _ c.in-Some-attempt.is _ (paving_state c.place.new.self c.args.snapshot.now) (rw (← c.in_default-place.is) c.place.ensures.placed) c.quad_settled.ensures
 
 pub returns-clause-helped : goal.returns-clause-helped
 returns-clause-helped c =
     let s = (goal.at.returns-clause-helped c).Start in
     let a = c.args.around.now in
     let r = c.try_untried-attempt in
-    let ready = settle_ready (around s) a.size a.field.grid a.field.values.now (lent s) c.args.a c.requires.node (held _ _ _ _ _ c.requires.paveable)
+    let ready = settle_ready (around s) a.size a.field.grid a.field.values.now (lent s) c.args.a c.requires.node (held _ _ _ c.requires.paveable)
     (edge_of _ _ c.snapshot_edge.ensures c.next.ensures) c.in-Some.is _
     (c.try_untried-attempt.ensures.answer
-    ∙ ap (λ (m : State). try_edge (outline_in a) a.size (field_in a) (seen_of m) c.args.a c.in-Some.b) c.mesh.ensures) _ _ c.in-Some-attempt.is _ c.requires.paveable in
+    ∙ ap (λ (m : State). try_edge (outline_in a) a.size (field_in a) (seen_of m) c.args.a c.in-Some.b) c.mesh.ensures) _ _ c.in-Some-attempt.is c.requires.paveable in
     let M = subst (λ (m : State). Remembers (outline_in a) a.size (field_in a) r.new.scratch.tried.now (seen_edges m.xs m.ys m.edges m.counts)) c.mesh.ensures
     r.ensures.remembers in
     let T = stretches_tried r.result c.args.scratch.now.tried.now c.args.a _ _ _ c.args.paving.now.counts.nodes c.args.paving.now.next.now c.args.snapshot.now
-    (settle_node (around s) a.size a.field.grid a.field.values.now (lent s) c.args.a c.requires.node (held _ _ _ _ _ c.requires.paveable)
+    (settle_node (around s) a.size a.field.grid a.field.values.now (lent s) c.args.a c.requires.node (held _ _ _ c.requires.paveable)
     (edge_of _ _ c.snapshot_edge.ensures c.next.ensures) c.in-Some.is) r.ensures.tried c.requires.helped.stretches in
     let t = paving_state c.place.new.self c.args.snapshot.now in
-    done_helped (around s) _ _ _ a.size (lent s) c.requires.paveable c.args.a _ _ _ ready c.requires.helped.search (field s) _ M T _ t
+    done_helped (around s) _ _ a.size (lent s) c.requires.paveable c.args.a _ _ _ ready c.requires.helped.search (field s) _ M T _ t
     (rw (← c.in_default-place.is) c.place.ensures.placed)
     (subst (λ (m : State). SearchableIn a.size m c.file_added.new.scratch.node_pool.now c.file_added.new.scratch.edge_pool.now) c.mesh-3.ensures
     c.file_added.ensures.filed)

@@ -33,8 +33,8 @@ advance_whole o size field passes s e E = rw e at E
 
 -- ---- what holds in the loop
 
-pub in_advance : (o : Outline) (blocks : List ℕ) (size : Float) (g : Grid) (values : List Float) (field : FieldRecord) (s : State)
-    → Paveable o blocks g values s → {n i : ℕ} {t : State} → Run (passes_turn o size field) all_used s n i t → Later o blocks g values s t
-in_advance o blocks size g values field s P L =
-    later o blocks size g values field s P
+pub in_advance : (o : Outline) (size : Float) (g : Grid) (values : List Float) (field : FieldRecord) (s : State)
+    → Paveable g values s → {n i : ℕ} {t : State} → Run (passes_turn o size field) all_used s n i t → Later g values s t
+in_advance o size g values field s P L =
+    later o size g values field s P
     (run_has (Reached o size s) (AtEnd o size s) (passes_turn o size field) (record { quads = 0; by = begin }) (λ j t r. pass_kept o size s field t r) L)

@@ -9,7 +9,7 @@ use Rattle.geometry.specs.Plane.{convex_ccw, centroid}
 use Rattle.front.specs.declared.Corner.{Corner}
 use Rattle.front.specs.State.{State}
 use Rattle.front.specs.Place.{id_c, id_d}
-use Rattle.paving.specs.declared.FarCorners.{FarCorners}
+use Rattle.front.specs.declared.FarCorners.{FarCorners}
 use Rattle.indexed.specs.Rects.{inside_at}
 use Rattle.paving.specs.Checks.{corner_free, node_inside, edges_free, corners_of}
 use Rattle.paving.specs.Attempt.{quad_if, attempt_quad}

@@ -13,7 +13,7 @@ use Rattle.front.specs.declared.Corner.{Corner}
 use Rattle.front.specs.State.{State, node}
 use Rattle.front.specs.Neighbours.{next_at, prev_at, is_at}
 use Rattle.front.specs.Place.{id_c, id_d}
-use Rattle.paving.specs.declared.FarCorners.{FarCorners}
+use Rattle.front.specs.declared.FarCorners.{FarCorners}
 use Rattle.paving.specs.Checks.{corner_free, corners_apart, node_inside, edges_free, corners_of, quad_ok, quad_fits}
 use Rattle.paving.specs.Attempt.{ideal, corner_c, corner_d, quad_if, attempt_quad, far}
 use Rattle.paving.specs.AttemptLaws.{far_same}

@@ -5,7 +5,7 @@ use Rattle.front.specs.declared.Corner.{Corner}
 use Rattle.front.specs.State.{State}
 use Rattle.front.specs.Neighbours.{next_at, is_at}
 use Rattle.front.specs.Place.{id_c, id_d}
-use Rattle.paving.specs.declared.FarCorners.{FarCorners}
+use Rattle.front.specs.declared.FarCorners.{FarCorners}
 use Rattle.paving.specs.Checks.{corners_apart}
 use Rattle.paving.specs.Attempt.{corner_c, corner_d, quad_if}
 

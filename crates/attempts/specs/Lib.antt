@@ -1,4 +1,5 @@
 pub mod Seen
 pub mod FarCorners
+pub mod Props
 pub mod SeenLaws
 pub mod AttemptLaws

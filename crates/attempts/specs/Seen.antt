@@ -1,7 +1,5 @@
 -- The part of a state that an attempt reads, as it is lent to the code, and what the code asks of it. Definitions only.
 use Rattle.std.specs.Prelude.{List, [], ℕ, ◌*◌, ◌≤◌, length, Float}
-use Rattle.domain.specs.Outline.{Outline}
-use Rattle.blocks.specs.Blocks.{Drawn}
 use Rattle.pools.specs.Pool.{Indexed}
 use Rattle.direction.specs.declared.Grid.{Grid}
 use Rattle.direction.specs.Cells.{FieldLent}
@@ -9,7 +7,6 @@ use Rattle.front.specs.declared.Counts.{Counts}
 use Rattle.front.specs.declared.Mesh.{Mesh}
 use Rattle.front.specs.State.{State, counted}
 use Rattle.paving.specs.declared.Surroundings.{Surroundings}
-use Rattle.paving.specs.Lent.{outline_in}
 use Rattle.indexed.specs.declared.Pools.{Pools}
 use Rattle.indexed.specs.Rects.{node_rects, edge_rects}
 
@@ -47,9 +44,8 @@ pub record LinksLent (next prev : List ℕ) (nodes : ℕ) : Type 0 where
   pub next_fit : nodes ≤ length next
   pub prev_fit : nodes ≤ length prev
 
--- the outline isn't refused and its blocks are filed, and so are the nodes counted
-pub record NodesLent (o : Outline) (blocks : List ℕ) (size : Float) (xs ys : List Float) (node_pool : List ℕ) (counts : Counts) : Type 0 where
-  pub drawn : Drawn o blocks
+-- the nodes counted are filed
+pub record NodesLent (size : Float) (xs ys : List Float) (node_pool : List ℕ) (counts : Counts) : Type 0 where
   pub filed : Indexed node_pool (node_rects size xs ys) counts.nodes
 
 -- the first n edges are lent and filed
@@ -63,39 +59,29 @@ pub record EdgesLent (size : Float) (xs ys : List Float) (edges edge_pool : List
   pub indexed : EdgesIndexed size xs ys edges edge_pool counts.edges
 
 -- and so are the nodes
-pub record QuadLent (o : Outline) (blocks : List ℕ) (size : Float) (xs ys : List Float) (edges node_pool edge_pool : List ℕ) (counts : Counts) : Type 0 where
-  pub nodes : NodesLent o blocks size xs ys node_pool counts
+pub record QuadLent (size : Float) (xs ys : List Float) (edges node_pool edge_pool : List ℕ) (counts : Counts) : Type 0 where
+  pub nodes : NodesLent size xs ys node_pool counts
   pub within : EdgesLent size xs ys edges edge_pool counts
 
 -- and the links of the nodes counted are lent
-pub record AttemptLent (o : Outline) (blocks : List ℕ) (size : Float) (xs ys : List Float) (next prev edges node_pool edge_pool : List ℕ)
-    (counts : Counts) : Type 0 where
-  pub quad : QuadLent o blocks size xs ys edges node_pool edge_pool counts
+pub record AttemptLent (size : Float) (xs ys : List Float) (next prev edges node_pool edge_pool : List ℕ) (counts : Counts) : Type 0 where
+  pub quad : QuadLent size xs ys edges node_pool edge_pool counts
   pub next_fit : counts.nodes ≤ length next
   pub prev_fit : counts.nodes ≤ length prev
 
 -- and so is the field
-pub record TryLent (o : Outline) (blocks : List ℕ) (g : Grid) (values : List Float) (size : Float) (xs ys : List Float)
+pub record TryLent (g : Grid) (values : List Float) (size : Float) (xs ys : List Float)
     (next prev edges node_pool edge_pool : List ℕ) (counts : Counts) : Type 0 where
-  pub attempt : AttemptLent o blocks size xs ys next prev edges node_pool edge_pool counts
+  pub attempt : AttemptLent size xs ys next prev edges node_pool edge_pool counts
   pub field : FieldLent g values
 
 -- ---- what the code asks, of surroundings, a mesh and pools
 
-abbrev pub NodesLentIn : Surroundings → Mesh → Pools → Type 0
-NodesLentIn a m p = NodesLent (outline_in a) a.blocks.now a.size m.xs.now m.ys.now p.nodes.now m.counts
-
-abbrev pub EdgesIndexedIn : Float → Mesh → Pools → Type 0
-EdgesIndexedIn size m p = EdgesIndexed size m.xs.now m.ys.now m.edges.now p.edges.now m.counts.edges
-
-abbrev pub EdgesLentIn : Float → Mesh → Pools → Type 0
-EdgesLentIn size m p = EdgesLent size m.xs.now m.ys.now m.edges.now p.edges.now m.counts
-
 abbrev pub AttemptLentIn : Surroundings → Mesh → Pools → Type 0
 AttemptLentIn a m p =
-    AttemptLent (outline_in a) a.blocks.now a.size m.xs.now m.ys.now m.next.now m.prev.now m.edges.now p.nodes.now p.edges.now m.counts
+    AttemptLent a.size m.xs.now m.ys.now m.next.now m.prev.now m.edges.now p.nodes.now p.edges.now m.counts
 
 abbrev pub TryLentIn : Surroundings → Mesh → Pools → Type 0
 TryLentIn a m p =
-    TryLent (outline_in a) a.blocks.now a.field.grid a.field.values.now a.size m.xs.now m.ys.now m.next.now m.prev.now m.edges.now p.nodes.now p.edges.now
+    TryLent a.field.grid a.field.values.now a.size m.xs.now m.ys.now m.next.now m.prev.now m.edges.now p.nodes.now p.edges.now
     m.counts

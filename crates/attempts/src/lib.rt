@@ -3,40 +3,35 @@
 // with all of them.
 #![tactic(auto)]
 
-ghost use Rattle.std.specs.Prelude.{◌≡◌, ◌+◌, ◌≤◌};
+ghost use Rattle.std.specs.Prelude.{◌≡◌, ◌+◌};
 ghost use Rattle.front.specs.Lent.{mesh_state};
-ghost use Rattle.front.specs.Place.{added, corner_id, corner_point};
+ghost use Rattle.front.specs.Place.{corner_point};
 ghost use Rattle.paving.specs.Lent.{outline_in, field_in};
 ghost use Rattle.paving.specs.Checks.{corner_free, corners_apart, side_crosses, edges_free, corners_of};
 ghost use Rattle.paving.specs.Attempt.{is_reused, corner_at, ideal, attempt_quad, normal_of, try_edge};
 ghost use Rattle.attempts.specs.Seen.{seen_of, seen_nodes, seen_points, seen_edges, seen_links};
-ghost use Rattle.attempts.specs.Seen.{NodesLentIn, EdgesIndexedIn, EdgesLentIn, LinksLent, AttemptLentIn, TryLentIn};
+ghost use Rattle.attempts.specs.Seen.{LinksLent, AttemptLentIn, TryLentIn};
+ghost use Rattle.attempts.specs.Props.{lent_props};
 ghost use Rattle.attempts.specs.FarCorners.{far_corners};
 
 use domain::{Point, Settings};
-use front::{Corner, Mesh};
+use front::{Corner, FarCorners, Mesh};
 use geometry::Corners;
 use indexed::{NewEdge, Pools};
 use lent_mesh::QuadIds;
-use paving::{FarCorners, Surroundings};
+use paving::Surroundings;
 
-// What an attempt reads: the outline and the field with the size, the mesh, and the pools in which it is filed.
+// What an attempt reads: the outline and the field with the size, the mesh, and the pools in which it is filed. The ghost field says that
+// these are lent as an attempt asks.
 #[derive(Clone, Copy)]
 struct Attempt<'a> {
     around: &'a Surroundings<'a>,
     mesh: &'a Mesh<'a>,
     pools: Pools<'a>,
+    ghost lent: { AttemptLentIn around.now mesh.now pools } by { Prim.hlevel lent_props },
 }
 
 // ---- the far corners
-
-// The node that d has or will get, where `nodes` are there and c's node comes first.
-fn second_id(nodes: u32, far: FarCorners) -> u32
-    requires { nodes ≤ 4294967294 }
-    ensures { result ≡ corner_id (nodes + added far.c) far.d }
-{
-    far.d.id(nodes + far.c.added())
-}
 
 // Whether two new corners are more than 0.45 × size apart.
 #[tactic(auto, unfolding(paving::specs::Checks::corners_apart))]
@@ -117,6 +112,7 @@ fn corner_at(size: f64, mesh: &Mesh<'_>, other: u32, neighbour: Option<u32>, p: 
 
 // The far corners of a quad on the front edge a to b with the directions da at a and db at b; none where they are one node, two new ones
 // too close together, or joined by the front already.
+// Stays an edge as two ids, here and below, for the reason given at `stepping::attempt_on`.
 #[tactic(auto, using(crate::proofs::Chosen::far_chosen))]
 fn far_corners(
     size: f64,
@@ -138,7 +134,7 @@ fn far_corners(
         d: corner_at(size, mesh, a, mesh.next_at(b), wanted_d),
     };
     let id_c = far.c.id(nodes);
-    let id_d = second_id(nodes, far);
+    let id_d = far.id_d(nodes);
     if id_c == id_d || !corners_apart(size, far) || mesh.next_at(id_c) == Some(id_d) {
         None
     } else {
@@ -153,7 +149,6 @@ impl Attempt<'_> {
     // that is the cheaper test.
     #[tactic(auto, unfolding(paving::specs::Checks::corner_free, paving::specs::Checks::node_ok, paving::specs::Checks::too_close))]
     fn corner_free(&self, c: Corner) -> bool
-        requires { NodesLentIn self.now.around.now self.now.mesh.now self.now.pools }
         ensures { result ≡ corner_free (outline_in self.now.around.now) self.now.around.now.size
             (seen_nodes self.now.mesh.now.xs.now self.now.mesh.now.ys.now self.now.mesh.now.counts) c }
     {
@@ -164,13 +159,12 @@ impl Attempt<'_> {
         numbers::is_finite_f64(x)
             && numbers::is_finite_f64(y)
             && !self.pools.any_close(self.around.size, self.mesh, p)
-            && blocks::contains_point(self.around.domain, self.around.blocks, p)
+            && self.around.outline().contains_point(p)
     }
 
     // Whether the edge from a new corner's node to its neighbour crosses another; that of a reused one is there already.
     #[tactic(auto, unfolding(paving::specs::Checks::edge_crosses))]
     fn side_crosses(&self, c: Corner, id: u32, to: u32) -> bool
-        requires { EdgesIndexedIn self.now.around.now.size self.now.mesh.now self.now.pools }
         ensures { result ≡ side_crosses self.now.around.now.size
             (seen_edges self.now.mesh.now.xs.now self.now.mesh.now.ys.now self.now.mesh.now.edges.now self.now.mesh.now.counts) c id to }
     {
@@ -189,13 +183,12 @@ impl Attempt<'_> {
     // Whether none of the new edges crosses another: c to a if c is new, c to d, d to b if d is new.
     #[tactic(auto, unfolding(paving::specs::Checks::edges_free, paving::specs::Checks::edge_crosses))]
     fn edges_free(&self, a: u32, b: u32, far: FarCorners) -> bool
-        requires { EdgesLentIn self.now.around.now.size self.now.mesh.now self.now.pools }
         ensures { result ≡ edges_free self.now.around.now.size
             (seen_edges self.now.mesh.now.xs.now self.now.mesh.now.ys.now self.now.mesh.now.edges.now self.now.mesh.now.counts) a b far.c far.d }
     {
         let nodes = self.mesh.counts.nodes;
         let id_c = far.c.id(nodes);
-        let id_d = second_id(nodes, far);
+        let id_d = far.id_d(nodes);
         let across = NewEdge {
             a: corner_point(self.mesh, far.c),
             b: corner_point(self.mesh, far.d),
@@ -210,7 +203,6 @@ impl Attempt<'_> {
     // The quad on the front edge a to b with the directions da at a and db at b, if its far corners pass every check; the first that fails refuses it.
     #[tactic(auto, using(crate::proofs::Kept::attempt_kept))]
     fn quad(&self, a: u32, b: u32, da: Point, db: Point) -> Option<FarCorners>
-        requires { AttemptLentIn self.now.around.now self.now.mesh.now self.now.pools }
         ensures { result ≡ attempt_quad (outline_in self.now.around.now) self.now.around.now.size (seen_of (mesh_state self.now.mesh.now)) a b da db }
     {
         let far = far_corners(self.around.size, self.mesh, a, b, da, db)?;
@@ -219,17 +211,13 @@ impl Attempt<'_> {
         let ids = QuadIds {
             a,
             b,
-            d: second_id(nodes, far),
+            d: far.id_d(nodes),
             c: far.c.id(nodes),
         };
         if self.corner_free(far.c)
             && self.corner_free(far.d)
             && geometry::convex_ccw(p)
-            && blocks::contains_point(
-                self.around.domain,
-                self.around.blocks,
-                geometry::centroid(p),
-            )
+            && self.around.outline().contains_point(geometry::centroid(p))
             && !self.pools.any_inside(self.around.size, self.mesh, p, ids)
             && self.edges_free(a, b, far)
         {

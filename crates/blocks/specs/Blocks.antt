@@ -20,14 +20,14 @@ for_between from to turn a = for_up (to - from) (λ j. turn (from + j)) a
 -- ---- how far segments reach
 
 -- The sides, by number: 0 is least x, 1 greatest x, 2 least y, 3 greatest y. The coordinate that a side bounds:
-abbrev pub coordinate : ℕ → Point → Float
-coordinate d p = cond (ltb d 2) p.x p.y
+abbrev pub coordinate_of_side : ℕ → Point → Float
+coordinate_of_side d p = cond (ltb d 2) p.x p.y
 
 -- how far the segment a to b reaches on side d: over a, b, and a + (b − a), which is where a part of the way from a to b ends as it is computed
 unfoldable pub reach_of : ℕ → Point → Point → Float
 reach_of d a b =
-    let u = coordinate d a in
-    let v = coordinate d b in
+    let u = coordinate_of_side d a in
+    let v = coordinate_of_side d b in
     let w = u ⊕ (v ⊖ u) in
     cond (eqb (d % 2) 1) (higher_of (higher_of u v) w) (lower_of (lower_of u v) w)
 

@@ -7,7 +7,7 @@ ghost use Rattle.laws.specs.Loop.{any_up};
 ghost use Rattle.domain.specs.Outline.{outline_of, points, most_points, outline_refusal};
 ghost use Rattle.domain.specs.Queries.{polygon_turn, point_in_polygon, in_hole, contains};
 ghost use Rattle.outlines.specs.Holes.{HolePlace};
-ghost use Rattle.blocks.specs.Blocks.{for_between, coordinate, reach, is_farther, Farthest, block_end, is_listed, BlockThere, BlockFiles, LoopFiles};
+ghost use Rattle.blocks.specs.Blocks.{for_between, coordinate_of_side, reach, is_farther, Farthest, block_end, is_listed, BlockThere, BlockFiles, LoopFiles};
 ghost use Rattle.blocks.specs.Blocks.{LoopDrawn, first_block_at, Drawn, block_extent, ray_misses};
 
 use domain::{Domain, Point};
@@ -22,26 +22,35 @@ pub struct Extent {
     pub ymax: f64,
 }
 
+// An outline that isn't refused, with its blocks.
+#[derive(Clone, Copy)]
+pub struct DrawnOutline<'a> {
+    pub domain: Domain<'a>,
+    pub blocks: &'a [u32],
+    ghost drawn: { Drawn (outline_of domain) blocks.now },
+}
+
 // How many segments a block has at most.
 pub const BLOCK: usize = 16;
 
 // ---- how far segments reach
 
-fn coordinate(d: usize, p: Point) -> f64
-    ensures { result ≡ coordinate d p }
+// The coordinate that side d bounds.
+// Stays a number, here, below and in `nearest`: a side is also its place among the four numbers of a block, and the lent list has these flat.
+fn coordinate_of_side(d: usize, p: Point) -> f64
+    ensures { result ≡ coordinate_of_side d p }
 {
     if d < 2 { p.x } else { p.y }
 }
 
 // On the sides 0, least x; 1, greatest x; 2, least y; 3, greatest y.
-// Stays a number: a side is also its place among the four numbers of a block, and the lent list has these flat.
 #[tactic(auto, unfolding(crate::specs::Blocks::reach_of))]
 pub fn reach(d: usize, s: &[f64], i: usize) -> f64
     requires { 2 * i + 1 < length s.now }
     ensures { result ≡ reach d s.now i }
 {
-    let u = coordinate(d, outlines::point_at(s, i));
-    let v = coordinate(d, outlines::point_after(s, i));
+    let u = coordinate_of_side(d, outlines::point_at(s, i));
+    let v = coordinate_of_side(d, outlines::point_after(s, i));
     let w = u + (v - u);
     if d % 2 == 1 {
         outlines::higher_of(outlines::higher_of(u, v), w)
@@ -138,10 +147,9 @@ pub fn file(domain: Domain<'_>, blocks: &mut [u32])
     requires { outline_refusal (outline_of domain) ≡ 0 }
     ensures { Drawn (outline_of domain.entry) blocks.new }
 {
-    file_loop(domain.outer, 0, blocks);
-    for hole in outlines::holes_of(domain) {
-        let first = first_block(domain.outer, hole.index + 1, hole.start);
-        file_loop(hole.points, first, blocks);
+    for each in outlines::loops_of(domain) {
+        let first = first_block(domain.outer, each.index, each.start);
+        file_loop(each.points, first, blocks);
     }
 }
 
@@ -160,6 +168,8 @@ fn ray_misses(p: Point, s: &[f64], blocks: &[u32], b: usize) -> bool
 }
 
 // Whether p's side, so far, changes with the segments `from` up to `to`.
+// Stays a fold over the segments' numbers, as `nearest::search_part` and `farthest` are: an iterator of segments would have the same range, and proofs that it gives
+// `point_at` and `point_after`, which are one call each here; and the search and `farthest` answer the number.
 fn crossings(p: Point, s: &[f64], from: usize, to: usize, inside: bool) -> bool
     requires { (from ≤ to) × (to ≤ points s.now) }
     ensures { result ≡ for_between from to (polygon_turn p s.now) inside }
@@ -171,6 +181,8 @@ fn crossings(p: Point, s: &[f64], from: usize, to: usize, inside: bool) -> bool
     )
 }
 
+// Stays a loop, as `nearest::search_loop` is: a fold was tried, and it wasn't proved that its closure may be called, since what `is_listed` and `ray_misses` ask
+// holds of the blocks of this loop alone. An iterator over the blocks for both would be a type with its proof in place of two lines that begin a `for`.
 fn point_in_polygon(p: Point, s: &[f64], blocks: &[u32], first: usize) -> bool
     requires { LoopDrawn s.now blocks.now first × (first ≤ 2 * most_points) }
     ensures { result ≡ point_in_polygon p s.now }
@@ -185,27 +197,27 @@ fn point_in_polygon(p: Point, s: &[f64], blocks: &[u32], first: usize) -> bool
     inside
 }
 
-// Whether p is inside the hole.
-fn is_in_hole(domain: Domain<'_>, blocks: &[u32], p: Point, hole: Hole<'_>) -> bool
-    requires { Drawn (outline_of domain) blocks.now × HolePlace (outline_of domain) hole.index hole }
-    ensures { result ≡ point_in_polygon p hole.entry.points.now }
-{
-    let first = first_block(domain.outer, hole.index + 1, hole.start);
-    point_in_polygon(p, hole.points, blocks, first)
-}
+impl DrawnOutline<'_> {
+    // Whether p is inside the hole.
+    fn is_in_hole(self, p: Point, hole: Hole<'_>) -> bool
+        requires { HolePlace (outline_of self.domain) hole.index hole }
+        ensures { result ≡ point_in_polygon p hole.entry.points.now }
+    {
+        let first = first_block(self.domain.outer, hole.index + 1, hole.start);
+        point_in_polygon(p, hole.points, self.blocks, first)
+    }
 
-fn in_some_hole(domain: Domain<'_>, blocks: &[u32], p: Point) -> bool
-    requires { Drawn (outline_of domain) blocks.now }
-    ensures { result ≡ any_up (length domain.entry.lens.now) (in_hole (outline_of domain.entry) p) }
-{
-    outlines::holes_of(domain).any(|hole| is_in_hole(domain, blocks, p, hole))
-}
+    fn in_some_hole(self, p: Point) -> bool
+        ensures { result ≡ any_up (length self.entry.domain.lens.now) (in_hole (outline_of self.entry.domain) p) }
+    {
+        outlines::holes_of(self.domain).any(|hole| self.is_in_hole(p, hole))
+    }
 
-// `contains` of the outline.
-#[tactic(auto, unfolding(domain::specs::Queries::contains))]
-pub fn contains_point(domain: Domain<'_>, blocks: &[u32], p: Point) -> bool
-    requires { Drawn (outline_of domain) blocks.now }
-    ensures { result ≡ contains (outline_of domain.entry) p }
-{
-    point_in_polygon(p, domain.outer, blocks, 0) && !in_some_hole(domain, blocks, p)
+    // `contains` of the outline.
+    #[tactic(auto, unfolding(domain::specs::Queries::contains))]
+    pub fn contains_point(self, p: Point) -> bool
+        ensures { result ≡ contains (outline_of self.entry.domain) p }
+    {
+        point_in_polygon(p, self.domain.outer, self.blocks, 0) && !self.in_some_hole(p)
+    }
 }

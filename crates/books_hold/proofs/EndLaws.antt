@@ -12,7 +12,7 @@ use Rattle.direction.specs.Record.{FieldRecord}
 use Rattle.front.specs.State.{State, next_of, node_places}
 use Rattle.front.specs.Place.{place, is_full}
 use Rattle.front.specs.Sampling.{sampled_count}
-use Rattle.paving.specs.declared.FarCorners.{FarCorners}
+use Rattle.front.specs.declared.FarCorners.{FarCorners}
 use Rattle.paving.specs.declared.End.{End}
 use Rattle.paving.specs.declared.End.TheVariants.{Still, Passes, Cap, Full}
 use Rattle.paving.specs.Attempt.{try_edge}

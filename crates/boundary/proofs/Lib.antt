@@ -1,4 +1,4 @@
-pub mod Holes
+pub mod StoppedSums
 pub mod Written
 pub mod LoopWritten
 pub mod LoopsLaid

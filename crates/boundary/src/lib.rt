@@ -1,13 +1,14 @@
 // Sampling: `Paving::from_boundary` of src/alt_crossfield.rs, with refusal 10.
 #![tactic(auto)]
 
-ghost use Rattle.std.specs.Prelude.{◌≡◌, false, cond, List, ℕ, ◌+◌, ◌-◌, ◌*◌, ◌<◌, min, length};
+ghost use Rattle.std.specs.Prelude.{◌≡◌, false, cond, List, ℕ, ◌+◌, ◌-◌, ◌*◌, ◌/◌, ◌<◌, min, length};
 ghost use Rattle.domain.specs.Outline.{outline_of, misshapen, after};
 ghost use Rattle.domain.specs.Refusals.{refused};
 ghost use Rattle.front.specs.declared.Counts.{Counts};
 ghost use Rattle.front.specs.Lent.{mesh_state};
 ghost use Rattle.front.specs.State.{node_in, most_nodes};
-ghost use Rattle.front.specs.Sampling.{parts_of, loop_parts, sampled_count, sampled_refusal, front_refusal, cut, sample_segment, sample_loop, from_boundary};
+ghost use Rattle.geometry.specs.Plane.{area_term};
+ghost use Rattle.front.specs.Sampling.{parts_of, parts, loop_parts, sampled_count, sampled_refusal, front_refusal, cut, sample_segment, sample_loop, from_boundary};
 ghost use Rattle.front.specs.Sampling.{signed_area, edge_length, longest_edge, ring_in, ring_count, sampled_at, midpoint, split_longest};
 ghost use Rattle.sampled.specs.Joins.{with_link};
 ghost use Rattle.boundary.specs.Counting.{most, even_up};
@@ -29,20 +30,30 @@ pub fn parts_of(size: f64, length: f64) -> u64
     numbers::ceil_count(length / (Settings::STRETCH * size)).max(1)
 }
 
+// The parts of segment i of a loop.
+// Stays by number, here and below, for the reason given at `blocks::crossings`.
+#[tactic(auto, unfolding(front::specs::Sampling::parts))]
+fn parts_at(s: &[f64], size: f64, i: usize) -> u64
+    requires { i < length s.now / 2 }
+    ensures { result ≡ parts size s.now i }
+{
+    let a = outlines::point_at(s, i);
+    let b = outlines::point_after(s, i);
+    parts_of(size, geometry::distance(a, b))
+}
+
+// A count and more, stopped.
+fn added(count: u64, more: u64) -> u64
+    ensures { result ≡ min (count + more) most }
+{
+    count.saturating_add(more).min(MOST)
+}
+
 // The points of a loop before it is made even.
 pub fn loop_parts(s: &[f64], size: f64) -> u64
     ensures { result ≡ min (loop_parts size s.now) most }
 {
-    // Stays a loop, as in `sampled_count`: each turn stops the sum at `MOST`.
-    let mut sum: u64 = 0;
-    for i in 0..s.len() / 2 {
-        let a = outlines::point_at(s, i);
-        let b = outlines::point_after(s, i);
-        sum = sum
-            .saturating_add(parts_of(size, geometry::distance(a, b)))
-            .min(MOST);
-    }
-    sum
+    (0..s.len() / 2).fold(0, |sum, i| added(sum, parts_at(s, size, i)))
 }
 
 // The points sampled of a loop: an odd one gets one more.
@@ -58,15 +69,11 @@ pub fn sampled_count(domain: Domain<'_>, size: f64) -> u64
     requires { misshapen (outline_of domain) ≡ false }
     ensures { result ≡ min (sampled_count (outline_of domain.entry) size) most }
 {
-    let mut sum = loop_nodes(domain.outer, size).min(MOST);
-    for hole in outlines::holes_of(domain) {
-        sum = (sum + loop_nodes(hole.points, size)).min(MOST);
-    }
-    sum
+    outlines::loops_of(domain).fold(0, |sum, each| added(sum, loop_nodes(each.points, size)))
 }
 
 // Refusal 10, where so many node places and edge places are lent; node places past 4,294,967,294 count as not lent.
-pub fn check_places(
+pub fn check_front_places(
     domain: Domain<'_>,
     size: f64,
     node_places: usize,
@@ -132,21 +139,24 @@ struct MeshRing<'a> {
 }
 
 impl MeshRing<'_> {
+    // What the edge from the node sampled as number i to the next one adds to twice the area.
+    fn area_term(&self, i: u32) -> f64
+        requires { i < self.now.ring.count }
+        ensures { result ≡ area_term (node_in self.now.mesh.now.xs.now self.now.mesh.now.ys.now (self.now.ring.base + i))
+            (node_in self.now.mesh.now.xs.now self.now.mesh.now.ys.now (self.now.ring.base + after self.now.ring.count i)) }
+    {
+        let base = self.ring.base;
+        let after = outlines::after(self.ring.count as usize, i as usize) as u32;
+        let a = self.mesh.node(base + i);
+        let b = self.mesh.node(base + after);
+        geometry::area_term(a, b)
+    }
+
     // `signed_area` of the nodes in the order sampled.
     fn signed_area(&self) -> f64
         ensures { result ≡ signed_area self.now.mesh.now.xs.now self.now.mesh.now.ys.now self.now.ring.base self.now.ring.count }
     {
-        let base = self.ring.base;
-        let n = self.ring.count;
-        // Stays a loop: the definition adds from 0.0 in this order, and a `fold` of the same turns is no plainer.
-        let mut sum = 0.0;
-        for i in 0..n {
-            let after = outlines::after(n as usize, i as usize) as u32;
-            let a = self.mesh.node(base + i);
-            let b = self.mesh.node(base + after);
-            sum += geometry::area_term(a, b);
-        }
-        0.5 * sum
+        0.5 * (0..self.ring.count).fold(0.0, |sum, i| sum + self.area_term(i))
     }
 
     // The ends of the edge from the node sampled as number k to the next one.
@@ -177,17 +187,18 @@ impl MeshRing<'_> {
         ensures { (result ≡ longest_edge self.now.mesh.now.xs.now self.now.mesh.now.ys.now self.now.ring.base self.now.ring.count self.now.ring.turned)
             × (result < self.now.ring.count) }
     {
-        // Stays a loop: it keeps the best length beside its place, and floats have no order for `max_by`.
-        let mut best = 0;
-        let mut longest = self.edge_length(0);
-        for i in 0..self.ring.count as usize {
-            let length = self.edge_length(i);
-            if !(length < longest) {
-                best = i;
-                longest = length;
-            }
-        }
-        best
+        (0..self.ring.count as usize).fold(
+            0,
+            |best, i|
+                requires { (best < self.now.ring.count) × (i < self.now.ring.count) }
+            {
+                if self.edge_length(i) < self.edge_length(best) {
+                    best
+                } else {
+                    i
+                }
+            },
+        )
     }
 
     // The midpoint of the longest edge.
@@ -293,8 +304,7 @@ pub fn from_boundary(domain: Domain<'_>, size: f64, paving: &mut Paving<'_>)
         ≡ from_boundary (outline_of domain.entry) size (lent_with paving.old snapshot quads counts) }
 {
     paving.counts = Counts::default();
-    lay_loop(0, domain.outer, size, paving);
-    for hole in outlines::holes_of(domain) {
-        lay_loop(hole.index + 1, hole.points, size, paving);
+    for each in outlines::loops_of(domain) {
+        lay_loop(each.index, each.points, size, paving);
     }
 }

@@ -1,7 +1,7 @@
 // The motor bowl: the nodes of a lent mesh in whole steps of 1/64 degree, refused where a quad doesn't turn left in steps at all four corners.
 #![tactic(auto)]
 
-ghost use Rattle.std.specs.Prelude.{◌≡◌, not, ◌+◌, ◌*◌, ◌≤◌, ◌<◌, length};
+ghost use Rattle.std.specs.Prelude.{◌≡◌, not, ◌*◌, ◌≤◌, ◌<◌, length};
 ghost use Rattle.domain.specs.Accepted.{AllFit};
 ghost use Rattle.orientation.specs.Orient.{way};
 ghost use Rattle.front.specs.State.{counted};
@@ -13,11 +13,12 @@ ghost use Rattle.bowl.specs.Stepped.{vector, NodeWithin, FewSteps, IsVector, Qua
 use domain::Refusal;
 use front::{Counts, Mesh};
 use lent_mesh::QuadIds;
+use mesh_check::NumberedMesh;
 
 // `refusal` is 23 or 25, 0 where nothing is refused; `quad` is the lowest quad that the bowl can't show, where 25 says so.
 // Stays a number beside a quad: the C interface answers this struct.
 #[repr(C)]
-#[derive(Clone, Copy)]
+#[derive(Clone, Copy, Default)]
 pub struct StepsAnswer {
     pub refusal: u32,
     pub quad: usize,
@@ -83,26 +84,12 @@ fn is_shown(mesh: &Mesh<'_>, q: QuadIds) -> bool
     ca.is_left(ab) && ab.is_left(bd) && bd.is_left(dc) && dc.is_left(ca)
 }
 
-// The ids of quad k.
-#[tactic(auto, unfolding(lent_mesh::specs::Mesh::quad_in))]
-fn quad_ids(mesh: &Mesh<'_>, k: usize) -> QuadIds
-    requires { 4 * (k + 1) ≤ length mesh.now.quads.now }
-    ensures { result ≡ quad_in mesh.now.quads.now k }
-{
-    QuadIds {
-        a: mesh.quads[4 * k],
-        b: mesh.quads[4 * k + 1],
-        d: mesh.quads[4 * k + 2],
-        c: mesh.quads[4 * k + 3],
-    }
-}
-
 // Whether quad k can't be shown.
 fn is_hidden(mesh: &Mesh<'_>, k: usize) -> bool
     requires { QuadsWithin mesh.now.xs.now mesh.now.ys.now mesh.now.quads.now mesh.now.counts.quads × (k < mesh.now.counts.quads) }
     ensures { result ≡ not (is_shown mesh.now.xs.now mesh.now.ys.now (quad_in mesh.now.quads.now k)) }
 {
-    !is_shown(mesh, quad_ids(mesh, k))
+    !is_shown(mesh, lent_mesh::quad_at(mesh.quads, k))
 }
 
 // The lowest quad that can't be shown.
@@ -116,7 +103,7 @@ fn lowest_hidden(mesh: &Mesh<'_>) -> Option<usize>
 // ---- the step buffer
 
 // The steps of the nodes, two places a node.
-// Stays indexed: chunks of two zipped with both coordinates are no plainer than one index.
+// Stays indexed: of what is written through `chunks_exact_mut` a proof learns the length alone.
 fn store_steps(mesh: &Mesh<'_>, steps: &mut [i32])
     requires { NodesWithin mesh.now.xs.now mesh.now.ys.now mesh.now.counts.nodes × (2 * mesh.now.counts.nodes ≤ length steps.old) }
     ensures { steps.new ≡ stored_steps mesh.now.xs.now mesh.now.ys.now mesh.now.counts.nodes steps.old }
@@ -130,32 +117,29 @@ fn store_steps(mesh: &Mesh<'_>, steps: &mut [i32])
 // ---- the entry
 
 // 23 of the mesh, 23 where a node hasn't two of the places, then 25.
-// Stays C's struct: 23 has no quad and 25 has one, so that a `Result` would need an enum of its own that says the same two values once more.
-fn steps_answer(mesh: &Mesh<'_>, origins: &[u16], places: usize) -> StepsAnswer
-    requires { AllFit mesh.now.xs.now × AllFit mesh.now.ys.now }
-    ensures { result ≡ steps_answer (lent_in mesh.now origins.now) places }
+// Stays C's struct: the error of a `Result` would be this struct too, since 25 has a quad, and the entry would need a second clause, that its refusal isn't 0.
+fn steps_answer(lent: NumberedMesh<'_, '_>, places: usize) -> StepsAnswer
+    requires { AllFit lent.mesh.xs.now × AllFit lent.mesh.ys.now }
+    ensures { result ≡ steps_answer (lent_in lent.entry.mesh lent.entry.origins.now) places }
 {
-    if mesh_check::check_mesh(mesh, origins).is_err() || places / 2 < mesh.counts.nodes as usize {
+    if lent.check().is_err() || places / 2 < lent.mesh.counts.nodes as usize {
         return StepsAnswer {
             refusal: u32::from(Refusal::UnsoundMesh),
-            quad: 0,
+            ..StepsAnswer::default()
         };
     }
-    match lowest_hidden(mesh) {
+    match lowest_hidden(&lent.mesh) {
         Some(quad) => StepsAnswer {
             refusal: u32::from(Refusal::NotShown),
             quad,
         },
-        None => StepsAnswer {
-            refusal: 0,
-            quad: 0,
-        },
+        None => StepsAnswer::default(),
     }
 }
 
 // The nodes of a lent mesh in whole steps of 1/64 degree, each coordinate at the nearest step, halves at the even one. The mesh is only read, and the buffer is
 // written once nothing is refused.
-// Stays a row of slices and numbers: C calls it.
+// Stays a row of slices and numbers, made a mesh by literals: C calls it.
 #[unsafe(no_mangle)]
 pub extern "C" fn sitjorbe_steps(
     xs: &[f64],
@@ -189,7 +173,7 @@ pub extern "C" fn sitjorbe_steps(
             front: front_count,
         },
     };
-    let r = steps_answer(&mesh, origins, steps.len());
+    let r = steps_answer(NumberedMesh { mesh, origins }, steps.len());
     let given = r.refusal == 0;
     if given {
         store_steps(&mesh, steps);

@@ -16,12 +16,13 @@ ghost use Rattle.crossfield.specs.Seeds.{grid_point, seed, is_fixed, seed_node, 
 ghost use Rattle.crossfield.specs.Field.{places_refusal, drawn_refusal, refusal_for, field_refusal, field_of, field_result, field_answer, FieldDraws};
 
 use averages::{GridNode, GridRow};
+use blocks::DrawnOutline;
 use direction::Grid;
 use domain::{Domain, Near, Point, Refusal, Settings};
 use sweeps::MarkedGrid;
 
 // `(xmin, xmax, ymin, ymax)`
-// Stays a type beside `blocks::Extent`, which has the same fields: that one is of a block's reach, and the definitions of both crates name their own.
+// Stays a type beside `blocks::Extent`, which has the same fields: the definitions of the field are of this one, and what they say rests on no block.
 #[derive(Clone, Copy)]
 pub struct Bounds {
     pub xmin: f64,
@@ -33,10 +34,8 @@ pub struct Bounds {
 // What seeds are made of: the outline with its blocks, and the grid.
 #[derive(Clone, Copy)]
 struct Seeding<'a> {
-    domain: Domain<'a>,
-    blocks: &'a [u32],
+    outline: DrawnOutline<'a>,
     grid: Grid,
-    ghost drawn: { Drawn (outline_of domain) blocks.now },
 }
 
 // ---- the bounding box, over all loops
@@ -74,16 +73,11 @@ impl Bounds {
     }
 }
 
-// Stays a loop: a fold over the holes that begins with the outer loop's box is no plainer.
 pub fn bounds_of(domain: Domain<'_>) -> Bounds
     requires { misshapen (outline_of domain) ≡ false }
     ensures { result ≡ bounds (outline_of domain.entry) }
 {
-    let mut wide = Bounds::none().around(domain.outer);
-    for hole in outlines::holes_of(domain) {
-        wide = wide.around(hole.points);
-    }
-    wide
+    outlines::loops_of(domain).fold(Bounds::none(), |wide, each| wide.around(each.points))
 }
 
 // ---- the grid
@@ -112,14 +106,14 @@ fn too_many_nodes(width: f64, height: f64, h: f64) -> bool
 fn spacing(width: f64, height: f64, h: f64) -> f64
     ensures { result ≡ spacing width height h }
 {
-    let mut grown = h;
-    for _ in 0..64usize {
-        if !too_many_nodes(width, height, grown) {
-            break;
-        }
-        grown = grown * 1.25;
-    }
-    grown
+    (0..64usize).fold(
+        h,
+        |grown, _| if too_many_nodes(width, height, grown) {
+            grown * 1.25
+        } else {
+            grown
+        },
+    )
 }
 
 #[tactic(auto, using(crate::specs::Counts::few_columns, crate::specs::Counts::few_rows), unfolding(crate::specs::Grid::grid_of))]
@@ -222,10 +216,9 @@ impl Seeding<'_> {
     // Whether a node at p is fixed: inside, and its nearest segment within 1.5 spacings. The distance is known, so it is asked first.
     #[tactic(auto, unfolding(crate::specs::Seeds::is_fixed))]
     fn is_fixed(&self, p: Point, found: Near) -> bool
-        ensures { result ≡ is_fixed (outline_of self.now.domain) self.now.grid.h p found }
+        ensures { result ≡ is_fixed (outline_of self.now.outline.domain) self.now.grid.h p found }
     {
-        found.distance <= Settings::BAND * self.grid.h
-            && blocks::contains_point(self.domain, self.blocks, p)
+        found.distance <= Settings::BAND * self.grid.h && self.outline.contains_point(p)
     }
 
     // One search serves a node's value and its mark. The answer is the nearest segment, which is a guess of the next node's.
@@ -234,13 +227,13 @@ impl Seeding<'_> {
         requires node { NodeIn self.now.grid node values.old }
         requires node_mark { NodeMark self.now.grid.nx self.now.grid.ny node.id (length marks.old) }
         ensures marks_after { field_lists values.new marks.new
-            ≡ seed_node (outline_of self.now.domain) self.now.grid node.j node.i
+            ≡ seed_node (outline_of self.now.outline.domain) self.now.grid node.j node.i
             (field_lists values.old marks.old) }
         ensures value { result
-            ≡ nearest_segment (outline_of self.now.domain) (grid_point self.now.grid node.i node.j) }
+            ≡ nearest_segment (outline_of self.now.outline.domain) (grid_point self.now.grid node.i node.j) }
     {
         let p = grid_point(self.grid, node);
-        let found = nearest::nearest_segment(self.domain, self.blocks, p, guess);
+        let found = nearest::nearest_segment(self.outline, p, guess);
         let v = seed(geometry::tangent(found.a, found.b));
         let mark = u8::from(self.is_fixed(p, found));
         sweeps::set_value(values, node.id, v);
@@ -253,12 +246,12 @@ impl Seeding<'_> {
         requires row { RowIn self.now.grid row values.old }
         requires row_marks { RowMarks self.now.grid.nx self.now.grid.ny row.first (length marks.old) }
         ensures { field_lists values.new marks.new
-            ≡ seed_row (outline_of self.now.domain) self.now.grid row.j
+            ≡ seed_row (outline_of self.now.outline.domain) self.now.grid row.j
             (field_lists values.old marks.old) }
     {
         let mut near = Near {
-            a: outlines::point_at(self.domain.outer, 0),
-            b: outlines::point_at(self.domain.outer, 1),
+            a: outlines::point_at(self.outline.domain.outer, 0),
+            b: outlines::point_at(self.outline.domain.outer, 1),
             distance: 0.0,
             loop_index: 0,
             segment_index: 0,
@@ -274,7 +267,7 @@ impl Seeding<'_> {
         requires nx_le_most_field_nodes { (self.now.grid.nx ≤ most_field_nodes)
             × (self.now.grid.ny ≤ most_field_nodes) }
         ensures { field_lists values.new marks.new
-            ≡ seeded (outline_of self.now.domain) self.now.grid
+            ≡ seeded (outline_of self.now.outline.domain) self.now.grid
             (field_lists values.old marks.old) }
     {
         let Grid { nx, ny, .. } = self.grid;
@@ -327,11 +320,8 @@ pub fn make_field(
 {
     let grid = grid_of(bounds_of(domain), size);
     blocks::file(domain, blocks);
-    let seeding = Seeding {
-        domain,
-        blocks,
-        grid,
-    };
+    let outline = DrawnOutline { domain, blocks };
+    let seeding = Seeding { outline, grid };
     seeding.seed_all(values, marks);
     MarkedGrid { grid, marks }.sweeps(limit, values);
     grid

@@ -65,23 +65,15 @@ fn point_answer(field: CrossField<'_>, p: Point, target: Point) -> Result<Point,
 }
 
 // An answer at the three places from k on.
-#[tactic(auto, using(crate::specs::Laws::three_stores), unfolding(crate::specs::Directions::direction_floats))]
 fn write_answer(answers: &mut [f64], k: usize, answer: Result<Point, Refusal>)
     requires { k + 3 ≤ length answers.old }
     ensures { answers.new ≡ sets answers.old k (direction_floats (numbered answer)) }
 {
-    match answer {
-        Err(refusal) => {
-            answers[k] = numbers::to_f64(u32::from(refusal) as usize);
-            answers[k + 1] = 0.0;
-            answers[k + 2] = 0.0;
-        }
-        Ok(direction) => {
-            answers[k] = 0.0;
-            answers[k + 1] = direction.x;
-            answers[k + 2] = direction.y;
-        }
-    }
+    let floats = match answer {
+        Err(refusal) => [numbers::to_f64(u32::from(refusal) as usize), 0.0, 0.0],
+        Ok(direction) => [0.0, direction.x, direction.y],
+    };
+    answers[k..k + 3].copy_from_slice(&floats);
 }
 
 // The answers of all points, where none of 14 and 11 refuses.

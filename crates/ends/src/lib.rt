@@ -31,7 +31,7 @@ pub fn snapshot_edge(next: &[u32], snapshot: &[u32], a: u32) -> Option<u32>
 
 // After a quad, where there are so many: on, or the end at the cap.
 #[tactic(auto, unfolding(crate::specs::Answers::quad_settled))]
-pub fn after_quad(quads: usize) -> ControlFlow<End, bool>
+pub fn quad_settled(quads: usize) -> ControlFlow<End, bool>
     ensures { result ≡ quad_settled quads }
 {
     if quads >= Settings::MOST_QUADS {
@@ -42,7 +42,7 @@ pub fn after_quad(quads: usize) -> ControlFlow<End, bool>
 }
 
 // After the last edge: on with the next pass, or still where this one placed nothing.
-pub fn after_pass(placed: bool) -> ControlFlow<End>
+pub fn pass_answer(placed: bool) -> ControlFlow<End>
     ensures { result ≡ pass_answer placed }
 {
     if placed {

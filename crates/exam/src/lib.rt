@@ -59,7 +59,7 @@ pub enum ResultRead {
     ReadEstimate(u32, u32, u32),
 }
 
-// Stays an enum with `Unknown`, and no `Option`: it is a request like the others, which no role has.
+// Stays an enum with `Unknown`, and no `Option`: the entry's promise (`ExamGiven`) is over `request_numbered`, which makes a request of every number.
 #[derive(Clone, Copy)]
 pub enum ExamRequest {
     Changes(ResultChange),

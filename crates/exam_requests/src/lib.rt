@@ -12,11 +12,12 @@ ghost use Rattle.exam_requests.specs.Lent.{exam_mesh_lent};
 
 use domain::Refusal;
 use exam::{ExamReply, ExamRequest, MeshRead, ResultChange, ResultRead};
-use exam_results::{LentResults, Thresholds};
+use exam_results::{LentResults, Thresholds, Weights};
 use lent_mesh::LentMesh;
 use loop_reads::LentLinks;
 
 // The mesh of an exam as it is lent.
+// Stays with x and y apart, and next and prev: C lends them so.
 #[derive(Clone, Copy)]
 pub struct LentExamMesh<'a> {
     pub nodes: u32,
@@ -164,10 +165,14 @@ fn threshold_reply(thresholds: &Thresholds<'_>, id: u32) -> Result<ExamReply, Re
 }
 
 #[tactic(auto, unfolding(exam::specs::Exam::estimate_reply))]
-fn estimate_reply(thresholds: &Thresholds<'_>, k: u32, u: u32, v: u32) -> Result<ExamReply, Refusal>
-    ensures { numbered result ≡ estimate_reply (mesh_lent thresholds.now.mesh) thresholds.now.list.now k u v }
+fn estimate_reply(
+    thresholds: &Thresholds<'_>,
+    k: u32,
+    weights: Weights,
+) -> Result<ExamReply, Refusal>
+    ensures { numbered result ≡ estimate_reply (mesh_lent thresholds.now.mesh) thresholds.now.list.now k weights.u weights.v }
 {
-    Ok(ExamReply::Estimate(thresholds.estimate_at(k as usize, u, v)?))
+    Ok(ExamReply::Estimate(thresholds.estimate_at(k as usize, weights)?))
 }
 
 #[tactic(auto, unfolding(exam::specs::Exam::result_reply))]
@@ -182,6 +187,6 @@ pub fn read_results(
     match read {
         ResultRead::ReadThreshold(id) => threshold_reply(&thresholds, id),
         ResultRead::ReadFigures => Ok(ExamReply::Figures(*results.count, *results.sum)),
-        ResultRead::ReadEstimate(k, u, v) => estimate_reply(&thresholds, k, u, v),
+        ResultRead::ReadEstimate(k, u, v) => estimate_reply(&thresholds, k, Weights { u, v }),
     }
 }

@@ -2,7 +2,7 @@
 // thresholds of those quads, and the estimate between the nodes of a quad. A call that changes them looks only at the quads that name its node.
 #![tactic(auto)]
 
-ghost use Rattle.std.specs.Prelude.{◌≡◌, ◌<◌, ◌≤◌, ◌||◌, length, ◌==◌, eqb};
+ghost use Rattle.std.specs.Prelude.{◌≡◌, ◌<◌, ◌≤◌, ◌||◌, length, eqb, ltb};
 ghost use Rattle.std.specs.List.{list_any};
 ghost use Rattle.domain.specs.Refusals.{refusal_number, refused, numbered};
 ghost use Rattle.lent_mesh.specs.Mesh.{mesh_lent};
@@ -25,6 +25,22 @@ pub const NO_THRESHOLD: u16 = 65535;
 
 // The greatest weight: all the way across the quad.
 pub const MOST_WEIGHT: u32 = 256;
+
+// How far across a quad, in 256ths: u from a towards b, v from a towards c.
+#[derive(Clone, Copy)]
+pub struct Weights {
+    pub u: u32,
+    pub v: u32,
+}
+
+// The thresholds at a quad's corners.
+#[derive(Clone, Copy)]
+struct CornerThresholds {
+    a: u32,
+    b: u32,
+    d: u32,
+    c: u32,
+}
 
 // Thresholds as they are lent, at the nodes of a mesh.
 #[derive(Clone, Copy)]
@@ -118,6 +134,7 @@ impl Thresholds<'_> {
 
     // What the quads have that name id.
     // Stays a loop: one scan makes both sums, and that neither wraps is its invariant.
+    #[tactic(auto, using(crate::specs::FigureLaws::share_small))]
     fn node_share(&self, id: u32) -> Share
         ensures { let m = mesh_lent self.now.mesh in
             (result.count ≡ share_of m id (count_at m self.now.list.now)) × (result.sum ≡ share_of m id (sum_at m self.now.list.now)) }
@@ -234,51 +251,61 @@ impl LentResults<'_> {
 
 // ---- estimates
 
-// Four thresholds by the weights u and v, rounded down once.
-#[tactic(auto, using(crate::specs::EstimateLaws::terms_small), unfolding(estimates::specs::Estimate::estimate))]
-fn weigh(u: u32, v: u32, a: u32, b: u32, d: u32, c: u32) -> u32
-    requires { Weighable u v a b d c }
-    ensures { result ≡ estimate u v a b d c }
-{
-    let s = MOST_WEIGHT - u;
-    let t = MOST_WEIGHT - v;
-    (s * t * a + u * t * b + u * v * d + s * v * c) / 65536
+impl Weights {
+    // Whether either is above the greatest.
+    fn are_too_high(self) -> bool
+        ensures { result ≡ (ltb 256 self.u || ltb 256 self.v) }
+    {
+        self.u > MOST_WEIGHT || self.v > MOST_WEIGHT
+    }
+
+    // The thresholds at a quad's corners by the weights, rounded down once.
+    #[tactic(auto, using(crate::specs::EstimateLaws::terms_small), unfolding(estimates::specs::Estimate::estimate))]
+    fn weigh(self, at: CornerThresholds) -> u32
+        requires { Weighable self.u self.v at.a at.b at.d at.c }
+        ensures { result ≡ estimate self.u self.v at.a at.b at.d at.c }
+    {
+        let s = MOST_WEIGHT - self.u;
+        let t = MOST_WEIGHT - self.v;
+        (s * t * at.a + self.u * t * at.b + self.u * self.v * at.d + s * self.v * at.c) / 65536
+    }
 }
 
 impl Thresholds<'_> {
     // The estimate in a quad that has all four thresholds.
     #[tactic(auto, unfolding(estimates::specs::Estimate::estimate_of))]
-    fn estimate_in(&self, q: QuadIds, u: u32, v: u32) -> u32
-        requires { Estimable self.now.mesh.nodes self.now.list.now q u v }
-        ensures { result ≡ estimate_of u v self.now.list.now q }
+    fn estimate_in(&self, q: QuadIds, weights: Weights) -> u32
+        requires { Estimable self.now.mesh.nodes self.now.list.now q weights.u weights.v }
+        ensures { result ≡ estimate_of weights.u weights.v self.now.list.now q }
     {
-        let a = self.at(q.a);
-        let b = self.at(q.b);
-        let d = self.at(q.d);
-        let c = self.at(q.c);
-        weigh(u, v, a, b, d, c)
+        weights.weigh(CornerThresholds {
+            a: self.at(q.a),
+            b: self.at(q.b),
+            d: self.at(q.d),
+            c: self.at(q.c),
+        })
     }
 
     // A quad that isn't in the mesh or lacks a threshold, then a weight above 256.
     #[tactic(auto, unfolding(estimates::specs::Estimate::estimate_refusal))]
-    fn check_estimate(&self, quad: usize, u: u32, v: u32) -> Result<(), Refusal>
-        ensures { refused result ≡ estimate_refusal (mesh_lent self.now.mesh) self.now.list.now quad u v }
+    fn check_estimate(&self, quad: usize, weights: Weights) -> Result<(), Refusal>
+        ensures { refused result ≡ estimate_refusal (mesh_lent self.now.mesh) self.now.list.now quad weights.u weights.v }
     {
         if quad >= self.mesh.quad_count() || !self.is_complete(self.mesh.quad(quad)) {
             return Err(Refusal::NoQuad);
         }
-        if u > MOST_WEIGHT || v > MOST_WEIGHT {
+        if weights.are_too_high() {
             return Err(Refusal::WeightTooHigh);
         }
         Ok(())
     }
 
-    // The estimate in quad `quad` at the weights u and v.
+    // The estimate in quad `quad` at the weights.
     #[tactic(auto, using(crate::specs::FigureLaws::refusal_answered), unfolding(estimates::specs::Estimate::estimate_answer))]
-    pub fn estimate_at(&self, quad: usize, u: u32, v: u32) -> Result<u32, Refusal>
-        ensures { numbered result ≡ estimate_answer (mesh_lent self.now.mesh) self.now.list.now quad u v }
+    pub fn estimate_at(&self, quad: usize, weights: Weights) -> Result<u32, Refusal>
+        ensures { numbered result ≡ estimate_answer (mesh_lent self.now.mesh) self.now.list.now quad weights.u weights.v }
     {
-        self.check_estimate(quad, u, v)?;
-        Ok(self.estimate_in(self.mesh.quad(quad), u, v))
+        self.check_estimate(quad, weights)?;
+        Ok(self.estimate_in(self.mesh.quad(quad), weights))
     }
 }

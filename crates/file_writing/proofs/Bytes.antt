@@ -1,12 +1,12 @@
 -- What the code's ways of writing bytes rest on.
-use Rattle.std.proofs.Common.{◌≡◌, refl, sym, ap, ap₂, ◌∙◌, ℕ, zero, suc, ◌+◌, ◌-◌, ◌*◌, ◌/◌, ◌%◌, ◌^◌, ◌≤◌, ◌<◌, min, subst, Float, List, ◌∷◌, ◌++◌, append_assoc, append-nil, drop_of_length-le, length, take, drop, arith, replicate, drop-drop, length-take, length-drop}
-use Rattle.std.proofs.lemmas.List.{length-replicate}
+use Rattle.std.proofs.Common.{◌≡◌, refl, sym, ap, ap₂, ◌∙◌, ℕ, zero, suc, ◌+◌, ◌-◌, ◌*◌, ◌/◌, ◌%◌, ◌^◌, ◌≤◌, ◌<◌, min, subst, Float, List, ◌∷◌, ◌++◌, append_assoc, append-nil, drop_of_length-le, length, take, drop, arith, replicate, drop-drop, length-take, length-drop, take_at, drop_at}
+use Rattle.std.proofs.lemmas.List.{length-replicate, take_min, drop_min}
 use Rattle.std.specs.Int.{byte_at, bytes_low_first, to_le_bytes}
 use Rattle.std.proofs.Math.Nat.{pow-suc, div-div-eq-div-mul}
 use mir.Syntax.{w64}
 use Rattle.std.proofs.Math.Seq.{sets, sets-eq}
 use Rattle.laws.specs.Overlay.{overlay}
-use Rattle.outline_file.specs.File.{number_bytes, block_of, point_bytes}
+use Rattle.outline_file.specs.File.{number_bytes, block_of, point_bytes, point_blocks}
 use Rattle.file_writing.specs.RoundTrip.{bytes_length, block_wide}
 use Rattle.file_writing.specs.WriteLaws.{Blocks, blocks_long, blocks_put, points_used, sets_first, sets_part}
 
@@ -71,6 +71,29 @@ points_put points {file} {n} {k} {s} l within long h {to} e {part} f =
     subst (Blocks points file n (k + 1))
     (sets_part s (512 * (k + 1)) (block_of (point_bytes here)) (omega (arith, wide, room)) refl ∙ sym (block_put s (512 * (k + 1)) f wide room))
     (blocks_put points l within long h e refl)
+
+-- a chunk of the points that are left, after k chunks of 62
+module _ (points : List Float) (k : ℕ) {left : List Float} (chunk rest : List Float) {size : ℕ} (here : left ≡ drop (62 * k) points) (full : size ≡ 62)
+    (cut : left ≡ chunk ++ rest) (long : length chunk ≡ min size (length left)) where
+  pub chunk_rest : rest ≡ drop (62 * (k + 1)) points
+  chunk_rest =
+      sym (drop_at chunk rest (min size (length left)) long) ∙ ap (drop (min size (length left))) (sym cut) ∙ drop_min size left
+      ∙ ap₂ drop full here ∙ drop-drop 62 (62 * k) points ∙ ap (λ (n : ℕ). drop n points) (omega arith)
+
+  chunk_is : chunk ≡ take 62 (drop (62 * k) points)
+  chunk_is =
+      sym (take_at chunk rest (min size (length left)) long) ∙ ap (take (min size (length left))) (sym cut) ∙ take_min size left ∙ ap₂ take full here
+
+  pub chunk_put : {file : List ℕ} {n : ℕ} {s : List ℕ} → Blocks points file n k s → n ≡ point_blocks (length points / 2) → length points % 2 ≡ 0
+      → 512 * (n + 1) ≤ length file → 0 < length left → {part : List ℕ} → part ≡ block_of (point_bytes chunk)
+      → Blocks points file n (k + 1) (take (512 * (k + 1)) s ++ (part ++ drop (512 * (k + 1) + 512 - 512 * (k + 1)) (drop (512 * (k + 1)) s)))
+  chunk_put l count even room some f =
+      let ahead : List Float = drop (62 * k) points in
+      let more : length left ≡ length points - 62 * k = ap length here ∙ length-drop (62 * k) points in
+      let at : min 62 (length ahead) ≡ min (62 * k + 62) (length points) - 62 * k = omega (arith, length-drop (62 * k) points) in
+      let part_is = chunk_is ∙ sym (take_min 62 ahead) ∙ ap (λ (j : ℕ). take j ahead) at in
+      points_put points l (omega (arith, more, some)) room (omega (arith, count, even, more, some)) refl
+      (f ∙ ap (λ (p : List Float). block_of (point_bytes p)) part_is)
 
 -- a block that takes the place of a whole list
 pub whole_block : (l c : List ℕ) → length l ≡ 512 → length c ≤ 510 → sets l 0 (block_of c) ≡ block_of c

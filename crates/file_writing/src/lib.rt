@@ -1,7 +1,7 @@
 // The outline file of a request, written to a slice.
 #![tactic(auto)]
 
-ghost use Rattle.std.specs.Prelude.{◌≡◌, ◌+◌, ◌-◌, ◌/◌, ◌≤◌, ◌<◌, length, take, replicate, MatchOption, IfSome};
+ghost use Rattle.std.specs.Prelude.{◌≡◌, ◌+◌, ◌-◌, ◌/◌, ◌%◌, ◌≤◌, ◌<◌, length, take, MatchOption, IfSome};
 ghost use Rattle.std.specs.Option.{unwrap_or};
 ghost use Rattle.std.proofs.lemmas.List.Edits.{sets};
 ghost use Rattle.outline_file.specs.File.{number_bytes, block_of, length_bytes, head_bytes, point_bytes, blocks_of};
@@ -10,8 +10,8 @@ ghost use Rattle.outline_file.specs.File.{file_length, total_points, fileable, f
 
 use domain::Settings;
 use outline_file::{
-    BLOCK_COORDINATES, BLOCK_POINTS, CONTENTS, FILE_BLOCK, LENGTHS_AT, LOOPS_AT, MOST_FILE_POINTS,
-    MOST_LOOPS, PASSES_AT, SWEEPS_AT,
+    BLOCK_COORDINATES, CONTENTS, FILE_BLOCK, LENGTHS_AT, LOOPS_AT, MOST_FILE_POINTS, MOST_LOOPS,
+    PASSES_AT, SWEEPS_AT,
 };
 use std::num;
 
@@ -26,7 +26,9 @@ pub struct LentRequest<'a> {
     pub lens: &'a [usize],
 }
 
+// Stays with a place given: of what is written through `chunks_exact_mut` a proof learns the length alone. So do the loops below that call it.
 // Puts the `n` bytes of `x` from place `at` on, low byte first.
+#[tactic(auto, using(crate::proofs::Bytes::number_put))]
 fn put_number(n: usize, x: u64, b: &mut [u8], at: usize)
     requires { (n ≤ 8) × (at + n ≤ length b.old) }
     ensures { b.new ≡ sets b.old at (number_bytes n x) }
@@ -62,6 +64,7 @@ fn put_points(points: &[f64], b: &mut [u8; FILE_BLOCK])
     }
 }
 
+// Stays an array, and so does a block of points: nothing is allocated, and each block is copied to its place whole.
 fn head_block(settings: Settings, lens: &[usize]) -> [u8; FILE_BLOCK]
     requires { length lens.now ≤ 8 }
     ensures { result ≡ block_of (head_bytes «settings» lens.now) }
@@ -88,14 +91,12 @@ fn points_block(points: &[f64]) -> [u8; FILE_BLOCK]
 
 // Puts the blocks of points after the head's.
 fn write_blocks(points: &[f64], file: &mut [u8])
-    requires { (length points.now ≤ 496) × (file_length (length points.now / 2) ≤ length file.old) }
+    requires { (length points.now ≤ 496) × (length points.now % 2 ≡ 0) × (file_length (length points.now / 2) ≤ length file.old) }
     ensures { file.new ≡ sets file.old 512 (blocks_of points.now) }
 {
-    for k in 0..(points.len() / 2).div_ceil(BLOCK_POINTS) {
-        let from = BLOCK_COORDINATES * k;
-        let to = (from + BLOCK_COORDINATES).min(points.len());
+    for (k, part) in points.chunks(BLOCK_COORDINATES).enumerate() {
         let at = FILE_BLOCK * (k + 1);
-        file[at..at + FILE_BLOCK].copy_from_slice(&points_block(&points[from..to]));
+        file[at..at + FILE_BLOCK].copy_from_slice(&points_block(part));
     }
 }
 

@@ -25,13 +25,22 @@ pub struct Counts {
 }
 
 // A far corner of a quad: a front node that is reused, or a new point with its two coordinates.
+// Stays two floats, and no `Point`: the definitions (`store_x`, `store_y`, ..) name them one by one.
 #[derive(Clone, Copy)]
 pub enum Corner {
     Reused(u32),
     Fresh(f64, f64),
 }
 
+// The far corners of a quad.
+#[derive(Clone, Copy)]
+pub struct FarCorners {
+    pub c: Corner,
+    pub d: Corner,
+}
+
 // A quad a, b, d, c on the edge a to b: its far corners, and the ids that they have or get.
+// Stays with c and d apart: the definitions of what is stored name a quad's corners and ids one by one.
 #[derive(Clone, Copy)]
 pub struct NewQuad {
     pub a: u32,
@@ -117,30 +126,48 @@ impl Corner {
     }
 }
 
-impl NewQuad {
-    // The quad with the far corners c and d, where the next new node gets the number n.
-    pub fn new(n: u32, a: u32, b: u32, c: Corner, d: Corner) -> NewQuad
-        requires { n ≤ most_nodes }
-        ensures { result ≡ new_quad n a b c d }
+impl FarCorners {
+    // How many nodes both add.
+    pub fn added(self) -> u32
+        ensures { (result ≡ added self.c + added self.d) × (result ≤ 2) }
     {
+        self.c.added() + self.d.added()
+    }
+
+    // The node of d, where the next new node gets the number n: c's comes first.
+    pub fn id_d(self, n: u32) -> u32
+        requires { n ≤ 4294967294 }
+        ensures { result ≡ corner_id (n + added self.c) self.d }
+    {
+        self.d.id(n + self.c.added())
+    }
+}
+
+impl NewQuad {
+    // The quad with these far corners, where the next new node gets the number n.
+    pub fn new(n: u32, a: u32, b: u32, far: FarCorners) -> NewQuad
+        requires { n ≤ most_nodes }
+        ensures { result ≡ new_quad n a b far.c far.d }
+    {
+        let FarCorners { c, d } = far;
         NewQuad {
             a,
             b,
             c,
             d,
             id_c: c.id(n),
-            id_d: d.id(n + c.added()),
+            id_d: far.id_d(n),
         }
     }
 }
 
 impl Counts {
-    // The counts after a quad with the far corners c and d, which adds so many mesh edges.
-    pub fn after_quad(self, c: Corner, d: Corner, edges: usize) -> Counts
-        requires { Countable self c d edges }
-        ensures { result ≡ counts_with_quad self c d edges }
+    // The counts after a quad with these far corners, which adds so many mesh edges.
+    pub fn with_quad(self, far: FarCorners, edges: usize) -> Counts
+        requires { Countable self far.c far.d edges }
+        ensures { result ≡ counts_with_quad self far.c far.d edges }
     {
-        let m = c.added() + d.added();
+        let m = far.added();
         Counts {
             nodes: self.nodes + m,
             quads: self.quads + 1,
@@ -198,6 +225,8 @@ fn coordinate(s: &[f64], id: u32) -> f64
     s.get(id as usize).copied().unwrap_or(f64::NAN)
 }
 
+// A node's point; past the lists' ends NaNs.
+// Stays on both lists: an exam lends its coordinates and no `Mesh`.
 #[tactic(auto, unfolding(crate::specs::State::node_in))]
 pub fn node_at(xs: &[f64], ys: &[f64], id: u32) -> Point
     ensures { result ≡ node_in xs.now ys.now id }
@@ -231,7 +260,8 @@ pub fn link_at(links: &[u32], n: u32, u: u32) -> Option<u32>
 
 // ---- the new nodes
 
-// Stays on the lists that are written, and so do the edges, the quad and the front below: a method would have to say too that the others stay.
+// Writes a new corner's point as node n.
+// Stays on the lists that are written, and so do the edges, the quad and the front below: a method of `Paving` would have to promise too that the others stay.
 fn put_corner(c: Corner, xs: &mut [f64], ys: &mut [f64], n: u32)
     requires { (n + added c ≤ length xs.old) × (n + added c ≤ length ys.old) }
     ensures { (xs.new ≡ store_x c n xs.old) × (ys.new ≡ store_y c n ys.old) }
@@ -244,24 +274,24 @@ fn put_corner(c: Corner, xs: &mut [f64], ys: &mut [f64], n: u32)
     ys[i] = y;
 }
 
-fn put_corners(c: Corner, d: Corner, xs: &mut [f64], ys: &mut [f64], n: u32)
-    requires { (n + (added c + added d) ≤ 4294967294) × (n + (added c + added d) ≤ length xs.old)
-        × (n + (added c + added d) ≤ length ys.old) }
-    ensures { (xs.new ≡ store_x d (n + added c) (store_x c n xs.old))
-        × (ys.new ≡ store_y d (n + added c) (store_y c n ys.old)) }
+fn put_corners(far: FarCorners, xs: &mut [f64], ys: &mut [f64], n: u32)
+    requires { (n + (added far.c + added far.d) ≤ 4294967294) × (n + (added far.c + added far.d) ≤ length xs.old)
+        × (n + (added far.c + added far.d) ≤ length ys.old) }
+    ensures { (xs.new ≡ store_x far.d (n + added far.c) (store_x far.c n xs.old))
+        × (ys.new ≡ store_y far.d (n + added far.c) (store_y far.c n ys.old)) }
 {
-    put_corner(c, xs, ys, n);
-    put_corner(d, xs, ys, n + c.added());
+    put_corner(far.c, xs, ys, n);
+    put_corner(far.d, xs, ys, n + far.c.added());
 }
 
 // ---- the mesh edges
 
 // How many edges a quad adds: a to b is known, and so are the sides at reused corners.
 #[tactic(auto, unfolding(crate::specs::Stores::new_edges))]
-fn new_edges(across: bool, c: Corner, d: Corner) -> usize
-    ensures { (result ≡ new_edges across c d) × (result ≤ 3) }
+fn new_edges(across: bool, far: FarCorners) -> usize
+    ensures { (result ≡ new_edges across far.c far.d) × (result ≤ 3) }
 {
-    usize::from(!d.is_reused()) + usize::from(!across) + usize::from(!c.is_reused())
+    usize::from(!far.d.is_reused()) + usize::from(!across) + usize::from(!far.c.is_reused())
 }
 
 // Stores the edge between u and v as edge n, the smaller id first.
@@ -400,7 +430,7 @@ impl Mesh<'_> {
 
     // Whether n nodes, q quads or e mesh edges are beyond the places lent; `others` is as in `node_places`.
     #[tactic(auto, unfolding(crate::specs::Stores::places_exceeded, crate::specs::State::quad_places, crate::specs::State::edge_places))]
-    pub fn is_beyond(&self, others: usize, n: usize, q: usize, e: usize) -> bool
+    pub fn lacks_places(&self, others: usize, n: usize, q: usize, e: usize) -> bool
         ensures { result ≡ places_exceeded (mesh_state self.now) others n q e }
     {
         n > self.node_places(others) || q > self.quads.len() / 4 || e > self.edges.len() / 2
@@ -456,43 +486,42 @@ impl<'a> Paving<'a> {
 
     // Whether m nodes, a quad and e mesh edges more are beyond those lent.
     #[tactic(auto, unfolding(crate::specs::Stores::is_beyond, crate::specs::Stores::places_exceeded, crate::specs::State::node_places, crate::specs::State::quad_places, crate::specs::State::edge_places))]
-    fn is_beyond(&self, snapshot: &[u32], m: u32, e: usize) -> bool
+    fn lacks_places(&self, snapshot: &[u32], m: u32, e: usize) -> bool
         requires { (self.now.counts.quads + 1 < 2 ^ 64) × (self.now.counts.edges + e < 2 ^ 64) }
         ensures { result ≡ is_beyond (paving_state self.now snapshot.now) m e }
     {
         let k = self.counts;
         let n = (k.nodes as usize) + (m as usize);
         self.mesh()
-            .is_beyond(snapshot.len(), n, k.quads + 1, k.edges + e)
+            .lacks_places(snapshot.len(), n, k.quads + 1, k.edges + e)
     }
 
-    // Places the quad a, b, d, c on the front edge a to b; or says that it is full, and writes nothing. `across` says whether c and d are joined already.
+    // Places the quad a, b, d, c on the front edge a to b; or says that it is full, and writes nothing. `across` says whether its far corners are joined already.
     // Of the snapshot only its places count.
     pub fn place(
         &mut self,
         snapshot: &[u32],
         a: u32,
         b: u32,
-        c: Corner,
-        d: Corner,
+        far: FarCorners,
         across: bool,
     ) -> Result<(), Full>
-        requires { Ready (paving_state self.old snapshot.now) a b c d × (across ≡ known_across self.old.edges.now self.old.counts.edges c d) }
+        requires { Ready (paving_state self.old snapshot.now) a b far.c far.d × (across ≡ known_across self.old.edges.now self.old.counts.edges far.c far.d) }
         ensures same { SameLists self.old self.new }
-        ensures placed { PlacesQuad a b c d (paving_state self.old snapshot.now) result (paving_state self.new snapshot.now) }
+        ensures placed { PlacesQuad a b far.c far.d (paving_state self.old snapshot.now) result (paving_state self.new snapshot.now) }
     {
         let k = self.counts;
-        let q = NewQuad::new(k.nodes, a, b, c, d);
-        let more = c.added() + d.added();
-        let w = new_edges(across, c, d);
-        if self.is_beyond(snapshot, more, w) {
+        let q = NewQuad::new(k.nodes, a, b, far);
+        let more = far.added();
+        let w = new_edges(across, far);
+        if self.lacks_places(snapshot, more, w) {
             return Err(Full);
         }
-        put_corners(c, d, self.xs, self.ys, k.nodes);
+        put_corners(far, self.xs, self.ys, k.nodes);
         put_edges(self.edges, k.edges, across, q);
         put_quad(self.quads, k.quads, a, b, q.id_d, q.id_c);
         move_front(self.next, self.prev, q);
-        self.counts = k.after_quad(c, d, w);
+        self.counts = k.with_quad(far, w);
         Ok(())
     }
 }

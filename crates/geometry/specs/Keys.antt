@@ -6,12 +6,17 @@ use Rattle.numbers.specs.Whole.{floor_quotient}
 use Rattle.domain.specs.declared.Point.{Point}
 use Rattle.domain.specs.Outline.{point}
 use Rattle.geometry.specs.declared.Key.{Key}
+use Rattle.geometry.specs.declared.KeyRect.{KeyRect}
 use Rattle.geometry.specs.declared.Spans.{Spans}
 use Rattle.geometry.specs.declared.Corners.{Corners}
 
 -- a key is the pair of floors of x/B and y/B
 unfoldable pub key_of : Float → Point → Key
 key_of bucket p = record { i = floor_quotient p.x bucket; j = floor_quotient p.y bucket }
+
+-- the rectangle whose opposite corners are the keys of p and q
+abbrev pub rect_between : Float → Point → Point → KeyRect
+rect_between bucket p q = record { k = key_of bucket p; l = key_of bucket q }
 
 -- B for nodes is the size, for edges twice the size
 abbrev pub edge_bucket : Float → Float
@@ -90,6 +95,11 @@ least_of x y z w = min_f (min_f (min_f (min_f infinity_f x) y) z) w
 
 unfoldable pub greatest_of : Float → Float → Float → Float → Float
 greatest_of x y z w = max_f (max_f (max_f (max_f neg_infinity_f x) y) z) w
+
+-- what g picks of the corners' coordinates, from `start` on
+abbrev pub picked : (Float → Float → Float) → Float → Corners → Point
+picked g start p =
+    point (g (g (g (g start p.a.x) p.b.x) p.d.x) p.c.x) (g (g (g (g start p.a.y) p.b.y) p.d.y) p.c.y)
 
 -- the corners of a quad's box
 unfoldable pub lowest : Corners → Point

@@ -1,16 +1,14 @@
 // The geometry tests of src/alt_crossfield.rs, and the keys that replace its two indexes. Each function equals its definition on every input.
 #![tactic(auto)]
 
-ghost use Rattle.std.specs.Prelude.{◌≡◌, if◌then◌else◌};
+ghost use Rattle.std.specs.Prelude.{◌≡◌, if◌then◌else◌, Float};
 ghost use Rattle.exact.specs.Corner.{norm};
 ghost use Rattle.geometry.specs.Plane.{distance, tangent, area_term, cross2, doubled_area, left_of, point_in_convex, on_segment, opposite};
 ghost use Rattle.geometry.specs.Plane.{touches, segments_cross, centroid, convex_ccw};
 ghost use Rattle.geometry.specs.Sides.{side_of, turn_ok};
 ghost use Rattle.geometry.specs.LeftTurns.{no_left_turn, lacks_left_turn, corners_turn};
-ghost use Rattle.geometry.specs.Keys.{key_of, gap, at_most, lesser, greater, spans_of, spans_kept, ranges_meet, rectangles_meet, candidate_at};
-ghost use Rattle.geometry.specs.Keys.{is_candidate, near_keys, too_close_at, is_too_close, least_of, greatest_of, lowest, highest, between, in_box_at};
-ghost use Rattle.geometry.specs.Keys.{is_in_box};
-ghost use Rattle.geometry.specs.KeyLaws.{offset};
+ghost use Rattle.geometry.specs.Keys.{key_of, rect_between, spans_of, spans_kept, ranges_meet, rectangles_meet, candidate_at};
+ghost use Rattle.geometry.specs.Keys.{is_candidate, near_keys, too_close_at, is_too_close, picked, lowest, highest, between, in_box_at, is_in_box};
 
 use domain::{Point, Settings};
 
@@ -28,6 +26,13 @@ pub struct Corners {
 pub struct Key {
     pub i: i64,
     pub j: i64,
+}
+
+// The rectangle of keys with the opposite corners k and l, either first.
+#[derive(Clone, Copy)]
+pub struct KeyRect {
+    pub k: Key,
+    pub l: Key,
 }
 
 // How far a key rectangle reaches, each way.
@@ -91,6 +96,7 @@ pub fn area_term(a: Point, b: Point) -> f64
 }
 
 // Twice the signed area of the triangle a, b, c.
+// Stays three points, here and below: the definitions name them one by one.
 #[tactic(auto, unfolding(crate::specs::Plane::cross2))]
 pub fn cross2(a: Point, b: Point, c: Point) -> f64
     ensures { result ≡ cross2 a b c }
@@ -264,39 +270,6 @@ pub fn key_of(bucket: f64, p: Point) -> Key
     }
 }
 
-// How far apart two keys are.
-pub fn gap(k: i64, l: i64) -> u64
-    ensures { result ≡ gap k l }
-{
-    k.abs_diff(l)
-}
-
-// Whether k lies from l to m.
-fn between(k: i64, l: i64, m: i64) -> bool
-    ensures { result ≡ between k l m }
-{
-    (l..=m).contains(&k)
-}
-
-// The spans of the key rectangle with the corners k and l.
-fn spans_of(k: Key, l: Key) -> Spans
-    ensures { result ≡ spans_of k l }
-{
-    Spans {
-        i: gap(k.i, l.i),
-        j: gap(k.j, l.j),
-    }
-}
-
-// Whether the spans of a key rectangle add up to 4,096 at most.
-#[tactic(auto, unfolding(crate::specs::Keys::spans_kept))]
-pub fn spans_kept(k: Key, l: Key) -> bool
-    ensures { result ≡ spans_kept k l }
-{
-    let s = spans_of(k, l);
-    s.i <= Settings::MOST_SPANS && s.j <= Settings::MOST_SPANS - s.i
-}
-
 // Whether the ranges from k to l and from m to n, either end first, have a number in common.
 #[tactic(auto, unfolding(crate::specs::Keys::ranges_meet))]
 pub fn ranges_meet(k: i64, l: i64, m: i64, n: i64) -> bool
@@ -305,36 +278,93 @@ pub fn ranges_meet(k: i64, l: i64, m: i64, n: i64) -> bool
     k.min(l) <= m.max(n) && m.min(n) <= k.max(l)
 }
 
-// Whether two key rectangles, each by two opposite corners, overlap.
-#[tactic(auto, unfolding(crate::specs::Keys::rectangles_meet))]
-pub fn rectangles_meet(k: Key, l: Key, m: Key, n: Key) -> bool
-    ensures { result ≡ rectangles_meet k l m n }
+// Whether k lies from l to m.
+// Stays a function: where `has_node` calls `contains` twice itself, the search finds no proof of it, with `at_most_lem` or without.
+fn between(k: i64, l: i64, m: i64) -> bool
+    ensures { result ≡ between k l m }
 {
-    ranges_meet(k.i, l.i, m.i, n.i) && ranges_meet(k.j, l.j, m.j, n.j)
+    (l..=m).contains(&k)
 }
 
-// Whether the columns of the edge c to d meet those from k to l.
-#[tactic(auto, unfolding(crate::specs::Keys::key_of))]
-fn columns_meet(k: Key, l: Key, bucket: f64, c: Point, d: Point) -> bool
-    ensures { result ≡ ranges_meet k.i l.i (key_of bucket c).i (key_of bucket d).i }
-{
-    let m = numbers::floor_quotient(c.x, bucket);
-    let n = numbers::floor_quotient(d.x, bucket);
-    ranges_meet(k.i, l.i, m, n)
-}
-
-// Whether the edge c to d is a candidate for a query whose ends have the keys k and l. Most edges leave at the columns.
-#[tactic(auto, unfolding(crate::specs::Keys::candidate_at, crate::specs::Keys::rectangles_meet))]
-pub fn candidate_at(k: Key, l: Key, size: f64, c: Point, d: Point) -> bool
-    ensures { result ≡ candidate_at k l size c d }
-{
-    let bucket = 2.0 * size;
-    columns_meet(k, l, bucket, c, d)
-        && {
-            let m = key_of(bucket, c);
-            let n = key_of(bucket, d);
-            rectangles_meet(k, l, m, n) && spans_kept(k, l) && spans_kept(m, n)
+impl KeyRect {
+    // With the keys of p and q for a bucket size as its corners.
+    pub fn of(bucket: f64, p: Point, q: Point) -> Self
+        ensures { result ≡ rect_between bucket p q }
+    {
+        KeyRect {
+            k: key_of(bucket, p),
+            l: key_of(bucket, q),
         }
+    }
+
+    // How far it reaches.
+    fn spans(self) -> Spans
+        ensures { result ≡ spans_of self.k self.l }
+    {
+        Spans {
+            i: self.k.i.abs_diff(self.l.i),
+            j: self.k.j.abs_diff(self.l.j),
+        }
+    }
+
+    // Whether its spans add up to 4,096 at most.
+    #[tactic(auto, unfolding(crate::specs::Keys::spans_kept))]
+    pub fn spans_kept(self) -> bool
+        ensures { result ≡ spans_kept self.k self.l }
+    {
+        let s = self.spans();
+        s.i <= Settings::MOST_SPANS && s.j <= Settings::MOST_SPANS - s.i
+    }
+
+    // Whether it overlaps another.
+    #[tactic(auto, unfolding(crate::specs::Keys::rectangles_meet))]
+    pub fn meets(self, r: KeyRect) -> bool
+        ensures { result ≡ rectangles_meet self.k self.l r.k r.l }
+    {
+        ranges_meet(self.k.i, self.l.i, r.k.i, r.l.i)
+            && ranges_meet(self.k.j, self.l.j, r.k.j, r.l.j)
+    }
+
+    // Whether the columns of the edge c to d meet its own.
+    #[tactic(auto, unfolding(crate::specs::Keys::key_of))]
+    fn columns_meet(self, bucket: f64, c: Point, d: Point) -> bool
+        ensures { result ≡ ranges_meet self.k.i self.l.i (key_of bucket c).i (key_of bucket d).i }
+    {
+        let m = numbers::floor_quotient(c.x, bucket);
+        let n = numbers::floor_quotient(d.x, bucket);
+        ranges_meet(self.k.i, self.l.i, m, n)
+    }
+
+    // Whether the edge c to d is a candidate for a query with this rectangle. Most edges leave at the columns.
+    #[tactic(auto, unfolding(crate::specs::Keys::candidate_at, crate::specs::Keys::rectangles_meet))]
+    pub fn has_candidate(self, size: f64, c: Point, d: Point) -> bool
+        ensures { result ≡ candidate_at self.k self.l size c d }
+    {
+        let bucket = 2.0 * size;
+        self.columns_meet(bucket, c, d)
+            && {
+                let r = KeyRect::of(bucket, c, d);
+                self.meets(r) && self.spans_kept() && r.spans_kept()
+            }
+    }
+
+    // Whether the key of the node q lies from its first corner to its second.
+    #[tactic(auto, unfolding(crate::specs::Keys::in_box_at, crate::specs::Keys::key_of))]
+    pub fn has_node(self, size: f64, q: Point) -> bool
+        ensures { result ≡ in_box_at self.k self.l size q }
+    {
+        between(numbers::floor_quotient(q.x, size), self.k.i, self.l.i)
+            && between(numbers::floor_quotient(q.y, size), self.k.j, self.l.j)
+    }
+
+    // Whether its corners are within two of each other, each way.
+    #[tactic(auto, unfolding(crate::specs::Keys::near_keys))]
+    fn is_near(self) -> bool
+        ensures { result ≡ near_keys self.k self.l }
+    {
+        let s = self.spans();
+        s.i <= Settings::REACH && s.j <= Settings::REACH
+    }
 }
 
 // Whether the edge c to d is a candidate for the query a to b.
@@ -342,17 +372,7 @@ pub fn candidate_at(k: Key, l: Key, size: f64, c: Point, d: Point) -> bool
 pub fn is_candidate(size: f64, a: Point, b: Point, c: Point, d: Point) -> bool
     ensures { result ≡ is_candidate size a b c d }
 {
-    let bucket = 2.0 * size;
-    candidate_at(key_of(bucket, a), key_of(bucket, b), size, c, d)
-}
-
-// Whether the key l is within two of k each way.
-#[tactic(auto, unfolding(crate::specs::Keys::near_keys))]
-fn near_keys(k: Key, l: Key) -> bool
-    ensures { result ≡ near_keys k l }
-{
-    let s = spans_of(k, l);
-    s.i <= Settings::REACH && s.j <= Settings::REACH
+    KeyRect::of(2.0 * size, a, b).has_candidate(size, c, d)
 }
 
 // Whether the node q is too close to p, whose key is k; `radius2` is the square of the clearance. The distance is the cheaper test.
@@ -362,7 +382,11 @@ pub fn too_close_at(k: Key, p: Point, radius2: f64, size: f64, q: Point) -> bool
 {
     let dx = q.x - p.x;
     let dy = q.y - p.y;
-    dx * dx + dy * dy < radius2 && near_keys(k, key_of(size, q))
+    dx * dx + dy * dy < radius2
+        && {
+            let l = key_of(size, q);
+            KeyRect { k, l }.is_near()
+        }
 }
 
 // Whether the node q is too close to p: nearer than 0.45 × size.
@@ -376,57 +400,30 @@ pub fn is_too_close(size: f64, p: Point, q: Point) -> bool
 
 // ---- a quad's box
 
-#[tactic(auto, unfolding(crate::specs::Keys::least_of))]
-fn least_of(x: f64, y: f64, z: f64, w: f64) -> f64
-    ensures { result ≡ least_of x y z w }
+// The point with what `pick` picks of the corners' coordinates, from `start` on.
+fn picked<F: Fn(f64, f64) -> f64>(p: Corners, start: f64, pick: F) -> Point
+    requires { (x y : _) → F.pre pick x y }
+    ensures { (g : Float → Float → Float) → ((x y r : _) → F.post pick x y r → r ≡ g x y) → result ≡ picked g start p }
 {
-    [x, y, z, w]
-        .iter()
-        .fold(f64::INFINITY, |least, &v| numbers::min_f64(least, v))
-}
-
-#[tactic(auto, unfolding(crate::specs::Keys::greatest_of))]
-fn greatest_of(x: f64, y: f64, z: f64, w: f64) -> f64
-    ensures { result ≡ greatest_of x y z w }
-{
-    [x, y, z, w].iter().fold(
-        f64::NEG_INFINITY,
-        |greatest, &v| numbers::max_f64(greatest, v),
-    )
+    let Corners { a, b, d, c } = p;
+    Point {
+        x: pick(pick(pick(pick(start, a.x), b.x), d.x), c.x),
+        y: pick(pick(pick(pick(start, a.y), b.y), d.y), c.y),
+    }
 }
 
 // The lower left corner of the quad's box.
-// Stays two functions, this and `highest`: one that takes `least_of` or `greatest_of` has a clause for each coordinate, and is no shorter than both.
-#[tactic(auto, unfolding(crate::specs::Keys::lowest))]
 pub fn lowest(p: Corners) -> Point
     ensures { result ≡ lowest p }
 {
-    let Corners { a, b, d, c } = p;
-    Point {
-        x: least_of(a.x, b.x, d.x, c.x),
-        y: least_of(a.y, b.y, d.y, c.y),
-    }
+    picked(p, f64::INFINITY, |x, y| numbers::min_f64(x, y))
 }
 
 // The upper right corner of the quad's box.
-#[tactic(auto, unfolding(crate::specs::Keys::highest))]
 pub fn highest(p: Corners) -> Point
     ensures { result ≡ highest p }
 {
-    let Corners { a, b, d, c } = p;
-    Point {
-        x: greatest_of(a.x, b.x, d.x, c.x),
-        y: greatest_of(a.y, b.y, d.y, c.y),
-    }
-}
-
-// Whether the key of the node q lies from l to m.
-#[tactic(auto, unfolding(crate::specs::Keys::in_box_at, crate::specs::Keys::key_of))]
-pub fn in_box_at(l: Key, m: Key, size: f64, q: Point) -> bool
-    ensures { result ≡ in_box_at l m size q }
-{
-    between(numbers::floor_quotient(q.x, size), l.i, m.i)
-        && between(numbers::floor_quotient(q.y, size), l.j, m.j)
+    picked(p, f64::NEG_INFINITY, |x, y| numbers::max_f64(x, y))
 }
 
 // Whether the key of the node q lies in the quad's key rectangle.
@@ -434,5 +431,5 @@ pub fn in_box_at(l: Key, m: Key, size: f64, q: Point) -> bool
 pub fn is_in_box(size: f64, p: Corners, q: Point) -> bool
     ensures { result ≡ is_in_box size p q }
 {
-    in_box_at(key_of(size, lowest(p)), key_of(size, highest(p)), size, q)
+    KeyRect::of(size, lowest(p), highest(p)).has_node(size, q)
 }

@@ -12,7 +12,7 @@ use Rattle.direction.specs.Record.{FieldRecord}
 use Rattle.front.specs.State.{State, node_places, edge_places}
 use Rattle.front.specs.Place.{place, is_full}
 use Rattle.front.specs.Sampling.{sampled_count, front_refusal, from_boundary}
-use Rattle.paving.specs.declared.FarCorners.{FarCorners}
+use Rattle.front.specs.declared.FarCorners.{FarCorners}
 use Rattle.paving.specs.Attempt.{try_edge}
 use Rattle.paving.specs.Advance.{most_quads, is_there, with_snapshot}
 use Rattle.paving.specs.Reach.{Reaches, begin, snapshot, placed}

@@ -17,7 +17,7 @@ use Rattle.front.specs.Sampling.{sampled_count}
 use Rattle.lent_mesh.specs.declared.QuadIds.{QuadIds}
 use Rattle.lent_mesh.specs.Mesh.{quad_in}
 use Rattle.lent_mesh.specs.Answered.{ids_of, quad_same}
-use Rattle.paving.specs.declared.FarCorners.{FarCorners}
+use Rattle.front.specs.declared.FarCorners.{FarCorners}
 use Rattle.paving.specs.Attempt.{try_edge, far}
 use Rattle.paving.specs.Advance.{most_quads}
 use Rattle.paving.specs.Reach.{Placement}

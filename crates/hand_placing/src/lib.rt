@@ -12,11 +12,13 @@ ghost use Rattle.mesh_changes.specs.Parts.{NodesFit, LinkFits, ChangedBy, LinksK
 ghost use Rattle.hand_placing.specs.Room.{QuadFits, EdgesFit, TwoFit, SidesFit};
 
 use domain::Point;
-use front::{Corner, Mesh, NewQuad, Paving};
+use front::{Corner, FarCorners, NewQuad, Paving};
+use mesh_check::NumberedMesh;
 
 // ---- the mesh edges
 
 // Two edges of a quad, u to v and v to w.
+// Stays edges as ids, for the reason given at `stepping::attempt_on`.
 #[tactic(auto, using(front::proofs::Lent::lists_trans))]
 fn add_two(paving: &mut Paving<'_>, u: u32, v: u32, w: u32)
     requires { TwoFit paving.old u v w }
@@ -138,27 +140,29 @@ fn push_quad(paving: &mut Paving<'_>, q: NewQuad)
 
 // Places the quad a, b, d, c on the edge a to b.
 #[tactic(auto, using(front::proofs::Lent::lists_trans))]
-pub fn place_quad(paving: &mut Paving<'_>, a: u32, b: u32, c: Corner, d: Corner)
-    requires { QuadFits paving.old a b c d }
+pub fn place_quad(paving: &mut Paving<'_>, a: u32, b: u32, far: FarCorners)
+    requires { QuadFits paving.old a b far.c far.d }
     ensures same { SameLists paving.old paving.new }
-    ensures placed { (snapshot : List ℕ) → paving_state paving.new snapshot ≡ place a b c d (paving_state paving.old snapshot) }
+    ensures placed { (snapshot : List ℕ) → paving_state paving.new snapshot ≡ place a b far.c far.d (paving_state paving.old snapshot) }
 {
-    let q = NewQuad::new(paving.counts.nodes, a, b, c, d);
-    push_corner(paving, c);
-    push_corner(paving, d);
+    let q = NewQuad::new(paving.counts.nodes, a, b, far);
+    push_corner(paving, far.c);
+    push_corner(paving, far.d);
     add_edges(paving, q);
     push_quad(paving, q);
     move_front(paving, q);
 }
 
 // Whether the quad would need a node, quad or distinct edge beyond those lent.
-pub fn is_full(mesh: &Mesh<'_>, origins: &[u16], a: u32, b: u32, c: Corner, d: Corner) -> bool
-    requires { CountsFit mesh.now origins.now }
-    ensures { result ≡ is_full (lent_in mesh.now origins.now) a b c d }
+// Stays two counts: the law `full_is` adds them one by one.
+pub fn is_full(lent: NumberedMesh<'_, '_>, a: u32, b: u32, far: FarCorners) -> bool
+    requires { CountsFit lent.mesh lent.origins.now }
+    ensures { result ≡ is_full (lent_in lent.entry.mesh lent.entry.origins.now) a b far.c far.d }
 {
+    let mesh = lent.mesh;
     let k = mesh.counts;
-    let q = NewQuad::new(k.nodes, a, b, c, d);
-    let e = mesh_changes::edges_added(mesh, a, b, q.id_d, q.id_c);
-    let nodes = (k.nodes as usize) + (c.added() as usize) + (d.added() as usize);
-    mesh_check::beyond_places(mesh, origins, nodes, k.quads + 1, k.edges + e)
+    let q = NewQuad::new(k.nodes, a, b, far);
+    let e = mesh_changes::edges_added(&mesh, a, b, q.id_d, q.id_c);
+    let nodes = (k.nodes as usize) + (far.c.added() as usize) + (far.d.added() as usize);
+    lent.lacks_places(nodes, k.quads + 1, k.edges + e)
 }

@@ -11,7 +11,7 @@ use Rattle.direction.specs.Record.{FieldRecord}
 use Rattle.front.specs.declared.Corner.{Corner}
 use Rattle.front.specs.State.{State, node_places, quad_places, edge_places}
 use Rattle.front.specs.Place.{added, id_c, id_d, edges_added, place, is_full}
-use Rattle.paving.specs.declared.FarCorners.{FarCorners}
+use Rattle.front.specs.declared.FarCorners.{FarCorners}
 use Rattle.paving.specs.Attempt.{try_edge}
 use Rattle.paving.specs.Advance.{most_quads}
 use Rattle.mesh_check.specs.Check.{beyond_places}

@@ -5,7 +5,7 @@ use Rattle.domain.specs.Outline.{Outline, first_of}
 use Rattle.direction.specs.Record.{FieldRecord}
 use Rattle.front.specs.State.{State}
 use Rattle.front.specs.Place.{place, is_full}
-use Rattle.paving.specs.declared.FarCorners.{FarCorners}
+use Rattle.front.specs.declared.FarCorners.{FarCorners}
 use Rattle.paving.specs.Attempt.{try_edge}
 use Rattle.paving.specs.Advance.{most_quads}
 use Rattle.mesh_check.specs.Check.{mesh_refusal, edge_refusal}

@@ -9,7 +9,7 @@ use Rattle.front.specs.declared.Counts.{Counts}
 use Rattle.front.specs.declared.Corner.{Corner}
 use Rattle.front.specs.State.{State, next_of, prev_of}
 use Rattle.front.specs.Place.{is_full}
-use Rattle.paving.specs.declared.FarCorners.{FarCorners}
+use Rattle.front.specs.declared.FarCorners.{FarCorners}
 use Rattle.paving.specs.Attempt.{far}
 use Rattle.mesh_check.specs.Check.{lent_state}
 use Rattle.mesh_check.specs.Passed.{MeshPasses, MeshRoom}

@@ -13,7 +13,7 @@ use Rattle.front.specs.declared.Counts.{Counts}
 use Rattle.front.specs.declared.Corner.{Corner}
 use Rattle.front.specs.State.{State, state_of}
 use Rattle.front.specs.Place.{place, is_full}
-use Rattle.paving.specs.declared.FarCorners.{FarCorners}
+use Rattle.front.specs.declared.FarCorners.{FarCorners}
 use Rattle.paving.specs.Attempt.{try_edge, far}
 use Rattle.paving.specs.Advance.{most_quads}
 use Rattle.attempts.specs.Seen.{seen_of}

@@ -11,10 +11,12 @@ use Rattle.laws.specs.Tests.{both}
 use Rattle.domain.specs.declared.Point.{Point}
 use Rattle.domain.specs.Outline.{Outline}
 use Rattle.domain.specs.Accepted.{first_zero}
+use Rattle.blocks.specs.Blocks.{Drawn}
 use Rattle.blocks.specs.BlockLaws.{drawn_none}
 use Rattle.pools.specs.declared.Rect.{Rect}
 use Rattle.pools.specs.Pool.{filed, Indexed}
 use Rattle.direction.specs.declared.Grid.{Grid}
+use Rattle.direction.specs.Cells.{FieldLent}
 use Rattle.direction.specs.Record.{FieldRecord}
 use Rattle.topology.specs.Links.{off, link_of}
 use Rattle.front.specs.declared.Counts.{Counts}
@@ -145,22 +147,27 @@ module _ (xs ys : List Float) (next prev origins quads edges : List ℕ) (k : Co
         full = λ l m. absurd (omega (arith, e));
       }
 
-  pub try_lent : (o : Outline) (g : Grid) (values : List Float) (size : Float) (blocks nodes pairs : List ℕ) → Around o g values
-      → length blocks ≡ 0 → length nodes ≡ 0 → length pairs ≡ 0
-      → TryLent o blocks g values size xs ys next prev edges nodes pairs k
-  try_lent o g values size blocks nodes pairs A eb en ep =
+  pub lent_to_try : (g : Grid) (values : List Float) (size : Float) (nodes pairs : List ℕ) → FieldLent g values → length nodes ≡ 0 → length pairs ≡ 0
+      → TryLent g values size xs ys next prev edges nodes pairs k
+  lent_to_try g values size nodes pairs field en ep =
       let R = front_room in
       record {
         attempt =
             record {
               quad =
                   record {
-                    nodes = record { drawn = drawn_none A.taken A.fits eb; filed = unfiled nodes _ k.nodes en };
+                    nodes = record { filed = unfiled nodes _ k.nodes en };
                     within =
                         record { nodes_few = R.nodes.few; indexed = record { edges_fit = R.edges_fit; filed = unfiled pairs _ k.edges ep } };
                   };
               next_fit = R.nodes.next_fit;
               prev_fit = R.nodes.prev_fit;
             };
-        field = A.field;
+        field = field;
       }
+
+  pub try_lent : (o : Outline) (g : Grid) (values : List Float) (size : Float) (blocks nodes pairs : List ℕ) → Around o g values
+      → length blocks ≡ 0 → length nodes ≡ 0 → length pairs ≡ 0
+      → Drawn o blocks × TryLent g values size xs ys next prev edges nodes pairs k
+  try_lent o g values size blocks nodes pairs A eb en ep =
+      (drawn_none A.taken A.fits eb, lent_to_try g values size nodes pairs A.field en ep)

@@ -1,1 +1,3 @@
 mod Scan
+mod Cursors
+mod Walked

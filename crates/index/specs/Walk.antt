@@ -1,9 +1,8 @@
--- A walk along the chains of a rectangle's cells, row by row: what a cursor has still to visit. Definitions only.
-use Rattle.std.specs.Prelude.{Bool, true, false, cond, List, [], ◌∷◌, ◌++◌, ◌≡◌, ℕ, zero, suc, ◌+◌, ◌-◌, ◌<◌, ◌≤◌, eqb, length, Option, Some, None}
-use Rattle.pools.specs.Pool.{none, cells, capacity, own_at, chain, cell_of, chain_at, span}
+-- A walk along the chains of a rectangle's cells, row by row. Definitions only.
+use Rattle.std.specs.Prelude.{Bool, true, List, [], ◌++◌, ◌≡◌, ℕ, zero, suc, ◌+◌, ◌<◌, length}
+use Rattle.pools.specs.Pool.{chain_at, span}
 use Rattle.pools.specs.declared.Rect.{Rect}
 use Rattle.key_rects.specs.Rects.{Meets}
-use Rattle.index.specs.declared.Cursor.{Cursor}
 
 -- f i, f (i + 1), .., w of them, joined
 unfoldable pub across : (ℕ → List ℕ) → ℕ → ℕ → List ℕ
@@ -21,45 +20,6 @@ rows pool r h j = across (λ j. columns pool j (span r.left r.right) r.left) h j
 -- the owners under all keys of the rectangle
 unfoldable pub visited : List ℕ → Rect → List ℕ
 visited pool r = rows pool r (span r.low r.high) r.low
-
--- the cursor is at no place
-unfoldable pub over : Cursor → Bool
-over c = eqb c.t none
-
--- the cursor that an answer gives: of none, one at no place
-abbrev pub cursor_of : Option Cursor → Cursor
-cursor_of None = record { i = 0; j = 0; cell = 0; t = none }
-cursor_of (Some c) = c
-
--- what is left of its row, from its place on
-unfoldable pub row_ahead : List ℕ → ℕ → Cursor → List ℕ
-row_ahead pool right c = cond (over c) [] (chain (length pool) pool c.t ++ columns pool c.j (right - c.i) (c.i + 1))
-
--- what is left of the walk
-unfoldable pub ahead : List ℕ → Rect → Cursor → List ℕ
-ahead pool r c = cond (over c) [] (row_ahead pool r.right c ++ rows pool r (r.high - c.j) (c.j + 1))
-
--- the cursor is at a place of the pool, in the chain of its cell
-pub record At (pool : List ℕ) (c : Cursor) : Type 0 where
-  pub some : 4 ≤ length pool
-  pub cell : c.cell ≡ cell_of (cells (length pool)) c.i c.j
-  pub place : c.t < capacity (length pool)
-
--- the cursor stands in row j, and from it on `rest` is left of the row
-pub record InRow (pool : List ℕ) (right j : ℕ) (rest : List ℕ) (c : Cursor) : Type 0 where
-  pub at : over c ≡ false → At pool c
-  pub row : over c ≡ false → c.j ≡ j
-  pub all : row_ahead pool right c ≡ rest
-
--- from the cursor on `rest` is left of the walk
-pub record Stands (pool : List ℕ) (r : Rect) (rest : List ℕ) (c : Cursor) : Type 0 where
-  pub at : over c ≡ false → At pool c
-  pub all : ahead pool r c ≡ rest
-
--- d is the cursor after c: its owner has been visited, and the rest is left
-pub record NextCursor (pool : List ℕ) (r : Rect) (c d : Cursor) : Type 0 where
-  pub at : over d ≡ false → At pool d
-  pub rest : ahead pool r c ≡ own_at (length pool) pool c.t ∷ ahead pool r d
 
 -- a call of a test on a number below `count` answers what `tests` says of it
 abbrev pub Decides : (ℕ → Bool → Type 0) → ℕ → (ℕ → Bool) → Type 0

@@ -2,17 +2,17 @@
 // a walk for those that are filed, and a scan of those that came after the pool was full.
 #![tactic(auto)]
 
-ghost use Rattle.std.specs.Prelude.{◌≡◌, [], ◌+◌, ◌*◌, ◌<◌, ◌≤◌, length, get_or};
+ghost use Rattle.std.specs.Prelude.{◌≡◌, [], ◌*◌, ◌≤◌, length};
 ghost use Rattle.laws.specs.Loop.{any_up};
 ghost use Rattle.pools.specs.Pool.{Indexed};
 ghost use Rattle.front.specs.State.{edge_is};
 ghost use Rattle.front.specs.Stores.{known_across};
-ghost use Rattle.paving.specs.Checks.{is_corner, share_end, blocks_at, crosses_at};
+ghost use Rattle.paving.specs.Checks.{blocks_at, crosses_at};
 ghost use Rattle.indexed.specs.Rects.{node_rects, edge_rects, NodesFiled, EdgesFiled, listed, close_at, inside_at, crossing_at};
 
 use domain::{Point, Settings};
-use front::{Corner, Mesh};
-use geometry::Corners;
+use front::{Corner, FarCorners, Mesh};
+use geometry::{Corners, KeyRect};
 use lent_mesh::QuadIds;
 
 // The pools as they are read: one in which nodes are filed, and one in which edges are.
@@ -29,19 +29,6 @@ pub struct NewEdge {
     pub b: Point,
     pub u: u32,
     pub v: u32,
-}
-
-// ---- reading
-
-// The ends of edge k; past the list's end 0.
-fn ends_of(mesh: &Mesh<'_>, k: usize) -> (u32, u32)
-    requires { k < 9223372036854775807 }
-    ensures { (result.0 ≡ get_or mesh.now.edges.now (2 * k) 0) × (result.1 ≡ get_or mesh.now.edges.now (2 * k + 1) 0) }
-{
-    (
-        lent_mesh::entry_at(mesh.edges, 2 * k),
-        lent_mesh::entry_at(mesh.edges, 2 * k + 1),
-    )
 }
 
 // ---- filing
@@ -63,42 +50,28 @@ pub fn file_edges(pool: &mut [u32], size: f64, mesh: &Mesh<'_>, from: usize)
     ensures { Indexed pool.new (edge_rects size mesh.now.xs.now mesh.now.ys.now mesh.now.edges.now) mesh.now.counts.edges }
 {
     pools::file_items(pool, from, mesh.counts.edges, |k| {
-        let (c, d) = ends_of(mesh, k as usize);
+        let (c, d) = lent_mesh::edge_at(mesh.edges, k as usize);
         key_rects::edge_rect(size, mesh.node(c), mesh.node(d))
     });
 }
 
 // ---- the tests of the searches: what is cheap first, and the keys last
 
-// Whether id is one of the corners.
-fn is_corner(ids: QuadIds, id: u32) -> bool
-    ensures { result ≡ is_corner ids.a ids.b ids.d ids.c id }
-{
-    [ids.a, ids.b, ids.d, ids.c].contains(&id)
-}
-
 // Whether the node q of number id, not a corner, lies in the quad p and in its key rectangle.
 fn blocks_at(size: f64, p: Corners, ids: QuadIds, id: u32, q: Point) -> bool
     ensures { result ≡ blocks_at size p ids.a ids.b ids.d ids.c id q }
 {
-    !is_corner(ids, id) && geometry::point_in_convex(p, q) && geometry::is_in_box(size, p, q)
-}
-
-// Whether the edges c to d and u to v have an end in common.
-fn share_end(c: u32, d: u32, u: u32, v: u32) -> bool
-    ensures { result ≡ share_end c d u v }
-{
-    [u, v].contains(&c) || [u, v].contains(&d)
+    !ids.has(id) && geometry::point_in_convex(p, q) && geometry::is_in_box(size, p, q)
 }
 
 // Whether the edge c to d is a candidate for the new edge, shares no end with it, and crosses it.
 fn crosses_at(size: f64, mesh: &Mesh<'_>, new: NewEdge, c: u32, d: u32) -> bool
     ensures { result ≡ crosses_at size (listed mesh.now.xs.now mesh.now.ys.now []) new.a new.b new.u new.v c d }
 {
-    if share_end(c, d, new.u, new.v) {
+    let NewEdge { a, b, u, v } = new;
+    if [u, v].contains(&c) || [u, v].contains(&d) {
         return false;
     }
-    let NewEdge { a, b, .. } = new;
     let p = mesh.node(c);
     let q = mesh.node(d);
     geometry::segments_cross(a, b, p, q) && geometry::is_candidate(size, a, b, p, q)
@@ -106,6 +79,7 @@ fn crosses_at(size: f64, mesh: &Mesh<'_>, new: NewEdge, c: u32, d: u32) -> bool
 
 // ---- searching
 
+// Stays with the size and the mesh beside the pools: `attempts::Attempt` has the three as one, and here each search asks of its own pool alone.
 impl Pools<'_> {
     // Whether some node is too close to p: a walk round its key.
     pub fn any_close(self, size: f64, mesh: &Mesh<'_>, p: Point) -> bool
@@ -126,10 +100,9 @@ impl Pools<'_> {
         requires { Indexed self.nodes.now (node_rects size mesh.now.xs.now mesh.now.ys.now) mesh.now.counts.nodes }
         ensures { result ≡ any_up mesh.now.counts.nodes (inside_at size mesh.now.xs.now mesh.now.ys.now p ids.a ids.b ids.d ids.c) }
     {
-        let low = geometry::key_of(size, geometry::lowest(p));
-        let high = geometry::key_of(size, geometry::highest(p));
+        let r = KeyRect::of(size, geometry::lowest(p), geometry::highest(p));
         let nodes = mesh.counts.nodes as usize;
-        index::any_item(self.nodes, key_rects::rect_of(low, high), nodes, |id| {
+        index::any_item(self.nodes, key_rects::rect_of(r), nodes, |id| {
             blocks_at(size, p, ids, id as u32, mesh.node(id as u32))
         })
     }
@@ -143,7 +116,7 @@ impl Pools<'_> {
     {
         let rect = key_rects::edge_rect(size, new.a, new.b);
         index::any_item(self.edges, rect, mesh.counts.edges, |k| {
-            let (c, d) = ends_of(mesh, k);
+            let (c, d) = lent_mesh::edge_at(mesh.edges, k);
             crosses_at(size, mesh, new, c, d)
         })
     }
@@ -155,24 +128,22 @@ impl Pools<'_> {
             × Indexed self.edges.now (edge_rects size mesh.now.xs.now mesh.now.ys.now mesh.now.edges.now) mesh.now.counts.edges }
         ensures { result ≡ any_up mesh.now.counts.edges (edge_is mesh.now.edges.now u v) }
     {
-        let bucket = 2.0 * size;
-        let m = geometry::key_of(bucket, mesh.node(u));
-        let n = geometry::key_of(bucket, mesh.node(v));
+        let r = KeyRect::of(2.0 * size, mesh.node(u), mesh.node(v));
         let count = mesh.counts.edges;
-        let joins = |k| ends_of(mesh, k) == (u, v);
-        if !geometry::spans_kept(m, n) {
+        let joins = |k| lent_mesh::edge_at(mesh.edges, k) == (u, v);
+        if !r.spans_kept() {
             return (0..count).any(joins);
         }
-        index::any_item(self.edges, key_rects::rect_at(m), count, joins)
+        index::any_item(self.edges, key_rects::rect_at(r.k), count, joins)
     }
 
     // Whether the far corners are joined already. Only two reused ones can be: they alone are searched for.
-    pub fn is_known_across(self, size: f64, mesh: &Mesh<'_>, c: Corner, d: Corner) -> bool
+    pub fn is_known_across(self, size: f64, mesh: &Mesh<'_>, far: FarCorners) -> bool
         requires { (2 * mesh.now.counts.edges ≤ length mesh.now.edges.now)
             × Indexed self.edges.now (edge_rects size mesh.now.xs.now mesh.now.ys.now mesh.now.edges.now) mesh.now.counts.edges }
-        ensures { result ≡ known_across mesh.now.edges.now mesh.now.counts.edges c d }
+        ensures { result ≡ known_across mesh.now.edges.now mesh.now.counts.edges far.c far.d }
     {
-        let (Corner::Reused(u), Corner::Reused(v)) = (c, d) else {
+        let (Corner::Reused(u), Corner::Reused(v)) = (far.c, far.d) else {
             return false;
         };
         self.is_known(size, mesh, v.min(u), v.max(u))

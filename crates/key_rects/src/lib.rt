@@ -5,7 +5,7 @@ ghost use Rattle.std.specs.Prelude.{◌≡◌};
 ghost use Rattle.key_rects.specs.Rects.{shifted, rect_of, rect_at, rect_around, rect_empty, node_rect, edge_rect};
 
 use domain::Point;
-use geometry::Key;
+use geometry::{Key, KeyRect};
 use pools::Rect;
 
 // A key from -2^20 to 2^20, moved up by 2^20 + 2; one beyond is taken for the nearest of these.
@@ -15,14 +15,14 @@ fn shifted(k: i64) -> u32
     (k.clamp(-1048576, 1048576) + 1048578) as u32
 }
 
-// The rectangle with the opposite corners k and l, either first.
-pub fn rect_of(k: Key, l: Key) -> Rect
-    ensures { result ≡ rect_of k l }
+// The rectangle of shifted keys, where one of keys is given.
+pub fn rect_of(r: KeyRect) -> Rect
+    ensures { result ≡ rect_of r.k r.l }
 {
-    let ki = shifted(k.i);
-    let li = shifted(l.i);
-    let kj = shifted(k.j);
-    let lj = shifted(l.j);
+    let ki = shifted(r.k.i);
+    let li = shifted(r.l.i);
+    let kj = shifted(r.k.j);
+    let lj = shifted(r.l.j);
     Rect {
         left: ki.min(li),
         right: ki.max(li),
@@ -60,6 +60,7 @@ pub fn rect_around(k: Key) -> Rect
 }
 
 // No key.
+// Stays a rectangle, and no `Option`: filing and walks go over its columns and rows, of which it has none, and needn't ask.
 fn rect_empty() -> Rect
     ensures { result ≡ rect_empty }
 {
@@ -82,11 +83,9 @@ pub fn node_rect(size: f64, p: Point) -> Rect
 pub fn edge_rect(size: f64, c: Point, d: Point) -> Rect
     ensures { result ≡ edge_rect size c d }
 {
-    let bucket = 2.0 * size;
-    let m = geometry::key_of(bucket, c);
-    let n = geometry::key_of(bucket, d);
-    if geometry::spans_kept(m, n) {
-        rect_of(m, n)
+    let r = KeyRect::of(2.0 * size, c, d);
+    if r.spans_kept() {
+        rect_of(r)
     } else {
         rect_empty()
     }

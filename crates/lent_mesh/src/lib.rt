@@ -1,7 +1,7 @@
-// A mesh as it is lent: its counts, which stop at the last whole node and quad, and its quads by their four ids.
+// A mesh as it is lent: its counts, which stop at the last whole node and quad, its quads by their four ids and its edges by their two ends.
 #![tactic(auto)]
 
-ghost use Rattle.std.specs.Prelude.{◌≡◌, ◌<◌, ◌≤◌, ◌||◌, eqb, get_or};
+ghost use Rattle.std.specs.Prelude.{◌≡◌, ◌+◌, ◌*◌, ◌^◌, ◌<◌, ◌≤◌, ◌||◌, eqb, get_or};
 ghost use Rattle.lent_mesh.specs.Mesh.{node_count_of, quad_count_of, quad_in, mesh_lent, quad_of};
 
 use domain::Settings;
@@ -52,6 +52,7 @@ impl LentMesh<'_> {
 }
 
 // The count of nodes: it stops where a coordinate isn't lent.
+// Stays on both lists: C lends the coordinates as two, and either may be the shorter.
 #[tactic(auto, unfolding(crate::specs::Mesh::node_count_of))]
 pub fn node_count(nodes: u32, xs: &[f64], ys: &[f64]) -> u32
     ensures { result ≡ node_count_of nodes xs.now ys.now }
@@ -60,6 +61,7 @@ pub fn node_count(nodes: u32, xs: &[f64], ys: &[f64]) -> u32
 }
 
 // The count of quads: it stops at the last whole quad, and at 250,000.
+// Stays a count beside the list: C lends both.
 #[tactic(auto, unfolding(crate::specs::Mesh::quad_count_of))]
 pub fn quad_count(count: usize, quads: &[u32]) -> usize
     ensures { result ≡ quad_count_of count quads.now }
@@ -68,6 +70,8 @@ pub fn quad_count(count: usize, quads: &[u32]) -> usize
 }
 
 // An entry of a list; past its end 0.
+// Stays written out, here and where another value takes its place (front, exam_requests, exam_results, loop_reads): a generic function that is given the
+// value was tried, and a call of it is no shorter than the library's three methods.
 pub fn entry_at(list: &[u32], i: usize) -> u32
     ensures { result ≡ get_or list.now i 0 }
 {
@@ -77,7 +81,7 @@ pub fn entry_at(list: &[u32], i: usize) -> u32
 // The ids of quad k.
 #[tactic(auto, unfolding(crate::specs::Mesh::quad_in))]
 pub fn quad_at(quads: &[u32], k: usize) -> QuadIds
-    requires { k < 4294967296 }
+    requires { k < 2 ^ 62 }
     ensures { result ≡ quad_in quads.now k }
 {
     QuadIds {
@@ -86,4 +90,12 @@ pub fn quad_at(quads: &[u32], k: usize) -> QuadIds
         d: entry_at(quads, 4 * k + 2),
         c: entry_at(quads, 4 * k + 3),
     }
+}
+
+// The ends of edge k; past the list's end 0.
+pub fn edge_at(edges: &[u32], k: usize) -> (u32, u32)
+    requires { k < 9223372036854775807 }
+    ensures { (result.0 ≡ get_or edges.now (2 * k) 0) × (result.1 ≡ get_or edges.now (2 * k + 1) 0) }
+{
+    (entry_at(edges, 2 * k), entry_at(edges, 2 * k + 1))
 }

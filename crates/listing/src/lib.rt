@@ -1,11 +1,11 @@
 // What the program prints, written into a lent buffer: document 01's listing.
 #![tactic(auto)]
 
-ghost use Rattle.std.specs.Prelude.{◌≡◌, [], ◌∷◌, ◌++◌, ◌<◌, ltb, length, take};
+ghost use Rattle.std.specs.Prelude.{◌≡◌, [], ◌∷◌, ◌++◌, take};
 ghost use Rattle.listing.specs.Text.{ascii};
 ghost use Rattle.listing.specs.Buffer.{buffer, buffer_written};
 ghost use Rattle.listing.specs.Output.{Started, Put};
-ghost use Rattle.listing.specs.Listing.{decimal, hex_digit, hex_of, spaced, row, node_line, node_lines, quad_lines, loop_lines};
+ghost use Rattle.listing.specs.Listing.{decimal, hex_of, spaced, row, node_line, node_lines, quad_lines, loop_lines};
 ghost use Rattle.listing.specs.Listing.{end_word, head_line, refused_listing, mesh_listing};
 
 use std::num;
@@ -16,7 +16,7 @@ pub struct Heading {
     pub nodes: u32,
     pub quads: usize,
     pub front: usize,
-    // Stays a number: each number has its word, from 3 on `full`, and the enum would take fewer.
+    // Stays a number, here and in `end_word`: each number has its word, from 3 on `full`, and the enum would take fewer.
     pub end: u32,
     pub whole: bool,
     pub loops: usize,
@@ -48,16 +48,11 @@ impl<'a> Output<'a> {
         Output { bytes, used: 0 }
     }
 
-    fn has_room(&self) -> bool
-        ensures { result ≡ ltb self.now.used (length self.now.bytes.now) }
-    {
-        self.used < self.bytes.len()
-    }
-
+    #[tactic(auto, using(crate::specs::BufferLaws::wrote_in, crate::specs::BufferLaws::wrote_out))]
     fn put(&mut self, byte: u8)
         ensures { Put (byte ∷ []) self.old self.new }
     {
-        if self.has_room() {
+        if self.used < self.bytes.len() {
             self.bytes[self.used] = byte;
             self.used += 1;
         }
@@ -73,39 +68,30 @@ impl<'a> Output<'a> {
 
     // ---- numbers
 
-    fn put_decimal(&mut self, v: usize)
-        ensures { Put (decimal v) self.old self.new }
-    {
-        if 10 <= v {
-            self.put_decimal(v / 10);
-        }
-        self.put(b'0' + (v % 10) as u8);
-    }
-
-    // The last `n` hexadecimal digits of `v`.
-    fn put_hex(&mut self, n: usize, v: u64)
-        ensures { Put (hex_of n v) self.old self.new }
-    {
-        if n != 0 {
-            self.put_hex(n - 1, v / 16);
-            self.put(hex_digit(v % 16));
-        }
-    }
-
     // A space and a number.
-    fn put_number(&mut self, v: usize)
+    fn put_spaced(&mut self, v: usize)
         ensures { Put (ascii " " ++ decimal v) self.old self.new }
     {
         self.put(b' ');
-        self.put_decimal(v);
+        self.put_all(itoa::Buffer::new().format(v).as_bytes());
     }
 
-    fn put_numbers(&mut self, ids: &[u32])
+    fn put_all_spaced(&mut self, ids: &[u32])
         ensures { Put (spaced ids.now) self.old self.new }
     {
         for &id in ids {
-            self.put_number(id as usize);
+            self.put_spaced(id as usize);
         }
+    }
+
+    // The 16 hexadecimal digits of `bits`.
+    fn put_hex(&mut self, bits: u64)
+        ensures { Put (hex_of 16 bits) self.old self.new }
+    {
+        // Stays an array: nothing is allocated, and `hex` writes into a slice.
+        let mut digits = [0; 16];
+        hex::encode_to_slice(bits.to_be_bytes(), &mut digits).unwrap();
+        self.put_all(&digits);
     }
 
     // ---- lines
@@ -114,7 +100,7 @@ impl<'a> Output<'a> {
         ensures { Put (row letter ids.now) self.old self.new }
     {
         self.put(letter);
-        self.put_numbers(ids);
+        self.put_all_spaced(ids);
         self.put(b'\n');
     }
 
@@ -122,13 +108,14 @@ impl<'a> Output<'a> {
         ensures { Put (node_line x y) self.old self.new }
     {
         self.put_all(b"n ");
-        self.put_hex(16, num::f64_to_bits_with_nan(x));
+        self.put_hex(num::f64_to_bits_with_nan(x));
         self.put(b' ');
-        self.put_hex(16, num::f64_to_bits_with_nan(y));
+        self.put_hex(num::f64_to_bits_with_nan(y));
         self.put(b'\n');
     }
 
     // The first `n` nodes that both lists hold.
+    // Stays with two lists: a run's lists have x and y apart, as C lends them.
     fn put_nodes(&mut self, n: usize, xs: &[f64], ys: &[f64])
         ensures { Put (node_lines (take n xs.now) (take n ys.now)) self.old self.new }
     {
@@ -146,6 +133,7 @@ impl<'a> Output<'a> {
     }
 
     // The first `n` loops that the lists hold.
+    // Stays with two lists and a rest handed on: a run lists the ids of all loops one after the other, and their lengths beside them, as C lends them.
     fn put_loops(&mut self, n: usize, lengths: &[u32], loops: &[u32])
         ensures { Put (loop_lines (take n lengths.now) loops.now) self.old self.new }
     {
@@ -162,23 +150,12 @@ impl<'a> Output<'a> {
         ensures { Put (head_line h) self.old self.new }
     {
         self.put_all(b"mesh");
-        self.put_number(h.nodes as usize);
-        self.put_number(h.quads);
-        self.put_number(h.front);
+        self.put_spaced(h.nodes as usize);
+        self.put_spaced(h.quads);
+        self.put_spaced(h.front);
         self.put_all(end_word(h.end));
         self.put_all(if h.whole { b" whole" } else { b" open" });
         self.put(b'\n');
-    }
-}
-
-fn hex_digit(v: u64) -> u8
-    requires { v < 16 }
-    ensures { result ≡ hex_digit v }
-{
-    if v < 10 {
-        b'0' + v as u8
-    } else {
-        b'a' + (v - 10) as u8
     }
 }
 
@@ -202,7 +179,7 @@ pub fn write_refused(out: &mut [u8], number: u32) -> usize
 {
     let mut output = Output::new(out);
     output.put_all(b"refused");
-    output.put_number(number as usize);
+    output.put_spaced(number as usize);
     output.put(b'\n');
     output.used
 }

@@ -80,6 +80,7 @@ impl LentLinks<'_> {
 
 impl LentLinks<'_> {
     // How many nodes the walk along `next` from `start` back to it takes; none where it comes to a node below `start`, or never back.
+    // Stays a loop: a turn has three ends, two of them with no length, and through `successors` and `position` each link would be read twice.
     fn walk_length(&self, start: u32) -> Option<u32>
         ensures { result ≡ some_length (walk_by (link_of self.now.nodes self.now.next.now) self.now.nodes start start) }
     {

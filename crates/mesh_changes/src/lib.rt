@@ -20,10 +20,11 @@ fn has_edge(mesh: &Mesh<'_>, u: u32, v: u32) -> bool
 {
     let lo = u.min(v);
     let hi = u.max(v);
-    (0..mesh.counts.edges).any(|k| mesh.edges[2 * k] == lo && mesh.edges[2 * k + 1] == hi)
+    (0..mesh.counts.edges).any(|k| lent_mesh::edge_at(mesh.edges, k) == (lo, hi))
 }
 
 // Adds the mesh edge u to v, unless there is one.
+// Stays an edge as two ids, here and below, for the reason given at `stepping::attempt_on`.
 #[tactic(auto, unfolding(front::specs::State::add_edge, front::specs::State::has_edge, front::specs::State::push_edge))]
 pub fn add_edge(paving: &mut Paving<'_>, u: u32, v: u32)
     requires { EdgeFits paving.old u v }

@@ -1,2 +1,2 @@
--- Counts over a list's first places, as specs/ have them.
+-- Searches and counts over a list's first places, as specs/ have them.
 pub mod Listed

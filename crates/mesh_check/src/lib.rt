@@ -1,7 +1,8 @@
 // Whether a lent mesh is sound, and whether an edge is on its front: refusals 23 and 24. The lists are only read.
 #![tactic(auto)]
 
-ghost use Rattle.std.specs.Prelude.{◌≡◌, ◌*◌, ◌≤◌, ◌<◌, length};
+ghost use Rattle.std.specs.Prelude.{◌≡◌, ◌*◌, ◌≤◌, ◌<◌, length, get_or};
+ghost use Rattle.std.specs.Float.{nan};
 ghost use Rattle.laws.specs.Loop.{any_up};
 ghost use Rattle.domain.specs.Refusals.{refused};
 ghost use Rattle.mesh_check.specs.Check.{lent_in, beyond_places, beyond_nodes, ids_beyond, link_unsound, link_count, front_unsound};
@@ -10,18 +11,15 @@ ghost use Rattle.mesh_check.specs.Check.{coordinate_unsound, node_unsound, mesh_
 use domain::Refusal;
 use front::{Mesh, OFF};
 
+// A lent mesh with the numbers of its nodes' loops of origin.
+#[derive(Clone, Copy)]
+pub struct NumberedMesh<'m, 'o> {
+    pub mesh: Mesh<'m>,
+    pub origins: &'o [u16],
+}
+
 // The farthest coordinate of a node, either way: a rounded inside test may let one pass 1,000.
 pub const FARTHEST_NODE: f64 = 1001.0;
-
-// ---- counts beyond the buffers
-
-// Whether n nodes, q quads or e edges are beyond the places lent.
-#[tactic(auto, using(crate::specs::CheckLaws::length_off), unfolding(crate::specs::Check::beyond_places, front::specs::Stores::places_exceeded, front::specs::State::node_places, front::specs::State::quad_places, front::specs::State::edge_places))]
-pub fn beyond_places(mesh: &Mesh<'_>, origins: &[u16], n: usize, q: usize, e: usize) -> bool
-    ensures { result ≡ beyond_places (lent_in mesh.now origins.now) n q e }
-{
-    mesh.is_beyond(origins.len(), n, q, e)
-}
 
 // ---- ids out of range
 
@@ -91,33 +89,52 @@ fn coordinate_unsound(x: f64) -> bool
     !direction::is_within(FARTHEST_NODE, x)
 }
 
+// Whether one of the first n coordinates is.
+fn any_unsound(coordinates: &[f64], n: usize) -> bool
+    requires { n ≤ length coordinates.now }
+    ensures { result ≡ any_up n (λ i. coordinate_unsound (get_or coordinates.now i nan)) }
+{
+    coordinates[..n].iter().any(|&x| coordinate_unsound(x))
+}
+
 fn any_node_unsound(mesh: &Mesh<'_>) -> bool
     requires { (mesh.now.counts.nodes ≤ length mesh.now.xs.now) × (mesh.now.counts.nodes ≤ length mesh.now.ys.now) }
     ensures { result ≡ any_up mesh.now.counts.nodes (node_unsound mesh.now.xs.now mesh.now.ys.now) }
 {
     let n = mesh.counts.nodes as usize;
-    (0..n).any(|i| coordinate_unsound(mesh.xs[i]) || coordinate_unsound(mesh.ys[i]))
+    any_unsound(mesh.xs, n) || any_unsound(mesh.ys, n)
 }
 
 // ---- 23 and 24
 
-// Refusal 23, on every input.
-#[tactic(auto, unfolding(crate::specs::Check::mesh_refusal, crate::specs::Check::mesh_unsound))]
-pub fn check_mesh(mesh: &Mesh<'_>, origins: &[u16]) -> Result<(), Refusal>
-    ensures { refused result ≡ mesh_refusal (lent_in mesh.now origins.now) }
-{
-    let k = mesh.counts;
-    if beyond_places(mesh, origins, k.nodes as usize, k.quads, k.edges)
-        || ids_beyond(mesh)
-        || front_unsound(mesh)
-        || any_node_unsound(mesh)
+impl NumberedMesh<'_, '_> {
+    // Whether n nodes, q quads or e edges are beyond the places lent.
+    #[tactic(auto, using(crate::specs::CheckLaws::length_off), unfolding(crate::specs::Check::beyond_places, front::specs::Stores::places_exceeded, front::specs::State::node_places, front::specs::State::quad_places, front::specs::State::edge_places))]
+    pub fn lacks_places(&self, n: usize, q: usize, e: usize) -> bool
+        ensures { result ≡ beyond_places (lent_in self.now.mesh self.now.origins.now) n q e }
     {
-        return Err(Refusal::UnsoundMesh);
+        self.mesh.lacks_places(self.origins.len(), n, q, e)
     }
-    Ok(())
+
+    // Refusal 23, on every input.
+    #[tactic(auto, unfolding(crate::specs::Check::mesh_refusal, crate::specs::Check::mesh_unsound))]
+    pub fn check(&self) -> Result<(), Refusal>
+        ensures { refused result ≡ mesh_refusal (lent_in self.now.mesh self.now.origins.now) }
+    {
+        let k = self.mesh.counts;
+        if self.lacks_places(k.nodes as usize, k.quads, k.edges)
+            || ids_beyond(&self.mesh)
+            || front_unsound(&self.mesh)
+            || any_node_unsound(&self.mesh)
+        {
+            return Err(Refusal::UnsoundMesh);
+        }
+        Ok(())
+    }
 }
 
 // Refusal 24.
+// Stays on the mesh: of the nodes' origins it reads none. And with OFF named, where `Mesh::next_at` has an `Option`: a must-fail edit stands on that test.
 #[tactic(auto, unfolding(crate::specs::Check::edge_refusal, topology::specs::Links::link_of))]
 pub fn check_edge(mesh: &Mesh<'_>, a: u32, b: u32) -> Result<(), Refusal>
     requires { mesh.now.counts.nodes ≤ length mesh.now.next.now }

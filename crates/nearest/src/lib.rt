@@ -7,11 +7,11 @@ ghost use Rattle.exact.specs.Units.{Within};
 ghost use Rattle.domain.specs.Outline.{outline_of, points, most_points};
 ghost use Rattle.domain.specs.Queries.{nearest_segment};
 ghost use Rattle.domain.specs.Search.{search_turn, search_loop, search_from};
-ghost use Rattle.blocks.specs.Blocks.{for_between, reach, side_at, BlockThere, LoopDrawn, Drawn, block_extent};
+ghost use Rattle.blocks.specs.Blocks.{for_between, reach, side_at, BlockThere, LoopDrawn, block_extent};
 ghost use Rattle.nearest.specs.Far.{moderate_bound, ModeratePoint, span_gap, is_far, is_passed};
 
-use blocks::{BLOCK, Extent};
-use domain::{Domain, Near, Point, Search, Settings};
+use blocks::{BLOCK, DrawnOutline, Extent};
+use domain::{Near, Point, Search, Settings};
 
 // A coordinate beyond this either way is too far out for the search by blocks.
 const MODERATE: f64 = 1048576.0;
@@ -40,6 +40,8 @@ fn is_far(p: Point, e: Extent, squared: f64) -> bool
 }
 
 // Side d of the box of block b.
+// Stays on a loop, the blocks and a number, here and below: whether a block is listed is asked first, and a value of a block with its fact would be made
+// of each that is passed over.
 fn side(s: &[f64], blocks: &[u32], b: usize, d: usize) -> f64
     requires { BlockThere s.now blocks.now b × (d < 4) }
     ensures { result ≡ reach d s.now (side_at blocks.now b d) }
@@ -87,6 +89,7 @@ fn search_part(
     })
 }
 
+// Stays a loop: see `blocks::point_in_polygon`.
 fn search_loop(
     p: Point,
     s: &[f64],
@@ -109,25 +112,26 @@ fn search_loop(
     found
 }
 
-fn search_all(domain: Domain<'_>, blocks: &[u32], p: Point, best: Search) -> Search
-    requires { Drawn (outline_of domain) blocks.now × (0 < length blocks.now → ModeratePoint p) }
-    ensures { result ≡ search_from (outline_of domain.entry) p best }
+// Stays a loop: a fold was tried, and it wasn't proved that its closure may be called (what `first_block` and `search_loop` ask holds of the outline's loops alone).
+fn search_all(outline: DrawnOutline<'_>, p: Point, best: Search) -> Search
+    requires { 0 < length outline.blocks.now → ModeratePoint p }
+    ensures { result ≡ search_from (outline_of outline.entry.domain) p best }
 {
-    let mut found = search_loop(p, domain.outer, 0, blocks, 0, best);
-    for hole in outlines::holes_of(domain) {
-        let loop_index = hole.index + 1;
-        let first = blocks::first_block(domain.outer, loop_index, hole.start);
-        found = search_loop(p, hole.points, loop_index, blocks, first, found);
+    let DrawnOutline { domain, blocks, .. } = outline;
+    let mut found = best;
+    for each in outlines::loops_of(domain) {
+        let first = blocks::first_block(domain.outer, each.index, each.start);
+        found = search_loop(p, each.points, each.index, blocks, first, found);
     }
     found
 }
 
 // `nearest_segment` of the outline, with no guess. Without blocks every segment is asked, and p may be anywhere.
-pub fn search_outline(domain: Domain<'_>, blocks: &[u32], p: Point) -> Near
-    requires { Drawn (outline_of domain) blocks.now × (0 < length blocks.now → ModeratePoint p) }
-    ensures { result ≡ nearest_segment (outline_of domain.entry) p }
+pub fn search_outline(outline: DrawnOutline<'_>, p: Point) -> Near
+    requires { 0 < length outline.blocks.now → ModeratePoint p }
+    ensures { result ≡ nearest_segment (outline_of outline.entry.domain) p }
 {
-    search_all(domain, blocks, p, outlines::search_start()).near
+    search_all(outline, p, outlines::search_start()).near
 }
 
 // ---- from a guess
@@ -153,12 +157,15 @@ fn limit(p: Point, guess: Near) -> f64 {
 
 // `nearest_segment` of the outline. With a guess of a segment near p the search begins at its distance, so that most blocks are passed over. The guess may
 // be anything: where nothing nearer than a little beyond it is found, the search begins anew without it.
-pub fn nearest_segment(domain: Domain<'_>, blocks: &[u32], p: Point, guess: Near) -> Near
-    requires { Drawn (outline_of domain) blocks.now }
-    ensures { result ≡ nearest_segment (outline_of domain.entry) p }
+pub fn nearest_segment(outline: DrawnOutline<'_>, p: Point, guess: Near) -> Near
+    ensures { result ≡ nearest_segment (outline_of outline.entry.domain) p }
 {
     if !is_near(p) {
-        return search_outline(domain, &blocks[0..0], p);
+        let plain = DrawnOutline {
+            domain: outline.domain,
+            blocks: &[],
+        };
+        return search_outline(plain, p);
     }
     let start = outlines::search_start();
     let squared = limit(p, guess);
@@ -166,9 +173,9 @@ pub fn nearest_segment(domain: Domain<'_>, blocks: &[u32], p: Point, guess: Near
         near: start.near,
         squared,
     };
-    let near = search_all(domain, blocks, p, guessed).near;
+    let near = search_all(outline, p, guessed).near;
     if near.distance < numbers::sqrt_f64(squared) {
         return near;
     }
-    search_outline(domain, blocks, p)
+    search_outline(outline, p)
 }

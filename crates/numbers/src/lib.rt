@@ -118,7 +118,7 @@ fn root_of_normal(x: f64, b: u64) -> f64
 }
 
 // The root of x with no root instruction: a guess in floats, checked in whole numbers.
-// Stays beside `sqrt_f64`: it is proved where that trusts the toolchain for the instruction.
+// Stays, though `sqrt_f64` is what is called: must-fail edits stand on it, and a public function keeps its promise.
 pub fn root_in_whole_numbers(x: f64) -> f64
     ensures { result ≡ root x }
 {
@@ -146,6 +146,7 @@ pub fn root_in_whole_numbers(x: f64) -> f64
 }
 
 // `x.sqrt()`, as IEEE 754 has it.
+// Stays a function beside the method, and so do `is_finite_f64` and `abs_f64`: each clause is by our definition.
 #[tactic(auto, using(crate::proofs::LibraryRoot::root_library))]
 #[unsafe(no_mangle)]
 pub extern "C" fn sqrt_f64(x: f64) -> f64
@@ -201,7 +202,7 @@ pub fn parts_of(x: f64) -> Parts
 }
 
 // `n as f64`
-// Stays beside the library's `nearest_usize_to_f64`, which takes any n, but by two casts, a product and a sum.
+// Stays beside the library's `nearest_usize_to_f64`, which takes any n by two casts, a product and a sum: of an n so small one cast is the same.
 pub fn to_f64(n: usize) -> f64
     requires { n < 4294967296 }
     ensures { result ≡ to_float n }

@@ -4,7 +4,7 @@
 // Stays a number beside the value: the C interface needs it.
 // `refusal` is 0 where the list is accepted; 21 where some quad is absent, repeated or unknown; 22 where the quad at `place` stands too early.
 #[repr(C)]
-#[derive(Clone, Copy)]
+#[derive(Clone, Copy, Default)]
 pub struct OrderAnswer {
     pub refusal: u32,
     pub place: usize,

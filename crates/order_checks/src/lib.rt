@@ -2,28 +2,28 @@
 // `order_walks` has the entry: it finds by walks who stands too early, and by `early_from` where steps aren't filed.
 #![tactic(auto)]
 
-ghost use Rattle.std.specs.Prelude.{◌≡◌, true, ◌<◌, length, get_or, set};
-ghost use Rattle.laws.specs.Loop.{any_up, Unfound};
-ghost use Rattle.order.specs.Order.{is_step, lays, lays_for, needs, first_place, is_wrong, is_absent, names_each_once, waits_for, too_early};
+ghost use Rattle.std.specs.Prelude.{◌≡◌, ◌<◌, [], ◌∷◌, length, get_or, set};
+ghost use Rattle.laws.specs.Loop.{Unfound};
+ghost use Rattle.order.specs.Order.{lays, lays_for, needs, first_place, is_wrong, names_each_once, waits_for, too_early};
 ghost use Rattle.order_checks.specs.Places.{FirstPlaces};
 
 use lent_mesh::QuadIds;
 
 // ---- who comes after whom
 
-// Whether the step u to v is the step x to y.
-pub fn is_step(u: u32, v: u32, x: u32, y: u32) -> bool
-    ensures { result ≡ is_step u v x y }
+// The steps that q lays: all but its a to b.
+pub fn laid_steps(q: QuadIds) -> [(u32, u32); 3]
+    ensures { result ≡ (q.b, q.d) ∷ (q.d, q.c) ∷ (q.c, q.a) ∷ [] }
 {
-    (u, v) == (x, y)
+    [(q.b, q.d), (q.d, q.c), (q.c, q.a)]
 }
 
-// Whether p has a step v to u that isn't its a to b.
+// Whether p lays a step v to u.
 #[tactic(auto, unfolding(order::specs::Order::lays))]
 fn lays(p: QuadIds, u: u32, v: u32) -> bool
     ensures { result ≡ lays p u v }
 {
-    is_step(v, u, p.b, p.d) || is_step(v, u, p.d, p.c) || is_step(v, u, p.c, p.a)
+    laid_steps(p).contains(&(v, u))
 }
 
 // Whether it has one where q has the step u to v, and that isn't q's d to c.

@@ -16,16 +16,13 @@ use pools::Rect;
 
 // ---- the steps laid
 
-// Step s of those that a quad lays: b to d, d to c, c to a.
+// Step s of those that a quad lays.
 #[tactic(auto, unfolding(crate::specs::Steps::laid_from, crate::specs::Steps::laid_to))]
 fn laid_step(q: QuadIds, s: usize) -> (u32, u32)
+    requires { s < 3 }
     ensures { (result.0 ≡ laid_from q s) × (result.1 ≡ laid_to q s) }
 {
-    match s {
-        0 => (q.b, q.d),
-        1 => (q.d, q.c),
-        _ => (q.c, q.a),
-    }
+    order_checks::laid_steps(q)[s]
 }
 
 // The one key (u, v).
@@ -155,7 +152,7 @@ pub extern "C" fn sitjorbe_order(
     if !presentation.names_each_once(n) {
         return OrderAnswer {
             refusal: u32::from(Refusal::NotEachOnce),
-            place: 0,
+            ..OrderAnswer::default()
         };
     }
     match Tested::new(quads, n, presentation, pool).first_early() {
@@ -163,9 +160,6 @@ pub extern "C" fn sitjorbe_order(
             refusal: u32::from(Refusal::TooEarly),
             place,
         },
-        None => OrderAnswer {
-            refusal: 0,
-            place: 0,
-        },
+        None => OrderAnswer::default(),
     }
 }

@@ -4,7 +4,7 @@
 // A sum is a list of limbs of weight 2^28 each, which hold up to 62 bits, so that nothing is carried before the end.
 #![tactic(auto)]
 
-ghost use Rattle.std.specs.Prelude.{◌≡◌, ◌+◌, ◌*◌, ◌^◌, ◌≤◌, ◌<◌, length, get_or};
+ghost use Rattle.std.specs.Prelude.{◌≡◌, ◌+◌, ◌*◌, ◌^◌, ◌<◌, length, get_or};
 ghost use Rattle.exact.specs.Units.{Within, signed};
 ghost use Rattle.domain.specs.Accepted.{PointWithin};
 ghost use Rattle.orientation.specs.Limbs.{B, value, Small, order, order_number};
@@ -77,7 +77,7 @@ fn add_at(acc: &mut [u64], i: usize, d: u64)
 }
 
 // The product of a digit and y's digits is added.
-// Stays three calls: a loop over three digits is no plainer, and needs what each turn leaves of the bounds as an invariant.
+// Stays three calls, here and in `add_product`: a loop over three digits is no plainer, and needs what each turn leaves of the bounds as an invariant.
 fn add_row(acc: &mut [u64], at: usize, d: u64, y: Digits)
     requires { (at + 2 < length acc.old) × (d < B) × Digital y × Small (60 * (B * B)) acc.old }
     ensures { Grown acc.old acc.new (d * three y * B ^ at) (3 * (B * B)) }

@@ -1,2 +1,3 @@
--- What the code's ways of reading bytes rest on: Bytes.
+-- What the code's ways of reading bytes rest on: Bytes. Sums: Sums.
 pub mod Bytes
+pub mod Sums

@@ -5,7 +5,7 @@ ghost use Rattle.std.specs.Prelude.{◌≡◌, ◌+◌, ◌*◌, ◌/◌, ◌≤
 ghost use Rattle.domain.specs.Refusals.{refused, numbered};
 ghost use Rattle.laws.specs.Overlay.{overlay};
 ghost use Rattle.laws.specs.Tabulate.{tabulate};
-ghost use Rattle.outline_file.specs.File.{float_at, block_at, check_of, block_refusal, zero_from, head_length, head_points, head_sound, head_refusal};
+ghost use Rattle.outline_file.specs.File.{float_at, block_at, weighted_byte, check_of, block_refusal, zero_from, head_length, head_points, head_sound, head_refusal};
 ghost use Rattle.outline_file.specs.File.{points_refusal, blocks_refusal, coordinate_at, file_length, file_refusal, reading, read_file};
 ghost use Rattle.outline_file.specs.ByteLaws.{NumberOf};
 ghost use Rattle.outline_file.specs.RefusalLaws.{Headed};
@@ -61,6 +61,7 @@ fn float_at(b: &[u8], i: usize) -> f64
     requires { i + 8 ≤ length b.now }
     ensures { result ≡ float_at b.now i }
 {
+    // Stays an array that is copied: `as_array` of eight bytes is an `Option`, and here it is never none.
     let mut bytes = [0; 8];
     bytes.copy_from_slice(&b[i..i + 8]);
     num::f64_from_bits_with_nan(u64::from_le_bytes(bytes))
@@ -78,15 +79,19 @@ fn block(file: &[u8], k: usize) -> &[u8]
     &file[from..to]
 }
 
+fn weighted_byte(b: &[u8], i: usize) -> u64
+    requires { (i < 510) × (510 ≤ length b.now) }
+    ensures { result ≡ weighted_byte b.now i }
+{
+    (i as u64 + 1) * u64::from(b[i])
+}
+
 // The sum that stands in a block's last two bytes.
 pub fn check_of(b: &[u8]) -> u64
     requires { 510 ≤ length b.now }
     ensures { result ≡ check_of b.now }
 {
-    let mut sum: u64 = 0;
-    for (i, &byte) in b[..CONTENTS].iter().enumerate() {
-        sum += (i as u64 + 1) * byte as u64;
-    }
+    let sum: u64 = (0..CONTENTS).map(|i| weighted_byte(b, i)).sum();
     sum % 65521
 }
 
@@ -114,16 +119,20 @@ fn zero_from(b: &[u8; FILE_BLOCK], at: usize) -> bool
 
 // ---- the head
 
+// The points of loop k.
+fn head_length(h: &[u8; FILE_BLOCK], k: usize) -> usize
+    requires { k < 8 }
+    ensures { result ≡ head_length h.now k }
+{
+    usize::from(number_at(h, LENGTHS_AT + 2 * k))
+}
+
 // The points of the first `n` loops.
 fn head_points(h: &[u8; FILE_BLOCK], n: usize) -> usize
     requires { n ≤ 8 }
     ensures { result ≡ head_points h.now n }
 {
-    let mut sum = 0;
-    for k in 0..n {
-        sum += usize::from(number_at(h, LENGTHS_AT + 2 * k));
-    }
-    sum
+    (0..n).map(|k| head_length(h, k)).sum()
 }
 
 #[tactic(auto, unfolding(crate::specs::File::head_sound))]
@@ -236,7 +245,7 @@ fn read_lengths(h: &[u8; FILE_BLOCK], n: usize, lens: &mut [usize])
     ensures { lens.new ≡ overlay (tabulate n (head_length h.now)) lens.old }
 {
     for (k, place) in lens[..n].iter_mut().enumerate() {
-        *place = usize::from(number_at(h, LENGTHS_AT + 2 * k));
+        *place = head_length(h, k);
     }
 }
 

@@ -49,11 +49,11 @@ cut_at k start (n ∷ lens) s d (suc i) h =
     ∙ ap (λ (t : List Float). (k + suc i, (start + hole_start (n ∷ lens) (suc i), take (2 * hole_length lens i) t)))
     (drop-drop (2 * hole_start lens i) (2 * n) s ∙ ap (λ (m : ℕ). drop m s) (omega (arith, start_front n lens i)))
 
-hole_list_length : (o : Outline) → length (hole_list o) ≡ length o.lens
+pub hole_list_length : (o : Outline) → length (hole_list o) ≡ length o.lens
 unfolding hole_list
 hole_list_length o = cut_length 0 0 o.lens o.holes
 
-hole_list_at : (o : Outline) (d : ℕ × (ℕ × List Float)) (k : ℕ) → k < length o.lens → get_or (hole_list o) k d ≡ (k, (hole_start o.lens k, hole_at o k))
+pub hole_list_at : (o : Outline) (d : ℕ × (ℕ × List Float)) (k : ℕ) → k < length o.lens → get_or (hole_list o) k d ≡ (k, (hole_start o.lens k, hole_at o k))
 unfolding hole_list hole_at
 hole_list_at o d k h = cut_at 0 0 o.lens o.holes d k h ∙ ap₂ (λ (a b : ℕ). (a, (b, hole_at o k))) (omega arith) (omega arith)
 

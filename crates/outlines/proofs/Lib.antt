@@ -1,1 +1,3 @@
 pub mod HoleList
+pub mod LoopList
+pub mod LoopsChecked

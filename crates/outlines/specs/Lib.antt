@@ -1,2 +1,3 @@
 pub mod Holes
+pub mod Loops
 pub mod Order

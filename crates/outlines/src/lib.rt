@@ -8,6 +8,7 @@ ghost use Rattle.domain.specs.Refusals.{refused};
 ghost use Rattle.std.specs.Iterator.{YieldsFirstBy, item_count};
 ghost use Rattle.outlines.specs.Order.{lower_of, higher_of};
 ghost use Rattle.outlines.specs.Holes.{placed, cut, hole_list, Filled};
+ghost use Rattle.outlines.specs.Loops.{looped, loops_left, loop_list};
 ghost use Rattle.domain.specs.Queries.{ray_crosses, squared_distance, foot_of};
 ghost use Rattle.domain.specs.Search.{search_start, searched};
 
@@ -122,14 +123,62 @@ pub fn holes_of<'a>(domain: Domain<'a>) -> Holes<'a>
     }
 }
 
+// Stays beside `Hole`, which has the same fields: a hole's index is its place among the lengths, and the definitions (`hole_at`, `in_hole`) go by that.
+// A loop of an outline: 0 for the outer one and k + 1 for hole k, how many hole points stand before it, and its coordinates.
+#[derive(Clone, Copy)]
+pub struct Loop<'a> {
+    pub index: usize,
+    pub start: usize,
+    pub points: &'a [f64],
+}
+
+// The loops of an outline, the outer one first.
+#[derive(Clone, Copy)]
+pub struct Loops<'a> {
+    outer: Option<&'a [f64]>,
+    holes: Holes<'a>,
+}
+
+impl<'a> Iterator for Loops<'a> {
+    type Item = Loop<'a>;
+
+    ghost next_gives = { YieldsFirstBy looped (λ s. loops_left s.outer s.holes.index s.holes.start s.holes.lens.now s.holes.points.now) };
+
+    ghost remaining = { item_count (λ s. loops_left s.outer s.holes.index s.holes.start s.holes.lens.now s.holes.points.now) };
+
+    fn next(&mut self) -> Option<Loop<'a>> {
+        let (index, start, points) = match self.outer.take() {
+            Some(points) => (0, 0, points),
+            None => {
+                let hole = self.holes.next()?;
+                (hole.index + 1, hole.start, hole.points)
+            }
+        };
+        Some(Loop {
+            index,
+            start,
+            points,
+        })
+    }
+}
+
+pub fn loops_of<'a>(domain: Domain<'a>) -> Loops<'a>
+    requires { misshapen (outline_of domain) ≡ false }
+    ensures { loops_left result.outer result.holes.index result.holes.start result.holes.lens.now result.holes.points.now ≡ loop_list (outline_of domain.entry) }
+{
+    Loops {
+        outer: Some(domain.outer),
+        holes: holes_of(domain),
+    }
+}
+
 // Refusals 2 and 3, loop by loop.
 fn check_loops(domain: Domain<'_>) -> Result<(), Refusal>
     requires { misshapen (outline_of domain) ≡ false }
     ensures { refused result ≡ loops_refusal (outline_of domain.entry) }
 {
-    check_loop(domain.outer)?;
-    for hole in holes_of(domain) {
-        check_loop(hole.points)?;
+    for each in loops_of(domain) {
+        check_loop(each.points)?;
     }
     Ok(())
 }
@@ -192,6 +241,7 @@ pub fn point_after(s: &[f64], i: usize) -> Point
     point_at(s, after(s.len() / 2, i))
 }
 
+// Stays two ends, here and below: the definitions name them one by one.
 #[tactic(auto, unfolding(domain::specs::Queries::ray_crosses))]
 pub fn ray_crosses(p: Point, a: Point, b: Point) -> bool
     ensures { result ≡ ray_crosses p a b }

@@ -6,7 +6,6 @@ use Rattle.topology.specs.Links.{off}
 use Rattle.domain.specs.Outline.{Outline}
 use Rattle.direction.specs.declared.Grid.{Grid}
 use Rattle.direction.specs.Record.{FieldRecord}
-use Rattle.front.specs.declared.Counts.{Counts}
 use Rattle.front.specs.State.{State, state_of}
 use Rattle.paving.specs.declared.End.{End}
 use Rattle.paving.specs.Advance.{paved, Passing, passing, Passed, pass_turn}
@@ -77,11 +76,11 @@ pass_ends turn {p} {n} {i} {s} {some} L h e = rw e (by some ∙ run_end turn aft
     by false = refl
 
 -- the snapshot is taken
-pub pass_begun : (o : Outline) (blocks : List ℕ) (g : Grid) (values : List Float) (s : State) → Paveable o blocks g values s
+pub pass_begun : (g : Grid) (values : List Float) (s : State) → Paveable g values s
     → {snapshot : List ℕ} → snapshot ≡ copied s.counts.nodes s.next s.snapshot
-    → Paveable o blocks g values (state_of s.xs s.ys s.next s.prev snapshot s.quads s.edges s.counts)
+    → Paveable g values (state_of s.xs s.ys s.next s.prev snapshot s.quads s.edges s.counts)
 unfolding with_snapshot
-pass_begun o blocks g values s P e = rw e (snapshot_paveable o blocks g values s P)
+pass_begun g values s P e = rw e (snapshot_paveable g values s P)
 
 -- and its edges are tried
 pub pass_whole : (o : Outline) (size : Float) (field : FieldRecord) (s : State) (snapshot : List ℕ) (w : Passed)
@@ -104,21 +103,21 @@ run_has {S} {R} P Q turn {a} {n} {i} {s} start keeps L =
     next j (go t) p = keeps j t p
     next j (out r) q = q
 
-module _ (o : Outline) (blocks : List ℕ) (size : Float) (g : Grid) (values : List Float) (field : FieldRecord) (s : State)
-    (P : Paveable o blocks g values s) where
-  pub later : {t : State} → Reached o size s t → Later o blocks g values s t
-  later {t} r = reached_later o blocks g values size s t r.quads P r.by
+module _ (o : Outline) (size : Float) (g : Grid) (values : List Float) (field : FieldRecord) (s : State)
+    (P : Paveable g values s) where
+  pub later : {t : State} → Reached o size s t → Later g values s t
+  later {t} r = reached_later g values o size s t r.quads P r.by
 
   pub in_pass : {n i : ℕ} {t : State} {some : Bool} → Run (pass_turn o size field) after_pass (passing s false) n i (passing t some)
-      → Later o blocks g values s t
+      → Later g values s t
   in_pass L =
       later (run_has (AtPassing o size s) (AtPassed o size s) (pass_turn o size field) (record { quads = 0; by = begin }) (turn_kept o size s field) L)
 
 -- in a pass, after its snapshot was taken
-pub in_begun : (o : Outline) (blocks : List ℕ) (size : Float) (g : Grid) (values : List Float) (field : FieldRecord) (s : State)
-    → Paveable o blocks g values s → {snapshot : List ℕ} → snapshot ≡ copied s.counts.nodes s.next s.snapshot
+pub in_begun : (o : Outline) (size : Float) (g : Grid) (values : List Float) (field : FieldRecord) (s : State)
+    → Paveable g values s → {snapshot : List ℕ} → snapshot ≡ copied s.counts.nodes s.next s.snapshot
     → {n i : ℕ} {t : State} {some : Bool}
     → Run (pass_turn o size field) after_pass (passing (state_of s.xs s.ys s.next s.prev snapshot s.quads s.edges s.counts) false) n i
     (passing t some)
-    → Later o blocks g values (state_of s.xs s.ys s.next s.prev snapshot s.quads s.edges s.counts) t
-in_begun o blocks size g values field s P e L = in_pass o blocks size g values field _ (pass_begun o blocks g values s P e) L
+    → Later g values (state_of s.xs s.ys s.next s.prev snapshot s.quads s.edges s.counts) t
+in_begun o size g values field s P e L = in_pass o size g values field _ (pass_begun g values s P e) L

@@ -14,6 +14,7 @@ use paving::{End, Scratch, Surroundings};
 use std::ops::ControlFlow;
 
 // A pass: the snapshot is taken, and its edges are tried in the order of their first nodes. It breaks with the end of the paving.
+// Stays four loans, for the reason given at `settling::settle_edge`.
 pub fn pass(
     around: &Surroundings<'_>,
     paving: &mut Paving<'_>,
@@ -36,8 +37,8 @@ pub fn pass(
     while a < n {
         let i = a;
         a = snapshots::node_after(scratch.tried(), i, n);
-        let placed = settling::settle(around, paving, snapshot, scratch, i)?;
+        let placed = settling::settle_edge(around, paving, snapshot, scratch, i)?;
         some |= placed;
     }
-    ends::after_pass(some)
+    ends::pass_answer(some)
 }

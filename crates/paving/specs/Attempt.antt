@@ -12,7 +12,7 @@ use Rattle.front.specs.declared.Corner.{Corner}
 use Rattle.front.specs.declared.Corner.TheVariants.{Reused, Fresh}
 use Rattle.front.specs.State.{State, node}
 use Rattle.front.specs.Neighbours.{next_at, prev_at}
-use Rattle.paving.specs.declared.FarCorners.{FarCorners}
+use Rattle.front.specs.declared.FarCorners.{FarCorners}
 use Rattle.paving.specs.Checks.{quad_fits}
 
 -- ---- the choice of corners

@@ -15,7 +15,7 @@ use Rattle.direction.specs.Direction.{nearest_direction}
 use Rattle.front.specs.declared.Corner.{Corner}
 use Rattle.front.specs.State.{State, node}
 use Rattle.front.specs.Place.{place, is_full}
-use Rattle.paving.specs.declared.FarCorners.{FarCorners}
+use Rattle.front.specs.declared.FarCorners.{FarCorners}
 use Rattle.paving.specs.declared.End.TheVariants.{Still, Cap, Full}
 use Rattle.paving.specs.Attempt.{attempt_quad, or_else, normal_of, try_toward, try_edge, far}
 use Rattle.paving.specs.Advance.{EndedPaving, paved, Passing, passing, Passed, most_quads, after_quad, settle, is_there, pass_turn, with_snapshot}

@@ -2,26 +2,21 @@
 #![tactic(auto)]
 
 ghost use Rattle.std.specs.Prelude.{◌≡◌};
+ghost use Rattle.domain.specs.Outline.{outline_of};
+ghost use Rattle.blocks.specs.Blocks.{Drawn};
 ghost use Rattle.paving.specs.Ends.{end_number};
 
+use blocks::DrawnOutline;
 use direction::CrossField;
 use domain::Domain;
-use front::Corner;
-
-// The far corners of a quad.
-#[derive(Clone, Copy)]
-pub struct FarCorners {
-    pub c: Corner,
-    pub d: Corner,
-}
 
 // How a run of passes ends.
 #[derive(Clone, Copy)]
 pub enum End {
-    Still,
-    Passes,
-    Cap,
-    Full,
+    Still = 0,
+    Passes = 1,
+    Cap = 2,
+    Full = 3,
 }
 
 // Its number for hosts.
@@ -29,22 +24,32 @@ impl From<End> for u32 {
     ghost from_gives = { λ end number. number ≡ end_number end };
 
     fn from(end: End) -> u32 {
-        match end {
-            End::Still => 0,
-            End::Passes => 1,
-            End::Cap => 2,
-            End::Full => 3,
-        }
+        end as u32
     }
 }
 
-// What is only read round a paving: the outline with its blocks, the size, and the field.
+// What is only read round a paving: an outline that isn't refused with its blocks, the size, and the field.
+// Stays with the outline and its blocks, and no `DrawnOutline`: sampling reads the outline alone, and the contracts of a paving name outline and blocks.
 #[derive(Clone, Copy)]
 pub struct Surroundings<'a> {
     pub domain: Domain<'a>,
     pub blocks: &'a [u32],
     pub size: f64,
     pub field: CrossField<'a>,
+    ghost drawn: { Drawn (outline_of domain) blocks.now },
+}
+
+impl<'a> Surroundings<'a> {
+    // The outline with its blocks.
+    pub fn outline(&self) -> DrawnOutline<'a>
+        ensures domain { result.domain ≡ self.now.domain }
+        ensures blocks { result.blocks ≡ self.now.blocks }
+    {
+        DrawnOutline {
+            domain: self.domain,
+            blocks: self.blocks,
+        }
+    }
 }
 
 // Lists lent for scratch: the pools in which nodes and edges are filed, so that searches go by them, and the edges that were tried in vain.

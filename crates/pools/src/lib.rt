@@ -1,6 +1,8 @@
 // Items (nodes, edges) filed under cells of keys in one lent list, the pool. The list is scratch: all that a caller needs of its contents is that each of
 // the first items is in the chain of every cell of its rectangle, and that these are all items, unless the places have run out (`Indexed`); those that came
 // after that are left to a scan.
+// Stays functions of a list, here and in `index`: a struct round the one lent list would be needed twice, to read and to write, and no fact goes with
+// the list, since what is filed in it names the items' rectangles and their count (`Indexed`).
 #![tactic(auto)]
 
 ghost use Rattle.std.specs.Prelude.{◌≡◌, ℕ, ◌+◌, ◌*◌, ◌%◌, ◌≤◌, ◌<◌, min, leb, length};
@@ -128,6 +130,7 @@ fn file_row(pool: &mut [u32], left: u32, right: u32, j: usize, own: u32)
     let m = cells_of(pool.len());
     let w = span(left, right);
     let mut cell = cell_of(m, left as usize, j);
+    // Stays a loop that hands the cell on: the next is got without a division.
     for k in 0..w {
         push(pool, cell, own);
         cell = next_cell(m, cell);
@@ -138,7 +141,7 @@ fn file_row(pool: &mut [u32], left: u32, right: u32, j: usize, own: u32)
 fn is_room(w: usize, h: usize, places: usize) -> bool
     ensures { result ≡ leb (w * h) places }
 {
-    h == 0 || w <= places / h
+    w.checked_mul(h).is_some_and(|n| n <= places)
 }
 
 // Whether there are places for the keys of the rectangle.

@@ -1,2 +1,3 @@
--- What would become of the edge, from the quad that a placing places.
+-- In reading order: what would become of the edge, from the quad that a placing places; a front's links as answers.
 pub mod Quads
+pub mod Neighbours

@@ -8,7 +8,8 @@ use Rattle.front.specs.declared.Corner.{Corner}
 use Rattle.front.specs.declared.Corner.TheVariants.{Reused, Fresh}
 use Rattle.front.specs.State.{State, next_of}
 use Rattle.front.specs.Place.{added, corner_id, is_full}
-use Rattle.paving.specs.declared.FarCorners.{FarCorners}
+use Rattle.front.specs.Stores.{Ids}
+use Rattle.front.specs.declared.FarCorners.{FarCorners}
 use Rattle.paving.specs.Attempt.{try_edge}
 use Rattle.paving.specs.Advance.{most_quads}
 use Rattle.mesh_check.specs.Check.{mesh_refusal, edge_refusal}
@@ -112,6 +113,10 @@ shown_links (Some q) a b n g x = moved_links q.c q.d a b (corner_id (n + added q
 abbrev pub shown_nodes : Option FarCorners → ℕ → ℕ
 shown_nodes None n = n
 shown_nodes (Some q) n = n + (added q.c + added q.d)
+
+-- the quad's ids are those of nodes
+abbrev pub QuadKnown : FarCorners → ℕ → ℕ → ℕ → Type 0
+QuadKnown q n a b = Ids (n + (added q.c + added q.d)) a b (corner_id n q.c) (corner_id (n + added q.c) q.d)
 
 -- the links as the code reads them, before the quad and after it
 abbrev pub links_before : ℕ → List ℕ → ℕ → ℕ

@@ -15,7 +15,7 @@ use Rattle.front.specs.declared.Counts.{Counts}
 use Rattle.front.specs.declared.Corner.{Corner}
 use Rattle.front.specs.State.{State, next_of}
 use Rattle.front.specs.Place.{place, is_full}
-use Rattle.paving.specs.declared.FarCorners.{FarCorners}
+use Rattle.front.specs.declared.FarCorners.{FarCorners}
 use Rattle.paving.specs.Attempt.{try_edge, far}
 use Rattle.paving.specs.AttemptLaws.{far_same}
 use Rattle.paving.specs.Advance.{most_quads}
@@ -31,7 +31,7 @@ use Rattle.hand_steps.specs.UseLaws.{front_room, quad_fits_lem}
 use Rattle.previews.specs.declared.Foreseen.{Foreseen}
 use Rattle.previews.specs.declared.View.{View}
 use Rattle.previews.specs.Preview.{EdgeList, edge_list, edge_turn, front_listed, foresight, foreseen, foreseen_on, preview_refusal, view_on}
-use Rattle.previews.specs.Preview.{preview_answer, preview_list, PreviewTaken, is_on, shown_links, shown_nodes}
+use Rattle.previews.specs.Preview.{preview_answer, preview_list, PreviewTaken, is_on, shown_links, shown_nodes, QuadKnown}
 use Rattle.previews.specs.FrontAfter.{Shows, placed_shows}
 
 -- ---- what would become of the edge
@@ -139,6 +139,12 @@ module _ (xs ys : List Float) (next prev origins quads edges : List ℕ) (k : Co
           let F = quad_fits_lem xs ys next prev origins quads edges k a b S o size field q.c q.d C.0 C.1 in
           let P = placed_shows s standing q.c q.d a b F.nodes.next_fit (omega (arith, F.nodes.few)) F.ids S.there in
           record { shows = P.0; most = P.1; few = F.nodes.few }
+
+  -- a quad that it shows has the ids of nodes
+  pub shown_known : (w : Foreseen) → w ≡ foreseen_on o size field a b s → (q : FarCorners) → w.quad ≡ Some q → QuadKnown q k.nodes a b
+  shown_known w e q z =
+      let C = (subst (Foresees o size field a b s) (sym e) (foresees o size field a b s)).fits q.c q.d z in
+      (quad_fits_lem xs ys next prev origins quads edges k a b S o size field q.c q.d C.0 C.1).ids
 
   -- the list has a place for each
   pub shown_fits : (w : Foreseen) → w ≡ foreseen_on o size field a b s → (places : ℕ) → k.front + 2 ≤ places

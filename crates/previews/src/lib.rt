@@ -1,26 +1,27 @@
 // What a step would do, shown before it is taken: the quad that would come and the front after it. The mesh is only read.
 #![tactic(auto)]
 
-ghost use Rattle.std.specs.Prelude.{◌≡◌, List, cond, ℕ, ◌+◌, ◌*◌, ◌/◌, ◌≤◌, eqb, length};
+ghost use Rattle.std.specs.Prelude.{◌≡◌, ◌≢◌, List, cond, ℕ, ◌+◌, ◌*◌, ◌/◌, ◌≤◌, eqb, length, Some, None};
+ghost use Rattle.std.specs.Option.{ForSome};
 ghost use Rattle.laws.specs.Loop.{sum_up};
-ghost use Rattle.topology.specs.Links.{off};
+ghost use Rattle.topology.specs.Links.{off, update};
+ghost use Rattle.domain.specs.Outline.{outline_of};
 ghost use Rattle.domain.specs.Refusals.{refused, numbered};
 ghost use Rattle.direction.specs.Record.{field_lent};
+ghost use Rattle.front.specs.Neighbours.{neighbour_of, is_at};
 ghost use Rattle.front.specs.Place.{added, corner_id};
-ghost use Rattle.paving.specs.Lent.{outline_in};
 ghost use Rattle.mesh_check.specs.Check.{lent_in};
 ghost use Rattle.hand_steps.specs.Lent.{Around, OnFront};
 ghost use Rattle.previews.specs.Preview.{remove_link, take_link, put_link, bare_links, moved_links, is_on, edge_list, front_listed, shown_nodes};
-ghost use Rattle.previews.specs.Preview.{links_before, links_after, foreseen_on, preview_refusal, PreviewTaken};
+ghost use Rattle.previews.specs.Preview.{links_before, links_after, QuadKnown, foreseen_on, preview_refusal, PreviewTaken};
 
 use domain::Refusal;
-use front::{Corner, Mesh, OFF};
-use hand_steps::StepOutcome;
-use paving::{FarCorners, Surroundings};
+use front::{Corner, FarCorners};
+use hand_steps::{Given, StepOutcome};
+use mesh_check::NumberedMesh;
 
 // What a placing would do, with the quad that it would place.
-// Stays an outcome beside an option, here and in `View`: an enum that holds the quad would repeat the four names of `StepOutcome`, and be taken apart again into
-// the outcome's number and the option that the links and a host's answer read.
+// Stays an outcome beside an option, here and in `View`: the preview's promise (`PreviewTaken`) answers these two.
 #[derive(Clone, Copy)]
 pub struct Foreseen {
     pub outcome: StepOutcome,
@@ -38,19 +39,29 @@ pub struct View {
 // ---- the front after a quad, from the links before it
 
 // The link of u without the front edge x to y; `was` is the link of x, and `link` that of u.
-fn link_removed(was: u32, link: u32, x: u32, y: u32, u: u32) -> u32
-    ensures { result ≡ cond (eqb was y) (cond (eqb x u) off link) link }
+// Stays an edge as two ids, here and below, for the reason given at `stepping::attempt_on`.
+fn link_removed(was: Option<u32>, link: Option<u32>, x: u32, y: u32, u: u32) -> Option<u32>
+    ensures { result ≡ cond (is_at was y) (cond (eqb x u) None link) link }
 {
-    if was == y && x == u { OFF } else { link }
+    if was == Some(y) && x == u { None } else { link }
 }
 
-// The link of u with the front edge x to y, where c is new; `link` is that of u.
-fn link_put(c: Corner, link: u32, x: u32, y: u32, u: u32) -> u32
-    ensures { (g : ℕ → ℕ) → link ≡ g u → result ≡ put_link c x y g u }
+// The link of u with the front edge x to y; `link` is that of u without it.
+fn link_added(link: Option<u32>, x: u32, y: u32, u: u32) -> Option<u32>
+    requires { y ≢ off }
+    ensures { (g : ℕ → ℕ) → link ≡ neighbour_of (g u) → result ≡ neighbour_of (update g x y u) }
+{
+    if x == u { Some(y) } else { link }
+}
+
+// The same, where c is new; where it isn't, nothing comes.
+fn link_put(c: Corner, link: Option<u32>, x: u32, y: u32, u: u32) -> Option<u32>
+    requires { y ≢ off }
+    ensures { (g : ℕ → ℕ) → link ≡ neighbour_of (g u) → result ≡ neighbour_of (put_link c x y g u) }
 {
     match c {
-        Corner::Fresh(_, _) if x == u => y,
-        _ => link,
+        Corner::Reused(_) => link,
+        Corner::Fresh(_, _) => link_added(link, x, y, u),
     }
 }
 
@@ -63,28 +74,29 @@ struct LinksAfter<'a> {
     b: u32,
     quad: Option<FarCorners>,
     ghost fit: { (nodes ≤ length next.now) × (nodes ≤ 4294967294) × (shown_nodes quad nodes ≤ 4294967294) },
+    ghost known: { ForSome quad (λ q. QuadKnown q nodes a b) },
 }
 
 impl LinksAfter<'_> {
     // The link of u before the quad.
-    fn link_before(&self, u: u32) -> u32
-        ensures { result ≡ links_before self.now.nodes self.now.next.now u }
+    fn link_before(&self, u: u32) -> Option<u32>
+        ensures { result ≡ neighbour_of (links_before self.now.nodes self.now.next.now u) }
     {
-        front::link_of(self.next, self.nodes, u)
+        front::link_at(self.next, self.nodes, u)
     }
 
     // The link of u once a to b is off.
-    fn link_without(&self, u: u32) -> u32
-        ensures { result ≡ remove_link self.now.a self.now.b (links_before self.now.nodes self.now.next.now) u }
+    fn link_without(&self, u: u32) -> Option<u32>
+        ensures { result ≡ neighbour_of (remove_link self.now.a self.now.b (links_before self.now.nodes self.now.next.now) u) }
     {
         let was = self.link_before(self.a);
         link_removed(was, self.link_before(u), self.a, self.b, u)
     }
 
     // And once c to a is, where c is reused.
-    fn link_without_c(&self, c: Corner, u: u32) -> u32
-        ensures { result ≡ take_link c (corner_id self.now.nodes c) self.now.a
-            (remove_link self.now.a self.now.b (links_before self.now.nodes self.now.next.now)) u }
+    fn link_without_c(&self, c: Corner, u: u32) -> Option<u32>
+        ensures { result ≡ neighbour_of (take_link c (corner_id self.now.nodes c) self.now.a
+            (remove_link self.now.a self.now.b (links_before self.now.nodes self.now.next.now)) u) }
     {
         let link = self.link_without(u);
         match c {
@@ -95,9 +107,9 @@ impl LinksAfter<'_> {
 
     // And once b to d is, where d is reused.
     #[tactic(auto, unfolding(crate::specs::Preview::bare_links))]
-    fn link_bare(&self, quad: FarCorners, u: u32) -> u32
-        ensures { result ≡ bare_links quad.c quad.d self.now.a self.now.b (corner_id (self.now.nodes + added quad.c) quad.d)
-            (corner_id self.now.nodes quad.c) (links_before self.now.nodes self.now.next.now) u }
+    fn link_bare(&self, quad: FarCorners, u: u32) -> Option<u32>
+        ensures { result ≡ neighbour_of (bare_links quad.c quad.d self.now.a self.now.b (corner_id (self.now.nodes + added quad.c) quad.d)
+            (corner_id self.now.nodes quad.c) (links_before self.now.nodes self.now.next.now) u) }
     {
         let link = self.link_without_c(quad.c, u);
         match quad.d {
@@ -111,21 +123,22 @@ impl LinksAfter<'_> {
 
     // The link of u after the quad.
     #[tactic(auto, unfolding(crate::specs::Preview::moved_links))]
-    fn link_after(&self, quad: FarCorners, u: u32) -> u32
-        ensures { result ≡ moved_links quad.c quad.d self.now.a self.now.b (corner_id (self.now.nodes + added quad.c) quad.d)
-            (corner_id self.now.nodes quad.c) (links_before self.now.nodes self.now.next.now) u }
+    fn link_after(&self, quad: FarCorners, u: u32) -> Option<u32>
+        requires { (self.now.nodes + (added quad.c + added quad.d) ≤ 4294967294) × QuadKnown quad self.now.nodes self.now.a self.now.b }
+        ensures { result ≡ neighbour_of (moved_links quad.c quad.d self.now.a self.now.b (corner_id (self.now.nodes + added quad.c) quad.d)
+            (corner_id self.now.nodes quad.c) (links_before self.now.nodes self.now.next.now) u) }
     {
         let FarCorners { c, d } = quad;
         let id_c = c.id(self.nodes);
-        let id_d = d.id(self.nodes + c.added());
+        let id_d = quad.id_d(self.nodes);
         let at_c = link_put(c, self.link_bare(quad, u), self.a, id_c, u);
-        let across = if id_c == u { id_d } else { at_c };
+        let across = link_added(at_c, id_c, id_d, u);
         link_put(d, across, id_d, self.b, u)
     }
 
     // The link of u.
-    fn link(&self, u: u32) -> u32
-        ensures { result ≡ links_after self.now.quad self.now.a self.now.b self.now.nodes self.now.next.now u }
+    fn link(&self, u: u32) -> Option<u32>
+        ensures { result ≡ neighbour_of (links_after self.now.quad self.now.a self.now.b self.now.nodes self.now.next.now u) }
     {
         match self.quad {
             None => self.link_before(u),
@@ -139,13 +152,13 @@ impl LinksAfter<'_> {
     {
         match self.quad {
             None => self.nodes,
-            Some(FarCorners { c, d }) => self.nodes + (c.added() + d.added()),
+            Some(quad) => self.nodes + quad.added(),
         }
     }
 
     // Writes the front edges by their first node: how many there are.
     // Stays a loop with a count: the places are filled only by nodes with a link, so a `zip` of both would need the count besides.
-    #[tactic(auto, using(crate::specs::ListLaws::written_room, crate::specs::ListLaws::written_end))]
+    #[tactic(auto, using(crate::proofs::Neighbours::room_here, crate::specs::ListLaws::written_end))]
     fn list_front(&self, list: &mut [u32]) -> usize
         requires { 2 * sum_up (shown_nodes self.now.quad self.now.nodes)
             (is_on (links_after self.now.quad self.now.a self.now.b self.now.nodes self.now.next.now)) ≤ length list.old }
@@ -154,8 +167,7 @@ impl LinksAfter<'_> {
     {
         let mut j = 0;
         for u in 0..self.node_count() {
-            let v = self.link(u);
-            if v != OFF {
+            if let Some(v) = self.link(u) {
                 list[2 * j] = u;
                 list[2 * j + 1] = v;
                 j += 1;
@@ -168,20 +180,15 @@ impl LinksAfter<'_> {
 // ---- what would become of the edge
 
 // What a placing on the front edge a to b would do.
-// Stays a mesh, its numbers and an edge apart, here and below: a struct of all would be built for `stepping::quad_on` and `check_mesh`, which read mesh and
-// numbers, and taken apart for `check_edge` and the links, which read no numbers.
-fn foresee_on(
-    around: &Surroundings<'_>,
-    mesh: &Mesh<'_>,
-    origins: &[u16],
-    a: u32,
-    b: u32,
-) -> Foreseen
-    requires { Around (outline_in around.now) around.now.field.grid around.now.field.values.now × OnFront (lent_in mesh.now origins.now) a b }
+// Stays a `match` like that of `stepping::place_on`: `quad_on`, which both call, has the tree of outcomes, and one shows the quad that the other places.
+fn foresee_on(around: &Given<'_>, lent: NumberedMesh<'_, '_>, a: u32, b: u32) -> Foreseen
+    requires { Around (outline_of around.now.domain) around.now.field.grid around.now.field.values.now
+        × OnFront (lent_in lent.mesh lent.origins.now) a b }
     ensures { (marks : List ℕ) → result
-        ≡ foreseen_on (outline_in around.now) around.now.size (field_lent around.now.field marks) a b (lent_in mesh.now origins.now) }
+        ≡ foreseen_on (outline_of around.now.domain) around.now.size (field_lent around.now.field marks) a b
+        (lent_in lent.entry.mesh lent.entry.origins.now) }
 {
-    match stepping::quad_on(around, mesh, origins, a, b) {
+    match stepping::quad_on(around, lent, a, b) {
         Ok(quad) => Foreseen {
             outcome: StepOutcome::Placed,
             quad: Some(quad),
@@ -196,40 +203,33 @@ fn foresee_on(
 // ---- the preview
 
 // Refusal 23 of the mesh and of a list with so many places, then 24.
-fn check_preview(
-    mesh: &Mesh<'_>,
-    origins: &[u16],
-    places: usize,
-    a: u32,
-    b: u32,
-) -> Result<(), Refusal>
-    ensures { refused result ≡ preview_refusal (lent_in mesh.now origins.now) places a b }
+fn check_preview(lent: NumberedMesh<'_, '_>, places: usize, a: u32, b: u32) -> Result<(), Refusal>
+    ensures { refused result ≡ preview_refusal (lent_in lent.entry.mesh lent.entry.origins.now) places a b }
 {
-    mesh_check::check_mesh(mesh, origins)?;
-    if places < mesh.counts.front + 2 {
+    lent.check()?;
+    if places < lent.mesh.counts.front + 2 {
         return Err(Refusal::UnsoundMesh);
     }
-    mesh_check::check_edge(mesh, a, b)
+    mesh_check::check_edge(&lent.mesh, a, b)
 }
 
 // A preview of the step on the edge a to b: the mesh is only read, and the list gets the front edges that the step would leave, by their first node.
 pub fn preview(
-    around: &Surroundings<'_>,
-    mesh: &Mesh<'_>,
-    origins: &[u16],
+    around: &Given<'_>,
+    lent: NumberedMesh<'_, '_>,
     a: u32,
     b: u32,
     list: &mut [u32],
 ) -> Result<View, Refusal>
-    requires { Around (outline_in around.now) around.now.field.grid around.now.field.values.now }
-    ensures { (marks : List ℕ) → PreviewTaken (outline_in around.now) around.now.size (field_lent around.now.field marks) a b
-        (lent_in mesh.now origins.now) list.old (numbered result) list.new }
+    requires { Around (outline_of around.now.domain) around.now.field.grid around.now.field.values.now }
+    ensures { (marks : List ℕ) → PreviewTaken (outline_of around.now.domain) around.now.size (field_lent around.now.field marks) a b
+        (lent_in lent.entry.mesh lent.entry.origins.now) list.old (numbered result) list.new }
 {
-    check_preview(mesh, origins, list.len() / 2, a, b)?;
-    let foreseen = foresee_on(around, mesh, origins, a, b);
+    check_preview(lent, list.len() / 2, a, b)?;
+    let foreseen = foresee_on(around, lent, a, b);
     let links = LinksAfter {
-        next: mesh.next,
-        nodes: mesh.counts.nodes,
+        next: lent.mesh.next,
+        nodes: lent.mesh.counts.nodes,
         a,
         b,
         quad: foreseen.quad,

@@ -7,6 +7,7 @@ ghost use Rattle.domain.specs.Outline.{outline, outline_of, point, query_refusal
 ghost use Rattle.domain.specs.Refusals.{refused, numbered};
 ghost use Rattle.queries.specs.Answers.{contains_answer, nearest_answer, distance_answer, contains_numbers, NearestGiven, distance_numbers};
 
+use blocks::DrawnOutline;
 use domain::{Domain, Near, Point, Refusal};
 
 // `refusal` is document 01's number, 0 where nothing is refused. The values of a refused query are false, 0.0 or 0.
@@ -54,7 +55,11 @@ pub fn query_contains(domain: Domain<'_>, p: Point) -> Result<bool, Refusal>
     ensures { numbered result ≡ contains_answer (outline_of domain.entry) p }
 {
     check_query(domain, p)?;
-    Ok(blocks::contains_point(domain, &[], p))
+    let plain = DrawnOutline {
+        domain,
+        blocks: &[],
+    };
+    Ok(plain.contains_point(p))
 }
 
 #[tactic(auto, unfolding(crate::specs::Answers::nearest_answer), using(domain::proofs::Refused::refused_answer))]
@@ -62,7 +67,11 @@ pub fn query_nearest(domain: Domain<'_>, p: Point) -> Result<Near, Refusal>
     ensures { numbered result ≡ nearest_answer (outline_of domain.entry) p }
 {
     check_query(domain, p)?;
-    Ok(nearest::search_outline(domain, &[], p))
+    let plain = DrawnOutline {
+        domain,
+        blocks: &[],
+    };
+    Ok(nearest::search_outline(plain, p))
 }
 
 #[tactic(auto, using(crate::proofs::Mapped::distance_found, crate::proofs::Mapped::distance_refused))]

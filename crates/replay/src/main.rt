@@ -13,7 +13,7 @@ use std::rt::Files;
 use std::{fs, io, str};
 
 // So much is read of the list and of an outline's file, of which 4,609 bytes decide.
-// Stays the length of an array, as the one below: the program allocates nothing.
+// Stays the length of arrays, and so is the next: `differs` and `main` read into them, since the program allocates nothing.
 const MOST_READ: usize = 65536;
 
 // So much is read of a stored listing: more than any has.
@@ -59,6 +59,7 @@ fn split_line(text: &[u8]) -> (&[u8], &[u8])
 fn check(file: &[u8], stored: &[u8]) -> Option<usize>
     ensures { result ≡ compared (program_listing file.now) stored.now }
 {
+    // Stays an array: the program allocates nothing.
     let mut listing = [0u8; file_listing::LONGEST_LISTING];
     let n = list_file(file, &mut listing);
     compare(&listing[..n], stored)
@@ -76,8 +77,12 @@ fn read_bytes<'a>(files: &impl Files, path: &[u8], bytes: &'a mut [u8]) -> io::R
     Ok(&bytes[..length])
 }
 
-// The same, where a file that can't be read is none.
-fn read_file<'a>(rt: &(impl Files + Eprint), path: &[u8], bytes: &'a mut [u8]) -> Option<&'a [u8]> {
+// The same, where a file that can't be read is none, and a line says so.
+fn read_or_say<'a>(
+    rt: &(impl Files + Eprint),
+    path: &[u8],
+    bytes: &'a mut [u8],
+) -> Option<&'a [u8]> {
     match read_bytes(rt, path, bytes) {
         Ok(read) => Some(read),
         Err(error) => {
@@ -115,12 +120,12 @@ fn say_counts(rt: &impl Print, files: usize, differences: usize) -> io::Result<(
 // answer.
 fn differs(rt: &(impl Files + Print + Eprint), outline: &[u8], listing: &[u8]) -> bool {
     let mut file = [0u8; MOST_READ];
-    let Some(read) = read_file(rt, outline, &mut file) else {
+    let Some(read) = read_or_say(rt, outline, &mut file) else {
         let _ = say_missing(rt, outline);
         return true;
     };
     let mut stored = [0u8; MOST_STORED];
-    let Some(kept) = read_file(rt, listing, &mut stored) else {
+    let Some(kept) = read_or_say(rt, listing, &mut stored) else {
         let _ = say_missing(rt, listing);
         return true;
     };
@@ -151,6 +156,6 @@ fn replay_all(rt: &(impl Files + Print + Eprint), list: &[u8]) -> io::Result<()>
 
 fn main(rt: HostRuntime) -> io::Result<()> {
     let mut list = [0u8; MOST_READ];
-    let lines = read_file(&rt, b"list", &mut list).unwrap_or(&[]);
+    let lines = read_or_say(&rt, b"list", &mut list).unwrap_or(&[]);
     replay_all(&rt, lines)
 }

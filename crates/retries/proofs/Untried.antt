@@ -7,7 +7,7 @@ use Rattle.direction.specs.Record.{FieldRecord, field_record}
 use Rattle.front.specs.State.{State, next_of, prev_of}
 use Rattle.front.specs.Sound.{Sound}
 use Rattle.front.specs.Ready.{Known}
-use Rattle.paving.specs.declared.FarCorners.{FarCorners}
+use Rattle.front.specs.declared.FarCorners.{FarCorners}
 use Rattle.paving.specs.Attempt.{try_edge}
 use Rattle.attempts.specs.Seen.{seen_of}
 use Rattle.attempts.specs.SeenLaws.{try_seen}

@@ -24,7 +24,7 @@ use Rattle.front.specs.Place.{id_c, id_d}
 use Rattle.front.specs.Ready.{Chosen}
 use Rattle.front.specs.Sound.{Sound}
 use Rattle.front.specs.Pushed.{IsNode}
-use Rattle.paving.specs.declared.FarCorners.{FarCorners}
+use Rattle.front.specs.declared.FarCorners.{FarCorners}
 use Rattle.paving.specs.Checks.{corners_apart, quad_fits}
 use Rattle.paving.specs.Attempt.{reuse, is_reused, corner_at, ideal, corner_c, corner_d, quad_if, attempt_quad, or_else, normal_of, try_toward, try_edge}
 use Rattle.books.specs.Answered.{chosen}

@@ -6,7 +6,7 @@ use Rattle.direction.specs.Record.{FieldRecord}
 use Rattle.topology.specs.Links.{off}
 use Rattle.front.specs.State.{State, next_of, prev_of}
 use Rattle.front.specs.Sound.{Sound}
-use Rattle.paving.specs.declared.FarCorners.{FarCorners}
+use Rattle.front.specs.declared.FarCorners.{FarCorners}
 use Rattle.paving.specs.Attempt.{try_edge}
 use Rattle.snapshots.specs.Stretches.{has_places, stretched}
 use Rattle.retries.specs.Grows.{Grows}

@@ -14,7 +14,7 @@ use Rattle.laws.specs.Loop.{for_up}
 use Rattle.laws.specs.Tests.{both}
 use Rattle.topology.specs.Links.{off}
 use Rattle.front.specs.State.{State, next_of}
-use Rattle.paving.specs.declared.FarCorners.{FarCorners}
+use Rattle.front.specs.declared.FarCorners.{FarCorners}
 use Rattle.paving.specs.Advance.{is_there}
 use Rattle.snapshots.specs.Stretches.{has_places, stretched, OffBoth, Stretches, SamePlaces}
 use Rattle.snapshots.specs.StretchLaws.{stretch_written}

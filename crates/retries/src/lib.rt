@@ -2,7 +2,7 @@
 // places. That what it has of an edge spares the try is the law `vain_fails` in specs/VainLaws.antt.
 #![tactic(auto)]
 
-ghost use Rattle.std.specs.Prelude.{◌≡◌, []};
+ghost use Rattle.std.specs.Prelude.{◌≡◌};
 ghost use Rattle.topology.specs.Links.{link_of};
 ghost use Rattle.front.specs.Lent.{mesh_state};
 ghost use Rattle.paving.specs.Lent.{outline_in, field_in};
@@ -11,12 +11,13 @@ ghost use Rattle.attempts.specs.Seen.{seen_of, seen_edges, TryLent};
 ghost use Rattle.retries.specs.Vain.{is_vain, noted, tried_after, forgotten, Remembers};
 ghost use Rattle.retries.specs.Untried.{Untried};
 
-use front::Mesh;
+use front::{FarCorners, Mesh};
 use indexed::Pools;
-use paving::{FarCorners, Scratch, Surroundings};
+use paving::{Scratch, Surroundings};
 
 // ---- the list
 
+// Stays a list lent, for the reason given in `snapshots`.
 // Nothing was tried from the nodes `from`, .., `to` - 1, and no stretch begins at one.
 pub fn forget(tried: &mut [u32], from: u32, to: u32)
     ensures { tried.new ≡ forgotten from to tried.old }
@@ -27,6 +28,7 @@ pub fn forget(tried: &mut [u32], from: u32, to: u32)
 }
 
 // Whether the edge from a to b was last tried in vain, between the neighbours p and q.
+// Stays three comparisons: a must-fail edit (`successor_not_compared`) stands on the last one.
 #[tactic(auto, unfolding(crate::specs::Vain::is_vain))]
 pub fn is_vain(tried: &[u32], a: u32, b: u32, p: u32, q: u32) -> bool
     ensures { result ≡ is_vain tried.now a b p q }
@@ -57,7 +59,7 @@ pub fn try_untried(
     a: u32,
     b: u32,
 ) -> Option<FarCorners>
-    requires lent { TryLent (outline_in around.now) around.now.blocks.now around.now.field.grid around.now.field.values.now around.now.size mesh.now.xs.now
+    requires lent { TryLent around.now.field.grid around.now.field.values.now around.now.size mesh.now.xs.now
         mesh.now.ys.now mesh.now.next.now mesh.now.prev.now mesh.now.edges.now scratch.old.node_pool.now scratch.old.edge_pool.now mesh.now.counts }
     requires untried { Untried (outline_in around.now) around.now.size (field_in around.now) (seen_of (mesh_state mesh.now)) scratch.old.tried.now a b }
     ensures pools { (scratch.new.node_pool ≡ scratch.old.node_pool) × (scratch.new.edge_pool ≡ scratch.old.edge_pool) }

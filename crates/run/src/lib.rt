@@ -10,7 +10,7 @@ ghost use Rattle.paving.specs.Advance.{paved};
 ghost use Rattle.paving.specs.Lent.{SameScratch};
 ghost use Rattle.whole_run.specs.Run.{run_refusal, run_of};
 ghost use Rattle.sampled_advance.specs.Asked.{unsampled, CanPave};
-ghost use Rattle.run.specs.Run.{settings, snapshot_places, refusal_of, drawn_and_paved, accepted_run, ran, Paves, Spares};
+ghost use Rattle.run.specs.Run.{snapshot_places, refusal_of, drawn_and_paved, accepted_run, ran, Paves, Spares};
 ghost use Rattle.run.specs.Lent.{lent_in, scratch_in, SameRunLists};
 
 use direction::{CrossField, Grid};
@@ -18,6 +18,7 @@ use domain::{Domain, Refusal, Settings};
 use front::{Counts, Paving};
 use loops::Listed;
 use paving::{End, Scratch, Surroundings};
+use run_refusal::RunPlaces;
 
 // What is answered of a run: how its paving ended, the field's grid, how much of the lists is in use, and whether it is whole.
 #[derive(Clone, Copy)]
@@ -71,28 +72,32 @@ impl<'a> RunLists<'a> {
             self.prev,
             self.snapshot_places(),
         );
-        run_refusal::check_run(
-            domain,
-            settings.size,
-            settings.sweeps,
+        let places = RunPlaces {
             field,
             nodes,
-            self.edges.len() / 2,
-            self.lengths.len(),
-        )
+            edges: self.edges.len() / 2,
+            lengths: self.lengths.len(),
+        };
+        run_refusal::check_run(domain, settings.size, settings.sweeps, places)
     }
 }
 
 // ---- the stages
 
+// Stays a call: of a call's result it is known that it is a double, and of a field of `Settings` it isn't; a ghost field there that says so would ask more
+// of whoever has a size from a field.
+fn run_size(settings: Settings) -> f64
+    ensures { result ≡ settings.size }
+{
+    settings.size
+}
+
 // The field, and the paving in it: the field's grid, and how the paving ended.
-// Stays a size, sweeps and passes: of a parameter `size` it is known that it is a double, and not of a field of `Settings`.
-// Stays lists side by side: behind a `&mut RunLists` the values can't be lent for reading while a paving has other lists of it.
+// Stays lists side by side: tried; behind a `&mut RunLists` the values can't be lent for reading and other lists for a paving at once, which the borrow checker doesn't cover.
+// So do the outline, the settings and the scratch, here and below: of these the scratch alone is written.
 fn draw_and_pave(
     domain: Domain<'_>,
-    size: f64,
-    sweeps: usize,
-    passes: usize,
+    settings: Settings,
     values: &mut [f64],
     marks: &mut [u8],
     paving: &mut Paving<'_>,
@@ -100,14 +105,15 @@ fn draw_and_pave(
     scratch: &mut Scratch<'_>,
     blocks: &mut [u32],
 ) -> (Grid, End)
-    requires { run_refusal (outline_of domain) (settings size sweeps passes) (field_lists values.old marks.old) (unsampled paving.old snapshot.old) ≡ 0 }
+    requires { run_refusal (outline_of domain) settings (field_lists values.old marks.old) (unsampled paving.old snapshot.old) ≡ 0 }
     ensures same_lists { SameLists paving.old paving.new }
     ensures same_scratch { SameScratch scratch.old scratch.new }
-    ensures can { CanPave (outline_of domain.entry) blocks.new size result.0 values.new (unsampled paving.old snapshot.old) }
+    ensures can { CanPave (outline_of domain.entry) blocks.new settings.size result.0 values.new (unsampled paving.old snapshot.old) }
     ensures runs { drawn_and_paved (field_record result.0 values.new marks.new) (paved (paving_state paving.new snapshot.new) result.1)
-        ≡ run_of (outline_of domain.entry) (settings size sweeps passes) (field_lists values.old marks.old) (unsampled paving.old snapshot.old) }
+        ≡ run_of (outline_of domain.entry) settings (field_lists values.old marks.old) (unsampled paving.old snapshot.old) }
 {
-    let grid = crossfield::make_field(domain, size, sweeps, values, marks, blocks);
+    let size = run_size(settings);
+    let grid = crossfield::make_field(domain, size, settings.sweeps, values, marks, blocks);
     let field = CrossField { grid, values };
     let around = Surroundings {
         domain,
@@ -115,6 +121,7 @@ fn draw_and_pave(
         size,
         field,
     };
+    let passes = settings.passes;
     let end = sampled_advance::sample_and_advance(&around, paving, snapshot, scratch, passes);
     (grid, end)
 }
@@ -145,9 +152,7 @@ fn pave_in(
     let snapshot = &mut lists.snapshot[..m];
     let (grid, end) = draw_and_pave(
         domain,
-        settings.size,
-        settings.sweeps,
-        settings.passes,
+        settings,
         lists.values,
         lists.marks,
         &mut paving,

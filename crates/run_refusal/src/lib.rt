@@ -11,26 +11,32 @@ ghost use Rattle.run_refusal.specs.Lengths.{lengths_refusal};
 
 use domain::{Domain, Refusal};
 
-// Where there are so many places for field nodes, nodes, edges and lengths of loops.
+// How many places there are for field nodes, nodes, edges and lengths of loops.
+#[derive(Clone, Copy)]
+pub struct RunPlaces {
+    pub field: usize,
+    pub nodes: usize,
+    pub edges: usize,
+    pub lengths: usize,
+}
+
+// Where so many places are lent.
 #[tactic(auto, using(domain::proofs::Refused::first_refused))]
 pub fn check_run(
     domain: Domain<'_>,
     size: f64,
     sweeps: usize,
-    field: usize,
-    nodes: usize,
-    edges: usize,
-    lengths: usize,
+    places: RunPlaces,
 ) -> Result<(), Refusal>
     ensures { refused result
         ≡ first_of
-        (first_of (refusal_for (outline_of domain.entry) size sweeps field)
-        (sampled_refusal (outline_of domain.entry) size (min nodes most_nodes) edges))
-        (lengths_refusal (outline_of domain.entry) lengths) }
+        (first_of (refusal_for (outline_of domain.entry) size sweeps places.field)
+        (sampled_refusal (outline_of domain.entry) size (min places.nodes most_nodes) places.edges))
+        (lengths_refusal (outline_of domain.entry) places.lengths) }
 {
-    crossfield::check_field(domain, size, sweeps, field)?;
-    boundary::check_places(domain, size, nodes, edges)?;
-    if domain.lens.len() < lengths {
+    crossfield::check_field(domain, size, sweeps, places.field)?;
+    boundary::check_front_places(domain, size, places.nodes, places.edges)?;
+    if domain.lens.len() < places.lengths {
         Ok(())
     } else {
         Err(Refusal::FrontNeedsSpace)

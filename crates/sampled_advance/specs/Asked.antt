@@ -17,7 +17,8 @@ unused = counted 0 0 0 0
 abbrev pub unsampled : Paving → List ℕ → State
 unsampled p snapshot = state_of p.xs.now p.ys.now p.next.now p.prev.now snapshot p.quads.now p.edges.now unused
 
--- neither the outline nor the places lent are refused, the outline's blocks are filed, and the field is lent
+-- Neither the outline nor the places lent are refused, the outline's blocks are filed, and the field is lent.
+-- Stays with `drawn`, which `Surroundings` has too: a run shows this of what it lent before, where no `Surroundings` is left.
 pub record CanPave (o : Outline) (blocks : List ℕ) (size : Float) (g : Grid) (values : List Float) (lent : State) : Type 0 where
   pub drawn : Drawn o blocks
   pub front : front_refusal o size lent ≡ 0

@@ -26,10 +26,9 @@ module _ (o : Outline) (blocks : List ℕ) (size : Float) (g : Grid) (values : L
   begins : Begun o (sampled_count o size) s (from_boundary o size s) (boundary_loops o size s)
   begins = begun o size s (outline_three o C.drawn.taken) C.front
 
-  pub paveable : Paveable o blocks g values (from_boundary o size s)
+  pub paveable : Paveable g values (from_boundary o size s)
   paveable =
       record {
-        drawn = C.drawn;
         field = C.field;
         sampled = sampled_count o size;
         loops = boundary_loops o size s;
@@ -37,8 +36,8 @@ module _ (o : Outline) (blocks : List ℕ) (size : Float) (g : Grid) (values : L
         known = begins.known;
       }
 
-  pub paveable_at : (t : State) → t ≡ from_boundary o size s → Paveable o blocks g values t
-  paveable_at t e = subst (Paveable o blocks g values) (sym e) paveable
+  pub paveable_at : (t : State) → t ≡ from_boundary o size s → Paveable g values t
+  paveable_at t e = subst (Paveable g values) (sym e) paveable
 
   -- ---- what the numbers and the loops ask
 

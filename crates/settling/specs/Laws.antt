@@ -19,7 +19,7 @@ use Rattle.front.specs.Place.{place}
 use Rattle.front.specs.Stores.{PlacesQuad}
 use Rattle.front.specs.KnownLaws.{placed_full, placed_done}
 use Rattle.front.specs.Ready.{Ready}
-use Rattle.paving.specs.declared.FarCorners.{FarCorners}
+use Rattle.front.specs.declared.FarCorners.{FarCorners}
 use Rattle.paving.specs.declared.End.TheVariants.{Cap, Full}
 use Rattle.paving.specs.Attempt.{try_edge, far}
 use Rattle.paving.specs.Advance.{paved, passing, most_quads, after_quad, settle, is_there, pass_turn}
@@ -82,9 +82,9 @@ module _ (o : Outline) (size : Float) (g : Grid) (values : List Float) (s : Stat
     pub settle_node : to ≢ off
     settle_node = (there_is s a to on).0
 
-    pub settle_untried : (blocks : List ℕ) → Paveable o blocks g values s → {l : List ℕ} → Remembers o size field l (seen_mesh s)
+    pub settle_untried : Paveable g values s → {l : List ℕ} → Remembers o size field l (seen_mesh s)
         → Untried o size field (seen_of s) l a to
-    settle_untried blocks P R =
+    settle_untried P R =
         record {
           state = s;
           same = refl;
@@ -110,10 +110,10 @@ module _ (o : Outline) (size : Float) (g : Grid) (values : List Float) (s : Stat
       settle_same q some = rw q at (turned some)
 
       module _ (c d : Corner) (q : t ≡ Some (far c d)) where
-        pub settle_ready : (blocks : List ℕ) → Paveable o blocks g values s → Ready s a to c d
-        settle_ready blocks P =
+        pub settle_ready : Paveable g values s → Ready s a to c d
+        settle_ready P =
             let A = tried o size field s a to c d (is_try ∙ q) in
-            ready o blocks g values s P a to c d (choice o size s a to A.da A.db c d on A.answered)
+            ready g values s P a to c d (choice o size s a to A.da A.db c d on A.answered)
 
         quad_turned : (some : Bool) → settle a to (Some (far c d)) (passing s some) ≡ pass_turn o size field a (passing s some)
         quad_turned some = rw q at (turned some)

@@ -2,7 +2,6 @@
 use Rattle.std.specs.Prelude.{◌≡◌, false, List, ℕ, ◌*◌, ◌≤◌, length, Float}
 use Rattle.std.proofs.Common.{arith}
 use Rattle.domain.specs.Outline.{Outline}
-use Rattle.blocks.specs.Blocks.{Drawn}
 use Rattle.direction.specs.declared.Grid.{Grid}
 use Rattle.direction.specs.Cells.{FieldLent}
 use Rattle.front.specs.declared.Corner.{Corner}
@@ -14,7 +13,6 @@ use Rattle.front.specs.Ready.{Known, Choice, Ready}
 use Rattle.front.specs.Step.{step}
 use Rattle.front.specs.KnownLaws.{known_placed}
 use Rattle.paving.specs.declared.Surroundings.{Surroundings}
-use Rattle.paving.specs.Lent.{outline_in}
 use Rattle.paving.specs.Advance.{with_snapshot}
 use Rattle.paving.specs.Reach.{Reaches, begin, snapshot, placed}
 use Rattle.books.specs.Answered.{answered}
@@ -25,9 +23,8 @@ use Rattle.attempts.specs.Seen.{TryLent}
 
 -- ---- definitions
 
--- the outline isn't refused and its blocks are filed, the field is lent, and the state is one that a run can be in
-pub record Paveable (o : Outline) (blocks : List ℕ) (g : Grid) (values : List Float) (s : State) : Type 0 where
-  pub drawn : Drawn o blocks
+-- the field is lent, and the state is one that a run can be in
+pub record Paveable (g : Grid) (values : List Float) (s : State) : Type 0 where
   pub field : FieldLent g values
   pub sampled : ℕ
   pub loops : List (List ℕ)
@@ -35,24 +32,23 @@ pub record Paveable (o : Outline) (blocks : List ℕ) (g : Grid) (values : List 
   pub known : Known s
 
 abbrev pub PaveableIn : Surroundings → State → Type 0
-PaveableIn a s = Paveable (outline_in a) a.blocks.now a.field.grid a.field.values.now s
+PaveableIn a s = Paveable a.field.grid a.field.values.now s
 
 -- t comes after s in one run
-pub record Later (o : Outline) (blocks : List ℕ) (g : Grid) (values : List Float) (s t : State) : Type 0 where
-  pub paveable : Paveable o blocks g values t
+pub record Later (g : Grid) (values : List Float) (s t : State) : Type 0 where
+  pub paveable : Paveable g values t
   pub frame : Frame s t
 
 -- ---- what a placing and a snapshot keep
 
-module _ (o : Outline) (blocks : List ℕ) (g : Grid) (values : List Float) where
+module _ (g : Grid) (values : List Float) where
   known_snapshot : (s : State) → Known s → Known (with_snapshot s)
   unfolding with_snapshot has_edge
   known_snapshot s K = record { fronts = K.fronts; joined = K.joined }
 
-  pub snapshot_paveable : (s : State) → Paveable o blocks g values s → Paveable o blocks g values (with_snapshot s)
+  pub snapshot_paveable : (s : State) → Paveable g values s → Paveable g values (with_snapshot s)
   snapshot_paveable s P =
       record {
-        drawn = P.drawn;
         field = P.field;
         sampled = P.sampled;
         loops = P.loops;
@@ -60,14 +56,13 @@ module _ (o : Outline) (blocks : List ℕ) (g : Grid) (values : List Float) wher
         known = known_snapshot s P.known;
       }
 
-  place_later : (s t : State) (a b : ℕ) (c d : Corner) → Later o blocks g values s t → Choice t a b c d → is_full t a b c d ≡ false
-      → Later o blocks g values s (place a b c d t)
+  place_later : (s t : State) (a b : ℕ) (c d : Corner) → Later g values s t → Choice t a b c d → is_full t a b c d ≡ false
+      → Later g values s (place a b c d t)
   place_later s t a b c d L H full =
       let P = L.paveable in
       let S = step P.sampled t P.loops a b c d P.sound H full in
       record {
         paveable = record {
-          drawn = P.drawn;
           field = P.field;
           sampled = P.sampled;
           loops = S.loops;
@@ -78,18 +73,18 @@ module _ (o : Outline) (blocks : List ℕ) (g : Grid) (values : List Float) wher
       }
 
   -- the state after a quad
-  pub later_placed : (s : State) → Paveable o blocks g values s → (a b : ℕ) (c d : Corner) → Choice s a b c d → is_full s a b c d ≡ false
-      → Later o blocks g values s (place a b c d s)
+  pub later_placed : (s : State) → Paveable g values s → (a b : ℕ) (c d : Corner) → Choice s a b c d → is_full s a b c d ≡ false
+      → Later g values s (place a b c d s)
   later_placed s P a b c d H full = place_later s s a b c d (record { paveable = P; frame = frame_same s }) H full
 
   -- a state that is reached
-  pub reached_later : (size : Float) (s t : State) (k : ℕ) → Paveable o blocks g values s → Reaches o size s k t → Later o blocks g values s t
-  reached_later size s t k P begin = record { paveable = P; frame = frame_same s }
-  reached_later size s t k P (snapshot {k = j} {t = u} r) =
-      let L = reached_later size s u j P r in
+  pub reached_later : (o : Outline) (size : Float) (s t : State) (k : ℕ) → Paveable g values s → Reaches o size s k t → Later g values s t
+  reached_later o size s t k P begin = record { paveable = P; frame = frame_same s }
+  reached_later o size s t k P (snapshot {k = j} {t = u} r) =
+      let L = reached_later o size s u j P r in
       record { paveable = snapshot_paveable u L.paveable; frame = frame_trans s u (with_snapshot u) L.frame (snapshot_frame u) }
-  reached_later size s t k P (placed {k = j} {t = u} {a = a} {b = b} {c = c} {d = d} r p) =
-      place_later s u a b c d (reached_later size s u j P r) (answered o size u a b c d p).choice p.fits
+  reached_later o size s t k P (placed {k = j} {t = u} {a = a} {b = b} {c = c} {d = d} r p) =
+      place_later s u a b c d (reached_later o size s u j P r) (answered o size u a b c d p).choice p.fits
 
 -- ---- what the code of an attempt and of a placing asks
 
@@ -101,7 +96,7 @@ pub record Held (s : State) : Type 0 where
   pub snapshot : s.counts.nodes ≤ length s.snapshot
   pub edges : 2 * s.counts.edges ≤ length s.edges
 
-module _ (o : Outline) (blocks : List ℕ) (g : Grid) (values : List Float) (s : State) (P : Paveable o blocks g values s) where
+module _ (g : Grid) (values : List Float) (s : State) (P : Paveable g values s) where
   pub held : Held s
   unfolding node_places edge_places
   held =
@@ -116,13 +111,13 @@ module _ (o : Outline) (blocks : List ℕ) (g : Grid) (values : List Float) (s :
 
   pub state_try_lent : (size : Float) {node_pool edge_pool : List ℕ} → Indexed node_pool (node_rects size s.xs s.ys) s.counts.nodes
       → Indexed edge_pool (edge_rects size s.xs s.ys s.edges) s.counts.edges
-      → TryLent o blocks g values size s.xs s.ys s.next s.prev s.edges node_pool edge_pool s.counts
+      → TryLent g values size s.xs s.ys s.next s.prev s.edges node_pool edge_pool s.counts
   state_try_lent size nodes edges =
       let L = held in
       record {
         attempt = record {
           quad = record {
-            nodes = record { drawn = P.drawn; filed = nodes };
+            nodes = record { filed = nodes };
             within = record { nodes_few = L.few; indexed = record { edges_fit = L.edges; filed = edges } };
           };
           next_fit = L.next;

@@ -109,16 +109,16 @@ stretches_later l s t more fit_s fit_t stays S a room node none i low high = by 
 
 -- ---- a placing
 
-module _ (o : Outline) (blocks : List ℕ) (g : Grid) (values : List Float) (size : Float) (s : State) (P : Paveable o blocks g values s)
+module _ (o : Outline) (g : Grid) (values : List Float) (size : Float) (s : State) (P : Paveable g values s)
     (a b : ℕ) (c d : Corner) (R : Ready s a b c d) {node_pool edge_pool : List ℕ} (S : SearchableIn size s node_pool edge_pool) where
   module _ {u : Unit {0}} (t : State) (D : PlacesQuad a b c d s (Ok u) t) where
     -- what it adds can be filed
     pub placed_adds : Addable size s t node_pool edge_pool
     placed_adds =
         let f = placed_done a b c d s t u D in
-        let L = later_placed o blocks g values s P a b c d R.choice f.0 in
+        let L = later_placed g values s P a b c d R.choice f.0 in
         subst (λ (t : State). Addable size s t node_pool edge_pool) (sym f.1)
-        (addable size s (place a b c d s) L.frame P.known.joined (held o blocks g values (place a b c d s) L.paveable).edges S)
+        (addable size s (place a b c d s) L.frame P.known.joined (held g values (place a b c d s) L.paveable).edges S)
 
   module _ (field : FieldRecord) (tried : List ℕ) (M : Remembers o size field tried (seen_mesh s))
       (T : Stretches tried s.counts.nodes s.next s.snapshot) where
@@ -134,10 +134,10 @@ module _ (o : Outline) (blocks : List ℕ) (g : Grid) (values : List Float) (siz
         → Remembers o size field (forgotten s.counts.nodes t.counts.nodes tried) (seen_mesh t)
     done_remembers u t D =
         let f = placed_done a b c d s t u D in
-        let L = later_placed o blocks g values s P a b c d R.choice f.0 in
+        let L = later_placed g values s P a b c d R.choice f.0 in
         let u = place a b c d s in
         let l = forgotten s.counts.nodes u.counts.nodes tried in
-        let few = (held o blocks g values u L.paveable).few in
+        let few = (held g values u L.paveable).few in
         subst (λ (t : State). Remembers o size field (forgotten s.counts.nodes t.counts.nodes tried) (seen_mesh t)) (sym f.1)
         (remembers_same o size field l u (seen_mesh u) refl refl refl refl
         (remembers_later o size field tried s u L.frame few (remembers_same o size field tried (seen_mesh s) s refl refl refl refl M)))
@@ -146,10 +146,10 @@ module _ (o : Outline) (blocks : List ℕ) (g : Grid) (values : List Float) (siz
         → Stretches (forgotten s.counts.nodes t.counts.nodes tried) t.counts.nodes t.next s.snapshot
     done_stretches u t D =
         let f = placed_done a b c d s t u D in
-        let L = later_placed o blocks g values s P a b c d R.choice f.0 in
+        let L = later_placed g values s P a b c d R.choice f.0 in
         let u = place a b c d s in
         subst (λ (t : State). Stretches (forgotten s.counts.nodes t.counts.nodes tried) t.counts.nodes t.next s.snapshot) (sym f.1)
-        (stretches_later tried s u L.frame.nodes (held o blocks g values s P).next (held o blocks g values u L.paveable).next
+        (stretches_later tried s u L.frame.nodes (held g values s P).next (held g values u L.paveable).next
         (off_stays P.sampled s P.loops a b c d P.sound R.choice f.0) T)
 
     -- where it is done, new nodes and edges are filed, and nothing was tried from the nodes

@@ -29,7 +29,9 @@ fn file_added(size: f64, mesh: &Mesh<'_>, scratch: &mut Scratch<'_>, k: Counts)
 }
 
 // Tries the snapshot's edge from node a, and places and files the quad that is answered: whether there is one, or how the paving ends.
-pub fn settle(
+// Stays four loans, here and where they are handed on: a method of a struct of them was tried, and can't lend the snapshot while it lends the paving, for
+// which the borrow checker has no rule; and of each loan in a struct it has to be said that it stays the same one.
+pub fn settle_edge(
     around: &Surroundings<'_>,
     paving: &mut Paving<'_>,
     snapshot: &[u32],
@@ -57,12 +59,12 @@ pub fn settle(
         nodes: scratch.node_pool(),
         edges: scratch.edge_pool(),
     };
-    let across = pools.is_known_across(around.size, &paving.mesh(), far.c, far.d);
-    if let Err(Full) = paving.place(snapshot, a, b, far.c, far.d, across) {
+    let across = pools.is_known_across(around.size, &paving.mesh(), far);
+    if let Err(Full) = paving.place(snapshot, a, b, far, across) {
         return ControlFlow::Break(End::Full);
     }
     file_added(around.size, &paving.mesh(), scratch, k);
-    ends::after_quad(paving.counts.quads)
+    ends::quad_settled(paving.counts.quads)
 }
 
 // Files all that the mesh counts, in pools that hold nothing else; nothing was tried from its nodes.

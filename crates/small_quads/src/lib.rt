@@ -68,6 +68,7 @@ impl Step {
 }
 
 // The same of the way from p to q to r, points of the lattice.
+#[tactic(auto, using(crate::specs::Integers::corner_law))]
 fn corner_turns(p: u32, q: u32, r: u32) -> bool
     requires { (p < 16) × (q < 16) × (r < 16) }
     ensures { result ≡ corner_turns p q r }
@@ -77,16 +78,20 @@ fn corner_turns(p: u32, q: u32, r: u32) -> bool
 
 // ---- a four
 
+// The points a, b, d and c of the four k.
+fn points_of(k: u32) -> [u32; 4]
+    ensures { result ≡ points_of k }
+{
+    [k / 4096, k / 256 % 16, k / 16 % 16, k % 16]
+}
+
 // Whether the four k turns so at all four corners.
 #[tactic(auto, unfolding(lattice::specs::Fours::above_third))]
 fn is_small_quad(k: u32) -> bool
     requires { k < 65536 }
     ensures { result ≡ above_third k }
 {
-    let a = k / 4096;
-    let b = k / 256 % 16;
-    let d = k / 16 % 16;
-    let c = k % 16;
+    let [a, b, d, c] = points_of(k);
     corner_turns(c, a, b) && corner_turns(a, b, d) && corner_turns(b, d, c) && corner_turns(d, c, a)
 }
 
@@ -100,11 +105,12 @@ fn count_quads() -> usize
 }
 
 // The four k at the places from n on.
+// Stays a place handed on, here and below: of what is written through `chunks_exact_mut` a proof learns the length alone.
 fn write_four(list: &mut [u32], n: usize, k: u32)
     requires { n + 4 ≤ length list.old }
     ensures { list.new ≡ sets list.old n (points_of k) }
 {
-    list[n..n + 4].copy_from_slice(&[k / 4096, k / 256 % 16, k / 16 % 16, k % 16]);
+    list[n..n + 4].copy_from_slice(&points_of(k));
 }
 
 // The four k at the places from n on, if it is one of the list; the place after it.
@@ -119,7 +125,6 @@ fn list_four(list: &mut [u32], n: usize, k: u32) -> usize
     n
 }
 
-// Stays a place handed on: of what is written through `chunks_exact_mut` a proof learns the length alone.
 fn list_quads(list: &mut [u32])
     requires { length (fours above_third) ≤ length list.old }
     ensures { list.new ≡ sets list.old 0 (fours above_third) }

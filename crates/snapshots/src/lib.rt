@@ -8,6 +8,9 @@ ghost use Rattle.snapshots.specs.Stretches.{stretched, node_after, stretches_joi
 
 use front::OFF;
 
+// Stays a list lent, as in `retries`: `Scratch` has the list, so that a struct with these functions as methods is made anew of it for each call, and each
+// method says besides that its loan is the same afterwards, which needn't be said of a parameter. And by index: one of the three numbers is read where an
+// `Option` of all would be asked, and a slice's `get_mut` tells a proof nothing of what is written.
 // Node a has no try, and a stretch goes from it up to `end`, where the node has its places.
 #[tactic(auto, unfolding(crate::specs::Stretches::stretched))]
 pub fn set_stretch(tried: &mut [u32], a: u32, end: u32)

@@ -90,17 +90,17 @@ impl Segment {
 
 // A loop of an outline, whose points refusals 3 and 4 let pass.
 #[derive(Clone, Copy)]
-struct Ring<'a> {
+struct PointRing<'a> {
     points: &'a [f64],
     ghost accepted: { AcceptedLoop points.now },
 }
 
-impl<'a> Ring<'a> {
-    fn new(points: &'a [f64]) -> Ring<'a>
+impl<'a> PointRing<'a> {
+    fn new(points: &'a [f64]) -> PointRing<'a>
         requires { AcceptedLoop points.now }
         ensures { result.points.now ≡ points.now }
     {
-        Ring { points }
+        PointRing { points }
     }
 
     // How many points it has, and segments.
@@ -110,6 +110,7 @@ impl<'a> Ring<'a> {
         self.points.len() / 2
     }
 
+    // Stays by number, here and below: whether a segment comes after another is told by their numbers (`folds_at`).
     fn segment(self, i: usize) -> Segment
         requires { i < points self.points.now }
         ensures start { in_units result.a ≡ segment_start self.entry.points.now i }
@@ -167,7 +168,7 @@ impl<'a> Ring<'a> {
     }
 
     // Whether some segment of it meets some segment of the other.
-    fn touches(self, other: Ring<'_>) -> bool
+    fn touches(self, other: PointRing<'_>) -> bool
         ensures { result ≡ touch self.entry.points.now other.entry.points.now }
     {
         (0..self.len()).any(|i| other.meets(self.segment(i)))
@@ -184,7 +185,7 @@ impl<'a> Ring<'a> {
     }
 
     // Whether some point of it is inside the other; where `inside` is false, whether some point of it isn't.
-    fn any_point(self, other: Ring<'_>, inside: bool) -> bool
+    fn any_point(self, other: PointRing<'_>, inside: bool) -> bool
         ensures { result ≡ any_point self.entry.points.now other.entry.points.now inside }
     {
         (0..self.len()).any(|i| other.surrounds(self.segment(i)) == inside)
@@ -192,7 +193,7 @@ impl<'a> Ring<'a> {
 
     // Whether two holes touch, or one has a point inside the other.
     #[tactic(auto, unfolding(crate::specs::WalkLaws::holes_clash))]
-    fn clashes(self, other: Ring<'_>) -> bool
+    fn clashes(self, other: PointRing<'_>) -> bool
         ensures { result ≡ holes_clash self.entry.points.now other.entry.points.now }
     {
         self.touches(other) || self.any_point(other, true) || other.any_point(self, true)
@@ -205,7 +206,7 @@ impl<'a> Ring<'a> {
     {
         outlines::holes_of(domain)
             .take(k)
-            .any(|hole| self.clashes(Ring::new(hole.points)))
+            .any(|hole| self.clashes(PointRing::new(hole.points)))
     }
 
     // What is asked of it as hole k: whether it crosses itself, touches or strays out of the outer loop, or clashes with a hole before it.
@@ -214,7 +215,7 @@ impl<'a> Ring<'a> {
         requires { Judged (outline_of domain) × (k ≤ length domain.lens.now) }
         ensures { result ≡ hole_unsound (outline_of domain.entry) self.entry.points.now k }
     {
-        let outer = Ring::new(domain.outer);
+        let outer = PointRing::new(domain.outer);
         self.crosses_itself()
             || self.touches(outer)
             || self.any_point(outer, false)
@@ -229,10 +230,10 @@ pub fn is_sound(domain: Domain<'_>) -> bool
     requires { outline_refusal (outline_of domain) ≡ 0 }
     ensures { result ≡ outline_sound (outline_of domain.entry) }
 {
-    let outer = Ring::new(domain.outer);
+    let outer = PointRing::new(domain.outer);
     !outer.crosses_itself()
         && !outlines::holes_of(domain).any(|hole| {
-            let ring = Ring::new(hole.points);
+            let ring = PointRing::new(hole.points);
             ring.is_unsound(domain, hole.index)
         })
 }

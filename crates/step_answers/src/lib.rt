@@ -6,9 +6,8 @@ ghost use Rattle.domain.specs.Refusals.{refusal_number, numbered};
 ghost use Rattle.step_answers.specs.Answers.{refused_step, step_numbers, refused_preview, fresh_x, fresh_y, view_numbers, preview_numbers};
 
 use domain::Refusal;
-use front::{Corner, Counts};
+use front::{Corner, Counts, FarCorners};
 use hand_steps::StepOutcome;
-use paving::FarCorners;
 use previews::View;
 
 // What became of the edge (0 placed, 1 none, 2 full, 3 cap), and how many nodes, quads, distinct edges and front edges there are after it. All is 0 on a
@@ -81,8 +80,9 @@ impl From<Refusal> for PreviewAnswer {
     ghost from_gives = { λ refusal answer. answer ≡ refused_preview (refusal_number refusal) };
 
     fn from(refusal: Refusal) -> PreviewAnswer {
+        let refusal = u32::from(refusal);
         PreviewAnswer {
-            refusal: u32::from(refusal),
+            refusal,
             ..PreviewAnswer::default()
         }
     }
@@ -117,14 +117,14 @@ impl PreviewAnswer {
     {
         let outcome = u32::from(v.outcome);
         let front = v.front;
-        let Some(FarCorners { c, d }) = v.quad else {
+        let Some(quad) = v.quad else {
             return PreviewAnswer {
                 outcome,
                 front,
                 ..PreviewAnswer::default()
             };
         };
-        let more_c = c.added();
+        let FarCorners { c, d } = quad;
         let (cx, cy) = fresh(c);
         let (dx, dy) = fresh(d);
         PreviewAnswer {
@@ -132,9 +132,9 @@ impl PreviewAnswer {
             outcome,
             a,
             b,
-            d: d.id(n + more_c),
+            d: quad.id_d(n),
             c: c.id(n),
-            new_nodes: more_c + d.added(),
+            new_nodes: quad.added(),
             cx,
             cy,
             dx,

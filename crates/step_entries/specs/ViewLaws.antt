@@ -16,7 +16,7 @@ use Rattle.front.specs.State.{State, node_in, quad_at}
 use Rattle.front.specs.Place.{added, corner_id, id_c, id_d, place, is_full}
 use Rattle.front.specs.Stores.{store_x, store_y}
 use Rattle.front.specs.StateAfter.{quad_reads}
-use Rattle.paving.specs.declared.FarCorners.{FarCorners}
+use Rattle.front.specs.declared.FarCorners.{FarCorners}
 use Rattle.paving.specs.Attempt.{try_edge, far}
 use Rattle.paving.specs.Advance.{most_quads}
 use Rattle.mesh_check.specs.Check.{lent_state}

@@ -6,36 +6,30 @@ ghost use Rattle.std.specs.Prelude.{◌≡◌};
 ghost use Rattle.domain.specs.Outline.{outline, outline_of};
 ghost use Rattle.domain.specs.Refusals.{refused};
 ghost use Rattle.direction.specs.Record.{field_record, field_lent};
-ghost use Rattle.crossfield.specs.Field.{drawn_refusal};
 ghost use Rattle.front.specs.State.{counted};
-ghost use Rattle.paving.specs.Lent.{outline_in};
 ghost use Rattle.front.specs.Lent.{SameLists};
 ghost use Rattle.mesh_check.specs.Check.{lent_state, lent_in, lent_paving};
 ghost use Rattle.step_entries.specs.Entries.{grid_given, given_refusal, counts_given, HostSteps, HostPreviews};
 
 use direction::{CrossField, Grid};
-use domain::{Domain, Refusal, Settings};
+use domain::{Domain, Refusal};
 use front::{Counts, Mesh, Paving};
-use paving::Surroundings;
+use hand_steps::Given;
+use mesh_check::NumberedMesh;
 use step_answers::{PreviewAnswer, StepAnswer};
 
 // ---- refusals 1 to 7 and 11
 
-// 1 to 7: those of a run with no sweeps and room for every field.
-fn check_drawn(domain: Domain<'_>, size: f64) -> Result<(), Refusal>
-    ensures { refused result ≡ drawn_refusal (outline_of domain.entry) size }
+fn check_given(given: &Given<'_>, marks: &[u8]) -> Result<(), Refusal>
+    ensures { refused result ≡ given_refusal (outline_of given.now.domain) given.now.size (field_lent given.now.field marks.now) }
 {
-    crossfield::check_field(domain, size, 0, Settings::MOST_FIELD_NODES)
-}
-
-fn check_given(around: &Surroundings<'_>, marks: &[u8]) -> Result<(), Refusal>
-    ensures { refused result ≡ given_refusal (outline_in around.now) around.now.size (field_lent around.now.field marks.now) }
-{
-    check_drawn(around.domain, around.size)?;
-    direction::check_record(around.field, marks)
+    crossfield::check_drawn(given.domain, given.size)?;
+    direction::check_record(given.field, marks)
 }
 
 // ---- a step and a preview in what is lent
+// Stays with the outline, the size and the field one by one: `Given` made in an entry would hold at one lifetime loans at two lifetimes of C's head, and the borrow
+// checker doesn't cover it (tried).
 
 fn step_in<'a>(
     domain: Domain<'a>,
@@ -53,16 +47,16 @@ fn step_in<'a>(
         (lent_state paving.new.xs.now paving.new.ys.now paving.new.next.now paving.new.prev.now origins.new
         paving.new.quads.now paving.new.edges.now (counts_given paving.old.counts result)) origins.new }
 {
-    let around = Surroundings {
+    let given = Given {
         domain,
-        blocks: &[],
         size,
         field,
     };
-    if let Err(refusal) = check_given(&around, marks) {
+    // Stays a test and a return, here and in `preview_in`: the answer is C's struct, of which `?` makes nothing.
+    if let Err(refusal) = check_given(&given, marks) {
         return StepAnswer::from(refusal);
     }
-    let step = stepping::step(&around, paving, origins, a, b);
+    let step = stepping::step(&given, paving, origins, a, b);
     StepAnswer::new(step, paving.counts)
 }
 
@@ -71,29 +65,29 @@ fn preview_in<'a>(
     size: f64,
     field: CrossField<'a>,
     marks: &[u8],
-    mesh: &Mesh<'_>,
-    origins: &[u16],
+    lent: NumberedMesh<'_, '_>,
     a: u32,
     b: u32,
     list: &mut [u32],
 ) -> PreviewAnswer
     ensures { HostPreviews (outline_of domain.entry) size (field_lent field.entry marks.now) a b
-        (lent_in mesh.now origins.now) list.old result list.new }
+        (lent_in lent.entry.mesh lent.entry.origins.now) list.old result list.new }
 {
-    let around = Surroundings {
+    let given = Given {
         domain,
-        blocks: &[],
         size,
         field,
     };
-    if let Err(refusal) = check_given(&around, marks) {
+    if let Err(refusal) = check_given(&given, marks) {
         return PreviewAnswer::from(refusal);
     }
-    let preview = previews::preview(&around, mesh, origins, a, b, list);
-    PreviewAnswer::new(preview, mesh.counts.nodes, a, b)
+    let preview = previews::preview(&given, lent, a, b, list);
+    PreviewAnswer::new(preview, lent.mesh.counts.nodes, a, b)
 }
 
 // ---- the entries
+// Stays with what C gives made a field, a mesh and counts by literals, here and in `bowl`: the C interface gives the numbers one by one, and a constructor would
+// take the same ones in a row, without their names.
 
 // A step on the front edge a to b, in the mesh lent: one quad placed or none. Refusals are 1 to 7, 11, 23 and 24, in that order. New nodes take what stands in
 // `origins` at node a.
@@ -219,5 +213,6 @@ pub extern "C" fn sitjorbe_preview<'a>(
             front: front_count,
         },
     };
-    preview_in(domain, size, field, marks, &mesh, origins, a, b, list)
+    let lent = NumberedMesh { mesh, origins };
+    preview_in(domain, size, field, marks, lent, a, b, list)
 }

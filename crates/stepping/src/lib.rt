@@ -2,10 +2,10 @@
 #![tactic(auto)]
 
 ghost use Rattle.std.specs.Prelude.{◌≡◌, List, [], ℕ, ◌<◌, ◌≤◌, leb, length};
+ghost use Rattle.domain.specs.Outline.{outline_of, outline_refusal};
 ghost use Rattle.domain.specs.Refusals.{refused, numbered};
 ghost use Rattle.direction.specs.Record.{field_lent};
 ghost use Rattle.front.specs.Lent.{mesh_state, SameLists};
-ghost use Rattle.paving.specs.Lent.{outline_in, field_in};
 ghost use Rattle.paving.specs.Attempt.{try_edge};
 ghost use Rattle.paving.specs.Advance.{most_quads};
 ghost use Rattle.attempts.specs.Seen.{seen_of, TryLent};
@@ -14,29 +14,33 @@ ghost use Rattle.hand_steps.specs.Hand.{hand_refusal, handled, quad_on, place_on
 ghost use Rattle.hand_steps.specs.Lent.{Around, OnFront};
 
 use domain::{Refusal, Settings};
-use front::{Counts, Mesh, Paving};
-use hand_steps::StepOutcome;
+use front::{Counts, FarCorners, Mesh, Paving};
+use hand_steps::{Given, StepOutcome};
 use indexed::Pools;
-use paving::{FarCorners, Surroundings};
+use mesh_check::NumberedMesh;
+use paving::Surroundings;
 
 // Refusal 23, then 24: on every input.
-pub fn check_hand(mesh: &Mesh<'_>, origins: &[u16], a: u32, b: u32) -> Result<(), Refusal>
-    ensures { refused result ≡ hand_refusal (lent_in mesh.now origins.now) a b }
+pub fn check_hand(lent: NumberedMesh<'_, '_>, a: u32, b: u32) -> Result<(), Refusal>
+    ensures { refused result ≡ hand_refusal (lent_in lent.entry.mesh lent.entry.origins.now) a b }
 {
-    mesh_check::check_mesh(mesh, origins)?;
-    mesh_check::check_edge(mesh, a, b)
+    lent.check()?;
+    mesh_check::check_edge(&lent.mesh, a, b)
 }
 
 // The two attempts on the edge a to b. Nothing is filed, since a step reads the whole mesh in any case.
 // Stays an edge as two ids, here and below: hosts give two, and each definition that a contract names takes a and b one by one.
-pub fn attempt_on(around: &Surroundings<'_>, mesh: &Mesh<'_>, a: u32, b: u32) -> Option<FarCorners>
-    requires { TryLent (outline_in around.now) [] around.now.field.grid around.now.field.values.now around.now.size mesh.now.xs.now mesh.now.ys.now
+pub fn attempt_on(around: &Given<'_>, mesh: &Mesh<'_>, a: u32, b: u32) -> Option<FarCorners>
+    requires taken { outline_refusal (outline_of around.now.domain) ≡ 0 }
+    requires lent { TryLent around.now.field.grid around.now.field.values.now around.now.size mesh.now.xs.now mesh.now.ys.now
         mesh.now.next.now mesh.now.prev.now mesh.now.edges.now [] [] mesh.now.counts }
-    ensures { result ≡ try_edge (outline_in around.now) around.now.size (field_in around.now) (seen_of (mesh_state mesh.now)) a b }
+    ensures { result ≡ try_edge (outline_of around.now.domain) around.now.size (field_lent around.now.field []) (seen_of (mesh_state mesh.now)) a b }
 {
     let around = Surroundings {
+        domain: around.domain,
         blocks: &[],
-        ..*around
+        size: around.size,
+        field: around.field,
     };
     let pools = Pools {
         nodes: &[],
@@ -53,47 +57,51 @@ pub fn is_capped(k: Counts) -> bool
 }
 
 // The quad that a placing on the front edge a to b places, or why it places none. None at all is placed where 250,000 quads stand.
+// Stays with `Around` in its `requires`, here, below and in `previews`: refusals 1 to 7 and 11 are asked of a `Given` too, before it holds.
 pub fn quad_on(
-    around: &Surroundings<'_>,
-    mesh: &Mesh<'_>,
-    origins: &[u16],
+    around: &Given<'_>,
+    lent: NumberedMesh<'_, '_>,
     a: u32,
     b: u32,
 ) -> Result<FarCorners, StepOutcome>
-    requires { Around (outline_in around.now) around.now.field.grid around.now.field.values.now × OnFront (lent_in mesh.now origins.now) a b }
+    requires { Around (outline_of around.now.domain) around.now.field.grid around.now.field.values.now
+        × OnFront (lent_in lent.mesh lent.origins.now) a b }
     ensures { (marks : List ℕ) → result
-        ≡ quad_on (outline_in around.now) around.now.size (field_lent around.now.field marks) a b (lent_in mesh.now origins.now) }
+        ≡ quad_on (outline_of around.now.domain) around.now.size (field_lent around.now.field marks) a b
+        (lent_in lent.entry.mesh lent.entry.origins.now) }
 {
+    let NumberedMesh { mesh, origins } = lent;
     if is_capped(mesh.counts) {
         return Err(StepOutcome::Cap);
     }
-    let Some(quad) = attempt_on(around, mesh, a, b) else {
+    let Some(far) = attempt_on(around, &mesh, a, b) else {
         return Err(StepOutcome::None);
     };
-    if hand_placing::is_full(mesh, origins, a, b, quad.c, quad.d) {
+    if hand_placing::is_full(NumberedMesh { mesh, origins }, a, b, far) {
         return Err(StepOutcome::Full);
     }
-    Ok(quad)
+    Ok(far)
 }
 
 // One placing on the front edge a to b.
 #[tactic(auto, using(front::proofs::Lent::lists_same))]
 fn place_on(
-    around: &Surroundings<'_>,
+    around: &Given<'_>,
     paving: &mut Paving<'_>,
     origins: &[u16],
     a: u32,
     b: u32,
 ) -> StepOutcome
-    requires { Around (outline_in around.now) around.now.field.grid around.now.field.values.now × OnFront (lent_paving paving.old origins.now) a b }
+    requires { Around (outline_of around.now.domain) around.now.field.grid around.now.field.values.now × OnFront (lent_paving paving.old origins.now) a b }
     ensures same { SameLists paving.old paving.new }
     ensures placed { (marks : List ℕ) → handled (lent_paving paving.new origins.now) result
-        ≡ place_on (outline_in around.now) around.now.size (field_lent around.now.field marks) a b (lent_paving paving.old origins.now) }
+        ≡ place_on (outline_of around.now.domain) around.now.size (field_lent around.now.field marks) a b (lent_paving paving.old origins.now) }
 {
-    let answer = quad_on(around, &paving.mesh(), origins, a, b);
+    let mesh = paving.mesh();
+    let answer = quad_on(around, NumberedMesh { mesh, origins }, a, b);
     match answer {
-        Ok(FarCorners { c, d }) => {
-            hand_placing::place_quad(paving, a, b, c, d);
+        Ok(far) => {
+            hand_placing::place_quad(paving, a, b, far);
             StepOutcome::Placed
         }
         Err(outcome) => outcome,
@@ -112,18 +120,19 @@ fn number_new(origins: &mut [u16], a: u32, n: u32, m: u32)
 // A step of the front by hand: 23, 24, or one placing on the named edge. New nodes take the number of node a's loop.
 #[tactic(auto, using(front::proofs::Lent::lists_same))]
 pub fn step(
-    around: &Surroundings<'_>,
+    around: &Given<'_>,
     paving: &mut Paving<'_>,
     origins: &mut [u16],
     a: u32,
     b: u32,
 ) -> Result<StepOutcome, Refusal>
-    requires { Around (outline_in around.now) around.now.field.grid around.now.field.values.now }
+    requires { Around (outline_of around.now.domain) around.now.field.grid around.now.field.values.now }
     ensures same { SameLists paving.old paving.new }
-    ensures taken { (marks : List ℕ) → StepTaken (outline_in around.now) around.now.size (field_lent around.now.field marks) a b
+    ensures taken { (marks : List ℕ) → StepTaken (outline_of around.now.domain) around.now.size (field_lent around.now.field marks) a b
         (lent_paving paving.old origins.old) origins.old (numbered result) (lent_paving paving.new origins.new) origins.new }
 {
-    check_hand(&paving.mesh(), origins, a, b)?;
+    let mesh = paving.mesh();
+    check_hand(NumberedMesh { mesh, origins }, a, b)?;
     let nodes = paving.counts.nodes;
     let outcome = place_on(around, paving, origins, a, b);
     number_new(origins, a, nodes, paving.counts.nodes);

@@ -71,6 +71,8 @@ impl MarkedGrid<'_> {
 
     // ---- rows, and sweeps
 
+    // Stays a loop, as do the three below, whose bodies change the values too: this was tried as a `fold`, and what is ensured of the values can't be
+    // shown, since the contract of `fold` says nothing of what its closure leaves in what it borrows.
     fn sweep_row(self, values: &mut [f64], quiet: bool, row: GridRow) -> bool
         requires row { RowIn self.grid row values.old }
         requires nx_in_bounds { row.first + self.grid.nx ≤ length self.marks.now }

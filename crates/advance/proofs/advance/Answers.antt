@@ -29,12 +29,12 @@ lent s = paving_state s.args.paving.now s.args.snapshot.now
 
 -- the state in the loop comes after the one that is lent
 later : (s : Start) {t : State} {n i : ℕ} → Run (passes_turn (around s) s.args.around.now.size (field s)) all_used (lent s) n i t
-    → Later (around s) s.args.around.now.blocks.now s.args.around.now.field.grid s.args.around.now.field.values.now (lent s) t
-later s L = in_advance (around s) _ s.args.around.now.size _ _ (field s) (lent s) s.requires L
+    → Later s.args.around.now.field.grid s.args.around.now.field.values.now (lent s) t
+later s L = in_advance (around s) s.args.around.now.size _ _ (field s) (lent s) s.requires L
 
 pub file_all-requires : goal.file_all-requires
 file_all-requires c =
-    subst (λ (m : State). 2 * m.counts.edges ≤ length m.edges) (sym c.mesh.ensures) (held _ _ _ _ _ c.requires).edges
+    subst (λ (m : State). 2 * m.counts.edges ≤ length m.edges) (sym c.mesh.ensures) (held _ _ _ c.requires).edges
 
 pub loop-init : goal.loop-init
 loop-init c =

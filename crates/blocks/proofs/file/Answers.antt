@@ -1,58 +1,45 @@
 -- `file` meets its contract: the loop's invariant is that the loops passed are filed.
-use Rattle.std.specs.Prelude.{refl}
-use Rattle.std.proofs.Common.{sym, ◌∙◌, arith, le_of_eq}
+use Rattle.std.specs.Prelude.{◌+◌, refl, length}
+use Rattle.std.proofs.Common.{◌∙◌, subst, arith}
 use Rattle.std.proofs.lemmas.List.{length_push}
-use Rattle.domain.specs.Outline.{outline_of, loop_at}
+use Rattle.domain.specs.Outline.{outline_of}
 use Rattle.domain.proofs.Accepted.{accepted}
-use Rattle.outlines.proofs.HoleList.{hole_given, holes_given, place_passed, place_loop}
-use Rattle.blocks.specs.BlockLaws.{loop_few, hole_asks, hole_most}
-use Rattle.blocks.specs.FilingLaws.{outer_filed, hole_filed, drawn}
+use Rattle.outlines.proofs.LoopList.{loop_given, loops_given}
+use Rattle.blocks.proofs.Loops.{loop_asks, loop_most, loop_asked, loop_filed}
+use Rattle.blocks.specs.FilingLaws.{LoopsFiled, loops_none, drawn}
 use Rattle.blocks.proofs.file.Goals as goal
 
-pub file_loop-requires : goal.file_loop-requires
-unfolding loop_at
-file_loop-requires c = (loop_few _ c.requires 0 (omega arith), omega arith)
+pub loops_of-each-items-requires : goal.loops_of-each-items-requires
+loops_of-each-items-requires c = (accepted _ c.requires).shape
 
-pub holes_of-hole-items-requires : goal.holes_of-hole-items-requires
-holes_of-hole-items-requires c = (accepted _ c.requires).shape
-
-pub loop-hole-init : goal.loop-hole-init
-unfolding loop_at
-loop-hole-init c = (outer_filed (accepted _ c.requires).shape refl c.file_loop.ensures, refl)
+pub loop-each-init : goal.loop-each-init
+loop-each-init c = (loops_none _ _, refl)
 
 pub first_block-first-requires : goal.first_block-first-requires
 first_block-first-requires c =
-    let place = hole_given (outline_of c.args.domain) _ _ c.next.new.self _ (cc) c.loop-hole.yielded_by c.in-Some.hole c.in-Some.is c.next.ensures.steps in
-    rw place.index (hole_asks (place_passed place (accepted _ c.requires).shape) place.within c.requires)
+    let each = loop_given (outline_of c.args.domain) _ _ c.next.new.self _ (cc) c.loop-each.yielded_by c.in-Some.each c.in-Some.is c.next.ensures.steps in
+    rw each.index (loop_asks _ each c.requires)
 
-pub overflow_add-hole : goal.overflow_add-hole
-overflow_add-hole c =
-    let place = hole_given (outline_of c.args.domain) _ _ c.next.new.self _ (cc) c.loop-hole.yielded_by c.in-Some.hole c.in-Some.is c.next.ensures.steps in
-    omega (arith, place.index, hole_asks (place_passed place (accepted _ c.requires).shape) place.within c.requires)
+pub file_loop-requires : goal.file_loop-requires
+file_loop-requires c =
+    let each = loop_given (outline_of c.args.domain) _ _ c.next.new.self _ (cc) c.loop-each.yielded_by c.in-Some.each c.in-Some.is c.next.ensures.steps in
+    let first = rw each.index at c.first_block-first.ensures in
+    (loop_asked each first c.requires, loop_most each first c.requires)
 
-pub file_loop-requires-in-loop-hole : goal.file_loop-requires-in-loop-hole
-file_loop-requires-in-loop-hole c =
-    let place = hole_given (outline_of c.args.domain) _ _ c.next.new.self _ (cc) c.loop-hole.yielded_by c.in-Some.hole c.in-Some.is c.next.ensures.steps in (
-      rw (place_loop place) (loop_few _ c.requires _ (omega (arith, place.within))),
-      hole_most (place_passed place (accepted _ c.requires).shape) place.within c.requires (rw place.index at c.first_block-first.ensures),
-    )
-
-pub loop-hole-preserved : goal.loop-hole-preserved
-loop-hole-preserved c =
-    let place = hole_given (outline_of c.args.domain) _ _ c.next.new.self _ (cc) c.loop-hole.yielded_by c.in-Some.hole c.in-Some.is c.next.ensures.steps in
-    let inv = c.loop-hole.invariant in
-    let filed = c.file_loop-in-loop-hole.ensures in
-    rw (length_push c.loop-hole.yielded c.in-Some.hole) (
-      hole_filed (place_passed place (accepted _ c.requires).shape) place.within inv.0 (place_loop place) (rw place.index at c.first_block-first.ensures) filed,
-      filed.long ∙ inv.1,
-    )
+pub loop-each-preserved : goal.loop-each-preserved
+loop-each-preserved c =
+    let each = loop_given (outline_of c.args.domain) _ _ c.next.new.self _ (cc) c.loop-each.yielded_by c.in-Some.each c.in-Some.is c.next.ensures.steps in
+    let filed = c.file_loop.ensures in
+    rw (length_push c.loop-each.yielded c.in-Some.each)
+    (loop_filed each (rw each.index at c.first_block-first.ensures) c.requires c.loop-each.invariant.0 filed, filed.long ∙ c.loop-each.invariant.1)
 
 pub shape_of-blocks : goal.shape_of-blocks
-shape_of-blocks c = c.loop-hole.invariant.1 ∙ c.file_loop.ensures.long
+shape_of-blocks c = c.loop-each.invariant.1
 
 pub returns : goal.returns
 returns c =
-    let all = holes_given (outline_of c.args.domain) _ _ c.next.new.self _ (cc) c.loop-hole.yielded_by c.in-None.is c.next.ensures.steps in
-    drawn c.requires
+    let all = loops_given (outline_of c.args.domain) _ _ c.next.new.self _ (cc) c.loop-each.yielded_by c.in-None.is c.next.ensures.steps in
+    let n = length c.args.domain.lens.now in
+    drawn {k = n} c.requires
     (record { outer = λ i h. c.args.domain.doubles.outer i; holes = λ i h. c.args.domain.doubles.holes i })
-    c.loop-hole.invariant.0 (le_of_eq (sym all))
+    (subst (LoopsFiled _ _) {y = n + 1} (omega (arith, all)) c.loop-each.invariant.0) (omega arith)

@@ -8,5 +8,5 @@ unfolding quad_in
 is_shown-requires c =
     let k = c.args.k in
     let nodes = c.requires.0.nodes in
-    rw c.quad_ids.ensures
+    rw c.quad_at.ensures
     (record { a = nodes (4 * k) (omega arith); b = nodes (4 * k + 1) (omega arith); d = nodes (4 * k + 2) (omega arith); c = nodes (4 * k + 3) (omega arith) })

@@ -1,22 +1,18 @@
--- `crossfield::bounds_of` meets its contract. Assumes nothing.
-use Rattle.std.proofs.Common.{sym, le_of_eq}
-use Rattle.std.proofs.lemmas.List.{length_push}
-use Rattle.laws.specs.Loop.{loop_start_lem, loop_next, loop_end}
+-- `crossfield::bounds_of` meets its contract: the fold over the loops is one over the holes that begins with the outer loop. Assumes nothing.
+use Rattle.std.specs.Prelude.{List, ℕ, refl, Float}
+use Rattle.std.proofs.Common.{◌∙◌, rules, tests}
+use Rattle.std.proofs.lemmas.Iterator.Consumers.{fold_from_yields_List}
 use Rattle.domain.specs.Outline.{outline_of}
-use Rattle.outlines.proofs.HoleList.{hole_given, holes_given}
-use Rattle.crossfield.specs.Grid.{bounds}
+use Rattle.outlines.proofs.LoopList.{loops_yield, fold_loops}
+use Rattle.crossfield.specs.declared.Bounds.{Bounds}
+use Rattle.crossfield.specs.Grid.{no_bounds, loop_bounds, bounds}
 use Rattle.crossfield.proofs.bounds_of.Goals as goal
-
-pub loop-hole-init : goal.loop-hole-init
-loop-hole-init c = rw (c.around-wide.ensures, c.none.ensures) (loop_start_lem _ _ _)
-
-pub loop-hole-preserved : goal.loop-hole-preserved
-loop-hole-preserved c =
-    let place = hole_given (outline_of c.args.domain) _ _ c.next.new.self _ (cc) c.loop-hole.yielded_by c.in-Some.hole c.in-Some.is c.next.ensures.steps in
-    rw (length_push c.loop-hole.yielded c.in-Some.hole, c.around-wide-in-loop-hole.ensures, place.points) (loop_next _ _ c.loop-hole.invariant place.within)
 
 pub returns : goal.returns
 unfolding bounds
 returns c =
-    loop_end _ _ c.loop-hole.invariant
-    (le_of_eq (sym (holes_given (outline_of c.args.domain) _ _ c.next.new.self _ (cc) c.loop-hole.yielded_by c.in-None.is c.next.ensures.steps)))
+    let o = outline_of c.args.domain in
+    let turn : Bounds → ℕ × (ℕ × List Float) → Bounds = λ wide l. loop_bounds l.1.1 wide in
+    rw (← c.none.ensures)
+    (fold_from_yields_List _ turn _ c.fold.result c.fold.ensures.ran (loops_yield o c.loops_of.result (cc)) (λ a x b q k. search (rules, tests))
+    ∙ fold_loops o (λ k s b. loop_bounds s b) turn _ (λ k start s b. refl))

@@ -1,12 +1,9 @@
 -- `file_writing::put_lengths` meets its contract: the loop's invariant is `Pieces`.
 use Rattle.std.proofs.Common.{refl}
-use Rattle.file_writing.specs.WriteLaws.{pieces_start, pieces_next, pieces_end}
+use Rattle.file_writing.specs.WriteLaws.{pieces_next, pieces_end}
 use Rattle.file_writing.specs.RoundTrip.{bytes_length}
 use Rattle.outline_file.specs.File.{number_bytes, length_bytes}
 use Rattle.file_writing.proofs.put_lengths.Goals as goal
-
-pub loop-k-init : goal.loop-k-init
-loop-k-init c = pieces_start 2 (number_bytes 2) (bytes_length 2) _ _ _
 
 pub loop-k-preserved : goal.loop-k-preserved
 loop-k-preserved c = pieces_next 2 (number_bytes 2) (bytes_length 2) _ _ _ c.loop-k.invariant 0 c.loop-k-test.true refl c.put_number.ensures

@@ -1,12 +1,9 @@
 -- `file_writing::put_points` meets its contract: the loop's invariant is `Pieces`.
 use Rattle.std.proofs.Common.{get_or, arith, ◌*◌}
 use Rattle.std.specs.Float.{nan}
-use Rattle.file_writing.specs.WriteLaws.{pieces_start, pieces_next, pieces_end, float_wide, put_float}
+use Rattle.file_writing.specs.WriteLaws.{pieces_next, pieces_end, float_wide, put_float}
 use Rattle.outline_file.specs.File.{float_bytes, point_bytes}
 use Rattle.file_writing.proofs.put_points.Goals as goal
-
-pub loop-c-init : goal.loop-c-init
-loop-c-init c = pieces_start 8 float_bytes float_wide _ _ _
 
 pub loop-c-preserved : goal.loop-c-preserved
 loop-c-preserved c =

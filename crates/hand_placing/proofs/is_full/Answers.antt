@@ -11,5 +11,5 @@ unfolding edges_added has_edge
 returns c =
     let v = c.args in
     let is = c.new-q.ensures in
-    full_is _ _ _ v.c v.d (ap (λ (q : NewQuad). q.id_c) is) (ap (λ (q : NewQuad). q.id_d) is) c.added.ensures.0 c.added-2.ensures.0 c.edges_added-e.ensures.0
-    c.beyond_places.ensures
+    full_is _ _ _ v.far.c v.far.d (ap (λ (q : NewQuad). q.id_c) is) (ap (λ (q : NewQuad). q.id_d) is) c.added.ensures.0 c.added-2.ensures.0 c.edges_added-e.ensures.0
+    c.lacks_places.ensures

@@ -1,39 +1,31 @@
--- `index::any_visited` meets its contract: what is left of the walk answers.
-use Rattle.std.proofs.Common.{sym, ap, ◌∙◌, arith}
-use Rattle.pools.specs.Pool.{any_of}
-use Rattle.index.specs.WalkLaws.{walk_next, walk_hit, walk_none, walk_less, none_over}
+-- `index::any_visited` meets its contract: row by row.
+use Rattle.std.specs.Prelude.{ℕ, ◌≡◌, ◌+◌, ◌-◌, true, false, length}
+use Rattle.std.proofs.Common.{sym, ap, ◌∙◌, arith, refl, rules, of_calls}
+use Rattle.std.proofs.lemmas.Bool.{lt-leb}
+use Rattle.std.proofs.lemmas.Iterator.{YieldsList-from_range, cases_from_any}
+use Rattle.pools.specs.Pool.{span, any_of}
+use Rattle.index.specs.Walk.{across, columns, visited}
+use Rattle.index.specs.WalkLaws.{visited_short}
+use Rattle.index.proofs.Walked.{across_any}
 use Rattle.index.proofs.any_visited.Goals as goal
-
-pub loop-next-init : goal.loop-next-init
-loop-next-init g c =
-    let start = c.first-next.ensures in
-    (start.place, start.rest.at, λ tests decides. record { at = start.rest.at; same = ap (any_of tests) start.rest.all })
-
-pub own_at-requires : goal.own_at-requires
-own_at-requires g c = (rw c.in-Some.is at c.loop-next.invariant.1) (rw c.in-Some.is at c.loop-next.invariant.0)
-
-pub returns-then-test : goal.returns-then-test
-returns-then-test g c =
-    λ tests decides.
-    let on = rw c.in-Some.is at c.loop-next.invariant.0 in
-    let w = rw c.in-Some.is at (c.loop-next.invariant.2 tests decides) in
-    walk_hit w on (ap tests (sym c.own_at.ensures) ∙ sym (decides _ _ (omega arith) c.test.ensures) ∙ c.if-test.true)
-
-pub after-next-requires : goal.after-next-requires
-after-next-requires g c = (rw c.in-Some.is at c.loop-next.invariant.1) (rw c.in-Some.is at c.loop-next.invariant.0)
-
-pub loop-next-smaller : goal.loop-next-smaller
-loop-next-smaller g c = rw c.in-Some.is (walk_less c.after-next.ensures.rest)
-
-pub loop-next-preserved : goal.loop-next-preserved
-loop-next-preserved g c =
-    let next = c.after-next.ensures in (
-      next.place,
-      next.rest.at,
-      λ tests decides.
-          let w = rw c.in-Some.is at (c.loop-next.invariant.2 tests decides) in
-          walk_next w (ap tests (sym c.own_at.ensures) ∙ sym (decides _ _ (omega arith) c.test.ensures) ∙ c.if-test.false) next.rest,
-    )
+use Rattle.index.proofs.any_visited.Goals.{then-pool-ge4, else-pool-ge4}
 
 pub returns : goal.returns
-returns g c = λ tests decides. walk_none (c.loop-next.invariant.2 tests decides) (rw c.in_default.is none_over)
+unfolding visited any_of
+returns g c =
+    λ tests decides.
+    let pool = c.args.pool.now in
+    let r = c.args.r in
+    let row = λ (j : ℕ). columns pool j (span r.left r.right) r.left in
+    let e : r.high + 1 - r.low ≡ span r.low r.high = omega arith in
+    elim c.if-pool-ge4.branch [
+      | then-pool-ge4 w ↦
+          w.result-is
+          ∙ across_any tests row r.low (r.high + 1 - r.low) w.any.result
+          (cases_from_any w.any.new.self _ w.any.result (λ j. any_of tests (row j) ≡ true) (λ j. any_of tests (row j) ≡ false) w.any.ensures.ran
+          (YieldsList-from_range r.low (r.high + 1) _ (cc) refl)
+          (λ j q k. sym (search (rules, of_calls, decides)))
+          (λ j q k. (search rules, sym (search (rules, of_calls, decides)))))
+          ∙ ap (λ (w : ℕ). any_of tests (across row w r.low)) e
+      | else-pool-ge4 w ↦ w.result-is ∙ lt-leb 4 (length pool) w.if-pool-ge4.false ∙ sym (ap (any_of tests) (visited_short pool r (omega (arith, w.if-pool-ge4.false))))
+    ]

@@ -1,21 +1,19 @@
 -- `nearest::nearest_segment` meets its contract: the search from the guess is taken where it ends below the guess (`guess_taken`), and else the whole one.
-use mathlib.Core.Path.{refl, sym, subst}
+use mathlib.Core.Path.{sym, subst}
 use native.Mathlib.Omega.{arith}
 use borrow.Author.Tests.{not-false}
 use lib.Dec.{T}
-use Rattle.blocks.specs.BlockLaws.{drawn_none}
 use Rattle.nearest.specs.GuessLaws.{guess_taken}
 use Rattle.nearest.proofs.nearest_segment.Goals as goal
 
 -- no blocks
 pub search_outline-requires : goal.search_outline-requires
 search_outline-requires c =
-    let pre = c.requires in
-    (drawn_none pre.taken pre.fits refl, λ some. absurd (omega arith))
+    λ some. absurd (omega arith)
 
 pub search_all-requires : goal.search_all-requires
 search_all-requires c =
-    (c.requires, λ some. c.is_near.ensures (not-false _ c.if-not-is_near.false-raw))
+    λ some. c.is_near.ensures (not-false _ c.if-not-is_near.false-raw)
 
 pub returns-then-near-sqrt_f64 : goal.returns-then-near-sqrt_f64
 returns-then-near-sqrt_f64 c =
@@ -24,4 +22,4 @@ returns-then-near-sqrt_f64 c =
 
 pub search_outline-requires-2 : goal.search_outline-requires-2
 search_outline-requires-2 c =
-    (c.requires, λ some. c.is_near.ensures (not-false _ c.if-not-is_near.false-raw))
+    λ some. c.is_near.ensures (not-false _ c.if-not-is_near.false-raw)

@@ -1,52 +1,41 @@
--- `search_all` meets its contract: the loop's invariant is `Loop` of the definition's turn over the holes.
-use Rattle.std.specs.Prelude.{refl}
-use Rattle.std.proofs.Common.{sym, arith, le_of_eq}
+-- `search_all` meets its contract: the loop's invariant is `Loop` of the definition's turn over the loops.
+use Rattle.std.proofs.Common.{sym, ◌∙◌, arith}
 use Rattle.std.proofs.lemmas.List.{length_push}
 use Rattle.laws.specs.Loop.{loop_start_lem, loop_next, loop_end}
-use Rattle.domain.specs.Outline.{outline_of, loop_at}
-use Rattle.outlines.proofs.HoleList.{hole_given, holes_given, place_passed, place_loop}
-use Rattle.blocks.specs.BlockLaws.{drawn_shape, hole_asks, hole_drawn, outer_drawn}
-use Rattle.nearest.specs.PassLaws.{searched_hole, searched_all}
+use Rattle.domain.specs.Outline.{outline_of}
+use Rattle.domain.specs.Search.{search_loop, search_from}
+use Rattle.outlines.proofs.LoopList.{loop_given, loops_given, over_loops}
+use Rattle.blocks.specs.BlockLaws.{drawn_shape}
+use Rattle.blocks.proofs.Loops.{loop_asks, loop_most, loop_drawn}
 use Rattle.nearest.proofs.search_all.Goals as goal
 
-pub search_loop-found-requires : goal.search_loop-found-requires
-unfolding loop_at
-search_loop-found-requires c =
-    let pre = c.requires in
-    (outer_drawn pre.0 refl, omega arith, pre.1)
+pub loops_of-each-items-requires : goal.loops_of-each-items-requires
+loops_of-each-items-requires c = drawn_shape c.args.outline.drawn
 
-pub holes_of-hole-items-requires : goal.holes_of-hole-items-requires
-holes_of-hole-items-requires c = drawn_shape c.requires.0
-
-pub loop-hole-init : goal.loop-hole-init
-loop-hole-init c = loop_start_lem _ _ _
-
-pub overflow_add-loop_index : goal.overflow_add-loop_index
-overflow_add-loop_index c =
-    let place = hole_given (outline_of c.args.domain) _ _ c.next.new.self _ (cc) c.loop-hole.yielded_by c.in-Some.hole c.in-Some.is c.next.ensures.steps in
-    omega (arith, place.index, hole_asks (place_passed place (drawn_shape c.requires.0)) place.within c.requires.0.taken)
+pub loop-each-init : goal.loop-each-init
+loop-each-init c = loop_start_lem _ _ _
 
 pub first_block-first-requires : goal.first_block-first-requires
 first_block-first-requires c =
-    let place = hole_given (outline_of c.args.domain) _ _ c.next.new.self _ (cc) c.loop-hole.yielded_by c.in-Some.hole c.in-Some.is c.next.ensures.steps in
-    rw place.index (hole_asks (place_passed place (drawn_shape c.requires.0)) place.within c.requires.0.taken)
+    let each = loop_given (outline_of c.args.outline.domain) _ _ c.next.new.self _ (cc) c.loop-each.yielded_by c.in-Some.each c.in-Some.is c.next.ensures.steps in
+    rw each.index (loop_asks _ each c.args.outline.drawn.taken)
 
-pub search_loop-found-requires-in-loop-hole : goal.search_loop-found-requires-in-loop-hole
-search_loop-found-requires-in-loop-hole c =
-    let pre = c.requires in
-    let place = hole_given (outline_of c.args.domain) _ _ c.next.new.self _ (cc) c.loop-hole.yielded_by c.in-Some.hole c.in-Some.is c.next.ensures.steps in
-    let here = hole_drawn (place_passed place (drawn_shape pre.0)) place.within pre.0 (place_loop place) (rw place.index at c.first_block-first.ensures) in
-    (here.0, here.1, pre.1)
+pub search_loop-found-requires : goal.search_loop-found-requires
+search_loop-found-requires c =
+    let each = loop_given (outline_of c.args.outline.domain) _ _ c.next.new.self _ (cc) c.loop-each.yielded_by c.in-Some.each c.in-Some.is c.next.ensures.steps in
+    let first = rw each.index at c.first_block-first.ensures in
+    let drawn = c.args.outline.drawn in
+    (loop_drawn each first drawn.taken drawn, loop_most each first drawn.taken, c.requires)
 
-pub loop-hole-preserved : goal.loop-hole-preserved
-loop-hole-preserved c =
-    let place = hole_given (outline_of c.args.domain) _ _ c.next.new.self _ (cc) c.loop-hole.yielded_by c.in-Some.hole c.in-Some.is c.next.ensures.steps in
-    let turn = searched_hole _ _ _ _ (place_loop place) (rw place.index at c.search_loop-found-in-loop-hole.ensures) in
-    rw (length_push c.loop-hole.yielded c.in-Some.hole, turn) (loop_next _ _ c.loop-hole.invariant place.within)
+pub loop-each-preserved : goal.loop-each-preserved
+loop-each-preserved c =
+    let each = loop_given (outline_of c.args.outline.domain) _ _ c.next.new.self _ (cc) c.loop-each.yielded_by c.in-Some.each c.in-Some.is c.next.ensures.steps in
+    rw (length_push c.loop-each.yielded c.in-Some.each, c.search_loop-found.ensures, each.index, each.points)
+    (loop_next _ _ c.loop-each.invariant (omega (arith, each.within)))
 
 pub returns : goal.returns
-unfolding loop_at
+unfolding search_from
 returns c =
-    let all = holes_given (outline_of c.args.domain) _ _ c.next.new.self _ (cc) c.loop-hole.yielded_by c.in-None.is c.next.ensures.steps in
-    searched_all _ _ _ refl c.search_loop-found.ensures
-    (loop_end _ _ c.loop-hole.invariant (le_of_eq (sym all)))
+    let o = outline_of c.args.outline.domain in
+    let all = loops_given o _ _ c.next.new.self _ (cc) c.loop-each.yielded_by c.in-None.is c.next.ensures.steps in
+    loop_end _ _ c.loop-each.invariant (omega (arith, all)) ∙ over_loops o (λ k s found. search_loop c.args.p s k found) c.args.best

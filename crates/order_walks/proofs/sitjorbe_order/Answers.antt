@@ -1,10 +1,13 @@
 -- `order_walks::sitjorbe_order` meets its contract: the answer of its definition, on every input and whatever the scratch holds.
 use Rattle.std.specs.Prelude.{ℕ, ◌≡◌, refl, List, true, false}
-use Rattle.std.proofs.Common.{sym, ◌∙◌}
+use Rattle.std.proofs.Common.{sym, ap₂, ◌∙◌}
 use Rattle.lent_mesh.specs.Mesh.{quad_count_of, quads_few}
 use Rattle.order.specs.declared.OrderAnswer.{OrderAnswer}
 use Rattle.order.specs.Order.{names_each_once, first_early, order_of, order_answer}
 use Rattle.order_walks.proofs.sitjorbe_order.Goals as goal
+
+abbrev answer_of : ℕ → ℕ → OrderAnswer
+answer_of r p = record { refusal = r; place = p }
 
 -- the presentation's list l is the one lent
 module _ (count : ℕ) (quads order : List ℕ) {n : ℕ} {l : List ℕ} where
@@ -24,7 +27,8 @@ new-requires c = rw c.quad_count-n.ensures (quads_few _ _)
 
 pub returns-then-not-names_each_once : goal.returns-then-not-names_each_once
 returns-then-not-names_each_once c =
-    refuses _ _ _ c.quad_count-n.ensures c.new-presentation.ensures (sym c.names_each_once.ensures ∙ c.if-not-names_each_once.true) c.from.ensures
+    rw c.default.ensures.1
+    (refuses _ _ _ c.quad_count-n.ensures c.new-presentation.ensures (sym c.names_each_once.ensures ∙ c.if-not-names_each_once.true) c.from.ensures)
 
 pub returns-in-Some : goal.returns-in-Some
 returns-in-Some c =
@@ -35,5 +39,7 @@ returns-in-Some c =
 pub returns-in-None : goal.returns-in-None
 returns-in-None c =
     let made = c.new.ensures in
-    passes _ _ _ c.quad_count-n.ensures c.new-presentation.ensures (sym c.names_each_once.ensures ∙ c.if-not-names_each_once.false) made.0 made.1 made.2
+    let none = c.default-in-None.ensures in
+    ap₂ answer_of none.0 none.1
+    ∙ passes _ _ _ c.quad_count-n.ensures c.new-presentation.ensures (sym c.names_each_once.ensures ∙ c.if-not-names_each_once.false) made.0 made.1 made.2
     c.in-None.ensures

@@ -1,28 +1,24 @@
--- `outline_file::check_of` meets its contract: the loop's invariant is `Adding`, and how small the sum is.
-use Rattle.std.proofs.Common.{◌≡◌, ◌<◌, get_or, take, length-take, get_or-take, arith}
-use Rattle.laws.specs.Loop.{loop_start_lem, loop_next}
-use Rattle.outline_file.specs.ByteLaws.{check_end}
-use Rattle.outline_file.proofs.Bytes.{weight_of}
+-- `outline_file::check_of` meets its contract: the sum fits, since a term is at most 130,050.
+use Rattle.std.specs.List.{range_with_len}
+use Rattle.std.proofs.Common.{◌∙◌, ap, ℕ, ◌%◌, arith, rules, tests}
+use Rattle.std.proofs.lemmas.Iterator.{YieldsList-from_range, YieldsList-from_map}
+use Rattle.std.proofs.lemmas.Iterator.Consumers.{sum_by_from_yields_List, fits_by_from_yields_list}
+use Rattle.outline_file.specs.File.{weighted_byte, check_of}
+use Rattle.outline_file.proofs.Sums.{sum_ranged, check_small}
 use Rattle.outline_file.proofs.check_of.Goals as goal
 
-pub loop-i-init : goal.loop-i-init
-loop-i-init c = (loop_start_lem _ _ _, omega arith)
-
-pub overflow_add-sum-in-loop-i : goal.overflow_add-sum-in-loop-i
-overflow_add-sum-in-loop-i c =
-    let i = c.loop-i.i in
-    let within : i < 510 = omega (arith, length-take 510 c.args.b.now) in
-    let byte : get_or (take 510 c.args.b.now) i 0 < 256 = omega arith in
-    omega (arith, c.loop-i.invariant.1, weight_of i _ within byte)
-
-pub loop-i-preserved : goal.loop-i-preserved
-loop-i-preserved c =
-    let i = c.loop-i.i in
+pub sum-sum-requires-clause-fits : goal.sum-sum-requires-clause-fits
+sum-sum-requires-clause-fits c =
     let b = c.args.b.now in
-    let within : i < 510 = omega (arith, length-take 510 b) in
-    let byte : get_or (take 510 b) i 0 < 256 = omega arith in
-    let here : get_or (take 510 b) i 0 ≡ get_or b i 0 = get_or-take 510 b i 0 within in
-    (rw here (loop_next _ _ c.loop-i.invariant.0 within), omega (arith, c.loop-i.invariant.1, weight_of i _ within byte))
+    fits_by_from_yields_list (weighted_byte b) (range_with_len 0 510) c.map.result _
+    (YieldsList-from_map _ (weighted_byte b) (YieldsList-from_range 0 510 510 (cc) (omega arith)) c.map.ensures.closure (λ x r q k. search (rules, tests)))
+    (check_small b (λ i. omega (arith, c.type_inv.b i)))
 
 pub returns : goal.returns
-returns c = check_end _ c.loop-i.invariant.0 (omega (arith, length-take 510 c.args.b.now))
+unfolding check_of
+returns c =
+    let b = c.args.b.now in
+    ap (λ (n : ℕ). n % 65521)
+    (sum_by_from_yields_List (weighted_byte b) (range_with_len 0 510) c.map.result _ c.sum-sum.ensures.ran
+    (YieldsList-from_map _ (weighted_byte b) (YieldsList-from_range 0 510 510 (cc) (omega arith)) c.map.ensures.closure (λ x r q k. search (rules, tests)))
+    ∙ sum_ranged (weighted_byte b) 510)

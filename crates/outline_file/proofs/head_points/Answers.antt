@@ -1,12 +1,25 @@
--- `outline_file::head_points` meets its contract: the loop's invariant is `HeadCounting`, and each answer is a law of it.
-use Rattle.outline_file.specs.RefusalLaws.{counting_start, counting_next, counting_end}
+-- `outline_file::head_points` meets its contract: the sum fits, since a term is at most 65,535.
+use Rattle.std.specs.List.{range_with_len}
+use Rattle.std.proofs.Common.{◌∙◌, arith, rules, tests}
+use Rattle.std.proofs.lemmas.Iterator.{YieldsList-from_range, YieldsList-from_map}
+use Rattle.std.proofs.lemmas.Iterator.Consumers.{sum_by_from_yields_List, fits_by_from_yields_list}
+use Rattle.outline_file.specs.File.{head_length, head_points}
+use Rattle.outline_file.proofs.Sums.{sum_ranged, lengths_small}
 use Rattle.outline_file.proofs.head_points.Goals as goal
 
-pub loop-k-init : goal.loop-k-init
-loop-k-init c = counting_start _ _
-
-pub loop-k-preserved : goal.loop-k-preserved
-loop-k-preserved c = counting_next c.loop-k.invariant c.loop-k-test.true (rw c.from-sum.ensures c.number_at.ensures)
+pub sum-requires-clause-fits : goal.sum-requires-clause-fits
+sum-requires-clause-fits c =
+    let h = c.args.h.now in
+    let n = c.args.n in
+    fits_by_from_yields_list (head_length h) (range_with_len 0 n) c.map.result _
+    (YieldsList-from_map _ (head_length h) (YieldsList-from_range 0 n n (cc) (omega arith)) c.map.ensures.closure (λ x r q k. search (rules, tests)))
+    (omega (arith, sum_ranged (head_length h) n, lengths_small h n (λ i. omega (arith, c.fits-h i)), c.requires))
 
 pub returns : goal.returns
-returns c = counting_end c.loop-k.invariant c.loop-k-test.false
+unfolding head_points
+returns c =
+    let h = c.args.h.now in
+    let n = c.args.n in
+    sum_by_from_yields_List (head_length h) (range_with_len 0 n) c.map.result _ c.sum.ensures.ran
+    (YieldsList-from_map _ (head_length h) (YieldsList-from_range 0 n n (cc) (omega arith)) c.map.ensures.closure (λ x r q k. search (rules, tests)))
+    ∙ sum_ranged (head_length h) n

@@ -28,7 +28,7 @@ lent s = paving_state s.args.paving.now s.args.snapshot.now
 
 pub copy_links-requires : goal.copy_links-requires
 copy_links-requires c =
-    let P = held _ _ _ _ _ c.requires.paveable in
+    let P = held _ _ _ c.requires.paveable in
     rw c.next.ensures (P.next, P.snapshot, c.requires.helped.stretches)
 
 pub loop-a-init : goal.loop-a-init
@@ -41,29 +41,29 @@ loop-a-init c =
           c.copy_links.ensures.2,
     )
 
-pub settle-requires-clause-paveable : goal.settle-requires-clause-paveable
-settle-requires-clause-paveable c =
-    let s = (goal.at.settle-requires-clause-paveable c).Start in
-    (in_begun (around s) _ c.args.around.now.size _ _ (field s) (lent s) c.requires.paveable (rw (← c.next.ensures) c.copy_links.ensures.0)
+pub settle_edge-requires-clause-paveable : goal.settle_edge-requires-clause-paveable
+settle_edge-requires-clause-paveable c =
+    let s = (goal.at.settle_edge-requires-clause-paveable c).Start in
+    (in_begun (around s) c.args.around.now.size _ _ (field s) (lent s) c.requires.paveable (rw (← c.next.ensures) c.copy_links.ensures.0)
     c.loop-a.invariant.2).paveable
 
-pub settle-requires-clause-node : goal.settle-requires-clause-node
-settle-requires-clause-node c =
-    let s = (goal.at.settle-requires-clause-node c).Start in
-    let L = in_begun (around s) _ c.args.around.now.size _ _ (field s) (lent s) c.requires.paveable (rw (← c.next.ensures) c.copy_links.ensures.0)
+pub settle_edge-requires-clause-node : goal.settle_edge-requires-clause-node
+settle_edge-requires-clause-node c =
+    let s = (goal.at.settle_edge-requires-clause-node c).Start in
+    let L = in_begun (around s) c.args.around.now.size _ _ (field s) (lent s) c.requires.paveable (rw (← c.next.ensures) c.copy_links.ensures.0)
     c.loop-a.invariant.2 in
     omega (arith, L.frame.nodes, c.loop-a-test.true)
 
-pub settle-requires-clause-helped : goal.settle-requires-clause-helped
-settle-requires-clause-helped c = c.loop-a.invariant.3
+pub settle_edge-requires-clause-helped : goal.settle_edge-requires-clause-helped
+settle_edge-requires-clause-helped c = c.loop-a.invariant.3
 
 pub returns-in_err-placed-clause-same_lists : goal.returns-in_err-placed-clause-same_lists
-returns-in_err-placed-clause-same_lists c = lists_trans c.loop-a.invariant.0 c.settle.ensures.same_lists
+returns-in_err-placed-clause-same_lists c = lists_trans c.loop-a.invariant.0 c.settle_edge.ensures.same_lists
 
 pub returns-in_err-placed-clause-same_scratch : goal.returns-in_err-placed-clause-same_scratch
 returns-in_err-placed-clause-same_scratch c =
     let i = c.loop-a.invariant.1 in
-    let t = c.settle.ensures.same_scratch in
+    let t = c.settle_edge.ensures.same_scratch in
     record { node_pool = t.node_pool ∙ i.node_pool; edge_pool = t.edge_pool ∙ i.edge_pool; tried = t.tried ∙ i.tried }
 
 pub returns-in_err-placed-clause-passes : goal.returns-in_err-placed-clause-passes
@@ -72,7 +72,7 @@ returns-in_err-placed-clause-passes c =
     rw c.from_residual.ensures
     (pass_whole (around s) c.args.around.now.size (field s) (lent s) c.copy_links.new.snapshot _ (rw (← c.next.ensures) c.copy_links.ensures.0)
     (run_out _ after_pass _ _ c.loop-a.invariant.2 c.loop-a-test.true
-    (went_over c.loop-a.some c.settle.result (c.settle.ensures.settles c.loop-a.some) c.in_err-placed.was)))
+    (went_over c.loop-a.some c.settle_edge.result (c.settle_edge.ensures.settles c.loop-a.some) c.in_err-placed.was)))
 
 pub loop-a-smaller : goal.loop-a-smaller
 loop-a-smaller c =
@@ -82,15 +82,15 @@ loop-a-smaller c =
 pub loop-a-preserved : goal.loop-a-preserved
 loop-a-preserved c =
     let s = (goal.at.loop-a-preserved c).Start in
-    let L = in_begun (around s) _ c.args.around.now.size _ _ (field s) (lent s) c.requires.paveable (rw (← c.next.ensures) c.copy_links.ensures.0)
+    let L = in_begun (around s) c.args.around.now.size _ _ (field s) (lent s) c.requires.paveable (rw (← c.next.ensures) c.copy_links.ensures.0)
     c.loop-a.invariant.2 in
     let G = gone_over c.loop-a.scratch.tried.now c.loop-a.paving.next.now _ (rw c.tried.ensures at c.node_after-a.ensures) c.loop-a-test.true L.frame.nodes
     c.loop-a.invariant.3.stretches in (
-      lists_trans c.loop-a.invariant.0 c.settle.ensures.same_lists,
-      scratch_trans c.loop-a.invariant.1 c.settle.ensures.same_scratch,
+      lists_trans c.loop-a.invariant.0 c.settle_edge.ensures.same_lists,
+      scratch_trans c.loop-a.invariant.1 c.settle_edge.ensures.same_scratch,
       pass_goes (around s) c.args.around.now.size (field s) _ _ c.loop-a.invariant.2 c.loop-a-test.true
-          (went_on c.loop-a.some c.settle.result (c.settle.ensures.settles c.loop-a.some) _ c.in_ok-placed.was) G,
-      c.settle.ensures.helped,
+          (went_on c.loop-a.some c.settle_edge.result (c.settle_edge.ensures.settles c.loop-a.some) _ c.in_ok-placed.was) G,
+      c.settle_edge.ensures.helped,
     )
 
 pub returns-clause-same_lists : goal.returns-clause-same_lists
@@ -104,7 +104,7 @@ pub returns-clause-passes : goal.returns-clause-passes
 returns-clause-passes c =
     let s = (goal.at.returns-clause-passes c).Start in
     pass_whole (around s) c.args.around.now.size (field s) (lent s) _ _ (rw (← c.next.ensures) c.copy_links.ensures.0)
-    (pass_ends _ c.loop-a.invariant.2 c.loop-a-test.false c.after_pass.ensures)
+    (pass_ends _ c.loop-a.invariant.2 c.loop-a-test.false c.pass_answer.ensures)
 
 pub returns-clause-helped : goal.returns-clause-helped
 returns-clause-helped c = c.loop-a.invariant.3

@@ -1,10 +1,9 @@
 -- `previews::foresee_on` meets its contract.
 use mathlib.Core.Path.{sym, ap, ◌∙◌}
 use Rattle.std.specs.Prelude.{List, ℕ}
-use Rattle.domain.specs.Outline.{Outline}
+use Rattle.domain.specs.Outline.{Outline, outline_of}
 use Rattle.direction.specs.Record.{FieldRecord, field_lent}
 use Rattle.front.specs.State.{State}
-use Rattle.paving.specs.Lent.{outline_in}
 use Rattle.mesh_check.specs.Check.{lent_in}
 use Rattle.previews.proofs.Quads.{foreseen_as, quad_foreseen}
 use Rattle.previews.proofs.foresee_on.Goals as goal
@@ -12,13 +11,13 @@ use Rattle.previews.proofs.foresee_on.Goals.{Start}
 
 -- the outline, the field and the state as they are lent
 abbrev around : Start → Outline
-around s = outline_in s.args.around.now
+around s = outline_of s.args.around.now.domain
 
 abbrev field : Start → List ℕ → FieldRecord
 field s marks = field_lent s.args.around.now.field marks
 
 abbrev lent : Start → State
-lent s = lent_in s.args.mesh.now s.args.origins.now
+lent s = lent_in s.args.lent.mesh s.args.lent.origins.now
 
 pub returns-in-Ok : goal.returns-in-Ok
 returns-in-Ok c =

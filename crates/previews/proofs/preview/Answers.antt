@@ -5,26 +5,25 @@ use Rattle.std.proofs.lemmas.Grind.{common_steps}
 use mathlib.Core.List.{List, []}
 use Prim.Native.Nat.{ℕ}
 use native.Mathlib.Omega.{arith}
-use Rattle.domain.specs.Outline.{Outline}
+use Rattle.domain.specs.Outline.{Outline, outline_of}
 use Rattle.domain.proofs.Refused.{refusal_some}
 use Rattle.direction.specs.Record.{FieldRecord, field_lent}
 use Rattle.front.specs.State.{State}
-use Rattle.paving.specs.Lent.{outline_in}
 use Rattle.mesh_check.specs.Check.{lent_in}
 use Rattle.hand_steps.specs.UseLaws.{on_front_lem, front_room}
-use Rattle.previews.specs.PreviewSteps.{preview_passes, shown, shown_fits, preview_refused, preview_shown}
+use Rattle.previews.specs.PreviewSteps.{preview_passes, shown, shown_known, shown_fits, preview_refused, preview_shown}
 use Rattle.previews.proofs.preview.Goals as goal
 use Rattle.previews.proofs.preview.Goals.{Start}
 
 -- the outline, the field and the state as they are lent
 abbrev around : Start → Outline
-around s = outline_in s.args.around.now
+around s = outline_of s.args.around.now.domain
 
 abbrev field : Start → List ℕ → FieldRecord
 field s marks = field_lent s.args.around.now.field marks
 
 abbrev lent : Start → State
-lent s = lent_in s.args.mesh.now s.args.origins.now
+lent s = lent_in s.args.lent.mesh s.args.lent.origins.now
 
 pub returns-in_err-check_preview : goal.returns-in_err-check_preview
 returns-in_err-check_preview c =
@@ -45,17 +44,18 @@ foresee_on-foreseen-requires c =
 pub invariant_of-links : goal.invariant_of-links
 invariant_of-links c =
     let s = (goal.at.invariant_of-links c).Start in
-    let k = c.args.mesh.now.counts in
+    let k = c.args.lent.mesh.counts in
     let S = on_front_lem (lent s) c.args.a c.args.b (preview_passes (lent s) _ _ _ (sym c.in_ok-check_preview.ensures)).0 in
     let R = front_room _ _ _ _ _ _ _ k c.args.a c.args.b S in
     let w = c.foresee_on-foreseen in
     let H = shown _ _ _ _ _ _ _ k c.args.a c.args.b S (around s) c.args.around.now.size (field s []) w.result (w.ensures []) in
-    record { fit = (R.nodes.next_fit, R.nodes.few, H.few) }
+    let Q = shown_known _ _ _ _ _ _ _ k c.args.a c.args.b S (around s) c.args.around.now.size (field s []) w.result (w.ensures []) in
+    record { fit = (R.nodes.next_fit, R.nodes.few, H.few); known = Q }
 
 pub list_front-front-requires : goal.list_front-front-requires
 list_front-front-requires c =
     let s = (goal.at.list_front-front-requires c).Start in
-    let k = c.args.mesh.now.counts in
+    let k = c.args.lent.mesh.counts in
     let P = preview_passes (lent s) _ _ _ (sym c.in_ok-check_preview.ensures) in
     let S = on_front_lem (lent s) c.args.a c.args.b P.0 in
     let w = c.foresee_on-foreseen in
@@ -68,6 +68,6 @@ returns c =
     let z = sym c.in_ok-check_preview.ensures in
     let S = on_front_lem (lent s) c.args.a c.args.b (preview_passes (lent s) _ _ _ z).0 in
     λ marks.
-    preview_shown _ _ _ _ _ _ _ c.args.mesh.now.counts c.args.a c.args.b S (around s) c.args.around.now.size (field s marks) _
+    preview_shown _ _ _ _ _ _ _ c.args.lent.mesh.counts c.args.a c.args.b S (around s) c.args.around.now.size (field s marks) _
     c.in_ok-check_preview.ensures refl
     c.foresee_on-foreseen.result (c.foresee_on-foreseen.ensures marks) _ _ c.list_front-front.ensures

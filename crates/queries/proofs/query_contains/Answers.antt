@@ -5,6 +5,8 @@ use Rattle.domain.specs.Outline.{outline_of}
 use Rattle.queries.specs.Laws.{query_drawn}
 use Rattle.queries.proofs.query_contains.Goals as goal
 
-pub contains_point-requires : goal.contains_point-requires
-contains_point-requires c =
-    query_drawn (outline_of c.args.domain) c.args.p (search rules) (record { outer = λ i h. c.args.domain.doubles.outer i; holes = λ i h. c.args.domain.doubles.holes i }) refl
+pub invariant_of-plain : goal.invariant_of-plain
+invariant_of-plain c =
+    record {
+      drawn = query_drawn (outline_of c.args.domain) c.args.p (search rules) (record { outer = λ i h. c.args.domain.doubles.outer i; holes = λ i h. c.args.domain.doubles.holes i }) refl;
+    }

@@ -4,5 +4,5 @@ use Rattle.domain.proofs.Accepted.{accepted}
 use Rattle.crossfield.specs.FieldLaws.{field_unrefused}
 use Rattle.run_refusal.proofs.check_run.Goals as goal
 
-pub check_places-requires : goal.check_places-requires
-check_places-requires c = (accepted _ (field_unrefused _ _ _ _ (sym c.in_ok-check_field.ensures)).outline).shape
+pub check_front_places-requires : goal.check_front_places-requires
+check_front_places-requires c = (accepted _ (field_unrefused _ _ _ _ (sym c.in_ok-check_field.ensures)).outline).shape

@@ -1,5 +1,5 @@
 -- `small_quads::list_quads` meets its contract: the invariant is `FoursWritten`: the fours below k on the first places. Assumes nothing.
-use Rattle.small_quads.specs.ListLaws.{fours_start, fours_length, fours_room, fours_next, fours_end}
+use Rattle.small_quads.specs.ListLaws.{fours_start, fours_room, fours_next, fours_end}
 use Rattle.small_quads.proofs.list_quads.Goals as goal
 
 pub loop-k-init : goal.loop-k-init
@@ -10,9 +10,6 @@ list_four-n-requires c = fours_room _ c.requires c.loop-k.invariant c.loop-k-tes
 
 pub loop-k-preserved : goal.loop-k-preserved
 loop-k-preserved c = fours_next _ c.requires c.loop-k.invariant c.loop-k-test.true c.list_four-n.ensures.0 c.list_four-n.ensures.1
-
-pub shape_of-list : goal.shape_of-list
-shape_of-list c = fours_length _ c.requires c.loop-k.invariant
 
 pub returns : goal.returns
 returns c = fours_end _ c.requires c.loop-k.invariant c.loop-k-test.false

@@ -11,5 +11,5 @@ pub returns : goal.returns
 returns c =
     let n = c.args.n in
     let l = c.args.list.now in
-    rw c.copy_from_slice.ensures.after
+    rw (c.copy_from_slice.ensures.after, c.points_of.ensures)
     (sym (sets-eq (points_of c.args.k) l n c.requires ∙ append_assoc (take n l) (points_of c.args.k) _ ∙ ap (λ (z : List ℕ). take n l ++ (points_of c.args.k ++ z)) (rest n l)))

@@ -23,13 +23,13 @@ preview-preview-requires c =
 pub new-requires : goal.new-requires
 new-requires c =
     λ v q.
-    shown_few (outline_of c.args.domain) c.args.size (field_lent c.args.field c.args.marks.now) c.args.a c.args.b _ _ _ _ c.args.origins.now _ _ _ _
+    shown_few (outline_of c.args.domain) c.args.size (field_lent c.args.field c.args.marks.now) c.args.a c.args.b _ _ _ _ c.args.lent.origins.now _ _ _ _
     c.check_given.ensures
     (ap refused c.in_default.is) (numbered c.preview-preview.result) _ (c.preview-preview.ensures c.args.marks.now) (ap numbered q)
 
 pub returns : goal.returns
 returns c =
-    sight_answered (outline_of c.args.domain) c.args.size (field_lent c.args.field c.args.marks.now) c.args.a c.args.b _ _ _ _ c.args.origins.now _ _ _ _
+    sight_answered (outline_of c.args.domain) c.args.size (field_lent c.args.field c.args.marks.now) c.args.a c.args.b _ _ _ _ c.args.lent.origins.now _ _ _ _
     c.check_given.ensures
     (ap refused c.in_default.is) (numbered c.preview-preview.result) _ (c.preview-preview.ensures c.args.marks.now) _
     c.new.ensures

@@ -3,11 +3,10 @@ use mathlib.Core.List.{List, []}
 use mathlib.Core.Path.{◌≡◌, sym, ap, ◌∙◌, subst}
 use Prim.Native.Nat.{ℕ}
 use Rattle.std.specs.Prelude.{Result}
-use Rattle.domain.specs.Outline.{Outline}
+use Rattle.domain.specs.Outline.{Outline, outline_of}
 use Rattle.direction.specs.Record.{FieldRecord, field_lent}
 use Rattle.front.specs.State.{State}
-use Rattle.paving.specs.Lent.{outline_in}
-use Rattle.paving.specs.declared.FarCorners.{FarCorners}
+use Rattle.front.specs.declared.FarCorners.{FarCorners}
 use Rattle.mesh_check.specs.Check.{lent_paving}
 use Rattle.hand_steps.specs.declared.StepOutcome.{StepOutcome}
 use Rattle.hand_steps.specs.declared.StepOutcome.TheVariants.{Placed}
@@ -21,7 +20,7 @@ use Rattle.stepping.proofs.place_on.Goals.{Start, After-quad_on-answer}
 
 -- the outline, the field and the state as they are lent
 abbrev around : Start → Outline
-around s = outline_in s.args.around.now
+around s = outline_of s.args.around.now.domain
 
 abbrev field : Start → List ℕ → FieldRecord
 field s marks = field_lent s.args.around.now.field marks
@@ -31,16 +30,16 @@ lent s = lent_paving s.args.paving.now s.args.origins.now
 
 -- what is answered of the mesh is answered of the state
 answer_is : (c : After-quad_on-answer) → (marks : List ℕ) → c.quad_on-answer.result
-    ≡ quad_on (outline_in c.args.around.now) c.args.around.now.size (field_lent c.args.around.now.field marks) c.args.a c.args.b (lent_paving c.args.paving.now c.args.origins.now)
+    ≡ quad_on (outline_of c.args.around.now.domain) c.args.around.now.size (field_lent c.args.around.now.field marks) c.args.a c.args.b (lent_paving c.args.paving.now c.args.origins.now)
 answer_is c marks =
     c.quad_on-answer.ensures marks
-    ∙ ap (λ (s : State). quad_on (outline_in c.args.around.now) c.args.around.now.size (field_lent c.args.around.now.field marks) c.args.a c.args.b s)
-    (lent_same c.mesh.result c.args.paving.now c.mesh.ensures c.args.origins.now)
+    ∙ ap (λ (s : State). quad_on (outline_of c.args.around.now.domain) c.args.around.now.size (field_lent c.args.around.now.field marks) c.args.a c.args.b s)
+    (lent_same c.mesh-mesh.result c.args.paving.now c.mesh-mesh.ensures c.args.origins.now)
 
 pub quad_on-answer-requires : goal.quad_on-answer-requires
 quad_on-answer-requires c = (
   c.requires.0,
-  subst (λ (s : State). OnFront s c.args.a c.args.b) (sym (lent_same c.mesh.result c.args.paving.now c.mesh.ensures c.args.origins.now)) c.requires.1,
+  subst (λ (s : State). OnFront s c.args.a c.args.b) (sym (lent_same c.mesh-mesh.result c.args.paving.now c.mesh-mesh.ensures c.args.origins.now)) c.requires.1,
 )
 
 pub place_quad-requires : goal.place_quad-requires

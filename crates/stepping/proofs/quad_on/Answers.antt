@@ -2,21 +2,20 @@
 use mathlib.Core.List.{[]}
 use mathlib.Core.Path.{refl, sym, ◌∙◌}
 use Rattle.std.proofs.lemmas.Bool.{leb-true, leb-false}
-use Rattle.domain.specs.Outline.{Outline}
+use Rattle.domain.specs.Outline.{Outline, outline_of}
 use Rattle.front.specs.State.{State}
-use Rattle.paving.specs.Lent.{outline_in}
 use Rattle.mesh_check.specs.Check.{lent_in}
-use Rattle.hand_steps.specs.UseLaws.{front_room, try_lent}
+use Rattle.hand_steps.specs.UseLaws.{front_room, lent_to_try}
 use Rattle.hand_steps.proofs.Quads.{fitting_full, fitting_quad, quad_cap, quad_tried}
 use Rattle.stepping.proofs.quad_on.Goals as goal
 use Rattle.stepping.proofs.quad_on.Goals.{Start}
 
 -- the outline and the state as they are lent
 abbrev around : Start → Outline
-around s = outline_in s.args.around.now
+around s = outline_of s.args.around.now.domain
 
 abbrev lent : Start → State
-lent s = lent_in s.args.mesh.now s.args.origins.now
+lent s = lent_in s.args.lent.mesh s.args.lent.origins.now
 
 pub returns-then-is_capped : goal.returns-then-is_capped
 returns-then-is_capped c =
@@ -26,9 +25,11 @@ returns-then-is_capped c =
 
 pub attempt_on-requires : goal.attempt_on-requires
 attempt_on-requires c =
-    let s = (goal.at.attempt_on-requires c).Start in
-    let m = c.args.mesh.now in
-    try_lent _ _ _ _ _ m.quads.now _ m.counts c.args.a c.args.b c.requires.1 (around s) _ _ _ [] [] [] c.requires.0 refl refl refl
+    let m = c.args.lent.mesh in
+    record {
+      taken = c.requires.0.taken;
+      lent = lent_to_try _ _ _ _ _ m.quads.now _ m.counts c.args.a c.args.b c.requires.1 _ _ _ [] [] c.requires.0.field refl refl;
+    }
 
 pub returns-in_default : goal.returns-in_default
 returns-in_default c =
@@ -39,7 +40,7 @@ returns-in_default c =
     c.attempt_on.ensures (rw c.in_default.is refl)
 
 pub is_full-requires : goal.is_full-requires
-is_full-requires c = front_room _ _ _ _ _ _ _ c.args.mesh.now.counts c.args.a c.args.b c.requires.1
+is_full-requires c = front_room _ _ _ _ _ _ _ c.args.lent.mesh.counts c.args.a c.args.b c.requires.1
 
 pub returns-then-is_full : goal.returns-then-is_full
 returns-then-is_full c =
@@ -47,7 +48,7 @@ returns-then-is_full c =
     let a = c.args.around.now in
     λ marks.
     quad_tried (around s) a.size a.field.grid a.field.values.now marks c.args.a c.args.b (lent s) (leb-false _ _ (sym c.is_capped.ensures ∙ c.if-is_capped.false))
-    c.attempt_on.ensures (fitting_full c.args.a c.args.b c.in-Some.quad (lent s) c.in-Some.is c.is_full.ensures c.if-is_full.true)
+    c.attempt_on.ensures (fitting_full c.args.a c.args.b c.in-Some.far (lent s) c.in-Some.is c.is_full.ensures c.if-is_full.true)
 
 pub returns : goal.returns
 returns c =
@@ -55,4 +56,4 @@ returns c =
     let a = c.args.around.now in
     λ marks.
     quad_tried (around s) a.size a.field.grid a.field.values.now marks c.args.a c.args.b (lent s) (leb-false _ _ (sym c.is_capped.ensures ∙ c.if-is_capped.false))
-    c.attempt_on.ensures (fitting_quad c.args.a c.args.b c.in-Some.quad (lent s) c.in-Some.is c.is_full.ensures c.if-is_full.false)
+    c.attempt_on.ensures (fitting_quad c.args.a c.args.b c.in-Some.far (lent s) c.in-Some.is c.is_full.ensures c.if-is_full.false)

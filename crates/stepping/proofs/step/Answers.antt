@@ -5,11 +5,10 @@ use Rattle.std.proofs.lemmas.Grind.{common_steps}
 use mathlib.Core.List.{List, []}
 use Prim.Native.Nat.{ℕ}
 use native.Mathlib.Omega.{arith}
-use Rattle.domain.specs.Outline.{Outline}
+use Rattle.domain.specs.Outline.{Outline, outline_of}
 use Rattle.domain.proofs.Refused.{refusal_some}
 use Rattle.direction.specs.Record.{FieldRecord, field_lent}
 use Rattle.front.specs.State.{State, node_places}
-use Rattle.paving.specs.Lent.{outline_in}
 use Rattle.mesh_check.specs.Check.{lent_in, lent_paving}
 use Rattle.mesh_check.specs.CheckLaws.{length_off}
 use Rattle.hand_steps.specs.Hand.{Handled, hand_refusal}
@@ -22,7 +21,7 @@ use Rattle.stepping.proofs.step.Goals.{Start, After-check_hand}
 
 -- the outline, the field and the state as they are lent
 abbrev around : Start → Outline
-around s = outline_in s.args.around.now
+around s = outline_of s.args.around.now.domain
 
 abbrev field : Start → List ℕ → FieldRecord
 field s marks = field_lent s.args.around.now.field marks
@@ -31,8 +30,8 @@ abbrev lent : Start → State
 lent s = lent_paving s.args.paving.now s.args.origins.now
 
 -- 23 and 24 are those of the state
-refusal_is : (c : After-check_hand) → hand_refusal (lent_in c.mesh.result c.args.origins.now) c.args.a c.args.b ≡ hand_refusal (lent_paving c.args.paving.now c.args.origins.now) c.args.a c.args.b
-refusal_is c = ap (λ (s : State). hand_refusal s c.args.a c.args.b) (lent_same c.mesh.result c.args.paving.now c.mesh.ensures c.args.origins.now)
+refusal_is : (c : After-check_hand) → hand_refusal (lent_in c.mesh-mesh.result c.args.origins.now) c.args.a c.args.b ≡ hand_refusal (lent_paving c.args.paving.now c.args.origins.now) c.args.a c.args.b
+refusal_is c = ap (λ (s : State). hand_refusal s c.args.a c.args.b) (lent_same c.mesh-mesh.result c.args.paving.now c.mesh-mesh.ensures c.args.origins.now)
 
 pub returns-in_err-check_hand-clause-taken : goal.returns-in_err-check_hand-clause-taken
 returns-in_err-check_hand-clause-taken c =

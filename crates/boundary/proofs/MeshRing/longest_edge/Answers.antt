@@ -1,25 +1,20 @@
--- `boundary::MeshRing::longest_edge` meets its contract: the loop's invariant is `Longest`: the best so far and its length.
+-- `boundary::MeshRing::longest_edge` meets its contract: the fold is `for_up` of `longest_turn`.
+use Rattle.std.specs.Prelude.{◌≡◌, ℕ}
+use Rattle.std.proofs.Common.{◌∙◌, arith, rules, tests}
+use Rattle.std.proofs.lemmas.Iterator.{YieldsList-from_range}
+use Rattle.std.proofs.lemmas.Iterator.Consumers.{fold_from_yields_List}
+use Rattle.laws.proofs.Ranges.{fold_ranged}
+use Rattle.front.specs.Sampling.{longest_turn, longest_edge}
 use Rattle.sampled.specs.Rings.{longest_in}
-use Rattle.boundary.specs.LayingLaws.{longest_start, longest_stays, longest_moves, longest_all}
 use Rattle.boundary.proofs.MeshRing.longest_edge.Goals as goal
-use Rattle.boundary.proofs.MeshRing.longest_edge.Goals.{then-not-length-longest, else-not-length-longest}
-
-pub edge_length-longest-requires : goal.edge_length-longest-requires
-edge_length-longest-requires c = c.args.self.now.sampled.some
-
-pub loop-i-init : goal.loop-i-init
-loop-i-init c = longest_start _ _ _ _ _ c.edge_length-longest.ensures
-
-pub edge_length-length-requires : goal.edge_length-length-requires
-edge_length-length-requires c = c.loop-i-test.true
-
-pub loop-i-preserved : goal.loop-i-preserved
-loop-i-preserved c =
-    elim c.if-not-length-longest.branch [
-      | then-not-length-longest w ↦ rw (w.best-is, w.longest-is) (longest_moves _ _ _ _ _ c.loop-i.invariant c.loop-i-test.true c.edge_length-length.ensures w.if-not-length-longest.true)
-      | else-not-length-longest w ↦ rw (w.best-is, w.longest-is) (longest_stays _ _ _ _ _ c.loop-i.invariant c.loop-i-test.true c.edge_length-length.ensures w.if-not-length-longest.false)
-    ]
 
 pub returns : goal.returns
+unfolding longest_edge
 returns c =
-    let all = longest_all _ _ _ _ _ c.loop-i.invariant c.loop-i-test.false in (all, rw all (longest_in _ _ _ _ _ c.args.self.now.sampled.some))
+    let r = c.args.self.now.ring in
+    let m = c.args.self.now.mesh.now in
+    let turn : ℕ → ℕ → ℕ = longest_turn m.xs.now m.ys.now r.base r.count r.turned in
+    let is : c.fold.result ≡ longest_edge m.xs.now m.ys.now r.base r.count r.turned =
+    fold_from_yields_List _ (λ best i. turn i best) _ c.fold.result c.fold.ensures.ran (YieldsList-from_range 0 r.count r.count (cc) (omega arith)) (λ a x b q k. search (rules, tests))
+    ∙ fold_ranged turn 0 r.count in
+    (is, rw is (longest_in _ _ _ _ _ c.args.self.now.sampled.some))

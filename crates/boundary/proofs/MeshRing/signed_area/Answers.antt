@@ -1,23 +1,19 @@
--- `boundary::MeshRing::signed_area` meets its contract: the loop's invariant is `Loop` of `area_turn`.
-use Rattle.std.proofs.Common.{arith}
-use Rattle.laws.specs.Loop.{loop_start_lem, loop_next, loop_end}
-use Rattle.front.specs.Sampling.{signed_area}
+-- `boundary::MeshRing::signed_area` meets its contract: the fold is `for_up` of `area_turn`.
+use Rattle.std.specs.Prelude.{ℕ, Float}
+use Rattle.std.proofs.Common.{◌∙◌, ap, arith, rules, tests}
+use Rattle.std.proofs.lemmas.Iterator.{YieldsList-from_range}
+use Rattle.std.proofs.lemmas.Iterator.Consumers.{fold_from_yields_List}
+use Rattle.laws.proofs.Ranges.{fold_ranged}
+use Rattle.numbers.specs.Float.{◌⊗◌, half_f, zero_f}
+use Rattle.front.specs.Sampling.{area_turn, signed_area}
 use Rattle.boundary.proofs.MeshRing.signed_area.Goals as goal
-
-pub loop-i-init : goal.loop-i-init
-loop-i-init c = loop_start_lem _ _ _
-
-pub overflow_add-base : goal.overflow_add-base
-overflow_add-base c = omega (arith, c.args.self.now.sampled.few, c.loop-i-test.true)
-
-pub overflow_add-base-in-loop-i : goal.overflow_add-base-in-loop-i
-overflow_add-base-in-loop-i c = omega (arith, c.args.self.now.sampled.few, c.after-after.ensures.1)
-
-pub loop-i-preserved : goal.loop-i-preserved
-loop-i-preserved c =
-    rw (c.area_term-sum.ensures, c.node-a.ensures, c.node-b.ensures, c.after-after.ensures.0)
-    (loop_next _ _ c.loop-i.invariant c.loop-i-test.true)
 
 pub returns : goal.returns
 unfolding signed_area
-returns c = rw (loop_end _ _ c.loop-i.invariant c.loop-i-test.false)
+returns c =
+    let r = c.args.self.now.ring in
+    let m = c.args.self.now.mesh.now in
+    let turn : ℕ → Float → Float = area_turn m.xs.now m.ys.now r.base r.count in
+    ap (λ (x : Float). half_f ⊗ x)
+    (fold_from_yields_List _ (λ sum i. turn i sum) _ c.fold.result c.fold.ensures.ran (YieldsList-from_range 0 r.count r.count (cc) (omega arith)) (λ a x b q k. search (rules, tests))
+    ∙ fold_ranged turn zero_f r.count)

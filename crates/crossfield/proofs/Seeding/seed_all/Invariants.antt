@@ -9,5 +9,5 @@ use Rattle.crossfield.proofs.Seeding.seed_all.Given as goal
 
 abbrev pub invariant-loop-j : goal.invariant-loop-j
 invariant-loop-j l =
-    (length l.values ≡ length l.initial.values) × (length l.marks ≡ length l.initial.marks) × Loop (seed_row (outline_of l.self.domain) l.self.grid)
+    (length l.values ≡ length l.initial.values) × (length l.marks ≡ length l.initial.marks) × Loop (seed_row (outline_of l.self.outline.domain) l.self.grid)
     (field_lists l.initial.values l.initial.marks) l.self.grid.ny l.j (field_lists l.values l.marks)

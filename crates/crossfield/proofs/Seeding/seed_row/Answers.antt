@@ -8,10 +8,10 @@ use Rattle.crossfield.specs.FieldLaws.{two_points}
 use Rattle.crossfield.proofs.Seeding.seed_row.Goals as goal
 
 pub point_at-requires : goal.point_at-requires
-point_at-requires c = omega (arith, two_points c.args.self.now.drawn)
+point_at-requires c = omega (arith, two_points c.args.self.now.outline.drawn)
 
 pub point_at-requires-2 : goal.point_at-requires-2
-point_at-requires-2 c = omega (arith, two_points c.args.self.now.drawn)
+point_at-requires-2 c = omega (arith, two_points c.args.self.now.outline.drawn)
 
 pub loop-i-init : goal.loop-i-init
 loop-i-init c = (refl, refl, loop_start_lem _ _ _)

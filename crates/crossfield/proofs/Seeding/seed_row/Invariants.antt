@@ -9,5 +9,5 @@ use Rattle.crossfield.proofs.Seeding.seed_row.Given as goal
 
 abbrev pub invariant-loop-i : goal.invariant-loop-i
 invariant-loop-i l =
-    (length l.values ≡ length l.initial.values) × (length l.marks ≡ length l.initial.marks) × Loop (seed_node (outline_of l.self.domain) l.self.grid l.row.j)
+    (length l.values ≡ length l.initial.values) × (length l.marks ≡ length l.initial.marks) × Loop (seed_node (outline_of l.self.outline.domain) l.self.grid l.row.j)
     (field_lists l.initial.values l.initial.marks) l.self.grid.nx l.i (field_lists l.values l.marks)

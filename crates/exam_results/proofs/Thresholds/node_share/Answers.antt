@@ -1,16 +1,10 @@
 -- `Thresholds::node_share` meets its contract: the scan's invariant is `Scanned`.
 use Rattle.std.proofs.Common.{arith}
-use Rattle.exam_results.specs.FigureLaws.{scanned_start, scanned_next, scanned_end, share_small}
+use Rattle.exam_results.specs.FigureLaws.{scanned_start, scanned_next, scanned_end}
 use Rattle.exam_results.proofs.Thresholds.node_share.Goals as goal
 
 pub loop-k-init : goal.loop-k-init
 loop-k-init c = scanned_start _ _ _
-
-pub overflow_add-count : goal.overflow_add-count
-overflow_add-count c = omega (arith, (share_small c.args.self.now.mesh.nodes c.args.self.now.list.now c.quad.result c.args.id).0)
-
-pub overflow_add-sum : goal.overflow_add-sum
-overflow_add-sum c = omega (arith, (share_small c.args.self.now.mesh.nodes c.args.self.now.list.now c.quad.result c.args.id).1)
 
 pub loop-k-preserved : goal.loop-k-preserved
 loop-k-preserved c =

@@ -37,9 +37,10 @@ write_blocks-requires c =
     let fit = is_fileable (request_lent c.args.self) c.args.file.now c.can_file.ensures (ap not c.if-not-can_file.false) in
     let head = first_block_put c.args.file.now (c.copy_from_slice.ensures.after ∙ c.head_block.ensures)
     (head_wide (request_lent c.args.self) fit) (omega (arith, c.file_length-n.ensures, c.if-file-n.false)) in
-    blocks_room (request_lent c.args.self) c.args.file.now c.can_file.ensures
+    let room = blocks_room (request_lent c.args.self) c.args.file.now c.can_file.ensures
     (ap not c.if-not-can_file.false)
-    c.file_length-n.ensures c.if-file-n.false head
+    c.file_length-n.ensures c.if-file-n.false head in
+    (room.0, omega (arith, fit.adds), room.1)
 
 pub returns-clause-written : goal.returns-clause-written
 returns-clause-written c =

@@ -12,5 +12,5 @@ returns c =
     c.any_item.ensures (inside_at args.size mesh.xs.now mesh.ys.now args.p ids.a ids.b ids.d ids.c) (node_rects args.size mesh.xs.now mesh.ys.now)
     (λ id b h t. search rules) c.requires
     (λ id e.
-    rw (c.rect_of.ensures, c.key_of-low.ensures, c.lowest.ensures, c.key_of-high.ensures, c.highest.ensures)
+    rw (c.rect_of.ensures, c.of-r.ensures, c.lowest.ensures, c.highest.ensures)
     (inside_meets args.size mesh.xs.now mesh.ys.now args.p ids.a ids.b ids.d ids.c id e))

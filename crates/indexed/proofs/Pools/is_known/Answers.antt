@@ -22,12 +22,13 @@ pub returns : goal.returns
 returns c =
     let args = c.args in
     let mesh = args.mesh.now in
+    let r = c.of-r.result in
+    let spans : spans_kept r.k r.l ≡ true = sym c.spans_kept.ensures ∙ c.if-not-spans_kept.false in
     let kept : spans_kept (key_of (edge_bucket args.size) (node_in mesh.xs.now mesh.ys.now args.u))
     (key_of (edge_bucket args.size) (node_in mesh.xs.now mesh.ys.now args.v)) ≡ true =
-    rw (← c.node.ensures, ← c.node-2.ensures, ← c.key_of-m.ensures, ← c.key_of-n.ensures)
-    (sym c.spans_kept.ensures ∙ c.if-not-spans_kept.false) in
+    rw (c.of-r.ensures, c.node.ensures, c.node-2.ensures) at spans in
     c.any_item.ensures (edge_is mesh.edges.now args.u args.v) (edge_rects args.size mesh.xs.now mesh.ys.now mesh.edges.now)
     (λ k b h t. search (rules, tests)) c.requires.1
     (λ k e.
-    rw (c.rect_at.ensures, c.key_of-m.ensures, c.node.ensures)
+    rw (c.rect_at.ensures, c.of-r.ensures, c.node.ensures)
     (known_meets args.size mesh.xs.now mesh.ys.now mesh.edges.now args.u args.v k kept e))

@@ -7,7 +7,7 @@ use Rattle.listing.proofs.Output.put_heading.Goals.{then-h, else-h}
 pub returns : goal.returns
 unfolding head_line spaced whole_word
 returns c =
-    let counts = put_then c.put_number.ensures (put_then c.put_number-2.ensures (put_then c.put_number-3.ensures (put_nothing _))) in
+    let counts = put_then c.put_spaced.ensures (put_then c.put_spaced-2.ensures (put_then c.put_spaced-3.ensures (put_nothing _))) in
     let end = put_as (sym c.end_word.ensures) c.put_all-2.ensures in
     let whole : whole_word c.args.h.whole ≡ c.if-h.put_all.now = elim c.if-h.branch [
       | then-h w ↦ rw (w.put_all-is, w.if-h.true) refl

@@ -13,9 +13,11 @@ looped l = (l.index, (l.start, l.points.now))
 abbrev pub hole_loop : ℕ × (ℕ × List Float) → ℕ × (ℕ × List Float)
 hole_loop h = (h.0 + 1, h.1)
 
+-- all loops, the outer one first
 unfoldable pub loop_list : Outline → List (ℕ × (ℕ × List Float))
 loop_list o = (0, (0, o.outer)) ∷ map hole_loop (hole_list o)
 
+-- the outer loop, where there is one, before the others
 abbrev pub with_outer : Option (Bor (List Float)) → List (ℕ × (ℕ × List Float)) → List (ℕ × (ℕ × List Float))
 with_outer None ls = ls
 with_outer (Some s) ls = (0, (0, s.now)) ∷ ls

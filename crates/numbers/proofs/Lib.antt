@@ -6,3 +6,4 @@ mod Square
 mod TakenApart
 mod LibraryRoot
 mod LibraryWhole
+mod SmallFloor

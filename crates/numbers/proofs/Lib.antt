@@ -7,3 +7,4 @@ mod TakenApart
 mod LibraryRoot
 mod LibraryWhole
 mod SmallFloor
+mod AbsAtMost

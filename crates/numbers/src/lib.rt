@@ -6,6 +6,7 @@ ghost use Rattle.numbers.specs.Root.{NearRoot, RootBits, root_units, root};
 ghost use Rattle.numbers.specs.Float.{to_float, is_finite, abs_f, min_f, max_f, clamp_f};
 ghost use Rattle.numbers.specs.Whole.{floor_int, floor_quotient, ceil_count};
 ghost use Rattle.std.specs.Float.{two_to, minus_two_to, ◌<ᶠ◌};
+ghost use Rattle.std.specs.Float.Ieee.{le};
 ghost use Rattle.numbers.specs.TakenApart.{IsParts};
 
 use std::num;
@@ -275,4 +276,11 @@ pub extern "C" fn abs_f64(x: f64) -> f64
     ensures { result ≡ abs_f x }
 {
     x.abs()
+}
+
+// `x.abs() <= m`, by two comparisons: `abs` is three and a selection.
+pub fn abs_at_most(x: f64, m: f64) -> bool
+    ensures { result ≡ le (abs_f x) m }
+{
+    -m <= x && x <= m
 }

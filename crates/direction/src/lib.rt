@@ -48,7 +48,7 @@ impl Grid {
 pub fn is_within(m: f64, x: f64) -> bool
     ensures { result ≡ within m x }
 {
-    numbers::is_finite_f64(x) && numbers::abs_f64(x) <= m
+    numbers::is_finite_f64(x) && numbers::abs_at_most(x, m)
 }
 
 fn any_unsound(values: &[f64]) -> bool

@@ -238,7 +238,7 @@ pub fn opposite(o: f64, u: f64) -> bool
 pub fn touches(o: f64, a: Point, b: Point, p: Point) -> bool
     ensures { result ≡ touches o a b p }
 {
-    numbers::abs_f64(o) <= Settings::TOLERANCE && on_segment(a, b, p)
+    numbers::abs_at_most(o, Settings::TOLERANCE) && on_segment(a, b, p)
 }
 
 // Whether a to b and c to d cross or touch.

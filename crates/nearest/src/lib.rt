@@ -139,7 +139,7 @@ pub fn search_outline(outline: DrawnOutline<'_>, p: Point) -> Near
 fn is_moderate(x: f64) -> bool
     ensures { result ≡ true → Within moderate_bound x }
 {
-    numbers::abs_f64(x) <= MODERATE
+    numbers::abs_at_most(x, MODERATE)
 }
 
 // Whether p is near enough for the search by blocks.

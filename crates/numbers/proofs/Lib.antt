@@ -6,3 +6,5 @@ mod Square
 mod TakenApart
 mod LibraryRoot
 mod LibraryWhole
+mod SmallFloor
+mod AbsAtMost

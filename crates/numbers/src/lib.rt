@@ -4,7 +4,9 @@
 ghost use Rattle.std.specs.Prelude.{◌≡◌, ◌+◌, ◌*◌, ◌/◌, ◌%◌, ◌^◌, ◌<◌, ◌≤◌, T};
 ghost use Rattle.numbers.specs.Root.{NearRoot, RootBits, root_units, root};
 ghost use Rattle.numbers.specs.Float.{to_float, is_finite, abs_f, min_f, max_f, clamp_f};
-ghost use Rattle.numbers.specs.Whole.{floor_quotient, ceil_count};
+ghost use Rattle.numbers.specs.Whole.{floor_int, floor_quotient, ceil_count};
+ghost use Rattle.std.specs.Float.{two_to, minus_two_to, ◌<ᶠ◌};
+ghost use Rattle.std.specs.Float.Ieee.{le};
 ghost use Rattle.numbers.specs.TakenApart.{IsParts};
 
 use std::num;
@@ -155,12 +157,31 @@ pub extern "C" fn sqrt_f64(x: f64) -> f64
     x.sqrt()
 }
 
+// `q.floor() as i64` for a size below 2^50: the sum with 3 * 2^51 is rounded to a whole number, which its bits end with.
+fn floor_of_small(q: f64) -> i64
+    requires { (minus_two_to 50 <ᶠ q) × (q <ᶠ two_to 50) }
+    ensures { result ≡ floor_int q }
+{
+    let sum = q + 6755399441055744.0;
+    let near = f64::to_bits(sum);
+    let bits = if q < sum - 6755399441055744.0 {
+        near - 1
+    } else {
+        near
+    };
+    bits as i64 - 0x4338_0000_0000_0000
+}
+
 // `(x / b).floor() as i64`
 #[unsafe(no_mangle)]
 pub extern "C" fn floor_quotient(x: f64, b: f64) -> i64
     ensures { result ≡ floor_quotient x b }
 {
-    num::saturating_f64_to_i64((x / b).floor())
+    let q = x / b;
+    if -1125899906842624.0 < q && q < 1125899906842624.0 {
+        return floor_of_small(q);
+    }
+    num::saturating_f64_to_i64(q.floor())
 }
 
 // `x.ceil() as usize`
@@ -255,4 +276,11 @@ pub extern "C" fn abs_f64(x: f64) -> f64
     ensures { result ≡ abs_f x }
 {
     x.abs()
+}
+
+// `x.abs() <= m`, by two comparisons: `abs` is three and a selection.
+pub fn abs_at_most(x: f64, m: f64) -> bool
+    ensures { result ≡ le (abs_f x) m }
+{
+    -m <= x && x <= m
 }

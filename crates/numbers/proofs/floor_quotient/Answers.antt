@@ -1,12 +1,28 @@
 -- `numbers::floor_quotient` meets its contract. Assumes nothing.
-use Rattle.std.proofs.Common.{◌∙◌, ap, w64}
+use Rattle.std.proofs.Common.{◌≡◌, true, T, sym, subst, ap, ◌∙◌, w64}
 use mir.ValLaws.{to_z-of_z}
-use lib.Ieee.{binary64}
+use lib.Ieee.{Float, binary64, of_bits, neg, lt}
 use lib.Ieee.Fits.{div-fits}
-use Rattle.std.specs.Float.{float_to_signed}
+use Rattle.std.specs.Float.{float_to_signed, two_to, minus_two_to, ◌<ᶠ◌}
 use Rattle.numbers.specs.Whole.{floor_quotient}
 use Rattle.numbers.proofs.LibraryWhole.{floor_library}
 use Rattle.numbers.proofs.floor_quotient.Goals as goal
+
+-- the code's literals for 2^50
+above : (q : Float) → lt (neg (of_bits binary64 0x4310_0000_0000_0000)) q ≡ true → minus_two_to 50 <ᶠ q
+unfolding neg of_bits
+above q e = subst T (sym e) tt
+
+below : (q : Float) → lt q (of_bits binary64 0x4310_0000_0000_0000) ≡ true → q <ᶠ two_to 50
+unfolding of_bits
+below q e = subst T (sym e) tt
+
+pub floor_of_small-requires : goal.floor_of_small-requires
+floor_of_small-requires c = (above _ c.if-q.true, below _ c.if-q-2.true)
+
+pub returns-then-q-2 : goal.returns-then-q-2
+unfolding floor_quotient
+returns-then-q-2 c = to_z-of_z w64 c.floor_of_small.result (record { sfits = c.floor_of_small.type_inv }) ∙ c.floor_of_small.ensures
 
 pub returns : goal.returns
 unfolding floor_quotient

@@ -1,5 +1,5 @@
 -- What holds of the definitions of specs/Areas.antt.
-use Rattle.std.specs.Prelude.{Bool, cond, List, [], ◌∷◌, ◌++◌, ◌≡◌, refl, ℕ, zero, suc, ◌<◌, ◌≤◌, eqb, ℤ, ◌+ℤ◌, length, take, Float}
+use Rattle.std.specs.Prelude.{Bool, cond, List, [], ◌∷◌, ◌++◌, ◌≡◌, refl, ℕ, zero, suc, ◌<◌, ◌≤◌, eqb, ℤ, pos, neg_ℤ, ◌+ℤ◌, length, take, Float}
 use Rattle.std.proofs.Math.Bool.{true, false}
 use Rattle.std.proofs.Math.Option.{none, some}
 use Rattle.std.proofs.Common.{sym, ◌∙◌, ap, ap₂, subst, arith, length-take, get_or-take}
@@ -8,15 +8,15 @@ use Rattle.std.proofs.Math.Seq.{take-length}
 use Rattle.std.proofs.lemmas.List.{take-append-le}
 use Rattle.std.specs.Float.Ieee.{nan}
 use Rattle.laws.specs.Loop.{for_up}
-use Rattle.exact.specs.Corner.{cross}
+use Rattle.exact.specs.Corner.{Vector, cross}
 use Rattle.domain.specs.Outline.{Outline}
 use Rattle.topology.specs.Links.{at, at_self}
 use Rattle.front.specs.State.{State}
 use Rattle.books.specs.Book.{Edge, Book, book, Quad, quad_at, start_book, has, without, and_then, comes_off, goes_on, new_node, side, book_quad, book_after}
-use Rattle.books.specs.Book.{place_of, area_of, edges_sumℤ, front_area, quad_edges, quads_area}
+use Rattle.books.specs.Book.{place_of, edges_sumℤ, front_area, quad_edges, quads_area}
 use Rattle.books.specs.Net.{net, quads_edges}
 use Rattle.books.specs.Matches.{edges_sum}
-use Rattle.books.specs.BookLaws.{Gives, gives_then, area_anti}
+use Rattle.books.specs.BookLaws.{Gives, gives_then, cross_anti}
 use Rattle.books.specs.NetLaws.{sum_joined}
 use Rattle.books.proofs.NetLaws.{net_joined, same_net}
 use Rattle.books.specs.Areas.{IsBookNode, FrontJoins}
@@ -87,12 +87,19 @@ weights_same w x [] same = refl
 weights_same w x (e ∷ es) same =
     rw (same e.from e.to (omega (arith, at_self e.from e.to)), weights_same w x es (λ u v h. same u v (omega arith)))
 
-quads_area_lem : (measure : Float → ℤ) (b : Book) (s : State) (k : ℕ) → edges_sumℤ (area_of measure b) (quads_edges s k) ≡ quads_area measure b s k
-unfolding quads_edges quads_area edges_sumℤ for_up
-quads_area_lem measure b s zero = refl
-quads_area_lem measure b s (suc k) =
-    sum_joined (area_of measure b) (quads_edges s k) (quad_edges (quad_at s k))
-    ∙ ap (λ (z : ℤ). z +ℤ edges_sumℤ (area_of measure b) (quad_edges (quad_at s k))) (quads_area_lem measure b s k)
+-- the sum of the first k quads
+abbrev pub quads_sum : (ℕ → ℕ → ℤ) → State → ℕ → ℤ
+quads_sum w s k = for_up k (λ i sum. sum +ℤ edges_sumℤ w (quad_edges (quad_at s i))) (pos 0)
+
+quads_sum_lem : (w : ℕ → ℕ → ℤ) (s : State) (k : ℕ) → edges_sumℤ w (quads_edges s k) ≡ quads_sum w s k
+unfolding quads_edges edges_sumℤ for_up
+quads_sum_lem w s zero = refl
+quads_sum_lem w s (suc k) =
+    sum_joined w (quads_edges s k) (quad_edges (quad_at s k)) ∙ ap (λ (z : ℤ). z +ℤ edges_sumℤ w (quad_edges (quad_at s k))) (quads_sum_lem w s k)
+
+-- a weight of two places, as one of nodes
+abbrev pub weight_of : (Vector → Vector → ℤ) → (Float → ℤ) → Book → ℕ → ℕ → ℤ
+weight_of w measure b u v = w (place_of measure b u) (place_of measure b v)
 
 module _ (o : Outline) (size : Float) (s : State) (k : ℕ) (b : Book) (steps : book_after o size s k ≡ some b) (joins : FrontJoins (start_book o size))
     (measure : Float → ℤ) where
@@ -101,14 +108,21 @@ module _ (o : Outline) (size : Float) (s : State) (k : ℕ) (b : Book) (steps : 
       let K : Keeps (start_book o size) b = subst (Gives (Keeps (start_book o size))) steps (after_keeps o size s k) in
       rw (begins_at (start_book o size).xs b.xs K.0 id h.0, begins_at (start_book o size).ys b.ys K.1 id h.1)
 
-  -- the start's area is the sum of the quads' and of the front left
+  -- a weight that changes its sign with the direction has on the start the sum of the quads' and of the front left
+  pub weights_balance : ((u v : ℕ) → net u v (start_book o size).front ≡ net u v (quads_edges s k) +ℤ net u v b.front)
+      → (w : Vector → Vector → ℤ) → ((u v : Vector) → w v u ≡ neg_ℤ (w u v))
+      → edges_sumℤ (weight_of w measure (start_book o size)) (start_book o size).front
+      ≡ quads_sum (weight_of w measure b) s k +ℤ edges_sumℤ (weight_of w measure b) b.front
+  weights_balance edges w back =
+      let start = start_book o size in
+      let x = weight_of w measure b in
+      weights_same (weight_of w measure start) x start.front (λ u v h. ap₂ w (place_same u (joins u v h).0) (place_same v (joins u v h).1))
+      ∙ (same_net x (λ u v. back (place_of measure b u) (place_of measure b v)) start.front (quads_edges s k ++ b.front)
+      (λ u v. edges u v ∙ sym (net_joined u v (quads_edges s k) b.front))
+      ∙ (sum_joined x (quads_edges s k) b.front ∙ ap (λ (z : ℤ). z +ℤ edges_sumℤ x b.front) (quads_sum_lem x s k)))
+
+  -- so the start's area is the sum of the quads' and of the front left
   pub areas_balance : ((u v : ℕ) → net u v (start_book o size).front ≡ net u v (quads_edges s k) +ℤ net u v b.front)
       → front_area measure (start_book o size) ≡ quads_area measure b s k +ℤ front_area measure b
-  areas_balance edges =
-      let start = start_book o size in
-      weights_same (area_of measure start) (area_of measure b) start.front
-      (λ u v h. ap₂ cross (place_same u (joins u v h).0) (place_same v (joins u v h).1))
-      ∙ (same_net (area_of measure b) (area_anti measure b) start.front (quads_edges s k ++ b.front)
-      (λ u v. edges u v ∙ sym (net_joined u v (quads_edges s k) b.front))
-      ∙ (sum_joined (area_of measure b) (quads_edges s k) b.front
-      ∙ ap (λ (z : ℤ). z +ℤ front_area measure b) (quads_area_lem measure b s k)))
+  unfolding quads_area
+  areas_balance edges = weights_balance edges cross cross_anti

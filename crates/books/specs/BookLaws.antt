@@ -129,7 +129,7 @@ matches_edges n s ls b S M = sym (edges_length b.front) ∙ (M.sums one ∙ sym 
 pub sub_flip : (m k : ℤ) → k -ℤ m ≡ neg_ℤ (m -ℤ k)
 sub_flip m k = sym (neg_ℤ-+ℤ m (neg_ℤ k) ∙ (ap (λ (z : ℤ). neg_ℤ m +ℤ z) (neg_ℤ-neg_ℤ k) ∙ +ℤ_comm (neg_ℤ m) k))
 
-cross_anti : (p q : Vector) → cross q p ≡ neg_ℤ (cross p q)
+pub cross_anti : (p q : Vector) → cross q p ≡ neg_ℤ (cross p q)
 unfolding cross
 cross_anti p q = rw (*ℤ_comm q.x p.y, *ℤ_comm q.y p.x) (sub_flip (p.x *ℤ q.y) (p.y *ℤ q.x))
 

@@ -1,5 +1,5 @@
 -- Demand 3: what holds of a run's books before the first quad, after each one, and where the run stops. Statements only.
-use Rattle.std.specs.Prelude.{◌≡◌, Bool, true, not, ◌↔◌, ℕ, ◌+◌, ◌*◌, ◌<◌, ◌≤◌, ◌+ℤ◌, T, length, take, Float}
+use Rattle.std.specs.Prelude.{◌≡◌, Bool, true, not, ◌↔◌, ℕ, pos, ◌+◌, ◌*◌, ◌<◌, ◌≤◌, ◌+ℤ◌, T, length, take, Float}
 use Rattle.std.proofs.Math.Option.{some}
 use mathlib.Core.List.{List, map, flatten}
 use Rattle.domain.specs.Outline.{Outline}
@@ -11,8 +11,10 @@ use Rattle.paving.specs.Loops.{front_loops}
 use Rattle.sound_outlines.specs.Sound.{outline_sound}
 use Rattle.exact.specs.Units.{units}
 use Rattle.exact.specs.Corner.{Vector, step_units, sine_above_third, is_short}
-use Rattle.books.specs.Book.{Book, Quad, start_book, quad_at, book_after, x_of, y_of, loop_edges, front_area, quads_area, follow}
+use Rattle.turns.specs.Turn.{Covers}
+use Rattle.books.specs.Book.{Book, Quad, start_book, quad_at, quad_edges, book_after, x_of, y_of, loop_edges, front_area, quads_area, follow}
 use Rattle.books.specs.Net.{count_edge, net, quads_edges}
+use Rattle.books.specs.Points.{winding, quads_round, LeftOfAll, RightOfNone}
 
 -- the exact step from node u to node v
 abbrev pub step_of : Book → ℕ → ℕ → Vector
@@ -49,6 +51,10 @@ pub record HoldsAfter (o : Outline) (size : Float) (s : State) (k : ℕ) : Type 
   -- the start's area is the sum of the quads' and of the front left
   pub areas : front_area units (start_book o size) ≡ quads_area units book s k +ℤ front_area units book
   pub quads : (i : ℕ) → i < k → QuadHolds book (quad_at s i)
+  -- each quad has a point of the plane once or not at all: once if it is left of all four sides, and if once, it is right of none
+  pub covers : (i : ℕ) → i < k → (p : Vector) → Covers (LeftOfAll p book (quad_at s i)) (RightOfNone p book (quad_at s i)) (winding p book (quad_edges (quad_at s i)))
+  -- the start's front goes round a point as often as there are quads that have it, and as the front left goes round it
+  pub points : (p : Vector) → winding p (start_book o size) (start_book o size).front ≡ pos (quads_round p book s k) +ℤ winding p book book.front
   pub loops : LoopsHold o book
   -- front edges plus twice the quads plus the points sampled make twice the nodes
   pub counts : length book.front + 2 * k + sampled_count o size ≡ 2 * length book.xs

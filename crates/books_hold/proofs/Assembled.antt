@@ -8,9 +8,10 @@ use Rattle.front.specs.State.{State}
 use Rattle.front.specs.Sampling.{loop_count, sampled_count}
 use Rattle.front.specs.FrameLaws.{frame_same}
 use Rattle.paving.specs.Reach.{Reaches}
-use Rattle.books.specs.Book.{Book, book_after}
+use Rattle.books.specs.Book.{Book, quad_at, book_after}
 use Rattle.books.specs.Holds.{HoldsAfter, Closes, BooksHold}
 use Rattle.books.proofs.Areas.{areas_balance}
+use Rattle.books.proofs.Points.{quad_holds_covers, points_balance}
 use Rattle.books_hold.specs.Stages.{Start, Stage, QuadsTurn}
 use Rattle.books_hold.proofs.Stages.{stage_at, stage_before}
 use Rattle.books_hold.specs.Areas.{start_joins, net_edges, quads_turn}
@@ -20,12 +21,15 @@ module _ (o : Outline) (size : Float) (s : State) (ls : List (List ℕ)) (S : St
   holds_after : (final : State) (k : ℕ) (t : State) → Stage o size s ls final k t → HoldsAfter o size final k
   holds_after final k t Y =
       let E = net_edges o size s ls S final k t Y in
+      let Q = quads_turn o size s ls final k t Y in
       record {
         book = Y.book;
         steps = Y.steps;
         edges = E;
         areas = areas_balance o size final k Y.book Y.steps (start_joins o size s ls S) units E;
-        quads = quads_turn o size s ls final k t Y;
+        quads = Q;
+        covers = λ i h p. quad_holds_covers Y.book (quad_at final i) (Q i h) p;
+        points = points_balance o size final k Y.book Y.steps (start_joins o size s ls S) E Q;
         loops = loops_hold (sampled_count o size) t Y.loops Y.book Y.sound Y.matches o (Y.number ∙ number);
         counts = rw Y.quads at (counts_hold (sampled_count o size) t Y.loops Y.book Y.sound Y.matches);
       }

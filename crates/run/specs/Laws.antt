@@ -34,6 +34,7 @@ use Rattle.whole_run.specs.Run.{run_refusal, WholeRun, run_of}
 use Rattle.loops.specs.Listed.{Lists, written, listed_in}
 use Rattle.loops.specs.ListedLaws.{listed_front}
 use Rattle.books.specs.Book.{Book, quad_at, new_node, side, book_quad, book_after, quads_area}
+use Rattle.books.specs.Points.{quads_round}
 use Rattle.books.specs.Net.{quads_edges}
 use Rattle.books.specs.Holds.{BooksHold, Closes, LoopsAnswered}
 use Rattle.books_hold.specs.Runs.{accepted_run_lem}
@@ -109,13 +110,13 @@ module _ (o : Outline) (set : Settings) (f : FieldLists) (lent : State) (none : 
 module _ (o : Outline) (size : Float) (s : State) (snapshot : List ℕ) where
   books_unread : BooksHold o size s
       → BooksHold o size (state_of s.xs s.ys s.next s.prev snapshot s.quads s.edges s.counts)
-  unfolding book_after book_quad side new_node quad_at quads_edges quads_area front_loops
+  unfolding book_after book_quad side new_node quad_at quads_edges quads_area quads_round front_loops
   books_unread B =
       record {
         each =
             λ k h.
             let H = B.each k h in
-            record { book = H.book; steps = H.steps; edges = H.edges; areas = H.areas; quads = H.quads; loops = H.loops; counts = H.counts };
+            record { book = H.book; steps = H.steps; edges = H.edges; areas = H.areas; quads = H.quads; covers = H.covers; points = H.points; loops = H.loops; counts = H.counts };
         closes =
             λ b e.
             let C = B.closes b e in

@@ -1,6 +1,7 @@
 //! One run of a circle of 90 degrees, to be counted under callgrind: the points, the size, and for how many of the nodes in a hundred the list of tries has places.
 
-use sitjorbe::{pave, Lists, Memory, Outline, Places, Settings};
+use sitjorbe::raw::{pave, Lists, Outline, Settings};
+use sitjorbe::{Memory, Places};
 
 fn main() {
     let words: Vec<String> = std::env::args().skip(1).collect();

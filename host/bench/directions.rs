@@ -7,7 +7,8 @@ use std::env;
 use std::ffi::c_long;
 use std::process::ExitCode;
 
-use sitjorbe::{direction, directions_in, FieldRecord};
+use sitjorbe::raw::{direction, directions_in};
+use sitjorbe::FieldRecord;
 
 const POINTS: usize = 500;
 const RECORD: FieldRecord = FieldRecord { xmin: -50.0, ymin: -50.0, h: 0.2, nx: 500, ny: 500 };

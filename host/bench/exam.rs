@@ -7,7 +7,8 @@
 use std::ffi::c_long;
 use std::process::exit;
 
-use sitjorbe::{Desk, LentMesh, MaskedReader, Reader, Results, SharedResults, MOST_WEIGHT};
+use sitjorbe::raw::{LentMesh, Results, SharedResults};
+use sitjorbe::{Desk, MaskedReader, Reader, MOST_WEIGHT};
 
 extern "C" {
     /// The processor time used so far, in microseconds.

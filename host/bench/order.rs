@@ -6,7 +6,8 @@
 use std::ffi::c_long;
 use std::process::exit;
 
-use sitjorbe::{check_order_in, nearest_order, Memory, OrderScratch, Outline, Places, Settings};
+use sitjorbe::raw::{check_order_in, nearest_order, OrderScratch, Outline, Settings};
+use sitjorbe::{Memory, Places};
 
 extern "C" {
     /// The processor time used so far, in microseconds.

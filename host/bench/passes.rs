@@ -1,7 +1,8 @@
 //! One run of a square with a corridor one quad wide, to be counted under callgrind: the square's side and the corridor's length in quads, how many passes are
 //! asked for, and for how many of the nodes in a hundred the list of tries has places.
 
-use sitjorbe::{pave, Lists, Memory, Outline, Places, Settings};
+use sitjorbe::raw::{pave, Lists, Outline, Settings};
+use sitjorbe::{Memory, Places};
 
 fn main() {
     let words: Vec<usize> = std::env::args().skip(1).map(|word| word.parse().expect("a count")).collect();

@@ -10,7 +10,8 @@ use std::process::exit;
 
 use oracle::patched::{pave, Field};
 use oracle::terms;
-use sitjorbe::{field, pave as paved, Lists, Memory, Mesh, Outline, Places, Settings};
+use sitjorbe::raw::{field, pave as paved, Lists, Mesh, Outline, Settings};
+use sitjorbe::{Memory, Places};
 
 extern "C" {
     /// The processor time used so far, in microseconds.

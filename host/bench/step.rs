@@ -5,7 +5,8 @@
 
 use std::ffi::c_long;
 
-use sitjorbe::{Memory, Outcome, Outline, Places, Refusal, Settings, Stepper};
+use sitjorbe::raw::{Outline, Settings, Stepper};
+use sitjorbe::{Memory, Outcome, Places, Refusal};
 
 extern "C" {
     /// The processor time used so far, in microseconds.

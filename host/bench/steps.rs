@@ -6,7 +6,8 @@
 use std::ffi::c_long;
 use std::process::exit;
 
-use sitjorbe::{steps, MeshCounts, MeshRead, OFF};
+use sitjorbe::raw::{steps, MeshCounts, MeshRead};
+use sitjorbe::OFF;
 
 extern "C" {
     /// The processor time used so far, in microseconds.

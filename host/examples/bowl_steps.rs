@@ -6,7 +6,8 @@
 use std::error::Error;
 use std::fmt::Write;
 
-use sitjorbe::{Memory, Outline, Places, Settings, Steps, STEPS_PER_DEGREE};
+use sitjorbe::raw::{Outline, Settings};
+use sitjorbe::{Memory, Places, Steps, STEPS_PER_DEGREE};
 
 /// A field of less than a degree round the fovea, x and y in degrees.
 const OUTER: [f64; 24] = [

@@ -8,7 +8,8 @@ use std::fmt::Write;
 use std::process::ExitCode;
 use std::{env, fs};
 
-use sitjorbe::{contains, directions, field, Outline, Refusal};
+use sitjorbe::raw::{contains, directions, field, Outline};
+use sitjorbe::Refusal;
 
 /// The field's width and the margin round it, in pixels.
 const WIDTH: f64 = 640.0;

@@ -6,7 +6,8 @@
 use std::error::Error;
 use std::fmt::Write;
 
-use sitjorbe::{Memory, Outcome, Outline, Places, Preview, Stepper};
+use sitjorbe::raw::{Outline, Stepper};
+use sitjorbe::{Memory, Outcome, Places, Preview};
 
 const FIELD: Outline = Outline {
     outer: &[0.0, 0.0, 6.0, -1.0, 11.0, 1.0, 12.0, 5.0, 9.0, 8.0, 3.0, 8.5, -1.0, 4.0],
@@ -75,7 +76,11 @@ fn panel(stepper: &mut Stepper<'_>, edge: Option<[u32; 2]>, taken: usize) -> Res
         let Preview { quad, new_c, new_d, .. } = stepper.preview([a, b])?;
         let [_, _, d, c] = quad.expect("a quad would be placed");
         let corners = [node(a), node(b), new_d.unwrap_or_else(|| node(d)), new_c.unwrap_or_else(|| node(c))].map(place);
-        writeln!(text, r##"<polygon points="{}" fill="#f6d9a8" stroke="#c07a12" stroke-dasharray="4 2"/>"##, corners.join(" "))?;
+        writeln!(
+            text,
+            r##"<polygon points="{}" fill="#f6d9a8" stroke="#c07a12" stroke-dasharray="4 2"/>"##,
+            corners.join(" ")
+        )?;
         let ends = [place(node(a)), place(node(b))].join(" ");
         writeln!(text, r##"<polyline points="{ends}" fill="none" stroke="#c03312" stroke-width="3"/>"##)?;
         for p in [new_c, new_d].into_iter().flatten() {

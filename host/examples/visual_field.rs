@@ -5,8 +5,10 @@
 use std::env;
 use std::process::ExitCode;
 
-use sitjorbe::{contains, distance_to_boundary, nearest_segment, Outline, Segment};
-use sitjorbe::{End, Memory, Mesh, Places, Settings};
+use sitjorbe::raw::{contains, distance_to_boundary, nearest_segment, Outline};
+use sitjorbe::raw::{Mesh, Settings};
+use sitjorbe::Segment;
+use sitjorbe::{End, Memory, Places};
 
 /// A right eye's field in degrees, seen from the eye: x to the right, where the temple is, y upwards; the middle is where the
 /// eye looks.

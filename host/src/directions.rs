@@ -5,7 +5,7 @@ use alloc::vec::Vec;
 
 use crate::{ffi, floats, FieldRecord, Refusal};
 
-/// What [`direction`](crate::direction) answers for each point and its target, in their order, with the field record looked through only once.
+/// What [`direction`](crate::raw::direction) answers for each point and its target, in their order, with the field record looked through only once.
 ///
 /// A point that isn't finite or is beyond 1,000 has its refusal among the answers; the others don't notice.
 ///

@@ -4,7 +4,8 @@ use alloc::vec;
 use alloc::vec::Vec;
 use core::{fmt, ptr};
 
-use crate::{ffi, floats, Mesh, Refusal};
+use crate::raw::Mesh;
+use crate::{ffi, floats, Refusal};
 
 /// A mesh as it is lent to an exam: any lists and counts at all. A count beyond its list stops at the last whole node or quad, and quads
 /// stop at 250,000; a node is whole where both its coordinates and its origin are lent.
@@ -236,17 +237,17 @@ pub struct Desk<'a> {
 /// Role 2 reads everything, and changes nothing.
 ///
 /// ```compile_fail,E0599
-/// # let exam = sitjorbe::Exam::begin(sitjorbe::LentMesh::default());
+/// # let exam = sitjorbe::Exam::begin(sitjorbe::raw::LentMesh::default());
 /// exam.reader().enter(0, 300);
 /// ```
 ///
 /// ```compile_fail,E0599
-/// # let exam = sitjorbe::Exam::begin(sitjorbe::LentMesh::default());
+/// # let exam = sitjorbe::Exam::begin(sitjorbe::raw::LentMesh::default());
 /// exam.reader().withdraw(0);
 /// ```
 ///
 /// ```compile_fail,E0599
-/// # let exam = sitjorbe::Exam::begin(sitjorbe::LentMesh::default());
+/// # let exam = sitjorbe::Exam::begin(sitjorbe::raw::LentMesh::default());
 /// exam.reader().begin();
 /// ```
 #[derive(Clone, Copy, Debug)]
@@ -259,22 +260,22 @@ pub struct Reader<'a> {
 /// mesh answer it the same, refusals included, whatever their thresholds, counts and sums.
 ///
 /// ```compile_fail,E0599
-/// # let exam = sitjorbe::Exam::begin(sitjorbe::LentMesh::default());
+/// # let exam = sitjorbe::Exam::begin(sitjorbe::raw::LentMesh::default());
 /// exam.masked_reader().figures();
 /// ```
 ///
 /// ```compile_fail,E0599
-/// # let exam = sitjorbe::Exam::begin(sitjorbe::LentMesh::default());
+/// # let exam = sitjorbe::Exam::begin(sitjorbe::raw::LentMesh::default());
 /// exam.masked_reader().threshold(0);
 /// ```
 ///
 /// ```compile_fail,E0599
-/// # let exam = sitjorbe::Exam::begin(sitjorbe::LentMesh::default());
+/// # let exam = sitjorbe::Exam::begin(sitjorbe::raw::LentMesh::default());
 /// exam.masked_reader().estimate(0, 128, 128);
 /// ```
 ///
 /// ```compile_fail,E0599
-/// # let exam = sitjorbe::Exam::begin(sitjorbe::LentMesh::default());
+/// # let exam = sitjorbe::Exam::begin(sitjorbe::raw::LentMesh::default());
 /// exam.masked_reader().enter(0, 300);
 /// ```
 #[derive(Clone, Copy)]
@@ -441,7 +442,8 @@ reads_results!(Reader, READER);
 /// An exam on a mesh, with its results: both figures are always those worked out afresh from the thresholds that stand.
 ///
 /// ```
-/// use sitjorbe::{Exam, LentMesh, Refusal};
+/// use sitjorbe::raw::LentMesh;
+/// use sitjorbe::{Exam, Refusal};
 ///
 /// // Two quads with a side in common, and the front round them.
 /// let (xs, ys) = ([0.0, 1.0, 1.0, 0.0, 2.0, 2.0], [0.0, 0.0, 1.0, 1.0, 0.0, 1.0]);

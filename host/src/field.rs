@@ -1,7 +1,8 @@
 //! The cross field of an outline, and its direction at a point.
 
+use crate::raw::Outline;
+use crate::Refusal;
 use crate::{ffi, floats};
-use crate::{Outline, Refusal};
 
 /// The floats and counts of a field record. Its values and marks are in the lists that were lent.
 ///

@@ -66,10 +66,10 @@ mod tests {
     #[test]
     #[cfg(debug_assertions)]
     fn a_debug_build_panics_where_they_are_not() {
-        let outline = crate::Outline { outer: &[0.0, 0.0, 1.0, 0.0, 0.0, 1.0], holes: &[], hole_lengths: &[] };
+        let outline = crate::raw::Outline { outer: &[0.0, 0.0, 1.0, 0.0, 0.0, 1.0], holes: &[], hole_lengths: &[] };
         let towards_zero = 0x1f80 | 3 << 13;
-        let asked = under(towards_zero, || panic::catch_unwind(|| crate::contains(&outline, [0.25, 0.25])));
+        let asked = under(towards_zero, || panic::catch_unwind(|| crate::raw::contains(&outline, [0.25, 0.25])));
         assert!(asked.is_err());
-        assert_eq!(crate::contains(&outline, [0.25, 0.25]), Ok(true));
+        assert_eq!(crate::raw::contains(&outline, [0.25, 0.25]), Ok(true));
     }
 }

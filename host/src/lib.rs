@@ -8,8 +8,10 @@
 //! link. Nothing here needs `std`, but an allocator for what owns its lists, as [`Memory`] does.
 //!
 //! ```
-//! use sitjorbe::{contains, direction, directions, distance_to_boundary, field, nearest_segment, Outline, Refusal};
-//! use sitjorbe::{check_order, nearest_order, End, Memory, Places, Settings};
+//! use sitjorbe::raw::{contains, direction, directions, distance_to_boundary, field, nearest_segment, Outline};
+//! use sitjorbe::Refusal;
+//! use sitjorbe::raw::{check_order, nearest_order, Settings};
+//! use sitjorbe::{End, Memory, Places};
 //!
 //! // A square with a square hole.
 //! let outline = Outline {
@@ -68,6 +70,7 @@
 //! ```
 
 #![cfg_attr(not(test), no_std)]
+#![deny(missing_docs)]
 
 extern crate alloc;
 
@@ -80,25 +83,20 @@ mod order;
 mod pave;
 mod places;
 mod queries;
+pub mod raw;
 mod refusal;
 mod small_quads;
 mod sound;
 mod step;
 mod steps;
 
-pub use directions::{directions, directions_in};
-pub use exam::{exam_numbers, Asked, Desk, Exam, LentMesh, MaskedReader, Node, Reader, Results, SharedResults};
-pub use exam::{MOST_THRESHOLD, MOST_WEIGHT, NO_THRESHOLD};
-pub use field::{direction, field, FieldRecord};
+pub use exam::{Desk, Exam, MaskedReader, Node, Reader, MOST_THRESHOLD, MOST_WEIGHT, NO_THRESHOLD};
+pub use field::FieldRecord;
 pub use floats::are_floats_as_proved;
-pub use order::{check_order, check_order_in, nearest_order, order_numbers, NotAccepted, OrderScratch};
-pub use pave::{pave, pave_numbers, End, Lists, Memory, Mesh, Places, Settings, TooManyPlaces, OFF};
-pub use places::{least_places, LeastPlaces};
-pub use queries::{contains, distance_to_boundary, nearest_segment, Outline, Segment};
+pub use order::NotAccepted;
+pub use pave::{End, Memory, Places, TooManyPlaces, OFF};
+pub use queries::Segment;
 pub use refusal::Refusal;
 pub use small_quads::small_quads;
-pub use sound::is_sound;
-pub use step::{
-    preview_numbers, step_numbers, Ground, MeshCounts, MeshLists, MeshRead, Outcome, Pass, Preview, Stepper,
-};
-pub use steps::{steps, steps_numbers, NotShown, Steps, STEPS_PER_DEGREE};
+pub use step::{Outcome, Pass, Preview};
+pub use steps::{NotShown, Steps, STEPS_PER_DEGREE};

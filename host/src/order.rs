@@ -79,7 +79,8 @@ fn seen(quad_count: usize, quads: &[u32]) -> usize {
 /// they are to be tested.
 ///
 /// ```
-/// use sitjorbe::{check_order, nearest_order, NotAccepted};
+/// use sitjorbe::raw::{check_order, nearest_order};
+/// use sitjorbe::NotAccepted;
 ///
 /// // The second quad used up the front edge from 3 to 2, which the first one laid.
 /// let quads = [0, 1, 2, 3, 3, 2, 4, 5];

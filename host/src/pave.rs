@@ -3,8 +3,9 @@
 use alloc::vec::Vec;
 use core::{array, error, fmt};
 
+use crate::raw::Outline;
 use crate::{ffi, floats};
-use crate::{FieldRecord, Outline, Refusal};
+use crate::{FieldRecord, Refusal};
 
 /// What an exam sets for a run.
 #[derive(Clone, Copy, Debug, PartialEq)]
@@ -49,7 +50,7 @@ pub struct Lists<'a> {
     pub node_pool: &'a mut [u32],
     /// As `node_pool`, for edges.
     pub edge_pool: &'a mut [u32],
-    /// As `node_pool`, for the outline's segments, 16 to a block; [`crate::field`] says more.
+    /// As `node_pool`, for the outline's segments, 16 to a block; [`crate::raw::field`] says more.
     pub blocks: &'a mut [u32],
     /// For the run's own use: three numbers a node, of the edge from it that was last tried in vain, so as not to try it again. Edges from nodes that
     /// have none are tried each time: with few places or none it takes longer, and answers the same.
@@ -154,7 +155,7 @@ impl<'a> Mesh<'a> {
         self.end
     }
 
-    /// Whether the mesh is whole: the front has no loop of three or more left, and the outline is sound ([`crate::is_sound`]).
+    /// Whether the mesh is whole: the front has no loop of three or more left, and the outline is sound ([`crate::raw::is_sound`]).
     /// Otherwise it is open.
     #[must_use]
     pub fn is_whole(&self) -> bool {
@@ -174,7 +175,7 @@ impl<'a> Mesh<'a> {
         self.record
     }
 
-    /// The field's values and marks, just as [`crate::direction`] asks for them.
+    /// The field's values and marks, just as [`crate::raw::direction`] asks for them.
     #[must_use]
     pub fn field(&self) -> (&'a [f64], &'a [u8]) {
         (self.values, self.marks)
@@ -282,7 +283,7 @@ impl<'a> Mesh<'a> {
 ///
 /// # Errors
 ///
-/// Those of [`crate::field`], then [`Refusal::FrontNeedsSpace`]. Nothing is written then.
+/// Those of [`crate::raw::field`], then [`Refusal::FrontNeedsSpace`]. Nothing is written then.
 pub fn pave<'a>(outline: &Outline<'_>, settings: &Settings, mut lists: Lists<'a>) -> Result<Mesh<'a>, Refusal> {
     let answer = pave_numbers(outline, settings, &mut lists);
     Refusal::check(answer.refusal)?;
@@ -433,7 +434,8 @@ impl error::Error for TooManyPlaces {}
 /// The lists of a run, owned, for one run after the other.
 ///
 /// ```
-/// use sitjorbe::{End, Memory, Outline, Places, Settings};
+/// use sitjorbe::raw::{Outline, Settings};
+/// use sitjorbe::{End, Memory, Places};
 ///
 /// let mut memory = Memory::new(Places { field_nodes: 100, nodes: 20, quads: 20, edges: 60, points: 4 })?;
 /// let square = Outline { outer: &[0.0, 0.0, 2.0, 0.0, 2.0, 2.0, 0.0, 2.0], holes: &[], hole_lengths: &[] };

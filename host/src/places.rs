@@ -1,7 +1,8 @@
 //! How much to lend.
 
+use crate::raw::Outline;
 use crate::{ffi, floats};
-use crate::{Outline, Places, Refusal};
+use crate::{Places, Refusal};
 
 /// The places that a run of an outline at a size can't do without.
 #[derive(Clone, Copy, Debug, PartialEq, Eq)]
@@ -17,7 +18,7 @@ pub struct LeastPlaces {
 ///
 /// # Errors
 ///
-/// What refuses the outline or the size, as [`crate::field`] does before it counts: [`Refusal::Lists`], [`Refusal::ShortLoop`], [`Refusal::NotFinite`],
+/// What refuses the outline or the size, as [`crate::raw::field`] does before it counts: [`Refusal::Lists`], [`Refusal::ShortLoop`], [`Refusal::NotFinite`],
 /// [`Refusal::TooFar`], [`Refusal::NoSize`], [`Refusal::SizeOutOfRange`] and [`Refusal::Flat`].
 pub fn least_places(outline: &Outline<'_>, size: f64) -> Result<LeastPlaces, Refusal> {
     floats::check();

@@ -52,7 +52,8 @@ fn ask<T>(entry: Entry<T>, outline: &Outline<'_>, [x, y]: [f64; 2]) -> T {
 /// the outline itself some count as inside and some don't; of the unit square's corners (0, 0) does and (1, 1) doesn't.
 ///
 /// ```
-/// use sitjorbe::{contains, Outline, Refusal};
+/// use sitjorbe::raw::{contains, Outline};
+/// use sitjorbe::Refusal;
 ///
 /// let square = Outline { outer: &[0.0, 0.0, 1.0, 0.0, 1.0, 1.0, 0.0, 1.0], holes: &[], hole_lengths: &[] };
 /// assert_eq!([[0.5, 0.5], [0.0, 0.0], [1.0, 1.0]].map(|point| contains(&square, point)), [true, true, false].map(Ok));

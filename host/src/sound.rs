@@ -10,7 +10,7 @@ use crate::{ffi, floats, Refusal};
 /// goes through every pair of segments of a loop, and of every two loops.
 ///
 /// ```
-/// use sitjorbe::{is_sound, Outline};
+/// use sitjorbe::raw::{is_sound, Outline};
 ///
 /// let outline = |outer| Outline { outer, holes: &[], hole_lengths: &[] };
 /// assert_eq!(is_sound(&outline(&[0.0, 0.0, 2.0, 0.0, 2.0, 2.0, 0.0, 2.0])), Ok(true));

@@ -4,8 +4,9 @@ use alloc::vec;
 use alloc::vec::Vec;
 use core::fmt;
 
+use crate::raw::{Outline, Settings};
 use crate::{ffi, floats};
-use crate::{FieldRecord, Memory, Outline, Refusal, Settings, OFF};
+use crate::{FieldRecord, Memory, Refusal, OFF};
 
 /// What a step did with the edge named. The numbers are those that cross from the library.
 #[derive(Clone, Copy, Debug, PartialEq, Eq, Hash, PartialOrd, Ord)]
@@ -374,7 +375,8 @@ impl<'a> Stepper<'a> {
     /// was placed by hand yet.
     ///
     /// ```
-    /// use sitjorbe::{Memory, Outcome, Outline, Places, Stepper};
+    /// use sitjorbe::raw::{Outline, Stepper};
+    /// use sitjorbe::{Memory, Outcome, Places};
     ///
     /// let square = Outline { outer: &[0.0, 0.0, 2.0, 0.0, 2.0, 2.0, 0.0, 2.0], holes: &[], hole_lengths: &[] };
     /// let mut memory = Memory::new(Places::for_outline(&square, 1.0, 1)?)?;

@@ -4,8 +4,9 @@ use alloc::vec;
 use alloc::vec::Vec;
 use core::{error, fmt};
 
+use crate::raw::{Mesh, MeshCounts, MeshRead};
+use crate::Refusal;
 use crate::{ffi, floats};
-use crate::{Mesh, MeshCounts, MeshRead, Refusal};
 
 /// How many steps make a degree.
 pub const STEPS_PER_DEGREE: i32 = 64;

@@ -20,7 +20,7 @@ use common::rng::Rng;
 use csv::{Field, Point};
 use exact::Exact;
 use naming::Naming;
-use sitjorbe::{is_sound, Outline};
+use sitjorbe::raw::{is_sound, Outline};
 use sound::Fault;
 
 /// Products of whole numbers times a power of two are summed as the whole numbers are.

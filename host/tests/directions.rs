@@ -4,7 +4,8 @@ mod common;
 
 use common::rng::Rng;
 use common::{bits, Guarded};
-use sitjorbe::{direction, directions, directions_in, ffi, FieldRecord, Refusal};
+use sitjorbe::raw::{direction, directions, directions_in};
+use sitjorbe::{ffi, FieldRecord, Refusal};
 
 /// What is lent: the record with its lists, and the three lists of the call.
 #[derive(Clone, Debug)]

@@ -4,7 +4,8 @@ mod common;
 
 use common::exam::{blended, hostile, ExamLists};
 use common::rng::Rng;
-use sitjorbe::{Exam, LentMesh, Refusal, MOST_WEIGHT, NO_THRESHOLD};
+use sitjorbe::raw::LentMesh;
+use sitjorbe::{Exam, Refusal, MOST_WEIGHT, NO_THRESHOLD};
 
 /// A quad of four nodes with these thresholds.
 fn square(corners: [u16; 4]) -> ExamLists {

@@ -6,7 +6,8 @@ mod common;
 use common::exam::{hostile, junk_thresholds, moved, Event, ExamLists, Model};
 use common::rng::Rng;
 use common::Drawing;
-use sitjorbe::{ffi, Asked, Exam, LentMesh, Memory, Node, Places, Refusal, Settings, NO_THRESHOLD, OFF};
+use sitjorbe::raw::{Asked, LentMesh, Settings};
+use sitjorbe::{ffi, Exam, Memory, Node, Places, Refusal, NO_THRESHOLD, OFF};
 
 // ---- paper 8
 

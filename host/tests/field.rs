@@ -4,7 +4,8 @@ mod common;
 
 use common::blocks::{listed, Block};
 use common::{bits, refused, Drawing, FieldPlaces, Guarded, Lent};
-use sitjorbe::{contains, direction, ffi, FieldRecord, Refusal};
+use sitjorbe::raw::{contains, direction};
+use sitjorbe::{ffi, FieldRecord, Refusal};
 
 /// The field of a square of side 2 for size 1: nodes half a unit apart, from one column and row outside on.
 const SQUARE: FieldRecord = FieldRecord { xmin: -0.5, ymin: -0.5, h: 0.5, nx: 7, ny: 7 };

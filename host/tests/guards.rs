@@ -5,10 +5,11 @@ mod common;
 use common::blocks::Block;
 use common::exam::ExamLists;
 use common::{by_kind, list_lengths, refused, said, used, Drawing, FieldPlaces, Lengths, Lent, Raw, RunPlaces, LISTS};
-use sitjorbe::{
-    check_order_in, direction, directions_in, ffi, least_places, pave, preview_numbers, small_quads, step_numbers, steps, Asked, FieldRecord, Ground,
-    Lists, Memory, MeshCounts, MeshLists, MeshRead, NotAccepted, Outline, Places, Refusal, Settings, OFF,
+use sitjorbe::raw::{
+    check_order_in, direction, directions_in, least_places, pave, preview_numbers, step_numbers, steps, Asked, Ground,
+    Lists, MeshCounts, MeshLists, MeshRead, Outline, Settings,
 };
+use sitjorbe::{ffi, small_quads, FieldRecord, Memory, NotAccepted, Places, Refusal, OFF};
 
 /// Drawings and points that are accepted and refused.
 fn queries() -> Vec<(Drawing, [f64; 2])> {
@@ -392,7 +393,8 @@ fn steps_are_read_and_written_within_their_lists() {
 #[test]
 fn a_step_is_taken_within_its_lists() {
     let drawing = queries()[0].0.clone();
-    let mut memory = Memory::new(Places { field_nodes: 1_600, nodes: 800, quads: 800, edges: 2_400, points: 0 }).unwrap();
+    let mut memory =
+        Memory::new(Places { field_nodes: 1_600, nodes: 800, quads: 800, edges: 2_400, points: 0 }).unwrap();
     let mesh = memory.pave(&drawing.outline(), &Settings { size: 0.5, sweeps: 400, passes: 1 }).unwrap();
     let ((values, marks), record) = (mesh.field(), mesh.record());
     let counts = MeshCounts {
@@ -407,9 +409,12 @@ fn a_step_is_taken_within_its_lists() {
     let (quads, edges): (Vec<u32>, Vec<u32>) = (mesh.quads().flatten().collect(), mesh.edges().flatten().collect());
     let front: Vec<[u32; 2]> = mesh.front().chain([[0, u32::MAX], [u32::MAX, 0], [n as u32, 0]]).collect();
     let mut found = [0; 5];
-    for (side, more) in [pages::Side::Start, pages::Side::End].into_iter().flat_map(|side| [0, 1, 2].map(|more| (side, more))) {
+    for (side, more) in
+        [pages::Side::Start, pages::Side::End].into_iter().flat_map(|side| [0, 1, 2].map(|more| (side, more)))
+    {
         let lent = [&drawing.outer[..], &drawing.holes, values].map(|list| pages::Pages::read_only(list, side));
-        let (lengths, marks) = (pages::Pages::read_only(&drawing.hole_lengths, side), pages::Pages::read_only(marks, side));
+        let (lengths, marks) =
+            (pages::Pages::read_only(&drawing.hole_lengths, side), pages::Pages::read_only(marks, side));
         let outline = Outline { outer: lent[0].list(), holes: lent[1].list(), hole_lengths: lengths.list() };
         let ground = Ground { outline, size: 0.5, record, values: lent[2].list(), marks: marks.list() };
         for &edge in front.iter().step_by(3).chain(&front[front.len() - 3..]) {
@@ -420,7 +425,8 @@ fn a_step_is_taken_within_its_lists() {
 
             let [xs, ys] = [0, 1].map(|k| pages::Pages::read_only(&floats[k], side));
             let [next, prev] = [0, 1].map(|k| pages::Pages::read_only(&links[k], side));
-            let (read_quads, read_edges) = (pages::Pages::read_only(&quads, side), pages::Pages::read_only(&edges, side));
+            let (read_quads, read_edges) =
+                (pages::Pages::read_only(&quads, side), pages::Pages::read_only(&edges, side));
             let read_origins = pages::Pages::read_only(&origins, side);
             let read = MeshRead {
                 xs: xs.list(),
@@ -448,7 +454,11 @@ fn a_step_is_taken_within_its_lists() {
                 edges: edges.list_mut(),
             };
             let step = step_numbers(&ground, &mut lists, counts, edge);
-            assert_eq!((step.refusal, step.outcome, step.front), (preview.refusal, preview.outcome, preview.front), "{edge:?}");
+            assert_eq!(
+                (step.refusal, step.outcome, step.front),
+                (preview.refusal, preview.outcome, preview.front),
+                "{edge:?}"
+            );
             found[if step.refusal == 0 { step.outcome as usize } else { 4 }] += 1;
         }
     }

@@ -5,7 +5,8 @@ mod common;
 
 use common::rng::Rng;
 use common::{Drawing, Lent, Raw};
-use sitjorbe::{distance_to_boundary, nearest_segment, Segment};
+use sitjorbe::raw::{distance_to_boundary, nearest_segment};
+use sitjorbe::Segment;
 
 type Loop = Vec<[f64; 2]>;
 

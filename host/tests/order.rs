@@ -5,9 +5,8 @@ mod common;
 use std::collections::{BTreeSet, HashMap};
 
 use common::{bits, Drawing, Guarded, Place};
-use sitjorbe::{
-    check_order, check_order_in, ffi, nearest_order, Memory, NotAccepted, OrderScratch, Places, Refusal, Settings,
-};
+use sitjorbe::raw::{check_order, check_order_in, nearest_order, OrderScratch, Settings};
+use sitjorbe::{ffi, Memory, NotAccepted, Places, Refusal};
 
 /// A generator of the usual kind, splitmix64.
 struct Random(u64);

@@ -7,7 +7,8 @@ use std::f64::consts::TAU;
 use common::origins::{fault, origins};
 use common::rng::Rng;
 use common::{list_lengths, used, Drawing, RunPlaces, LISTS};
-use sitjorbe::{End, Memory, Mesh, Places, Settings};
+use sitjorbe::raw::{Mesh, Settings};
+use sitjorbe::{End, Memory, Places};
 
 const AMPLE: Places = Places { field_nodes: 4_000, nodes: 2_000, quads: 2_000, edges: 6_000, points: 100 };
 

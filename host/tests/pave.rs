@@ -7,9 +7,8 @@ use std::fs;
 
 use common::blocks::{listed, Block};
 use common::{list_lengths, refused, said, used, Drawing, Lengths, Lent, RunPlaces, LISTS};
-use sitjorbe::{
-    contains, ffi, field, is_sound, pave_numbers, End, Memory, Mesh, Outline, Places, Refusal, Settings, TooManyPlaces,
-};
+use sitjorbe::raw::{contains, field, is_sound, pave_numbers, Mesh, Outline, Settings};
+use sitjorbe::{ffi, End, Memory, Places, Refusal, TooManyPlaces};
 
 /// The places that document 01's program lends; a file has at most 248 points.
 const PROGRAM: Places = Places { field_nodes: 1_600, nodes: 800, quads: 800, edges: 2_400, points: 248 };

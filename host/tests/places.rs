@@ -8,7 +8,8 @@ use std::process::{Command, Stdio};
 
 use common::rng::Rng;
 use common::{refused, Drawing, FieldPlaces, Lent, RunPlaces};
-use sitjorbe::{ffi, least_places, End, LeastPlaces, Memory, Places, Refusal, Settings};
+use sitjorbe::raw::{least_places, LeastPlaces, Settings};
+use sitjorbe::{ffi, End, Memory, Places, Refusal};
 
 // ---- the model
 

@@ -3,7 +3,8 @@
 mod common;
 
 use common::{refused, Drawing, Lent, Raw};
-use sitjorbe::{contains, distance_to_boundary, nearest_segment, Refusal, Segment};
+use sitjorbe::raw::{contains, distance_to_boundary, nearest_segment};
+use sitjorbe::{Refusal, Segment};
 
 /// A square of side 8 with a square hole from (2, 2) to (4, 4).
 fn square_with_hole() -> Drawing {

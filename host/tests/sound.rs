@@ -5,7 +5,8 @@ mod common;
 
 use common::sound::{self, Side};
 use common::{refused, Drawing, Lent};
-use sitjorbe::{ffi, is_sound, Refusal};
+use sitjorbe::raw::is_sound;
+use sitjorbe::{ffi, Refusal};
 
 fn drawn(loops: &[&[[f64; 2]]]) -> Drawing {
     Drawing::of_loops(&loops.iter().map(|points| points.to_vec()).collect::<Vec<_>>())

@@ -5,10 +5,8 @@ mod common;
 
 use common::rng::Rng;
 use common::{bits, Drawing, Guarded};
-use sitjorbe::{
-    preview_numbers, step_numbers, End, FieldRecord, Ground, Memory, MeshCounts, MeshLists, MeshRead, Outcome, Places, Refusal, Settings,
-    Stepper, OFF,
-};
+use sitjorbe::raw::{preview_numbers, step_numbers, Ground, MeshCounts, MeshLists, MeshRead, Settings, Stepper};
+use sitjorbe::{End, FieldRecord, Memory, Outcome, Places, Refusal, OFF};
 
 const ROOM: Places = Places { field_nodes: 1_600, nodes: 200, quads: 200, edges: 600, points: 64 };
 
@@ -102,7 +100,8 @@ fn paved(drawing: &Drawing, size: f64, passes: usize) -> (Floor, Owned) {
     let mut memory = Memory::new(ROOM).unwrap();
     let mesh = memory.pave(&drawing.outline(), &Settings { size, sweeps: 400, passes }).unwrap();
     let (values, marks) = mesh.field();
-    let floor = Floor { drawing: drawing.clone(), size, record: mesh.record(), values: values.to_vec(), marks: marks.to_vec() };
+    let floor =
+        Floor { drawing: drawing.clone(), size, record: mesh.record(), values: values.to_vec(), marks: marks.to_vec() };
     let (next, prev) = mesh.links();
     let counts = MeshCounts {
         nodes: mesh.node_count() as u32,
@@ -255,7 +254,8 @@ fn passes_of_a_stepper() {
                 assert_eq!(stepper.front(), mesh.front().collect::<Vec<_>>());
                 assert_eq!(stepper.edges(), mesh.edges().collect::<Vec<_>>());
                 assert_eq!(stepper.origins(), mesh.origins());
-                let at = |nodes: Vec<[f64; 2]>| nodes.into_iter().map(|node| node.map(f64::to_bits)).collect::<Vec<_>>();
+                let at =
+                    |nodes: Vec<[f64; 2]>| nodes.into_iter().map(|node| node.map(f64::to_bits)).collect::<Vec<_>>();
                 assert_eq!(at(stepper.nodes()), at(mesh.nodes().collect()));
                 let expected = match mesh.end() {
                     End::Passes => Outcome::Placed,
@@ -291,7 +291,10 @@ fn sorted_steps_are_the_passes() {
             let settings = Settings { size, sweeps: 400, passes };
             let mut other = Memory::new(ROOM).unwrap();
             let mut after = Stepper::after(drawing.outline(), &settings, &mut other).unwrap();
-            assert_eq!((after.counts(), after.quads(), after.edges()), (stepper.counts(), stepper.quads(), stepper.edges()));
+            assert_eq!(
+                (after.counts(), after.quads(), after.edges()),
+                (stepper.counts(), stepper.quads(), stepper.edges())
+            );
             assert_eq!(after.origins(), stepper.origins());
         }
     }
@@ -474,10 +477,15 @@ fn damage(rng: &mut Rng, mesh: &mut Owned) {
     let wild = [n as u32, n as u32 + 1, OFF - 1, OFF, 0, v as u32];
     let far = [1_001.0, -1_001.0, 1_001.0f64.next_up(), -(1_001.0f64.next_up()), f64::NAN, f64::INFINITY, 1e300, 0.5];
     match rng.below(18) {
-        0 => mesh.counts.nodes = rng.pick(&[0, 1, n as u32 - 1, n as u32 + 1, n as u32 + 9, n as u32 + 10, OFF - 1, OFF]),
+        0 => {
+            mesh.counts.nodes = rng.pick(&[0, 1, n as u32 - 1, n as u32 + 1, n as u32 + 9, n as u32 + 10, OFF - 1, OFF])
+        }
         1 => mesh.counts.quads = rng.pick(&[0, mesh.quads.len() / 4, mesh.quads.len() / 4 + 1, usize::MAX, 1 << 62]),
         2 => mesh.counts.edges = rng.pick(&[0, mesh.edges.len() / 2, mesh.edges.len() / 2 + 1, usize::MAX, 1 << 63]),
-        3 => mesh.counts.front = rng.pick(&[0, 1, mesh.counts.front.wrapping_add(1), mesh.counts.front.wrapping_sub(1), usize::MAX]),
+        3 => {
+            mesh.counts.front =
+                rng.pick(&[0, 1, mesh.counts.front.wrapping_add(1), mesh.counts.front.wrapping_sub(1), usize::MAX])
+        }
         4 => mesh.next[u] = rng.pick(&wild),
         5 => mesh.prev[u] = rng.pick(&wild),
         6 => mesh.xs[u] = rng.pick(&far),
@@ -553,13 +561,21 @@ fn damaged_meshes() {
                         let mut list = vec![9; 2 * counts.front + 4];
                         let preview = preview_numbers(&floor.ground(), &lent.read(), counts, edge, &mut list);
                         let step = step_numbers(&floor.ground(), &mut lent.lists(), counts, edge);
-                        lent.counts = MeshCounts { nodes: step.nodes, quads: step.quads, edges: step.edges, front: step.front };
+                        lent.counts =
+                            MeshCounts { nodes: step.nodes, quads: step.quads, edges: step.edges, front: step.front };
                         assert!(!lent.is_unsound(), "{round}: a step left {lent:?}");
                         assert_eq!((preview.outcome, preview.front), (step.outcome, step.front));
                         let links = (0u32..).zip(&lent.next[..step.nodes as usize]).filter(|(_, &link)| link != OFF);
                         let front: Vec<u32> = links.flat_map(|(u, &v)| [u, v]).collect();
-                        assert_eq!((&list[..front.len()], &list[front.len()..]), (&front[..], &vec![9; list.len() - front.len()][..]));
-                        if step.outcome == 0 { 2 } else { 3 }
+                        assert_eq!(
+                            (&list[..front.len()], &list[front.len()..]),
+                            (&front[..], &vec![9; list.len() - front.len()][..])
+                        );
+                        if step.outcome == 0 {
+                            2
+                        } else {
+                            3
+                        }
                     }
                 };
                 found[twice][kind] += 1;

@@ -7,10 +7,8 @@ use common::book::{check, Answered, Sampled};
 use common::rng::Rng;
 use common::steps::{answer, is_sound, nearest_step};
 use common::{filled, Drawing, Guarded};
-use sitjorbe::{
-    steps, steps_numbers, Memory, Mesh, MeshCounts, MeshRead, NotShown, Places, Refusal, Settings, Steps, OFF,
-    STEPS_PER_DEGREE,
-};
+use sitjorbe::raw::{steps, steps_numbers, Mesh, MeshCounts, MeshRead, Settings};
+use sitjorbe::{Memory, NotShown, Places, Refusal, Steps, OFF, STEPS_PER_DEGREE};
 
 /// A mesh that owns its lists.
 #[derive(Clone, Debug)]

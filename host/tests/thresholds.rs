@@ -6,7 +6,8 @@ mod common;
 use common::exam::{hostile, moved, Event, ExamLists, Model};
 use common::rng::Rng;
 use common::Drawing;
-use sitjorbe::{Desk, Exam, LentMesh, Memory, Places, Refusal, Settings, NO_THRESHOLD};
+use sitjorbe::raw::{LentMesh, Settings};
+use sitjorbe::{Desk, Exam, Memory, Places, Refusal, NO_THRESHOLD};
 
 /// Hands the event over; the refusal's number, or 0.
 fn hand_over(event: Event, desk: &mut Desk<'_>) -> u32 {

@@ -160,7 +160,7 @@ class Package(unittest.TestCase):
     @needing("objcopy", "cargo")
     def test_rust_of_another_shape(self):
         root, name = self.of_another_shape()
-        safe = "fn main() { let _ = sitjorbe::contains(&sitjorbe::Outline { outer: &[], holes: &[], hole_lengths: &[] }, [0.0, 0.0]); }"
+        safe = "fn main() { let _ = sitjorbe::raw::contains(&sitjorbe::raw::Outline { outer: &[], holes: &[], hole_lengths: &[] }, [0.0, 0.0]); }"
         bare = "fn main() { let none = [0u32; 0]; let _ = unsafe { sitjorbe::ffi::sitjorbe_small_quads(none.as_ptr().cast_mut(), 0) }; }"
         for source, profile in ((safe, "dev"), (bare, "dev"), (bare, "release")):
             result = self.cargo(root / "rust", source, "build", "--profile", profile)

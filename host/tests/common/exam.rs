@@ -3,7 +3,8 @@
 
 use std::collections::BTreeSet;
 
-use sitjorbe::{exam_numbers, ffi, Asked, Desk, LentMesh, Reader, Results, SharedResults};
+use sitjorbe::raw::{exam_numbers, Asked, LentMesh, Results, SharedResults};
+use sitjorbe::{ffi, Desk, Reader};
 
 use super::rng::Rng;
 use super::Guarded;

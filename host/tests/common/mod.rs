@@ -12,7 +12,8 @@ pub mod whole;
 
 use std::hint::black_box;
 
-use sitjorbe::{ffi, field, pave, FieldRecord, Lists, Mesh, Outline, Places, Refusal, Settings};
+use sitjorbe::raw::{field, pave, Lists, Mesh, Outline, Settings};
+use sitjorbe::{ffi, FieldRecord, Places, Refusal};
 
 /// An outline that owns its lists.
 #[derive(Clone, Debug, Default)]

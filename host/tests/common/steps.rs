@@ -1,7 +1,8 @@
 //! Paper 12 in Rust, written from its words: each coordinate as a fraction, the nearest step by comparing distances; and the mesh that
 //! refusal 23 lets pass, from paper 11's.
 
-use sitjorbe::{MeshCounts, MeshRead, OFF};
+use sitjorbe::raw::{MeshCounts, MeshRead};
+use sitjorbe::OFF;
 
 /// The nearest step of 1/64, halves to the even one. The float must be finite, and within some thousands.
 pub fn nearest_step(x: f64) -> i64 {

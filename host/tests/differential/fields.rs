@@ -6,7 +6,8 @@ use std::iter;
 use oracle::generate::Case;
 use oracle::patched::Field;
 use oracle::terms;
-use sitjorbe::{direction, FieldRecord, Refusal};
+use sitjorbe::raw::direction;
+use sitjorbe::{FieldRecord, Refusal};
 
 use crate::blocks::{Blocks, Counts};
 use crate::cases::{self, Record, Rng, Setting};

@@ -19,7 +19,8 @@ use common::{Drawing, Lent};
 use oracle::generate::Case;
 use oracle::patched::Region;
 use oracle::terms;
-use sitjorbe::{contains, distance_to_boundary, nearest_segment, Outline, Refusal, Segment};
+use sitjorbe::raw::{contains, distance_to_boundary, nearest_segment, Outline};
+use sitjorbe::{Refusal, Segment};
 
 /// What a query is answered by all three entries: refusals as numbers, floats as bits.
 #[derive(Debug, PartialEq)]

@@ -11,7 +11,8 @@ use std::env;
 use oracle::generate::Case;
 use oracle::patched::{front, pave_again, Field};
 use oracle::terms::{self, Run};
-use sitjorbe::{End, FieldRecord, Mesh, Places, Refusal, Settings, OFF};
+use sitjorbe::raw::{Mesh, Settings};
+use sitjorbe::{End, FieldRecord, Places, Refusal, OFF};
 
 use crate::blocks::{Blocks, Counts};
 use crate::cases::{self, Filed, Needs, Pools, Rng, Scratch, Setting};

@@ -9,7 +9,8 @@ use std::env;
 use oracle::generate::Case;
 use oracle::patched::Stepping;
 use oracle::terms::{self, LentMesh, Outcome};
-use sitjorbe::{preview_numbers, step_numbers, FieldRecord, Ground, Memory, MeshCounts, MeshLists, MeshRead, Places, Settings, OFF};
+use sitjorbe::raw::{preview_numbers, step_numbers, Ground, MeshCounts, MeshLists, MeshRead, Settings};
+use sitjorbe::{FieldRecord, Memory, Places, OFF};
 
 use crate::cases::Rng;
 use crate::common::book::{self, Answered, Sampled};
@@ -67,7 +68,10 @@ impl Guards {
     fn kept(&self) -> bool {
         let n = self.counts.nodes as usize;
         let nodes = self.xs.kept_from(n) && self.ys.kept_from(n) && self.next.kept_from(n) && self.prev.kept_from(n);
-        nodes && self.origins.kept_from(n) && self.quads.kept_from(4 * self.counts.quads) && self.edges.kept_from(2 * self.counts.edges)
+        nodes
+            && self.origins.kept_from(n)
+            && self.quads.kept_from(4 * self.counts.quads)
+            && self.edges.kept_from(2 * self.counts.edges)
     }
 
     fn front(&self) -> Vec<[u32; 2]> {
@@ -138,8 +142,11 @@ fn sequence(rng: &mut Rng, drawing: &Drawing, size: f64, tally: &mut Tally) -> O
     }
     let [nodes, quads, edges] = lengths(rng, start.node_count(), used);
     let lent = terms::Lent { field_nodes: 2_500, nodes: nodes as u64, quads: quads as u64, edges: edges as u64 };
-    let terms::Drawing { outer, holes, hole_lengths } =
-        terms::Drawing { outer: drawing.outer.clone(), holes: drawing.holes.clone(), hole_lengths: drawing.hole_lengths.clone() };
+    let terms::Drawing { outer, holes, hole_lengths } = terms::Drawing {
+        outer: drawing.outer.clone(),
+        holes: drawing.holes.clone(),
+        hole_lengths: drawing.hole_lengths.clone(),
+    };
     let outline = terms::Outline { outer: &outer, holes: &holes, hole_lengths: &hole_lengths };
     let mut reference = Stepping::new(outline, size, 100, &lent).expect("not refused");
     let (values, marks) = start.field();
@@ -329,7 +336,8 @@ fn damaged_meshes_beside_the_reference() {
         let FieldRecord { xmin, ymin, h, nx, ny } = record;
         let marked: Vec<bool> = marks.iter().map(|&mark| mark == 1).collect();
         let field = (terms::FieldRecord { xmin, ymin, h, nx: nx as u64, ny: ny as u64 }, &values[..], &marked[..]);
-        let outline = terms::Outline { outer: &drawing.outer, holes: &drawing.holes, hole_lengths: &drawing.hole_lengths };
+        let outline =
+            terms::Outline { outer: &drawing.outer, holes: &drawing.holes, hole_lengths: &drawing.hole_lengths };
         let before = mesh.terms();
         let mut reference = Stepping::of_mesh(outline, size, field, &before, &lent).expect("not refused");
         let outcome = reference.step(edge[0] as usize, edge[1] as usize);

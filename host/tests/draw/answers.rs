@@ -4,7 +4,8 @@ use std::fs;
 use std::path::Path;
 use std::process::Command;
 
-use sitjorbe::{contains, direction, field, is_sound, nearest_segment, Memory, Outline, Places, Refusal, Settings};
+use sitjorbe::raw::{contains, direction, field, is_sound, nearest_segment, Outline, Settings};
+use sitjorbe::{Memory, Places, Refusal};
 
 use crate::client::Server;
 use crate::common::rng::Rng;

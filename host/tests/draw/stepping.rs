@@ -1,6 +1,7 @@
 //! Fronts stepped by hand over the server, beside a stepper of the test's own that makes every move afresh.
 
-use sitjorbe::{least_places, End, Memory, Outcome, Places, Refusal, Settings, Stepper};
+use sitjorbe::raw::{least_places, Settings, Stepper};
+use sitjorbe::{End, Memory, Outcome, Places, Refusal};
 
 use crate::client::Server;
 use crate::common::rng::Rng;

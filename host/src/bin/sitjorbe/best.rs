@@ -2,7 +2,7 @@
 
 use std::cmp::Ordering;
 
-use sitjorbe::Settings;
+use sitjorbe::raw::Settings;
 
 use crate::csv::Field;
 use crate::exact::Exact;

@@ -1,6 +1,6 @@
 //! `sitjorbe check`: what would be refused of a field, and what is unsound about it, by line.
 
-use sitjorbe::is_sound;
+use sitjorbe::raw::is_sound;
 
 use crate::args::{Args, Known};
 use crate::files::{self, named, Failure};

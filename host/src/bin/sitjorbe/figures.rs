@@ -2,7 +2,8 @@
 
 use std::cmp::Ordering;
 
-use sitjorbe::{is_sound, End, Outline, Settings};
+use sitjorbe::raw::{is_sound, Outline, Settings};
+use sitjorbe::End;
 
 use crate::csv::Field;
 use crate::exact::Exact;

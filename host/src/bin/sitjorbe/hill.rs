@@ -1,6 +1,7 @@
 //! The hill of vision: quads shaded by the library's estimates between thresholds at the nodes, dark where little is seen.
 
-use sitjorbe::{Desk, Exam, LentMesh, Reader, Refusal, MOST_WEIGHT};
+use sitjorbe::raw::LentMesh;
+use sitjorbe::{Desk, Exam, Reader, Refusal, MOST_WEIGHT};
 
 use crate::files::Failure;
 use crate::run::Paved;

@@ -1,6 +1,7 @@
 //! A mesh as JSON, with the field that it paves and its figures: written, and read back.
 
-use sitjorbe::{is_sound, End, Settings};
+use sitjorbe::raw::{is_sound, Settings};
+use sitjorbe::End;
 
 use crate::csv::{Field, Point};
 use crate::figures::{Figures, Quality};

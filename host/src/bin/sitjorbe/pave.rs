@@ -4,7 +4,7 @@ use std::collections::HashMap;
 use std::fs;
 use std::path::Path;
 
-use sitjorbe::Settings;
+use sitjorbe::raw::Settings;
 
 use crate::args::{Args, Known};
 use crate::best;

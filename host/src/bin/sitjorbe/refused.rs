@@ -1,6 +1,7 @@
 //! Refusals with the place that they concern.
 
-use sitjorbe::{least_places, Refusal};
+use sitjorbe::raw::least_places;
+use sitjorbe::Refusal;
 
 use crate::csv::Field;
 use crate::files::Failure;

@@ -1,6 +1,7 @@
 //! A run of the library over a field, in memory of its own.
 
-use sitjorbe::{is_sound, End, Memory, Outline, Places, Refusal, Settings};
+use sitjorbe::raw::{is_sound, Outline, Settings};
+use sitjorbe::{End, Memory, Places, Refusal};
 
 use crate::csv::Field;
 

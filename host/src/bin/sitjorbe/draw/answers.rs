@@ -2,9 +2,8 @@
 
 use std::time::Instant;
 
-use sitjorbe::{
-    contains, directions, is_sound, least_places, nearest_segment, LeastPlaces, Outline, Refusal, Settings,
-};
+use sitjorbe::raw::{contains, directions, is_sound, least_places, nearest_segment, LeastPlaces, Outline, Settings};
+use sitjorbe::Refusal;
 
 use crate::csv::{self, Field};
 use crate::figures::{self, Figures};
@@ -192,7 +191,7 @@ fn directions_at(outline: &Outline<'_>, size: f64, points: &[[f64; 2]]) -> Resul
     let LeastPlaces { field_nodes, .. } = least_places(outline, size)?;
     let (mut values, mut marks) = (vec![0.0; 2 * field_nodes], vec![0; field_nodes]);
     let mut blocks = vec![0; outline.outer.len() + outline.holes.len()];
-    let record = sitjorbe::field(outline, size, SWEEPS, &mut values, &mut marks, &mut blocks)?;
+    let record = sitjorbe::raw::field(outline, size, SWEEPS, &mut values, &mut marks, &mut blocks)?;
     let found = directions(&record, &values, &marks, points, &vec![RIGHT; points.len()])?;
     let inside = |point: &[f64; 2]| contains(outline, *point) == Ok(true);
     Ok(points.iter().zip(found).map(|(point, direction)| direction.ok().filter(|_| inside(point))).collect())

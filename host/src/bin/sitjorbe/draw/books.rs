@@ -2,7 +2,7 @@
 
 use std::cmp::Ordering;
 
-use sitjorbe::{MeshCounts, Stepper};
+use sitjorbe::raw::{MeshCounts, Stepper};
 
 use crate::exact::Exact;
 use crate::json::Value;
@@ -60,7 +60,8 @@ impl Opening {
 
 #[cfg(test)]
 mod tests {
-    use sitjorbe::{Memory, MeshCounts, Outline, Places, Stepper};
+    use sitjorbe::raw::{MeshCounts, Outline, Stepper};
+    use sitjorbe::{Memory, Places};
 
     use super::Opening;
     use crate::json::Value;

@@ -6,7 +6,8 @@ use std::sync::mpsc::{self, Receiver, SyncSender};
 use std::thread;
 use std::time::{Duration, Instant};
 
-use sitjorbe::{least_places, End, Memory, Outcome, Outline, Places, Preview, Refusal, Settings, Stepper};
+use sitjorbe::raw::{least_places, Outline, Settings, Stepper};
+use sitjorbe::{End, Memory, Outcome, Places, Preview, Refusal};
 
 use crate::csv::Field;
 use crate::json::Value;

@@ -1,7 +1,7 @@
 /*
  * Sitjorbe: verified geometry for a paved visual field, from outline to quads. Version 0.2.0, shape 1.
  *
- * Written by tools/bindings from the Rattle source. docs/INTEGRATION.md says how to call; "document 01" in a comment is what
+ * Written by tools/bindings from the Rattle source. docs/INTEGRATION.md says how to call; "SCOPE" in a comment is what
  * docs/SCOPE.md and docs/FORMATS.md set out. For x86-64 Linux, C11 or C++17, and later.
  *
  * A list is lent as a pointer and a length, which counts elements; with a length of 0 the pointer may be NULL. A pointer without a
@@ -319,7 +319,7 @@ SITJORBE_ASSERT(offsetof(sitjorbe_steps_answer, quad) == 8);
 SITJORBE_ASSERT(sizeof(sitjorbe_steps_answer) == 16);
 
 /**
- * The answer of `sitjorbe_places`. `refusal` is document 01's number, 0 where nothing is refused; on a refusal both
+ * The answer of `sitjorbe_places`. `refusal` is the refusal's number, 0 where nothing is refused; on a refusal both
  * counts are 0.
  */
 typedef struct sitjorbe_places_answer {
@@ -333,7 +333,7 @@ SITJORBE_ASSERT(offsetof(sitjorbe_places_answer, sampled_nodes) == 16);
 SITJORBE_ASSERT(sizeof(sitjorbe_places_answer) == 24);
 
 /**
- * The answer of `sitjorbe_contains`. `refusal` is document 01's number, 0 where nothing is refused. The values of a
+ * The answer of `sitjorbe_contains`. `refusal` is the refusal's number, 0 where nothing is refused. The values of a
  * refused query are false, 0.0 or 0.
  */
 typedef struct sitjorbe_contains_answer {
@@ -376,7 +376,7 @@ SITJORBE_ASSERT(sizeof(sitjorbe_distance_answer) == 16);
 
 /**
  * The answer of `sitjorbe_field`. A field record's floats and counts; its values and marks are in the lists lent.
- * `refusal` is document 01's number, 0 where nothing is refused; on a refusal all else is 0.
+ * `refusal` is the refusal's number, 0 where nothing is refused; on a refusal all else is 0.
  */
 typedef struct sitjorbe_field_record_answer {
     uint32_t refusal; /**< the refusal's number, 0 where nothing is refused */

@@ -157,7 +157,7 @@ HEADER = """\
 /*
  * Sitjorbe: verified geometry for a paved visual field, from outline to quads. Version {version}, shape {number}.
  *
- * Written by tools/bindings from the Rattle source. docs/INTEGRATION.md says how to call; "document 01" in a comment is what
+ * Written by tools/bindings from the Rattle source. docs/INTEGRATION.md says how to call; "SCOPE" in a comment is what
  * docs/SCOPE.md and docs/FORMATS.md set out. For x86-64 Linux, C11 or C++17, and later.
  *
  * A list is lent as a pointer and a length, which counts elements; with a length of 0 the pointer may be NULL. A pointer without a
@@ -307,7 +307,7 @@ RUST = """\
 //! in the order of the Rattle signature, and a reference to a number as its pointer. Written by tools/bindings from their source.
 //!
 //! A pointer and its length must be those of one slice, and a pointer without a length that of a number; what may be written overlaps
-//! nothing else that is lent. That is all an entry asks, and the wrappers in the crate's root see to it. "Document 01" is what
+//! nothing else that is lent. That is all an entry asks, and the wrappers in the crate's root see to it. "SCOPE" is what
 //! docs/SCOPE.md and docs/FORMATS.md set out.
 
 use core::mem::{{offset_of, size_of}};

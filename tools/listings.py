@@ -9,7 +9,7 @@ from refusals import Refused
 
 FURTHEST = 1_001  # proved of every run
 
-# What the program refuses by: document 01's numbers of a file and of a run.
+# What the program refuses by: the refusal's numbers of a file and of a run.
 PRINTED = (*range(1, 11), 12, 13)
 
 ENDS = {

@@ -12,7 +12,7 @@ from typing import NamedTuple
 
 from refusals import Refused
 
-# ---- document 01's limits, and what the program lends
+# ---- SCOPE's limits, and what the program lends
 
 MOST_LOOPS = 8
 MOST_POINTS = 248
@@ -197,7 +197,7 @@ def read_points(text):
 
 
 def check_of(block):
-    """Document 01's check over bytes 0 to 509."""
+    """SCOPE's check over bytes 0 to 509."""
     return sum((place + 1) * byte for place, byte in enumerate(block[:CHECKED])) % 65_521
 
 

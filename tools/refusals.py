@@ -1,4 +1,4 @@
-"""The refusals of document 01 and of the papers in words: what is wrong, and what to do. The host's words, host/src/refusal.rs, are the same."""
+"""The refusals in words: what is wrong, and what to do. The host's words, host/src/refusal.rs, are the same."""
 
 WORDS = {
     1: ("the outline's lists don't fit together",

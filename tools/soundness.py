@@ -1,4 +1,4 @@
-"""Whether a drawn outline is sound (document 02, paper 4), judged exactly, and in words what isn't.
+"""Whether a drawn outline is sound (SCOPE, sound outlines), judged exactly, and in words what isn't.
 
 Coordinates are taken as whole numbers of the smallest float above 0, so nothing is rounded. The loops must have passed refusals 2 to 4.
 """

@@ -2,7 +2,7 @@
 //! in the order of the Rattle signature, and a reference to a number as its pointer. Written by tools/bindings from their source.
 //!
 //! A pointer and its length must be those of one slice, and a pointer without a length that of a number; what may be written overlaps
-//! nothing else that is lent. That is all an entry asks, and the wrappers in the crate's root see to it. "Document 01" is what
+//! nothing else that is lent. That is all an entry asks, and the wrappers in the crate's root see to it. "SCOPE" is what
 //! docs/SCOPE.md and docs/FORMATS.md set out.
 
 use core::mem::{offset_of, size_of};
@@ -57,7 +57,7 @@ pub struct StepsAnswer {
     pub quad: usize,
 }
 
-/// The answer of `sitjorbe_places`. `refusal` is document 01's number, 0 where nothing is refused; on a refusal both
+/// The answer of `sitjorbe_places`. `refusal` is the refusal's number, 0 where nothing is refused; on a refusal both
 /// counts are 0.
 #[repr(C)]
 #[derive(Clone, Copy, Debug, PartialEq)]
@@ -71,7 +71,7 @@ pub struct PlacesAnswer {
     pub sampled_nodes: usize,
 }
 
-/// The answer of `sitjorbe_contains`. `refusal` is document 01's number, 0 where nothing is refused. The values of a
+/// The answer of `sitjorbe_contains`. `refusal` is the refusal's number, 0 where nothing is refused. The values of a
 /// refused query are false, 0.0 or 0.
 #[repr(C)]
 #[derive(Clone, Copy, Debug, PartialEq)]
@@ -118,7 +118,7 @@ pub struct DistanceAnswer {
 }
 
 /// The answer of `sitjorbe_field`. A field record's floats and counts; its values and marks are in the lists lent.
-/// `refusal` is document 01's number, 0 where nothing is refused; on a refusal all else is 0.
+/// `refusal` is the refusal's number, 0 where nothing is refused; on a refusal all else is 0.
 #[repr(C)]
 #[derive(Clone, Copy, Debug, PartialEq)]
 #[must_use = "an answer may be a refusal"]

@@ -111,11 +111,11 @@ impl End {
 
     fn of_number(number: u32) -> End {
         let found = End::ALL.into_iter().find(|end| *end as u32 == number);
-        found.unwrap_or_else(|| panic!("a bug: the library answered end {number}, which document 01 doesn't have"))
+        found.unwrap_or_else(|| panic!("a bug: the library answered end {number}, which SCOPE doesn't have"))
     }
 }
 
-/// Document 01's word: `still`, `passes`, `cap` or `full`.
+/// SCOPE's word: `still`, `passes`, `cap` or `full`.
 impl fmt::Display for End {
     fn fmt(&self, f: &mut fmt::Formatter<'_>) -> fmt::Result {
         f.write_str(match self {

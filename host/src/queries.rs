@@ -63,7 +63,7 @@ fn ask<T>(entry: Entry<T>, outline: &Outline<'_>, [x, y]: [f64; 2]) -> T {
 /// # Errors
 ///
 /// [`Refusal::Lists`], [`Refusal::ShortLoop`], [`Refusal::NotFinite`] and [`Refusal::TooFar`] of the outline, in the order
-/// of document 01, then the last two of the point.
+/// of SCOPE, then the last two of the point.
 pub fn contains(outline: &Outline<'_>, point: [f64; 2]) -> Result<bool, Refusal> {
     let answer = ask(ffi::sitjorbe_contains, outline, point);
     Refusal::check(answer.refusal).map(|()| answer.inside)

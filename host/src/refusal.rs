@@ -1,4 +1,4 @@
-//! The refusals of document 01 and of the papers, with words for people.
+//! The refusals, with words for people.
 
 use core::{error, fmt};
 
@@ -104,7 +104,7 @@ impl Refusal {
         Refusal::FoursNeedSpace,
     ];
 
-    /// Its number: 1 to 13 are document 01's, those above are the papers'.
+    /// Its number: 1 to 13 are a run's and a file's, those above the other entries'.
     #[must_use]
     pub fn number(self) -> u32 {
         self as u32

@@ -32,7 +32,7 @@ impl Outcome {
     }
 }
 
-/// The paper's word: `placed`, `none`, `full` or `cap`.
+/// SCOPE's word: `placed`, `none`, `full` or `cap`.
 impl fmt::Display for Outcome {
     fn fmt(&self, f: &mut fmt::Formatter<'_>) -> fmt::Result {
         f.write_str(match self {

@@ -5,7 +5,7 @@ mod common;
 use common::book::{balances, check, nets, Answered, Sampled};
 use common::whole::{unit, Whole};
 
-/// Document 01's square (0,0) (2,0) (2,2) (0,2) at size 1, as sampled.
+/// The worked square (0,0) (2,0) (2,2) (0,2) at size 1, as sampled.
 fn square() -> Sampled {
     let nodes = [[0, 0], [1, 0], [2, 0], [2, 1], [2, 2], [1, 2], [0, 2], [0, 1]];
     Sampled { nodes: nodes.map(|node| node.map(f64::from)).into(), edges: ring(0, 8), loops: 1 }
@@ -21,7 +21,7 @@ fn links(nodes: usize, edges: &[(usize, usize)]) -> Vec<Option<usize>> {
     next
 }
 
-/// Document 01's listing of its run, and the front that is left.
+/// The listing of its run, and the front that is left.
 fn square_run() -> Answered {
     let mut nodes = square().nodes;
     nodes.push([1.0, 1.0]);

@@ -1,4 +1,4 @@
-//! Directions for a whole list beside a model of its own, written from the papers: three floats a point, and what refuses the list.
+//! Directions for a whole list beside a model of its own, written from SCOPE: three floats a point, and what refuses the list.
 
 mod common;
 

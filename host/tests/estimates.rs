@@ -1,4 +1,4 @@
-//! Estimates: readings by hand, and paper 7 in Rust, written from its words, beside the entry; on every answer also what the paper says of it.
+//! Estimates: readings by hand, and estimates in Rust, written from SCOPE's words, beside the entry; on every answer also what SCOPE says of it.
 
 mod common;
 
@@ -21,7 +21,7 @@ const WEIGHTS: [u32; 17] = [0, 1, 2, 3, 31, 64, 85, 127, 128, 129, 171, 192, 200
 
 // ---- by hand
 
-/// What is read into the paper where it is silent, each on its smallest input: nodes, quads, list, the request, the answer.
+/// What is read into the rule where it is silent, each on its smallest input: nodes, quads, list, the request, the answer.
 #[test]
 fn readings() {
     type Reading<'a> = (&'a str, u32, &'a [u32], &'a [u16], (u32, u32, u32), Result<u32, u32>);

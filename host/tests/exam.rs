@@ -1,4 +1,4 @@
-//! One exam for three roles: readings by hand, and paper 8 in Rust, written from its words, beside the entry: every role by every operation, two exams that
+//! One exam for three roles: readings by hand, and exam roles in Rust, written from SCOPE's words, beside the entry: every role by every operation, two exams that
 //! differ in their results alone, hostile links and counts.
 
 mod common;
@@ -9,7 +9,7 @@ use common::Drawing;
 use sitjorbe::raw::{Asked, LentMesh, Settings};
 use sitjorbe::{ffi, Exam, Memory, Node, Places, Refusal, NO_THRESHOLD, OFF};
 
-// ---- paper 8
+// ---- exam roles
 
 /// "a loop number past those listed, or front links out of range or not inverse to each other, give an empty loop": the loops of three nodes or more, each
 /// from its smallest id, found by marking what was passed.
@@ -58,17 +58,17 @@ fn refused(refusal: u32) -> ffi::ExamAnswer {
     ffi::ExamAnswer { refusal, ..NOTHING }
 }
 
-/// An exam as the paper has it: what is answered, the figures moved, and the reply list.
-struct Paper<'a> {
+/// An exam as SCOPE has it: what is answered, the figures moved, and the reply list.
+struct Rule<'a> {
     mesh: LentMesh<'a>,
     model: Model,
     figures: [u32; 2],
     reply: Vec<u32>,
 }
 
-impl<'a> Paper<'a> {
-    fn of(lent: &'a ExamLists) -> Paper<'a> {
-        Paper { mesh: lent.mesh(), model: lent.model(), figures: lent.figures(), reply: lent.reply.list().to_vec() }
+impl<'a> Rule<'a> {
+    fn of(lent: &'a ExamLists) -> Rule<'a> {
+        Rule { mesh: lent.mesh(), model: lent.model(), figures: lent.figures(), reply: lent.reply.list().to_vec() }
     }
 
     /// "Role 1, the desk, may begin the exam, enter, withdraw and read. Role 2 reads everything. Role 3 reads nodes, quads and loops only." "20 for an unknown
@@ -147,11 +147,11 @@ fn bits(r: ffi::ExamAnswer) -> ([u64; 3], [u32; 10]) {
     ([r.x.to_bits(), r.y.to_bits(), r.length as u64], numbers)
 }
 
-/// Asks the library and the paper: answer, reply list, thresholds and figures agree, and nothing else is written.
+/// Asks the library and the model: answer, reply list, thresholds and figures agree, and nothing else is written.
 fn agree(lent: &mut ExamLists, asked: Asked) -> u32 {
-    let mut paper = Paper::of(lent);
-    let expected = paper.answer(asked);
-    let Paper { model, figures, reply, .. } = paper;
+    let mut rule = Rule::of(lent);
+    let expected = rule.answer(asked);
+    let Rule { model, figures, reply, .. } = rule;
     let answer = lent.ask(asked);
     assert_eq!(bits(answer), bits(expected), "{asked:?} {model:?}");
     assert_eq!((lent.thresholds.list(), lent.figures()), (&model.list[..], figures), "{asked:?} {model:?}");
@@ -166,7 +166,7 @@ fn asked(role: u32, operation: u32, item: u32) -> Asked {
 
 // ---- by hand
 
-/// What is read into the paper where it is silent, each on its smallest input: the exam, what is asked, and the refusal.
+/// What is read into the rule where it is silent, each on its smallest input: the exam, what is asked, and the refusal.
 #[test]
 fn readings() {
     let quad = [0, 0, 0, 9];

@@ -1,4 +1,4 @@
-//! Paper 3, the nearest edge by name: its readings by hand, and generated outlines beside two models. One works in whole numbers and is exact;
+//! The nearest edge by name: its readings by hand, and generated outlines beside two models. One works in whole numbers and is exact;
 //! the other has the reference's float operations. Both list every segment by its name and take the least, by distance, then loop, then place.
 
 mod common;
@@ -207,7 +207,7 @@ fn rectangles_beside_whole_numbers() {
 
 // ---- with the reference's floats
 
-/// Document 01's distance of a point from a segment.
+/// SCOPE's distance of a point from a segment.
 fn float_distance(p: [f64; 2], a: [f64; 2], b: [f64; 2]) -> f64 {
     let ab = [b[0] - a[0], b[1] - a[1]];
     let length2 = ab[0] * ab[0] + ab[1] * ab[1];

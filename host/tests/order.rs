@@ -1,4 +1,4 @@
-//! Presentation orders: paper 10 in Rust, written from its words, beside the entry; on real runs also the front gone through quad by quad.
+//! Presentation orders: presentation order in Rust, written from SCOPE's words, beside the entry; on real runs also the front gone through quad by quad.
 
 mod common;
 
@@ -34,7 +34,7 @@ impl Random {
     }
 }
 
-// ---- paper 10
+// ---- presentation order
 
 /// A quad's steps, run a, b, d, c: a to b, b to d, d to c, c to a.
 fn steps(quads: &[u32], quad: usize) -> [[u32; 2]; 4] {
@@ -112,7 +112,7 @@ fn placing(run: &Run) -> Vec<u32> {
     (0..run.quads.len() as u32 / 4).collect()
 }
 
-/// Document 01's book, its front edges alone: for each quad the quads that laid an edge which it took off.
+/// The exact book, its front edges alone: for each quad the quads that laid an edge which it took off.
 fn by_the_book(run: &Run) -> Vec<BTreeSet<usize>> {
     let mut nodes = run.sampled as u32;
     let mut layer: HashMap<[u32; 2], usize> = HashMap::new();

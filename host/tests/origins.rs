@@ -1,4 +1,4 @@
-//! Paper 9: which loop of the outline a node came from. The paper's readings, runs beside a model written from the paper, and what the model's check finds.
+//! Origins: which loop of the outline a node came from. Its readings, runs beside a model written from SCOPE, and what the model's check finds.
 
 mod common;
 

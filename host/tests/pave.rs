@@ -1,4 +1,4 @@
-//! Whole runs through the wrappers: document 01's examples, each end that small places can reach, every refusal, and guards.
+//! Whole runs through the wrappers: the worked examples, each end that small places can reach, every refusal, and guards.
 
 mod common;
 
@@ -10,16 +10,16 @@ use common::{list_lengths, refused, said, used, Drawing, Lengths, Lent, RunPlace
 use sitjorbe::raw::{contains, field, is_sound, pave_numbers, Mesh, Outline, Settings};
 use sitjorbe::{ffi, End, Memory, Places, Refusal, TooManyPlaces};
 
-/// The places that document 01's program lends; a file has at most 248 points.
+/// The places that the program lends; a file has at most 248 points.
 const PROGRAM: Places = Places { field_nodes: 1_600, nodes: 800, quads: 800, edges: 2_400, points: 248 };
 
-/// Document 01's settings for its worked square.
+/// SCOPE's settings for its worked square.
 const USUAL: Settings = Settings { size: 1.0, sweeps: 400, passes: 600 };
 
 /// Just what the worked square needs.
 const SQUARE: Places = Places { field_nodes: 49, nodes: 9, quads: 4, edges: 12, points: 4 };
 
-/// A mesh as document 01 lists it.
+/// A mesh as SCOPE lists it.
 fn listing(mesh: &Mesh<'_>) -> String {
     let counts = [mesh.node_count(), mesh.quad_count(), mesh.front_count()].map(|n| n.to_string()).join(" ");
     let mut text = format!("mesh {counts} {} {}\n", mesh.end(), if mesh.is_whole() { "whole" } else { "open" });

@@ -1,4 +1,4 @@
-//! How much to lend, beside a model of its own, written from document 01, and beside the refusals 9 and 10 of the library itself; and the copy of the counts in
+//! How much to lend, beside a model of its own, written from SCOPE, and beside the refusals 9 and 10 of the library itself; and the copy of the counts in
 //! the tools.
 
 mod common;

@@ -1,4 +1,4 @@
-//! Every small quad beside a model of its own, written from the paper: in floats as the paving's test is described, and in integers.
+//! Every small quad beside a model of its own, written from SCOPE: in floats as the paving's test is described, and in integers.
 
 mod common;
 

@@ -1,4 +1,4 @@
-//! Paper 4's judgement: its readings worked out by hand, refusals first, and generated outlines beside a model that works out common
+//! The judgement of soundness: its readings worked out by hand, refusals first, and generated outlines beside a model that works out common
 //! points as sets and inside as a winding number (tests/common/sound.rs).
 
 mod common;

@@ -1,5 +1,5 @@
-//! The front stepped by hand: document 02's paper 11 on small meshes, its refusals in their order, and the clauses of 23 one by one and in pairs. What 23 asks is
-//! written here from the paper; steps beside the reference are in differential/steps.rs.
+//! The front stepped by hand: hand stepping on small meshes, its refusals in their order, and the clauses of 23 one by one and in pairs. What 23 asks is
+//! written here from SCOPE; steps beside the reference are in differential/steps.rs.
 
 mod common;
 
@@ -46,7 +46,7 @@ impl Owned {
         vec![bits(xs), bits(ys), bits(next), bits(prev), bits(origins), bits(quads), bits(edges)]
     }
 
-    /// Paper 11's 23, clause by clause.
+    /// Refusal 23, clause by clause.
     fn is_unsound(&self) -> bool {
         let MeshCounts { nodes, quads, edges, front } = self.counts;
         let n = nodes as usize;
@@ -399,7 +399,7 @@ fn refusals_in_their_order() {
     assert_eq!(refusals(&floor, &mesh, [3, 4]), [0, 0]);
 }
 
-/// The meshes of paper 11's table: two nodes, and one change for each clause.
+/// The meshes of refusal 23: two nodes, and one change for each clause.
 #[test]
 fn the_smallest_meshes_of_23() {
     let (floor, _) = square();
@@ -524,7 +524,7 @@ fn damage(rng: &mut Rng, mesh: &mut Owned) {
     }
 }
 
-/// Damaged meshes, with one change or two: the refusal is the one that the paper names, with nothing written; and a mesh that is stepped passes 23 again.
+/// Damaged meshes, with one change or two: the refusal is the one that SCOPE names, with nothing written; and a mesh that is stepped passes 23 again.
 #[test]
 fn damaged_meshes() {
     let drawings = [

@@ -1,4 +1,4 @@
-//! The motor bowl: paper 12 in Rust (common/steps.rs), with fractions, beside the entry; on floats of every kind, on runs, and on lists that
+//! The motor bowl: bowl steps in Rust (common/steps.rs), with fractions, beside the entry; on floats of every kind, on runs, and on lists that
 //! are no mesh.
 
 mod common;

@@ -1,4 +1,4 @@
-//! Thresholds that come and go: readings by hand, refusals, and paper 6 in Rust, written from its words, beside the entry. The model keeps
+//! Thresholds that come and go: readings by hand, refusals, and thresholds in Rust, written from SCOPE's words, beside the entry. The model keeps
 //! no figure: it works both out afresh from the thresholds that stand, after each event.
 
 mod common;
@@ -40,7 +40,7 @@ fn agree(lent: &mut ExamLists, model: &mut Model, event: Event) -> u32 {
 
 const WRAPPED: [u32; 2] = [u32::MAX, u32::MAX - 4];
 
-/// What is read into the paper where it is silent, each on its smallest input: nodes, quads, list and figures lent, the event, and what is
+/// What is read into the rule where it is silent, each on its smallest input: nodes, quads, list and figures lent, the event, and what is
 /// answered and left.
 #[test]
 fn readings() {

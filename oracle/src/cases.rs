@@ -1,4 +1,4 @@
-//! The cases of the fixed list. `expect` says what document 01 foretells; `add` takes what the reference answers.
+//! The cases of the fixed list. `expect` says what SCOPE foretells; `add` takes what the reference answers.
 
 use crate::file::{check_of, seal};
 use crate::fixed::{Draft, List};
@@ -36,7 +36,7 @@ pub fn all(list: &mut List) {
     generated(list);
 }
 
-// --- document 01's examples, and the inputs of docs/DECISIONS.md ---
+// --- the worked examples, and the inputs of docs/DECISIONS.md ---
 
 fn worked_examples(list: &mut List) {
     list.expect("still whole", "square 2 by 2", Draft::of(&SQUARE).file());
@@ -63,7 +63,7 @@ fn readings(list: &mut List) {
     list.add("reading 14 branches tie", Draft::of(&tie).size(2.0).file());
 }
 
-/// Paper 4: outlines of which the reference leaves no loop, whatever the width of the slit's mouth. `e` is half of it, `f` its height.
+/// Outlines of which the reference leaves no loop, whatever the width of the slit's mouth. `e` is half of it, `f` its height.
 fn unsound(list: &mut List) {
     let slit = |e: f64, f: f64| {
         let points = [[-1.0, -2.0], [1.0, -2.0], [1.0, 0.0], [-e, f], [0.0, -1.0], [e, f], [-1.0, 0.0]];

@@ -174,7 +174,7 @@ fn left_normal(p: [f64; 2], q: [f64; 2]) -> [f64; 2] {
     [-dy / length, dx / length]
 }
 
-/// The front after the quads that both runs begin with, by document 01's book.
+/// The front after the quads that both runs begin with, by the exact book.
 fn common_front(start: Run, [run, other]: [&Run; 2]) -> BTreeMap<usize, usize> {
     let mut next: BTreeMap<usize, usize> = start.front.into_iter().collect();
     let near = |&id: &usize| farthest(&[run.nodes[id]], &[other.nodes[id]]) <= LAST_BITS;

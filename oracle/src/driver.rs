@@ -1,6 +1,6 @@
-//! The driver, a child of each build: document 01's entries over the reference's private items.
+//! The driver, a child of each build: SCOPE's entries over the reference's private items.
 //!
-//! The refusals, the ends and the counts needed before anything is built are written from document 01; what is computed
+//! The refusals, the ends and the counts needed before anything is built are written from SCOPE; what is computed
 //! after them is the reference's. The counts are compared with what the reference then builds.
 
 use super::{bounds, distance, Cell, CrossField, Domain, EdgeIndex, NodeIndex, Options, Paving, Sizing, TwoDError};
@@ -49,7 +49,7 @@ impl Region {
         Ok(self.domain.distance_to_boundary(p))
     }
 
-    /// The grid that document 01 gives the field; 7 where the box has no width or no height.
+    /// The grid that SCOPE gives the field; 7 where the box has no width or no height.
     fn grid(&self, size: f64) -> Result<Grid, Refusal> {
         let (xmin, xmax, ymin, ymax) = bounds(&self.domain).map_err(|_| Refusal(7))?;
         let count = |extent: f64, h: f64| ((extent / h).ceil() as u64).max(2) + 3;
@@ -102,12 +102,12 @@ impl Field {
     fn build(region: &Region, size: f64, sweeps: u64) -> Field {
         let options = Options { field_sweeps: sweeps as usize };
         let field = CrossField::new_with_options(&region.domain, &Sizing { size, all_quad: false }, &options)
-            .expect("the reference builds a field that document 01 doesn't refuse");
+            .expect("the reference builds a field that isn't refused");
         let grid = region.grid(size).expect("checked before");
         assert_eq!(
             (grid.h.to_bits(), grid.nx, grid.ny),
             (field.h.to_bits(), field.nx as u64, field.ny as u64),
-            "the grid as document 01 has it, and as the reference built it"
+            "the grid as SCOPE has it, and as the reference built it"
         );
         Field { field }
     }

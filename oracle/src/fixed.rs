@@ -60,7 +60,7 @@ pub struct List {
 }
 
 impl List {
-    /// A file of which document 01 says what the first line says.
+    /// A file of which SCOPE says what the first line says.
     pub fn expect(&mut self, expected: &str, what: &str, bytes: Vec<u8>) {
         let found = verdict(&listing(&bytes));
         assert_eq!(found, expected, "{what}");

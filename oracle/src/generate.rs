@@ -281,7 +281,7 @@ fn with_holes(rng: &mut Rng) -> Loops {
     loops
 }
 
-/// Paper 4's square with a slit, at any scale: its mouth open, shut, crossed or overlapping, by the least float or by more; from any point on, either
+/// The square with a slit, at any scale: its mouth open, shut, crossed or overlapping, by the least float or by more; from any point on, either
 /// way round.
 fn slits(rng: &mut Rng) -> Case {
     let width = match rng.below(4) {

@@ -1,6 +1,6 @@
-//! The oracle: the reference's own text, cut out of its source by oracle/cut, and a driver that answers in document 01's terms.
+//! The oracle: the reference's own text, cut out of its source by oracle/cut, and a driver that answers in SCOPE's terms.
 //!
-//! `patched` has document 01's stand-ins for the angle functions, and is what the port must equal bit for bit; `plain` has the
+//! `patched` has SCOPE's stand-ins for the angle functions, and is what the port must equal bit for bit; `plain` has the
 //! Rust's own. Both offer the same functions and types (driver.rs).
 
 pub mod cases;
@@ -12,7 +12,7 @@ pub mod live;
 pub mod stand_ins;
 pub mod terms;
 
-/// Paper 4's judgement, in whole numbers of any size, which the host's tests make too.
+/// The judgement of soundness, in whole numbers of any size, which the host's tests make too.
 #[path = "../../host/tests/common/sound.rs"]
 pub mod sound;
 

@@ -1,4 +1,4 @@
-//! Document 01's stand-ins for the angle functions, each operation rounded once. The patched build calls these.
+//! SCOPE's stand-ins for the angle functions, each operation rounded once. The patched build calls these.
 
 /// Seed of a tangent (s, t).
 pub fn seed(s: f64, t: f64) -> [f64; 2] {

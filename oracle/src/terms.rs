@@ -1,4 +1,4 @@
-//! What is lent and what is answered, in document 01's terms, and the listing. Nothing here knows the reference.
+//! What is lent and what is answered, in SCOPE's terms, and the listing. Nothing here knows the reference.
 
 use std::fmt;
 
@@ -12,7 +12,7 @@ impl fmt::Display for Refusal {
     }
 }
 
-/// How many points an outline has at most (document 02, paper 5).
+/// How many points an outline has at most (SCOPE, outlines of 4,096 points).
 pub const MOST_POINTS: usize = 4_096;
 
 /// An outline as it is lent: coordinates x, y, x, y, .. of the outer loop and of all holes, and each hole's number of points.
@@ -24,7 +24,7 @@ pub struct Outline<'a> {
 }
 
 impl<'a> Outline<'a> {
-    /// Refusal 1: lists of odd length, hole lengths that don't add up, more points in all than paper 5 allows.
+    /// Refusal 1: lists of odd length, hole lengths that don't add up, more points in all than 4,096.
     pub fn check_lists(&self) -> Result<(), Refusal> {
         if self.outer.len() % 2 == 1 || self.holes.len() % 2 == 1 {
             return Err(Refusal(1));
@@ -194,7 +194,7 @@ impl End {
     }
 }
 
-/// What a step of the front by hand did with the edge named (document 02, paper 11).
+/// What a step of the front by hand did with the edge named (SCOPE, hand stepping).
 #[derive(Clone, Copy, Debug, PartialEq, Eq, PartialOrd, Ord)]
 pub enum Outcome {
     Placed,
@@ -221,7 +221,7 @@ pub struct Run {
     pub edges: Vec<(usize, usize)>,
     pub loops: Vec<Vec<usize>>,
     pub end: End,
-    /// `front_loops` lists nothing, which is document 01's word and the reference's; and the outline is sound (document 02, paper 4).
+    /// `front_loops` lists nothing, which is SCOPE's word and the reference's; and the outline is sound (SCOPE, sound outlines).
     pub whole: bool,
 }
 

@@ -33,7 +33,7 @@ def ask(*words, data=""):
 
 SQUARE = "0,0\n2,0\n2,2\n0,2\n"
 
-# Document 01's listing of it, which the program is held to whenever it is checked.
+# The listing of it, which the program is held to whenever it is checked.
 SQUARE_LISTING = (ROOT / "crates/pave/stdout").read_text()
 
 LEAST = 5e-324

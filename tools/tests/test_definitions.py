@@ -1,4 +1,4 @@
-"""What the theorem of demand 3 rests on: docs/READING.md names every file of it, and its two numbers."""
+"""What the theorem of the exact books rests on: docs/READING.md names every file of it, and its two numbers."""
 
 import re
 import unittest

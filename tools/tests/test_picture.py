@@ -86,7 +86,7 @@ SPOTS = listings.Listing(
 
 
 def by_paper(loops, size, quads):
-    """Paper 9's numbers: the samples loop after loop, then each new node by its quad's node a."""
+    """The origins: the samples loop after loop, then each new node by its quad's node a."""
     numbers = []
     for number, points in enumerate(loops):
         sides = (math.sqrt((p.x - q.x) * (p.x - q.x) + (p.y - q.y) * (p.y - q.y)) for p, q in zip(points, points[1:] + points[:1]))

@@ -1,4 +1,4 @@
-"""The built program: document 01's square, endless input, and generated files beside the oracle; and `tools/pave` over it, which builds it."""
+"""The built program: the worked square, endless input, and generated files beside the oracle; and `tools/pave` over it, which builds it."""
 
 import os
 import pathlib
@@ -80,7 +80,7 @@ class Program(unittest.TestCase):
         self.assertIn(b"<title>Paved field</title>", run(TOOLS / "pave", "-", "-", "--size", "1", data=SQUARE.encode())[1])
 
     def test_slits_are_paved_and_said(self):
-        """Paper 4's family: the mesh is the same at every width of the mouth, and whole only where the two sides don't meet."""
+        """The square with a slit: the mesh is the same at every width of the mouth, and whole only where the two sides don't meet."""
         with tempfile.TemporaryDirectory() as folder:
             points, picture = pathlib.Path(folder, "slit.csv"), pathlib.Path(folder, "slit.svg")
             for e, f, word, unsound in SLITS:

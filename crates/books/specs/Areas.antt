@@ -1,4 +1,4 @@
--- From paper 14's figures to every balance of areas: where the book went through, and the figures of its start are those of the quads and of the front left,
+-- From the figures of the edges to every balance of areas: where the book went through, and the figures of its start are those of the quads and of the front left,
 -- its areas balance in whatever whole numbers coordinates are measured (`areas_balance`).
 use Rattle.std.specs.Prelude.{[], ℕ, ◌<◌, length}
 use Rattle.topology.specs.Links.{at}

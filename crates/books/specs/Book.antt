@@ -1,4 +1,4 @@
--- Document 01's book. It is fed the outline and size, and the quads and node coordinates that a run answers; it never looks at the run's front.
+-- The exact book. It is fed the outline and size, and the quads and node coordinates that a run answers; it never looks at the run's front.
 -- Definitions only.
 use Rattle.std.specs.Prelude.{Bool, false, ◌&&◌, ◌||◌, cond, List, [], ◌∷◌, ◌++◌, ℕ, zero, suc, ◌*◌, ℤ, pos, ◌+ℤ◌, eqb, length, get_or, Float}
 use Rattle.std.proofs.Math.Option.{Option, none, some}

@@ -1,4 +1,4 @@
--- Demand 3: what holds of a run's books before the first quad, after each one, and where the run stops. Statements only.
+-- What holds of a run's books before the first quad, after each one, and where the run stops. Statements only.
 use Rattle.std.specs.Prelude.{◌≡◌, Bool, true, not, ◌↔◌, ℕ, pos, ◌+◌, ◌*◌, ◌<◌, ◌≤◌, ◌+ℤ◌, T, length, take, Float}
 use Rattle.std.proofs.Math.Option.{some}
 use mathlib.Core.List.{List, map, flatten}
@@ -46,7 +46,7 @@ pub record HoldsAfter (o : Outline) (size : Float) (s : State) (k : ℕ) : Type 
   pub book : Book
   -- each step of the book went through
   pub steps : book_after o size s k ≡ some book
-  -- paper 14: for every u and v, the steps from u to v less those back are on the start's front what they are in the quads and on the front left
+  -- edge balance: for every u and v, the steps from u to v less those back are on the start's front what they are in the quads and on the front left
   pub edges : (u v : ℕ) → net u v (start_book o size).front ≡ net u v (quads_edges s k) +ℤ net u v book.front
   -- the start's area is the sum of the quads' and of the front left
   pub areas : front_area units (start_book o size) ≡ quads_area units book s k +ℤ front_area units book
@@ -68,7 +68,7 @@ pub record Closes (o : Outline) (s : State) (b : Book) : Type 0 where
   pub edges : s.counts.front ≡ length b.front
   pub loops : (L : LoopsHold o b) → LongLoops L.loops (front_loops s)
 
--- demand 3 of a run that left the state s: before the first quad and after each one, and at the end
+-- the exact books of a run that left the state s: before the first quad and after each one, and at the end
 pub record BooksHold (o : Outline) (size : Float) (s : State) : Type 0 where
   pub each : (k : ℕ) → k ≤ s.counts.quads → HoldsAfter o size s k
   pub closes : (b : Book) → book_after o size s s.counts.quads ≡ some b → Closes o s b
@@ -88,7 +88,7 @@ pub record LoopsAnswered (o : Outline) (b : Book) (n m : ℕ) (loops lengths : L
   -- whole exactly if every loop of the book has two nodes, and the outline as drawn is sound
   pub whole : (L : LoopsHold o b) → (said ≡ true) ↔ (All (λ l. length l ≡ 2) L.loops × (outline_sound o ≡ true))
 
--- demand 3 of a run that left the state s and answered so of its loops
+-- the exact books of a run that left the state s and answered so of its loops
 pub record BooksAnswered (o : Outline) (size : Float) (s : State) (n m : ℕ) (loops lengths : List ℕ) (said : Bool) : Type 0 where
   pub books : BooksHold o size s
   pub front : (b : Book) → book_after o size s s.counts.quads ≡ some b → LoopsAnswered o b n m loops lengths said

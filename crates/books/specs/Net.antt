@@ -1,4 +1,4 @@
--- Paper 14: for two nodes, the steps from the first to the second less those from the second to the first. Definitions only.
+-- Edge balance: for two nodes, the steps from the first to the second less those from the second to the first. Definitions only.
 use Rattle.std.specs.Prelude.{cond, List, [], ◌∷◌, ◌++◌, ℕ, ◌+◌, ℤ}
 use Rattle.laws.specs.Loop.{for_up}
 use Rattle.topology.specs.Balance.{difference}

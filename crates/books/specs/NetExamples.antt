@@ -1,4 +1,4 @@
--- Paper 14's figures worked out on its smallest input, the unit square at size 1: one quad, and a loop of two is left, which nets nothing.
+-- The figures of the edges worked out on their smallest input, the unit square at size 1: one quad, and a loop of two is left, which nets nothing.
 use Rattle.std.specs.Prelude.{List, [], ◌∷◌, ◌≡◌, refl, pos, negsuc}
 use Rattle.topology.specs.Balance.{difference}
 use Rattle.books.specs.Book.{Edge, edge, Quad, quad_edges}

@@ -1,4 +1,4 @@
--- The figures of paper 14: each is the sum of a weight that changes its sign with the direction (`net_sum`), and lists of edges with the same figures have
+-- The figures of the edges: each is the sum of a weight that changes its sign with the direction (`net_sum`), and lists of edges with the same figures have
 -- the same sum of every such weight (`same_net`).
 use Rattle.std.specs.Prelude.{◌≡◌, ℕ, ◌+◌, ℤ, pos, ◌+ℤ◌}
 use mathlib.Core.List.{List, [], ◌∷◌, ◌++◌}

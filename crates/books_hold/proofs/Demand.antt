@@ -1,4 +1,4 @@
--- Demand 3 met, in its own words.
+-- The exact books, in the words in which they were asked for.
 use Rattle.std.specs.Prelude.{◌≡◌}
 use Rattle.domain.specs.declared.Settings.{Settings}
 use Rattle.domain.specs.Outline.{Outline}

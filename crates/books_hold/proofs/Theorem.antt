@@ -1,4 +1,4 @@
--- THE THEOREM of demand 3. What it says: crates/books/specs/Holds.antt, over the book of crates/books/specs/Book.antt. Demanded.antt gives
+-- THE THEOREM of the exact books. What it says: crates/books/specs/Holds.antt, over the book of crates/books/specs/Book.antt. Demanded.antt gives
 -- it in the demand's own words, and Runs.antt what else holds of a run.
 use Rattle.std.specs.Prelude.{◌≡◌}
 use Rattle.domain.specs.declared.Settings.{Settings}
@@ -13,7 +13,7 @@ use Rattle.books_hold.specs.Runs.{accepted_run_lem}
 use Rattle.books_hold.proofs.Runs.{advance_holds}
 
 -- THE EXACT BOOKS OF EVERY RUN HOLD. Take any outline o, any settings (the size, the sweeps and the passes allowed) and any lists f and
--- lent, of whatever lengths and contents, that document 01 refuses none of. The reference's run on them, `run_of`, leaves a state; and
+-- lent, of whatever lengths and contents, of which nothing is refused. The reference's run on them, `run_of`, leaves a state; and
 -- before its first quad, after each one and where it stops, the book that is fed the outline, the size and the quads and node coordinates
 -- answered has gone through, its edges net and its areas balance, its quads turn left with sine above 1/3, its front is one even closed
 -- loop for each loop of the outline, and its counts agree; in the end its nodes, front, counts and loops are the run's. That the

@@ -1,4 +1,4 @@
--- What a stage gives of edges and of coordinates: paper 14's figures, from which the areas follow (books' Areas); the book has the nodes where the run
+-- What a stage gives of edges and of coordinates: the figures of the edges, from which the areas follow (books' Areas); the book has the nodes where the run
 -- answers them, so each quad turns left.
 use Rattle.std.specs.Prelude.{ℕ, ◌<◌, List, ◌≡◌, ℤ, ◌+ℤ◌, take, get_or, Float}
 use Rattle.std.proofs.Common.{sym, ◌∙◌, ap₂, arith, get_or-take}

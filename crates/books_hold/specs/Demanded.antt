@@ -1,4 +1,4 @@
--- Demand 3 in its own words, which except corners at a side shorter than 1e-150. It follows from `BooksHold`, which has no exception.
+-- The exact books in the words in which they were asked for, which except corners at a side shorter than 1e-150. It follows from `BooksHold`, which has no exception.
 use Rattle.std.specs.Prelude.{◌≡◌, ℕ, ◌+◌, ◌*◌, ◌<◌, ◌≤◌, ◌+ℤ◌, T, length, Float}
 use Rattle.std.proofs.Math.Option.{some}
 use Rattle.domain.specs.Outline.{Outline}

@@ -24,7 +24,7 @@ pub record AcceptedRun (o : Outline) (size : Float) (lent : State) : Type 0 wher
 
 -- what holds of a run, beside its books
 pub record RunFacts (o : Outline) (size : Float) (field : FieldRecord) (passes : ℕ) (lent : State) (run : EndedPaving) : Type 0 where
-  -- it ends as document 01 has it
+  -- it ends as SCOPE has it
   pub ends : Ended o size field passes (from_boundary o size lent) run.state run.end
   pub few : run.state.counts.quads ≤ most_quads
   -- every node is a pair of doubles within 1,001

@@ -29,7 +29,7 @@ use Rattle.books.specs.Snapshot.{snapshot_frame, snapshot_sound}
 abbrev pub points_in : State → Quad → Corners
 points_in s q = record { a = node s q.a; b = node s q.b; d = node s q.d; c = node s q.c }
 
--- four points at which every book's quad turns left as demand 3 has it
+-- four points at which every book's quad turns left as the exact books have it
 abbrev pub Turns : Corners → Type 0
 Turns p = (b : Book) (q : Quad) → corners_in b q ≡ p → QuadHolds b q
 

@@ -1,4 +1,4 @@
--- Paper 12: a lent mesh in whole steps of 1/64 degree, the quads that the bowl can't show, and the answer. Definitions only.
+-- Bowl steps: a lent mesh in whole steps of 1/64 degree, the quads that the bowl can't show, and the answer. Definitions only.
 use Rattle.std.specs.Prelude.{Bool, ◌&&◌, cond, List, ℕ, ◌+◌, ◌*◌, eqb, leb, ℤ, pos, get_or, set, Float, Option, Some, None}
 use Rattle.std.specs.Int.Signed.{lt_z}
 use Rattle.std.specs.Float.{nan}

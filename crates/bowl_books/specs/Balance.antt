@@ -1,4 +1,4 @@
--- Paper 12: the areas in whole steps balance against the stepped starting front, just as the floats' do, whether or not 25 refuses the mesh. It follows from paper 14's
+-- Bowl steps: the areas in whole steps balance against the stepped starting front, just as the floats' do, whether or not 25 refuses the mesh. It follows from the edges'
 -- figures by the law that gives the floats' areas too; the definitions are the same with the nearest step in place of the units.
 use Rattle.std.specs.Prelude.{List, ◌≡◌, ℕ, ◌<◌, ◌≤◌, ℤ, ◌+ℤ◌, get_or, take, Float}
 use Rattle.std.proofs.Math.Option.{some}

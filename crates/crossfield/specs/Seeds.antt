@@ -1,4 +1,4 @@
--- Seeds and marks: each node's value from its nearest segment, by document 01's stand-ins for the angle functions. Definitions only.
+-- Seeds and marks: each node's value from its nearest segment, by SCOPE's stand-ins for the angle functions. Definitions only.
 use Rattle.std.specs.Prelude.{Bool, ◌&&◌, cond, ℕ, set, Float}
 use Rattle.std.specs.Float.Ieee.{le}
 use Rattle.laws.specs.Loop.{for_up}

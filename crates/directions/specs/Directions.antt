@@ -1,4 +1,4 @@
--- Paper 1: the direction query over a whole list of points and targets, its answers as floats, and refusal 14. Definitions only.
+-- Lists of directions: the direction query over a whole list of points and targets, its answers as floats, and refusal 14. Definitions only.
 use Rattle.std.specs.Prelude.{Bool, not, ◌||◌, cond, List, Result, Ok, Err, [], ◌∷◌, ◌++◌, ◌≡◌, ℕ, ◌*◌, ◌%◌, ◌<◌, ltb, eqb, length, take, drop, Float}
 use Rattle.laws.specs.Loop.{for_up}
 use Rattle.numbers.specs.Float.{zero_f, to_float}

@@ -1,4 +1,4 @@
-// Paper 1: directions for a whole list of points and targets. The field record is checked once for the list.
+// Lists of directions: directions for a whole list of points and targets. The field record is checked once for the list.
 #![tactic(auto)]
 
 ghost use Rattle.std.specs.Prelude.{◌≡◌, ◌+◌, ◌≤◌, length};

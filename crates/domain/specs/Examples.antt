@@ -1,4 +1,4 @@
--- The nearest edge by name, computed from the definition: what is read into paper 3, each on its smallest input. Coordinates run x then y, a point after
+-- The nearest edge by name, computed from the definition: how its rule is read, each on its smallest input. Coordinates run x then y, a point after
 -- another. Assumes nothing.
 use Rattle.std.specs.Prelude.{◌≡◌, refl, List, [], ◌∷◌, ℕ, Float}
 use Rattle.std.specs.Float.Ieee.{lt, le, add, sub, mul, div, eq, of_bits, round, odd, size, units, climb}

@@ -1,4 +1,4 @@
--- The outline as it is lent, its loops, and the refusals 1 to 4 in document 01's order. Definitions only.
+-- The outline as it is lent, its loops, and the refusals 1 to 4 in SCOPE's order. Definitions only.
 use Rattle.std.specs.Prelude.{Bool, false, not, ◌||◌, cond, List, ◌≡◌, ℕ, zero, suc, ◌+◌, ◌*◌, ◌/◌, ◌%◌, ◌≤◌, ltb, eqb, length, get_or, take, drop, Float}
 use Rattle.std.specs.Float.{nan}
 use Rattle.std.specs.Float.Ieee.{lt}

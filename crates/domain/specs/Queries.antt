@@ -77,7 +77,7 @@ nearest_in_loop p s k best = for_up (points s) (segment_turn p s k) best
 abbrev pub hole_turn : Outline → Point → ℕ → Near → Near
 hole_turn o p k best = nearest_in_loop p (hole_at o k) (suc k) best
 
--- `nearest_segment`, with the segment's name (paper 3): the outer loop's segments, then each hole's
+-- `nearest_segment`, with the segment's name (the nearest edge by name): the outer loop's segments, then each hole's
 unfoldable pub nearest_segment : Outline → Point → Near
 nearest_segment o p = for_up (length o.lens) (hole_turn o p) (nearest_in_loop p o.outer 0 nowhere)
 
@@ -87,7 +87,7 @@ distance_to_boundary o p = (nearest_segment o p).distance
 
 -- ---- the answers
 
--- refused with document 01's number, or answered where that is 0
+-- refused with its number, or answered where that is 0
 abbrev pub answer_by : {A : Type 0} → (ℕ → A) → A → ℕ → A
 answer_by refused answer zero = answer
 answer_by refused answer (suc n) = refused (suc n)

@@ -1,4 +1,4 @@
--- The refusals by their numbers: document 01's up to 13, then the papers'. Definitions only.
+-- The refusals by their numbers: those of a run and of a file up to 13, then those of the other entries. Definitions only.
 use Rattle.std.specs.Prelude.{ℕ, Result, Ok, Err}
 use Rattle.domain.specs.declared.Refusal.{Refusal}
 use Rattle.domain.specs.declared.Refusal.TheVariants.{Lists, ShortLoop, NotFinite, TooFar, NoSize, SizeOutOfRange, Flat, TooManySweeps, FieldNeedsSpace, FrontNeedsSpace, NoFieldRecord, WrongCheck, WrongFile, AnswerLists, NoNode, ThresholdTooHigh, NoThreshold, NoQuad, WeightTooHigh, NotAllowed, NotEachOnce, TooEarly, UnsoundMesh, NotOnFront, NotShown, FoursNeedSpace}

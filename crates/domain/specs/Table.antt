@@ -1,4 +1,4 @@
--- The lines of document 01's table of edges that this layer decides, computed from the definitions.
+-- The lines of SCOPE's table of edges that this layer decides, computed from the definitions.
 use Rattle.std.specs.Prelude.{◌≡◌, refl, true, false, [], ◌∷◌}
 use Rattle.std.specs.Float.Ieee.{of_bits, lt, add, sub, mul, div}
 use Rattle.laws.specs.Loop.{for_up, any_up}

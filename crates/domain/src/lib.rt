@@ -39,7 +39,7 @@ pub struct Search {
     pub squared: f64,
 }
 
-// What an exam is set to. Its constants are document 01's limits and factors.
+// What an exam is set to. Its constants are SCOPE's limits and factors.
 #[derive(Clone, Copy)]
 pub struct Settings {
     pub size: f64,
@@ -139,7 +139,7 @@ pub enum Refusal {
     FoursNeedSpace = 26,
 }
 
-// Its number: up to 13 document 01's, above the papers'.
+// Its number: up to 13 a run's and a file's, above the other entries'.
 impl From<Refusal> for u32 {
     ghost from_gives = { λ refusal number. number ≡ refusal_number refusal };
 

@@ -1,4 +1,4 @@
--- One corner of a quad, from a to b to c: the reference's f64 test of it, and in whole numbers what document 01 claims of it.
+-- One corner of a quad, from a to b to c: the reference's f64 test of it, and in whole numbers what SCOPE claims of it.
 -- Definitions only; Sine.antt proves that the one gives the other.
 use Rattle.std.specs.Prelude.{Bool, not, ◌&&◌, ◌*◌, ◌^◌, ℤ, pos, ◌+ℤ◌, ◌*ℤ◌, ◌-ℤ◌, Float}
 use Rattle.std.specs.Int.Signed.{lt_z}

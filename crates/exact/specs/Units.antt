@@ -1,4 +1,4 @@
--- A double as a whole number of units. A unit is the smallest double above 0, 2 ^ -1074 (document 01, "The exact books").
+-- A double as a whole number of units. A unit is the smallest double above 0, 2 ^ -1074 (SCOPE, exact books).
 -- `units x` computes. For proofs, `Val x s a` says that x is finite, has the sign s, and is a units in size; `Within K x` bounds it by K
 -- either way. Assumes nothing.
 use Rattle.std.specs.Prelude.{◌≡◌, refl, Bool, true, false, not, ◌&&◌, ℕ, zero, suc, ◌-◌, ◌+◌, ◌*◌, ◌/◌, ◌%◌, ◌^◌, ◌≤◌, ◌<◌, ℤ, pos, negsuc, neg_ℤ, T, leb, ltb, eqb, Float}

@@ -34,9 +34,9 @@ pub record ExamGiven (m : ExamMesh) (x : Results) (role : ℕ) (q : ExamRequest)
   pub masked : role ≡ 3 → masked_exit r after ≡ masked_answer m q list
   -- the results are as they were, unless the desk asked and nothing is refused
   pub unmoved : ((role ≡ 1) × (r.refusal ≡ 0) → ⊥) → left ≡ x
-  -- paper 6: figures that are those worked out afresh from the list lent are so of the list left; and once an exam has begun they are
+  -- Thresholds: figures that are those worked out afresh from the list lent are so of the list left; and once an exam has begun they are
   pub kept : Afresh (mesh_in m) x → Afresh (mesh_in m) left
   pub begun : role ≡ 1 → q ≡ Changes Begin → Afresh (mesh_in m) left
-  -- paper 7, where the role may read it
+  -- estimates, where the role may read it
   pub estimate : (k u v : ℕ) → may_read_results role ≡ true → q ≡ ReadsResults (ReadEstimate k u v)
       → EstimateGiven (mesh_in m) x.thresholds k u v (estimated r.refusal r.estimate)

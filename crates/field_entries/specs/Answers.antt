@@ -1,4 +1,4 @@
--- The answers of the field and the direction query as they cross to the host: document 01's number and the values, for each case of an answer.
+-- The answers of the field and the direction query as they cross to the host: the refusal's number and the values, for each case of an answer.
 -- Definitions only. The number 0 says that nothing is refused; the values of a refusal are 0.0 or 0.
 use Rattle.std.specs.Prelude.{List, Result, Ok, Err, ℕ, Float}
 use Rattle.numbers.specs.Float.{zero_f}

@@ -12,7 +12,7 @@ ghost use Rattle.field_entries.specs.Answers.{grid_lent, field_exit, field_numbe
 use direction::{CrossField, Grid};
 use domain::{Domain, Point};
 
-// A field record's floats and counts; its values and marks are in the lists lent. `refusal` is document 01's number, 0 where nothing is refused; on a
+// A field record's floats and counts; its values and marks are in the lists lent. `refusal` is the refusal's number, 0 where nothing is refused; on a
 // refusal all else is 0.
 #[repr(C)]
 #[derive(Clone, Copy, Default)]

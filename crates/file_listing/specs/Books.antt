@@ -1,4 +1,4 @@
--- Demand 3 and paper 9 of the program: the exact books hold of every mesh that is printed (`books_printed`), and the numbers of its nodes, which aren't
+-- Exact books and origins of the program's meshes: the exact books hold of every mesh that is printed (`books_printed`), and the numbers of its nodes, which aren't
 -- printed, never mix (`origins_printed`). Assumes nothing.
 use Rattle.std.specs.Prelude.{◌≡◌, refl, List, ℕ, zero, suc, ◌+◌, ◌*◌, T, get_or, take, drop, Float, Err, IfOk}
 use Rattle.std.proofs.Common.{sym, subst, arith, length-take, length-drop, get_or-take, get_or-drop}

@@ -1,4 +1,4 @@
--- THE PROGRAM: the bytes that it prints for the bytes of its standard input (document 01, "File and listing"). Definitions only.
+-- THE PROGRAM: the bytes that it prints for the bytes of its standard input (docs/FORMATS.md). Definitions only.
 use Rattle.std.specs.Prelude.{List, ◌≡◌, ℕ, ◌≤◌, length, take, replicate, Float, Result, Ok, Err}
 use Rattle.numbers.specs.Float.{zero_f}
 use Rattle.domain.specs.declared.Settings.{Settings}

@@ -1,4 +1,4 @@
--- Document 01's worked square as a file, computed from the definitions.
+-- The worked square as a file, computed from the definitions.
 use Rattle.std.specs.Prelude.{◌≡◌, refl, take, drop, set}
 use mathlib.Core.List.{[], ◌∷◌, ◌++◌, flatten}
 use Rattle.std.specs.Float.Ieee.{of_bits, to_bits}

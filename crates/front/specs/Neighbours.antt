@@ -1,5 +1,5 @@
 -- A node's neighbour along the front, by case: `next.get(&u)` and `prev.get(&v)` of src/alt_crossfield.rs. Its number in the lists of links is
--- document 01's; laws that join the two, and computed examples.
+-- SCOPE's; laws that join the two, and computed examples.
 use Rattle.std.specs.Prelude.{◌≡◌, refl, Bool, true, false, cond, ◌≢◌, ℕ, eqb, Option, Some, None}
 use Rattle.std.proofs.Common.{sym, ap, ◌∙◌, eqb-true, eq-eqb, ne_eqb}
 use Rattle.topology.specs.Links.{off}

@@ -1,4 +1,4 @@
--- THE THEOREM of paper 11: the exact books hold of every hand-stepped sequence that begins with a sampled outline, and 23 refuses none of its meshes.
+-- THE THEOREM of hand stepping: the exact books hold of every hand-stepped sequence that begins with a sampled outline, and 23 refuses none of its meshes.
 use Rattle.std.specs.Prelude.{List, ◌≡◌, Float}
 use Rattle.domain.specs.Outline.{Outline}
 use Rattle.direction.specs.Record.{FieldRecord}
@@ -14,7 +14,7 @@ use Rattle.hand_books.specs.Unrefused.{reached_unrefused}
 use Rattle.hand_books.specs.MoveLaws.{FromOutline, from_outline}
 use Rattle.hand_books.proofs.MoveLaws.{moves_kept}
 
--- Take any outline, any size and any lists that document 01 doesn't refuse, any field, and any list of moves: steps on named edges, be they on the front or
+-- Take any outline, any size and any lists of which nothing is refused, any field, and any list of moves: steps on named edges, be they on the front or
 -- not, and automatic passes between them. A sequence of hand steps is one whose moves are all `named`. Since it holds for every list, it holds after every
 -- move; and `BooksHold` itself speaks of the moment before the first quad, of that after each, and of where the sequence stops.
 module _ (o : Outline) (size : Float) (lent : State) (A : AcceptedRun o size lent) (field : FieldRecord) (ms : List Move) where
@@ -28,7 +28,7 @@ module _ (o : Outline) (size : Float) (lent : State) (A : AcceptedRun o size len
   pub sequence_holds : BooksHold o size left
   sequence_holds = reached_holds o size kept.lent kept.accepted kept.reached.by
 
-  -- in demand 3's own words
+  -- in the words in which the books were asked for
   pub sequence_demanded : Demanded o size left
   sequence_demanded = as_demanded o size left sequence_holds
 

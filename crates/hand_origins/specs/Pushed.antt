@@ -1,4 +1,4 @@
--- What a step writes for its new nodes is what paper 9's pushes write for the quad's corners. Assumes nothing.
+-- What a step writes for its new nodes is what the pushes of origins write for the quad's corners. Assumes nothing.
 use Rattle.std.specs.Prelude.{List, ◌≡◌, ℕ, ◌+◌, ◌-◌, ◌<◌, ◌≤◌}
 use Rattle.std.proofs.Math.Path.{refl}
 use Rattle.std.proofs.Common.{ap, eq-eqb, ne_eqb}

@@ -1,4 +1,4 @@
--- Paper 9 in a hand-stepped sequence: no front loop and no quad has nodes of two numbers, and a step keeps the numbers written.
+-- Origins in a hand-stepped sequence: no front loop and no quad has nodes of two numbers, and a step keeps the numbers written.
 use Rattle.std.specs.Prelude.{List, ◌≡◌, ℕ, ◌≤◌, Float}
 use Rattle.laws.specs.Overlay.{overlay}
 use Rattle.domain.specs.Outline.{Outline}
@@ -15,7 +15,7 @@ use Rattle.hand_books.proofs.MoveLaws.{moves_kept}
 
 -- ---- NO FRONT LOOP AND NO QUAD OF A SEQUENCE HAS NODES OF TWO NUMBERS
 
--- of every outline, size and lists that document 01 doesn't refuse, any field, and any list of moves: before the first quad, after each one and as it stops
+-- of every outline, size and lists of which nothing is refused, any field, and any list of moves: before the first quad, after each one and as it stops
 pub sequence_origins : (o : Outline) (size : Float) (lent : State) → AcceptedRun o size lent → (field : FieldRecord) (ms : List Move) (k : ℕ)
     → k ≤ (moves_on o size field ms (from_boundary o size lent)).counts.quads
     → OneOrigin o size (moves_on o size field ms (from_boundary o size lent)) k

@@ -1,4 +1,4 @@
--- Paper 11: a single placing on a named edge, and what a step answers and leaves. Definitions only.
+-- Hand stepping: a single placing on a named edge, and what a step answers and leaves. Definitions only.
 use Rattle.std.specs.Prelude.{cond, List, Result, Ok, Err, ◌≡◌, ℕ, ◌+◌, ◌-◌, leb, eqb, get_or, set, Float, Option, Some, None}
 use Rattle.laws.specs.Loop.{for_up}
 use Rattle.domain.specs.Outline.{Outline, first_of}
@@ -54,7 +54,7 @@ step_on o size field a b s = cond (eqb (hand_refusal s a b) 0) (place_on o size 
 unfoldable pub step_answer : Outline → Float → FieldRecord → ℕ → ℕ → State → Result StepOutcome ℕ
 step_answer o size field a b s = cond (eqb (hand_refusal s a b) 0) (Ok (place_on o size field a b s).outcome) (Err (hand_refusal s a b))
 
--- ---- the numbers of the nodes' loops (paper 9)
+-- ---- the numbers of the nodes' loops (origins)
 
 abbrev pub origin_turn : ℕ → ℕ → ℕ → List ℕ → List ℕ
 origin_turn number n i l = set l (n + i) number

@@ -1,4 +1,4 @@
--- In reading order: what becomes of an edge, by its number; a placing and a step; what paper 11 says of them; what the code asks; what it may use of a
+-- In reading order: what becomes of an edge, by its number; a placing and a step; what SCOPE says of them; what the code asks; what it may use of a
 -- mesh that 23 and 24 let pass; what it answers.
 pub mod Outcomes
 pub mod Hand

@@ -1,4 +1,4 @@
--- What paper 11 says of a step, as laws: 23 before 24, cap with nothing placed, full with no second attempt. Assumes nothing.
+-- What SCOPE says of a step, as laws: 23 before 24, cap with nothing placed, full with no second attempt. Assumes nothing.
 use Rattle.std.specs.Prelude.{true, false, ◌≡◌, ℕ, ◌<◌, ◌≤◌, Float, Some, None}
 use Rattle.std.proofs.Common.{le-leb}
 use Rattle.std.proofs.lemmas.Bool.{lt-leb}

@@ -1,4 +1,4 @@
--- THE THEOREM of paper 13: what holds of the list of every small quad, in the paper's own words. Assumes nothing.
+-- THE THEOREM of the small quads: what holds of the list of every small quad, in SCOPE's words. Assumes nothing.
 use Rattle.std.specs.Prelude.{◌≡◌, ℕ, ◌+◌, ◌*◌, ◌<◌}
 use Rattle.lattice.specs.Fours.{first_point, second_point, third_point, fourth_point, accepted_four, above_third, fours}
 use Rattle.lattice.specs.Same.{fours_same}

@@ -1,4 +1,4 @@
--- Worked listings, byte for byte: document 01's square, a mesh with two loops left open, one with no loop that is open all the same, and a refusal.
+-- Worked listings, byte for byte: the worked square, a mesh with two loops left open, one with no loop that is open all the same, and a refusal.
 use Rattle.std.specs.Prelude.{◌≡◌, refl, true, false, [], ◌∷◌, ◌++◌, Float, Ok, Err}
 use Rattle.std.specs.Float.{binary64}
 use Rattle.std.specs.Float.Ieee.{of_bits, to_bits}
@@ -25,7 +25,7 @@ t = of_bits binary64 0x4000_0000_0000_0000
 abbrev f : Float
 f = of_bits binary64 0x4010_0000_0000_0000
 
--- Document 01's square as the run leaves it, in lists of ten nodes and five quads.
+-- The worked square as the run leaves it, in lists of ten nodes and five quads.
 square_listed : listing (Ok (heading 9 4 2 0 true 0))
     (o ∷ i ∷ t ∷ t ∷ t ∷ i ∷ o ∷ o ∷ i ∷ f ∷ []) (o ∷ o ∷ o ∷ i ∷ t ∷ t ∷ t ∷ i ∷ i ∷ f ∷ [])
     (0 ∷ 1 ∷ 8 ∷ 7 ∷ 1 ∷ 2 ∷ 3 ∷ 8 ∷ 3 ∷ 4 ∷ 5 ∷ 8 ∷ 5 ∷ 6 ∷ 7 ∷ 8 ∷ 7 ∷ 7 ∷ 7 ∷ 7 ∷ []) (7 ∷ []) (7 ∷ [])

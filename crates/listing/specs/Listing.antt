@@ -1,4 +1,4 @@
--- The listing: the bytes that the program prints (document 01, "File and listing"), from what the run answers and the lists as it leaves
+-- The listing: the bytes that the program prints (docs/FORMATS.md), from what the run answers and the lists as it leaves
 -- them. Definitions only.
 use Rattle.std.specs.Prelude.{Bool, cond, List, [], ◌∷◌, ◌++◌, ℕ, zero, suc, ◌+◌, ◌-◌, ◌/◌, ◌%◌, min, ltb, length, take, drop, replicate, Float, Result, Ok, Err}
 use Prim.Native.Char.{code}

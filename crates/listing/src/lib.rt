@@ -1,4 +1,4 @@
-// What the program prints, written into a lent buffer: document 01's listing.
+// What the program prints, written into a lent buffer: the listing of docs/FORMATS.md.
 #![tactic(auto)]
 
 ghost use Rattle.std.specs.Prelude.{◌≡◌, [], ◌∷◌, ◌++◌, take};

@@ -16,7 +16,7 @@ use Rattle.paving.specs.Advance.{is_there}
 unfoldable pub all_off : List ℕ → List ℕ
 all_off l = replicate (length l) off
 
--- The state of a mesh as it is lent. No snapshot is lent, since there is no pass; the numbers of the nodes' loops (paper 9) are, and their places
+-- The state of a mesh as it is lent. No snapshot is lent, since there is no pass; the numbers of the nodes' loops (origins) are, and their places
 -- count as node places. So a snapshot of as many places stands in the state, and what the numbers are decides nothing.
 abbrev pub lent_state : List Float → List Float → List ℕ → List ℕ → List ℕ → List ℕ → List ℕ → Counts → State
 lent_state xs ys next prev origins quads edges k = state_of xs ys next prev (all_off origins) quads edges k

@@ -28,12 +28,12 @@ state_answered r after =
 
 -- WHAT A HOST GETS of an outline and settings, where `before` is lent, `r` answered and `after` left in the lists
 pub record HostPaves (o : Outline) (set : Settings) (before : Lent) (r : PaveAnswer) (after : Lent) : Type 0 where
-  -- every number and every list are the definition's: demand 2
+  -- every number and every list are the definition's, bit for bit
   pub equal : pave_exit r after ≡ ran_numbers (run_answer o set before)
-  -- a refusal leaves every list as it was: demand 1
+  -- a refusal leaves every list as it was
   pub refused : (r.refusal ≡ 0 → ⊥) → after ≡ before
-  -- the exact books of the outline, the size and what is answered hold: the quads and coordinates, the loops listed, and whether it is whole: demand 3
+  -- the exact books of the outline, the size and what is answered hold: the quads and coordinates, the loops listed, and whether it is whole
   pub books : r.refusal ≡ 0
       → BooksAnswered o set.size (state_answered r after) r.loops r.ids after.loops after.lengths r.whole
-  -- every node answered has the number of the outline's loop that it came from, and no front loop and no quad ever has nodes of two: paper 9
+  -- every node answered has the number of the outline's loop that it came from, and no front loop and no quad ever has nodes of two
   pub origins : r.refusal ≡ 0 → OriginsAnswered o set.size (state_answered r after) before.origins after.origins

@@ -1,4 +1,4 @@
--- What the name of the nearest segment says (paper 3). Definitions only.
+-- What the name of the nearest segment says (the nearest edge by name). Definitions only.
 use Rattle.std.specs.Prelude.{true, ◌⊎◌, ◌≡◌, ℕ, ◌≤◌, ◌<◌, length, Float}
 use Rattle.std.specs.Float.Ieee.{lt, le}
 use Rattle.domain.specs.declared.Point.{Point}

@@ -1,4 +1,4 @@
--- Paper 12: a coordinate in whole steps of 1/64 degree. Definitions only.
+-- Bowl steps: a coordinate in whole steps of 1/64 degree. Definitions only.
 use Rattle.std.specs.Prelude.{◌&&◌, ◌||◌, cond, ℕ, ◌+◌, ◌*◌, ◌/◌, ◌%◌, ltb, eqb, ℤ, Float}
 use Rattle.exact.specs.Units.{W, signed, sign_of, size_of}
 

@@ -1,4 +1,4 @@
--- Document 01's table "Edges worth a table", its lines of this layer marked P: each computed from the definitions, with the code's literals.
+-- SCOPE's table of edges, the lines that this layer decides: each computed from the definitions, with the code's literals.
 use Rattle.std.specs.Prelude.{◌≡◌, negsuc, refl}
 use Rattle.std.specs.Float.Ieee.{div, of_bits, size, units}
 use Rattle.numbers.specs.Root.{isqrt_in, root_units, root}

@@ -14,7 +14,7 @@ floor_int nan = pos 0
 floor_int (inf s) = cond s (neg_ℤ (pos (2 ^ 63))) (pos (2 ^ 63 - 1))
 floor_int (fin s m e) = cond s (neg_ℤ (pos (min (ceil_div (m * up e) (down e)) (2 ^ 63)))) (pos (min (m * up e / down e) (2 ^ 63 - 1)))
 
--- `(x / b).floor() as i64`: document 01's key of x for a bucket size b. The quotient is rounded before its floor is taken.
+-- `(x / b).floor() as i64`: SCOPE's key of x for a bucket size b. The quotient is rounded before its floor is taken.
 unfoldable pub floor_quotient : Float → Float → ℤ
 floor_quotient x b = floor_int (x ⊘ b)
 

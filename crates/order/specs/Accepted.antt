@@ -1,4 +1,4 @@
--- What is accepted, in the paper's words (`Respects`), and what each refusal means. The theorems stand at the end: `order_means`, `accepted_iff`, and that the
+-- What is accepted, in SCOPE's words (`Respects`), and what each refusal means. The theorems stand at the end: `order_means`, `accepted_iff`, and that the
 -- order of placing is accepted, `placing_answer`.
 use Rattle.std.specs.Prelude.{ℕ, suc, ◌-◌, ◌<◌, ◌≡◌, refl, Bool, true, false, cond, List, ◌⊎◌, length, get_or}
 use Rattle.std.proofs.Common.{◌∙◌, ap, ⊎_elim, eq-or-lt_of_le, le_of_suc-le-suc, arith}
@@ -9,7 +9,7 @@ use Rattle.order.specs.declared.OrderAnswer.{OrderAnswer}
 use Rattle.order.specs.Order.{too_early}
 use Rattle.order.specs.Order.{order_accepted, not_once, early_at, early_turn, first_early}
 
--- ---- the paper's words
+-- ---- SCOPE's words
 
 -- the step u to v is the step x to y
 pub record SameStep (u v x y : ℕ) : Type 0 where

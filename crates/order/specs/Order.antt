@@ -1,4 +1,4 @@
--- Paper 10: the order in which the quads of a lent mesh are tested. Definitions only.
+-- Presentation order: the order in which the quads of a lent mesh are tested. Definitions only.
 use Rattle.std.specs.Prelude.{ℕ, suc, Bool, not, ◌&&◌, ◌||◌, cond, List, [], ◌∷◌, length, get_or, eqb, ltb, leb}
 use Rattle.laws.specs.Loop.{Turn, go, out, run, any_up}
 use Rattle.laws.specs.Tabulate.{tabulate}

@@ -1,4 +1,4 @@
-// Paper 10: who comes after whom, and the answer to a presentation order, in `specs/`. No function: `order_checks` and `order_walks` have the code.
+// Presentation order: who comes after whom, and the answer to a presentation order, in `specs/`. No function: `order_checks` and `order_walks` have the code.
 #![tactic(auto)]
 
 // Stays a number beside the value: the C interface needs it.

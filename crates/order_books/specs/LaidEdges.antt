@@ -1,4 +1,4 @@
--- Paper 10's "each quad that laid a front edge which it used up" is what happened in document 01's book (`book_after`): whoever laid there an edge that a
+-- The presentation order's "each quad that laid a front edge which it used up" is what happened in the exact book (`book_after`): whoever laid there an edge that a
 -- quad takes off is among those that the quad must come after, and an edge taken off was on the starting front or was laid by one of them. A quad's
 -- steps are read off the fronts before and after it, so nothing is said here of how a book goes from one to the other. The theorems stand at the end.
 -- (That nobody else is among them isn't claimed: an edge that is laid twice would have two layers.)

@@ -1,4 +1,4 @@
-// Paper 10: who comes after whom, and whether a list names every quad of a lent mesh once. The places of a list's entries are kept in lent scratch.
+// Presentation order: who comes after whom, and whether a list names every quad of a lent mesh once. The places of a list's entries are kept in lent scratch.
 // `order_walks` has the entry: it finds by walks who stands too early, and by `early_from` where steps aren't filed.
 #![tactic(auto)]
 

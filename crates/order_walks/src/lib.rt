@@ -1,4 +1,4 @@
-// Paper 10's entry. Who stands too early is found by walks over the steps that quads lay, each filed under its own key in a pool of `pools`, and by a scan
+// The entry of the presentation order. Who stands too early is found by walks over the steps that quads lay, each filed under its own key in a pool of `pools`, and by a scan
 // of the quads that came after the pool was full.
 #![tactic(auto)]
 

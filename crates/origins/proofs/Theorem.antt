@@ -87,8 +87,8 @@ module _ (o : Outline) (size : Float) (lent s : State) (fine : outline_refusal o
         };
       }
 
--- NO FRONT LOOP AND NO QUAD HAS NODES OF TWO NUMBERS. Take any outline o, any settings and any lists f and lent, of whatever lengths and contents, that
--- document 01 refuses none of. Before the first quad of the run, after each one and where it stops, every edge of the front, every loop of it
+-- NO FRONT LOOP AND NO QUAD HAS NODES OF TWO NUMBERS. Take any outline o, any settings and any lists f and lent, of whatever lengths and contents, of
+-- which nothing is refused. Before the first quad of the run, after each one and where it stops, every edge of the front, every loop of it
 -- and every quad so far has nodes of one number, and there is a number for each node, below the count of the outline's loops.
 pub origins_hold : (o : Outline) (set : Settings) (f : FieldLists) (lent : State) → OutlineFits o → run_refusal o set f lent ≡ 0
     → (k : ℕ) → k ≤ (run_of o set f lent).paving.state.counts.quads → OneOrigin o set.size (run_of o set f lent).paving.state k

@@ -1,4 +1,4 @@
--- Computed from the definitions: document 01's worked square and triangle, and a square with a hole of an odd number of points.
+-- Computed from the definitions: the worked square and triangle, and a square with a hole of an odd number of points.
 use Rattle.std.specs.Prelude.{◌≡◌, refl, List, [], ◌∷◌, ℕ, Float}
 use Rattle.std.specs.Int.Count.{count_trailing_zeros}
 use Rattle.std.specs.Float.Ieee.{span, climb, size, odd, units, round, neg, sum, add, sub, mul, div, lt, eq, le, of_int, of_fields, of_bits, to_bits, is_nan}

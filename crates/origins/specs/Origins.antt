@@ -1,4 +1,4 @@
--- Paper 9. The number of each node: that of the loop of the outline it was sampled from, 0 for the outer loop and k + 1 for hole k; a new node
+-- Origins. The number of each node: that of the loop of the outline it was sampled from, 0 for the outer loop and k + 1 for hole k; a new node
 -- takes the number of the node a of its quad. Definitions only.
 use Rattle.std.specs.Prelude.{◌≡◌, cond, List, [], ◌∷◌, ◌++◌, ℕ, ◌<◌, ◌≤◌, eqb, length, get_or, take, drop, replicate, Float}
 use Rattle.std.proofs.Math.Option.{some}
@@ -61,7 +61,7 @@ pub record SameInQuad (l : List ℕ) (q : QuadIds) : Type 0 where
   pub d : SameOrigin l q.a q.d
   pub c : SameOrigin l q.a q.c
 
--- the numbers l of the nodes of document 01's book after k quads
+-- the numbers l of the nodes of the exact book after k quads
 pub record OneOriginIn (o : Outline) (quads : List ℕ) (k : ℕ) (b : Book) (l : List ℕ) : Type 0 where
   -- as many numbers as nodes
   pub long : length l ≡ length b.xs

@@ -1,4 +1,4 @@
-// Which loop of the outline each node of a run came from (paper 9), written after the paving.
+// Which loop of the outline each node of a run came from (origins), written after the paving.
 #![tactic(auto)]
 
 ghost use Rattle.std.specs.Prelude.{◌≡◌, ◌+◌, ◌<◌, ◌≤◌, length, replicate};

@@ -1,4 +1,4 @@
--- The outline file of document 01's 'File and listing': 512-byte blocks, integers and float bits low byte first, and the refusals 12 and 13.
+-- The outline file of docs/FORMATS.md: 512-byte blocks, integers and float bits low byte first, and the refusals 12 and 13.
 -- A file is a list of bytes, naturals below 256, of any length. Definitions only.
 use Rattle.std.specs.Prelude.{Bool, not, ◌&&◌, cond, ℕ, zero, suc, ◌+◌, ◌-◌, ◌*◌, ◌/◌, ◌%◌, min, leb, ltb, eqb, length, get_or, take, drop, replicate, Float, Result, Ok, Err}
 use mathlib.Core.List.{List, [], ◌∷◌, ◌++◌, map, flatten}
@@ -143,7 +143,7 @@ request_of file =
 unfoldable pub head_of : Request → Head
 head_of r = record { settings = r.settings; loops = length r.lengths; outer = get_or r.lengths 0 0; points = length r.coordinates / 2 }
 
--- document 01's number, 0 where nothing is refused, and the numbers of what was read, 0 where it is refused
+-- the refusal's number, 0 where nothing is refused, and the numbers of what was read, 0 where it is refused
 pub record FileNumbers : Type 0 where
   pub refusal : ℕ
   pub head : Head

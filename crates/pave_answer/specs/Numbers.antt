@@ -1,4 +1,4 @@
--- The run's answer as it crosses to the host: document 01's number, 0 where nothing is refused, and the values. Definitions only.
+-- The run's answer as it crosses to the host: the refusal's number, 0 where nothing is refused, and the values. Definitions only.
 use Rattle.std.specs.Prelude.{ℕ, false, Result, Ok, Err}
 use Rattle.numbers.specs.Float.{zero_f}
 use Rattle.paving.specs.Ends.{end_number}

@@ -1,4 +1,4 @@
--- A pass and `advance` of src/alt_crossfield.rs, with document 01's four ends. Definitions only.
+-- A pass and `advance` of src/alt_crossfield.rs, with SCOPE's four ends. Definitions only.
 use Rattle.std.specs.Prelude.{Bool, true, false, not, ◌&&◌, cond, List, ℕ, min, leb, eqb, get_or, set, Float, Option, Some, None}
 use Rattle.laws.specs.Loop.{for_up, Turn, go, out, run}
 use Rattle.domain.specs.Outline.{Outline}

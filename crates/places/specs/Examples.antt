@@ -30,7 +30,7 @@ opened = tt
 abbrev three_f : Float
 three_f = to_float 3
 
--- document 01's square: nodes half a unit apart, with one more outside on one side and two on the other; two parts a side
+-- the worked square: nodes half a unit apart, with one more outside on one side and two on the other; two parts a side
 of_square : places_answer worked_square one_f ≡ places_answered 0 49 8
 unfolding opened
 of_square = refl

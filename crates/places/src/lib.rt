@@ -9,7 +9,7 @@ ghost use Rattle.places.specs.Needed.{places_answer, PlacesGiven};
 use domain::Domain;
 
 // Stays a number beside the values: the C interface needs it.
-// `refusal` is document 01's number, 0 where nothing is refused; on a refusal both counts are 0.
+// `refusal` is the refusal's number, 0 where nothing is refused; on a refusal both counts are 0.
 #[repr(C)]
 #[derive(Clone, Copy, Default)]
 pub struct PlacesAnswer {

@@ -1,4 +1,4 @@
--- Paper 11: the front after a quad, read from the front before it, and what a preview answers and writes. Definitions only.
+-- Hand stepping: the front after a quad, read from the front before it, and what a preview answers and writes. Definitions only.
 use Rattle.std.specs.Prelude.{cond, List, Result, Ok, Err, ◌≡◌, ℕ, ◌+◌, ◌*◌, ◌/◌, leb, ltb, eqb, length, set, Float, Option, Some, None}
 use Rattle.laws.specs.Loop.{for_up}
 use Rattle.topology.specs.Links.{off, update, link_of}

@@ -1,4 +1,4 @@
--- The answers of the queries: refused with document 01's number, or answered; and as they cross to the host. Definitions only.
+-- The answers of the queries: refused with its number, or answered; and as they cross to the host. Definitions only.
 use Rattle.std.specs.Prelude.{Bool, false, ◌≡◌, ℕ, Result, Ok, Err, Float}
 use Rattle.numbers.specs.Float.{zero_f}
 use Rattle.domain.specs.declared.Point.{Point}

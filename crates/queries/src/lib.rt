@@ -10,7 +10,7 @@ ghost use Rattle.queries.specs.Answers.{contains_answer, nearest_answer, distanc
 use blocks::DrawnOutline;
 use domain::{Domain, Near, Point, Refusal};
 
-// `refusal` is document 01's number, 0 where nothing is refused. The values of a refused query are false, 0.0 or 0.
+// `refusal` is the refusal's number, 0 where nothing is refused. The values of a refused query are false, 0.0 or 0.
 // Stays a number beside the values, here and below: the C interface needs it.
 #[repr(C)]
 #[derive(Clone, Copy, Default)]

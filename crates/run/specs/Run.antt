@@ -150,13 +150,13 @@ abbrev pub PavesOrigins : Outline → Settings → List ℕ → Paved → Lent �
 PavesOrigins o set before r after = OriginsAnswered o set.size (answered_state r after) before after.origins
 
 pub record Paves (o : Outline) (set : Settings) (before : Lent) (r : Result Paved ℕ) (after : Lent) : Type 0 where
-  -- the answer and every list are the definition's: demand 2
+  -- the answer and every list are the definition's, bit for bit
   pub equal : ran r after ≡ run_answer o set before
   -- a refusal leaves every list as it was
   pub refused : OnErr r (after ≡ before)
-  -- the exact books hold: demand 3
+  -- the exact books hold
   pub books : IfOk r (λ p. PavesBooks o set p after)
-  -- the numbers of the nodes are written, and no front loop and no quad has nodes of two: paper 9
+  -- the numbers of the nodes are written, and no front loop and no quad has nodes of two
   pub origins : IfOk r (λ p. PavesOrigins o set before.origins p after)
 
 -- of scratch, before and after: a refusal leaves it as it was, and what a run leaves in it is free

@@ -1,4 +1,4 @@
--- Whether a drawn outline is sound (document 02, paper 4): no two segments of a loop meet except neighbours at their common end, no two loops touch, every
+-- Whether a drawn outline is sound (SCOPE, sound outlines): no two segments of a loop meet except neighbours at their common end, no two loops touch, every
 -- hole lies inside the outer loop, and no hole lies in another. Judged on the outline as lent, each coordinate as its whole number of units, so
 -- exactly and with no tolerance. Definitions only.
 use Rattle.std.specs.Prelude.{Bool, not, ◌&&◌, ◌||◌, cond, List, ℕ, suc, eqb, length, ℤ, pos, nat_abs, ◌+ℤ◌, ◌*ℤ◌, Float}

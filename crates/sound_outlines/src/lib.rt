@@ -1,2 +1,2 @@
-// Specifications only: which drawn outlines are sound (document 02, paper 4), and the word whole. No function.
+// Specifications only: which drawn outlines are sound (SCOPE, sound outlines), and the word whole. No function.
 #![tactic(auto)]

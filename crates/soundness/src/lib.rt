@@ -1,4 +1,4 @@
-// Whether a drawn outline is sound (document 02, paper 4): no two segments of one loop meet except neighbours at their common end, no two loops touch,
+// Whether a drawn outline is sound (SCOPE, sound outlines): no two segments of one loop meet except neighbours at their common end, no two loops touch,
 // every hole lies inside the outer loop, and no hole lies in another. Each float is taken as the fraction it is; nothing is rounded.
 #![tactic(auto)]
 

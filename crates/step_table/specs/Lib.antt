@@ -1,2 +1,2 @@
--- Steps and previews of document 01's square, computed from the definitions.
+-- Steps and previews of the worked square, computed from the definitions.
 pub mod Steps

@@ -1,4 +1,4 @@
--- Document 01's square (0,0) (2,0) (2,2) (0,2) at size 1, sampled and stepped by hand: what the entries answer and leave, computed from the definitions.
+-- The worked square (0,0) (2,0) (2,2) (0,2) at size 1, sampled and stepped by hand: what the entries answer and leave, computed from the definitions.
 -- And the smallest inputs of the readings in docs/DECISIONS.md.
 use Rattle.std.specs.Prelude.{◌≡◌, refl, List, [], ◌∷◌, ℕ, Float}
 use Rattle.std.proofs.Math.ListN.{replicate}

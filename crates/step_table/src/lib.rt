@@ -1,2 +1,2 @@
-// Specifications only: steps and previews of document 01's square, computed from the definitions. No function.
+// Specifications only: steps and previews of the worked square, computed from the definitions. No function.
 #![tactic(auto)]

@@ -1,4 +1,4 @@
--- Paper 4's square with a shut slit, (-1,-2) (1,-2) (1,0) (0,0) (0,-1) (0,0) (-1,0) at size 1, in the lists of document 01's
+-- The square with a shut slit, (-1,-2) (1,-2) (1,0) (0,0) (0,-1) (0,0) (-1,0) at size 1, in the lists of SCOPE's
 -- square: the whole state where the run ends, computed from the definitions. No loop is left, and the outline is unsound, so it is open.
 use Rattle.std.specs.Prelude.{◌≡◌, refl, false, [], ◌∷◌, length, Float}
 use Rattle.numbers.specs.Float.{bits, zero_f, one_f}

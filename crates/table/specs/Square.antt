@@ -1,4 +1,4 @@
--- Document 01's worked example, the square (0,0) (2,0) (2,2) (0,2) at size 1: the whole state where the run ends, computed from the definitions.
+-- The worked example, the square (0,0) (2,0) (2,2) (0,2) at size 1: the whole state where the run ends, computed from the definitions.
 use Rattle.std.specs.Prelude.{◌≡◌, refl, Bool, true, false, List, [], ◌∷◌, length}
 use Rattle.numbers.specs.Float.{bits, zero_f, one_f, two_f, four_f, half_f}
 use Rattle.domain.specs.Outline.{point}

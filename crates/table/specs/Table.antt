@@ -1,4 +1,4 @@
--- Document 01's table "Edges worth a table": its lines marked P as one list, each computed from the definitions with the code's literals.
+-- SCOPE's table of edges as one list, each computed from the definitions with the code's literals.
 use Rattle.std.specs.Prelude.{◌≡◌, refl, Bool, true, false, not, List, [], ◌∷◌, ℕ, ℤ, pos, negsuc, nat_abs, ◌-ℤ◌, eqb, Float}
 use Rattle.std.specs.Float.Ieee.{neg, eq}
 use Rattle.numbers.specs.Float.{bits, sqrt, zero_f, one_f, two_f, four_f, half_f}

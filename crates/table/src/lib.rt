@@ -1,2 +1,2 @@
-// Specifications only: document 01's table of edges and its worked examples, computed from the definitions. No function.
+// Specifications only: SCOPE's table of edges and its worked examples, computed from the definitions. No function.
 #![tactic(auto)]

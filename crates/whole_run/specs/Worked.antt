@@ -1,4 +1,4 @@
--- Document 01's worked outlines.
+-- The worked outlines.
 use Rattle.std.specs.Prelude.{[], ◌∷◌}
 use Rattle.numbers.specs.Float.{zero_f, one_f, two_f}
 use Rattle.domain.specs.Outline.{Outline, outline}

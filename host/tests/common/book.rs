@@ -1,7 +1,7 @@
-//! Document 01's exact books, kept beside a run. They are fed the sampled outline, and the quads and coordinates that the run
+//! The exact books, kept beside a run. They are fed the sampled outline, and the quads and coordinates that the run
 //! answers; the run's front, counts and loops are only looked at to close them.
 //!
-//! A float counts units of a power of two of which every coordinate at hand is a whole multiple. Document 01 takes the smallest
+//! A float counts units of a power of two of which every coordinate at hand is a whole multiple. SCOPE takes the smallest
 //! float above 0; both sides of each comparison are of one degree in the unit, so that any will do. Where every coordinate is within
 //! 1,001 either way, areas are also kept in whole steps of 1/64.
 
@@ -47,7 +47,7 @@ pub fn check(sampled: &Sampled, run: &Answered) -> Result<(), String> {
     require(balances(sampled, run), || "at the end: the areas don't balance".to_string())
 }
 
-/// Paper 14's figures: for two nodes u below v the steps from u to v less those from v to u, where that isn't 0.
+/// The figures of the edges: for two nodes u below v the steps from u to v less those from v to u, where that isn't 0.
 #[derive(Clone, Debug, Default, PartialEq)]
 struct Net(BTreeMap<(usize, usize), i64>);
 

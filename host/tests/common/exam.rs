@@ -1,4 +1,4 @@
-//! What the tests of an exam share: a mesh as it counts, what stands at its nodes and papers 6 and 7 in Rust, written from their words; and the lists of an
+//! What the tests of an exam share: a mesh as it counts, what stands at its nodes and thresholds and estimates in Rust, written from SCOPE's words; and the lists of an
 //! exam with guards round them, hostile ones too.
 
 use std::collections::BTreeSet;

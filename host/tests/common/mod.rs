@@ -37,7 +37,7 @@ impl Drawing {
         Drawing::of_loops(&[vec![[0.0, 0.0], [side, 0.0], [side, side], [0.0, side]]])
     }
 
-    /// Paper 4's square with a slit, whose mouth is `e` wide on either side of 0 at the height `f`.
+    /// The square with a slit, whose mouth is `e` wide on either side of 0 at the height `f`.
     pub fn slit(e: f64, f: f64) -> Drawing {
         Drawing::of_loops(&[vec![[-1.0, -2.0], [1.0, -2.0], [1.0, 0.0], [-e, f], [0.0, -1.0], [e, f], [-1.0, 0.0]]])
     }

@@ -1,4 +1,4 @@
-//! Paper 9 beside the library, written from the paper: which loop of the outline each node came from, worked out from the outline, the size and the
+//! Origins beside the library, written from SCOPE: which loop of the outline each node came from, worked out from the outline, the size and the
 //! quads; and whether a front loop or a quad ever has nodes of two numbers.
 
 use std::collections::BTreeMap;

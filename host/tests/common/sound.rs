@@ -1,4 +1,4 @@
-//! Paper 4's judgement as the tests make it, in whole numbers of any size: what two segments have in common is worked out as a set,
+//! The judgement of soundness as the tests make it, in whole numbers of any size: what two segments have in common is worked out as a set,
 //! by the places on the first where it begins and ends, and inside is a winding number.
 
 use super::whole::{unit, Whole};

@@ -1,5 +1,5 @@
-//! Paper 12 in Rust, written from its words: each coordinate as a fraction, the nearest step by comparing distances; and the mesh that
-//! refusal 23 lets pass, from paper 11's.
+//! Bowl steps in Rust, written from its words: each coordinate as a fraction, the nearest step by comparing distances; and the mesh that
+//! refusal 23 lets pass, from that of hand stepping.
 
 use sitjorbe::raw::{MeshCounts, MeshRead};
 use sitjorbe::OFF;

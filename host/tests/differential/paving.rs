@@ -515,7 +515,7 @@ fn runs_in_tight_places() {
     runs("tight", &USUAL);
 }
 
-/// Paper 4's family, of which the reference leaves no loop: whole and open by soundness alone.
+/// The square with a slit, of which the reference leaves no loop: whole and open by soundness alone.
 #[test]
 fn runs_of_slits() {
     let (outlines, seed) = (number("SITJORBE_OUTLINES", 2_000), number("SITJORBE_SEED", 1));

@@ -27,7 +27,7 @@ fn asked(loops: &Loops, size: f64, moves: &[Move], look: Option<[u32; 2]>) -> Va
     body(loops, &[("size", Value::Number(size)), ("moves", Value::list(moves.iter().map(value))), ("look", look)])
 }
 
-/// A pass as the papers say it, by steps; the quads that it placed.
+/// A pass as SCOPE says it, by steps; the quads that it placed.
 fn pass(stepper: &mut Stepper<'_>) -> usize {
     let front = stepper.front();
     front.into_iter().filter(|edge| stepper.step(*edge) == Ok(Outcome::Placed)).count()

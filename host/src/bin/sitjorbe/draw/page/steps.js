@@ -1,4 +1,4 @@
-// The front stepped by hand (paper 11): a look at what a step on an edge would do, then the step.
+// The front stepped by hand: a look at what a step on an edge would do, then the step.
 
 /** An edge of the front is looked at within so many pixels of the pointer. */
 const EDGE_NEAR = 40;

@@ -1,5 +1,5 @@
 /*
- * Sitjorbe: verified geometry for a paved visual field, from outline to quads. Version 0.2.0, shape 1.
+ * Sitjorbe: verified geometry for a paved visual field, from outline to quads. Version 0.3.0, shape 1.
  *
  * Written by tools/bindings from the Rattle source. docs/INTEGRATION.md says how to call; "SCOPE" in a comment is what
  * docs/SCOPE.md and docs/FORMATS.md set out. For x86-64 Linux, C11 or C++17, and later.
@@ -22,7 +22,7 @@
 #include <stdbool.h>
 #endif
 
-#define SITJORBE_VERSION "0.2.0"
+#define SITJORBE_VERSION "0.3.0"
 #define SITJORBE_ABI 1
 
 #ifdef __cplusplus

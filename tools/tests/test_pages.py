@@ -76,7 +76,7 @@ class Entries(unittest.TestCase):
 
 class Version(unittest.TestCase):
     def test_the_change_log_has_it(self):
-        newest = re.search(r"^## .*\((\d+\.\d+\.\d+)\)$", (ROOT / "CHANGELOG.md").read_text(), re.MULTILINE)
+        newest = re.search(r"^## (\d+\.\d+\.\d+)$", (ROOT / "CHANGELOG.md").read_text(), re.MULTILINE)
         self.assertEqual(newest[1], commands.version())
 
     def test_the_page_asks_for_it(self):

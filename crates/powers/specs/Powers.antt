@@ -26,12 +26,5 @@ power_same k (fin s m e) =
     (mul_comm (down e) (2 ^ suc k) ∙ ap (λ (z : ℕ). z * down e) (sym (one-mul (2 ^ suc k))))
 
 pub quarter_same : (x : Float) → x ⊗ quarter_f ≡ x ⊘ four_f
-unfolding of_bits mul div
-quarter_same x = same x
-  where
-    same : (x : Float) → x ⊗ power_below 1 ≡ x ⊘ power_above 1
-    same nan = refl
-    same (inf s) = refl
-    same (fin s m e) =
-        ap (λ (d : ℕ). round binary64 (unlike s false) (m * up e * 1) d)
-        (mul_comm (down e) (2 ^ 2) ∙ ap (λ (z : ℕ). z * down e) (sym (one-mul (2 ^ 2))))
+unfolding of_bits
+quarter_same x = power_same 1 x

@@ -1,6 +1,5 @@
 -- What holds of the definitions of specs/FoldsLaws.antt.
 use Rattle.std.specs.Prelude.{◌↔◌, T}
-use mathlib.Core.List.{[]}
 use Rattle.exact.specs.Corner.{Vector}
 use Rattle.sound_outlines.specs.Sound.{folds_back}
 use Rattle.sound_outlines.specs.FoldsLaws.{SharesMore, folds_parts, folds_more, more_folds}

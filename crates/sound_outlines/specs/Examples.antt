@@ -54,6 +54,9 @@ pub record LoopExamples : Type 0 where
   pub corner : outline_sound (drawn (0 ∷ 0 ∷ 4 ∷ 0 ∷ 4 ∷ 4 ∷ 2 ∷ 0 ∷ [])) ≡ false
   -- a corner drawn twice: the segments before and after the one of no length meet
   pub twice : outline_sound (drawn (0 ∷ 0 ∷ 1 ∷ 0 ∷ 1 ∷ 0 ∷ 1 ∷ 1 ∷ 0 ∷ 1 ∷ [])) ≡ false
+  -- one point three times: every two segments are neighbours, and share their common end alone; four times: segments 0 and 2 meet
+  pub point_thrice : outline_sound (drawn (1 ∷ 1 ∷ 1 ∷ 1 ∷ 1 ∷ 1 ∷ [])) ≡ true
+  pub point_four_times : outline_sound (drawn (1 ∷ 1 ∷ 1 ∷ 1 ∷ 1 ∷ 1 ∷ 1 ∷ 1 ∷ [])) ≡ false
 
 pub loops : LoopExamples
 unfolding opened_sound
@@ -70,6 +73,8 @@ loops =
       spike = refl;
       corner = refl;
       twice = refl;
+      point_thrice = refl;
+      point_four_times = refl;
     }
 
 -- ---- holes in the square of side 8

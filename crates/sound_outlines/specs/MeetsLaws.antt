@@ -1,7 +1,7 @@
 -- What it means that two segments meet: `meets` holds exactly if they have a point in common (`meets_shares`, the last statement), segments of no length
 -- included. From the point to the signs: the turns of two places, weighed as the point is, add up to 0. From the signs to the point: the four turns are
 -- the weights; where all four are 0 the segments lie in one line, and the overlapping boxes give the point. Assumes nothing.
-use Rattle.std.specs.Prelude.{◌≡◌, refl, Bool, true, false, not, ◌&&◌, ◌||◌, ◌↔◌, List, [], ◌∷◌, ℕ, ◌+◌, ◌*◌, ◌-◌, ◌≤◌, ◌<◌, T, ℤ, ◌+ℤ◌, ◌*ℤ◌, ◌<ℤ◌}
+use Rattle.std.specs.Prelude.{◌≡◌, refl, Bool, true, false, not, ◌&&◌, ◌||◌, ◌↔◌, List, ◌∷◌, ℕ, ◌+◌, ◌*◌, ◌-◌, ◌≤◌, ◌<◌, T, ℤ, ◌+ℤ◌, ◌*ℤ◌, ◌<ℤ◌}
 use Rattle.std.proofs.Common.{sym, ap, ◌∙◌, arith, T_not}
 use Rattle.std.proofs.Math.Dec.{not_T}
 use Rattle.std.proofs.Math.IntN.{pos}

@@ -104,9 +104,14 @@ fn is_reused(size: f64, mesh: &Mesh<'_>, other: u32, v: u32, p: Point) -> bool
 fn corner_at(size: f64, mesh: &Mesh<'_>, other: u32, neighbour: Option<u32>, p: Point) -> Corner
     ensures { result ≡ corner_at size (seen_points mesh.now.xs.now mesh.now.ys.now) other neighbour p }
 {
-    match neighbour {
-        Some(v) if is_reused(size, mesh, other, v, p) => Corner::Reused(v),
-        _ => Corner::Fresh(p.x, p.y),
+    let fresh = Corner::Fresh(p.x, p.y);
+    let Some(v) = neighbour else {
+        return fresh;
+    };
+    if is_reused(size, mesh, other, v, p) {
+        Corner::Reused(v)
+    } else {
+        fresh
     }
 }
 
@@ -205,7 +210,9 @@ impl Attempt<'_> {
     fn quad(&self, a: u32, b: u32, da: Point, db: Point) -> Option<FarCorners>
         ensures { result ≡ attempt_quad (outline_in self.now.around.now) self.now.around.now.size (seen_of (mesh_state self.now.mesh.now)) a b da db }
     {
-        let far = far_corners(self.around.size, self.mesh, a, b, da, db)?;
+        let Some(far) = far_corners(self.around.size, self.mesh, a, b, da, db) else {
+            return None;
+        };
         let p = corners_of(self.mesh, a, b, far);
         let nodes = self.mesh.counts.nodes;
         let ids = QuadIds {

@@ -15,7 +15,7 @@ ghost use Rattle.boundary.specs.Counting.{most, even_up};
 ghost use Rattle.boundary.specs.Laying.{lent_with, NodeRoomIn, NodesFrom, CanLink, CanLay, CanSample, SameRoom, NodesWritten, EdgesWritten, LoopWritten, link_ring, lay_loop};
 
 use domain::{Domain, Point, Refusal, Settings};
-use front::{Counts, MOST_NODES, Mesh, Paving, Ring};
+use front::{Counts, Mesh, Paving, Ring};
 
 // ---- how many
 
@@ -84,7 +84,7 @@ pub fn check_front_places(
         ≡ sampled_refusal (outline_of domain.entry) size (min node_places most_nodes) edge_places }
 {
     let count = sampled_count(domain, size) as usize;
-    if count > MOST_NODES || node_places < count || edge_places < count {
+    if count > Settings::MOST_NODES || node_places < count || edge_places < count {
         return Err(Refusal::FrontNeedsSpace);
     }
     Ok(())

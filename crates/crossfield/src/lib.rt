@@ -106,10 +106,10 @@ fn too_many_nodes(width: f64, height: f64, h: f64) -> bool
 fn spacing(width: f64, height: f64, h: f64) -> f64
     ensures { result ≡ spacing width height h }
 {
-    (0..64usize).fold(
+    (0..Settings::MOST_GROWTHS).fold(
         h,
         |grown, _| if too_many_nodes(width, height, grown) {
-            grown * 1.25
+            grown * Settings::GROWTH
         } else {
             grown
         },

@@ -55,6 +55,12 @@ impl Settings {
     pub const MOST_SWEEPS: usize = 1000;
 
     pub const MOST_FIELD_NODES: usize = 250000;
+    // While a grid has more, its spacing grows by this, so often at most.
+    pub const GROWTH: f64 = 1.25;
+
+    pub const MOST_GROWTHS: usize = 64;
+    // A sweep in which no node's two values change by this much in sum is the last.
+    pub const QUIET: f64 = 1.0e-7;
     // A node inside the outline and at most this many spacings from its boundary is fixed.
     pub const BAND: f64 = 1.5;
 
@@ -80,6 +86,8 @@ impl Settings {
     pub const MOST_QUADS: usize = 250000;
 
     pub const MOST_PASSES: usize = 600;
+    // Node places past this many count as not lent.
+    pub const MOST_NODES: usize = 4294967294;
 }
 
 // Why a call is refused.

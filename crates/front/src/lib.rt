@@ -6,14 +6,14 @@ ghost use Rattle.std.specs.Float.{nan};
 ghost use Rattle.topology.specs.Links.{off, link_of};
 ghost use Rattle.front.specs.State.{node_in, fewest, most_nodes, push_node};
 ghost use Rattle.front.specs.Lent.{mesh_state, paving_state, SameLists};
-ghost use Rattle.front.specs.Neighbours.{neighbour_of, next_at, prev_at};
+ghost use Rattle.front.specs.Neighbours.{link_to, neighbour_of, next_at, prev_at};
 ghost use Rattle.front.specs.Place.{added, corner_id, new_quad};
 ghost use Rattle.front.specs.Sampling.{RingFits, ring_count, sampled_at, ring_at};
 ghost use Rattle.front.specs.Ready.{Ready};
 ghost use Rattle.front.specs.Stores.{PlacesQuad, counts_with_quad, places_exceeded, is_beyond, store_x, store_y, reuses_node, known_across, unless, new_edges};
 ghost use Rattle.front.specs.Stores.{store_edge, store_edges, store_quad, store_side, store_next, store_prev, Ids, Countable};
 
-use domain::Point;
+use domain::{Point, Settings};
 
 // How much of the lent lists is in use. `front` counts the front's edges.
 #[derive(Clone, Copy, Debug, Default, PartialEq, Eq)]
@@ -94,9 +94,6 @@ pub struct Paving<'a> {
 // The link of a node off the front.
 // Stays a number: lent lists hold it, and C gives them.
 pub const OFF: u32 = 4294967295;
-
-// Node places past this many count as not lent.
-pub const MOST_NODES: usize = 4294967294;
 
 impl Corner {
     // How many nodes the corner adds.
@@ -246,11 +243,12 @@ pub fn link_of(links: &[u32], n: u32, u: u32) -> u32
     if u < n { links[u as usize] } else { OFF }
 }
 
-// The neighbour of node u by its link, where the first n places are in use; none for a node that isn't there.
+// The neighbour of node u by its link, which is its number, where the first n places are in use; none for a node that isn't there.
 #[tactic(auto, unfolding(crate::specs::Neighbours::neighbour_of))]
 pub fn link_at(links: &[u32], n: u32, u: u32) -> Option<u32>
     requires { n ≤ length links.now }
-    ensures { result ≡ neighbour_of (link_of n links.now u) }
+    ensures neighbour { result ≡ neighbour_of (link_of n links.now u) }
+    ensures number { link_to result ≡ link_of n links.now u }
 {
     match link_of(links, n, u) {
         OFF => None,
@@ -395,7 +393,7 @@ pub fn node_places(xs: &[f64], ys: &[f64], next: &[u32], prev: &[u32], others: u
         .min(ys.len())
         .min(links)
         .min(others)
-        .min(MOST_NODES)
+        .min(Settings::MOST_NODES)
 }
 
 impl Mesh<'_> {

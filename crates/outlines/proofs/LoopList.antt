@@ -1,15 +1,17 @@
 -- The list of an outline's loops has one more than that of the holes, with loop k at place k; and a fold over the loops is one over the holes that begins with the outer loop.
 use Rattle.std.specs.Iterator.{Yields, YieldsFirstBy}
-use Rattle.std.specs.Prelude.{Option, Some, None, List, [], ◌∷◌, ◌≡◌, refl, ℕ, zero, suc, ◌+◌, ◌<◌, ◌^◌, length, get_or, map, fold, Float}
-use Rattle.std.proofs.Common.{sym, ap, ◌∙◌, arith, add-one}
+use Rattle.std.specs.Prelude.{Option, Some, None, List, [], ◌∷◌, ◌≡◌, refl, ℕ, zero, suc, ◌+◌, ◌-◌, ◌≤◌, ◌<◌, length, get_or, map, fold, Float}
+use Rattle.std.proofs.Common.{sym, ap, ap₂, ◌∙◌, arith, add-one}
+use Rattle.std.proofs.lemmas.List.{drop_more, drop_all}
 use Rattle.std.proofs.lemmas.Iterator.Consumers.{YieldsList-from_first, YieldsList-turn, YieldsList-end}
 use Rattle.std.proofs.lemmas.Iterator.{YieldsList}
 use Rattle.laws.specs.Loop.{for_up, for_up_same}
-use Rattle.domain.specs.Outline.{Outline, hole_start, hole_at, loop_at, loop_start}
+use Rattle.domain.specs.Outline.{Outline, outline_of, hole_length, hole_start, hole_at, loop_at, loop_start, most_points, LoopPlace}
+use Rattle.domain.specs.OutlineLaws.{start_first, start_next, start_grows, shaped}
 use Rattle.outlines.specs.declared.Loop.{Loop}
 use Rattle.outlines.specs.declared.Loops.{Loops}
-use Rattle.outlines.specs.Holes.{cut, hole_list, Filled}
-use Rattle.outlines.specs.Loops.{looped, hole_loop, loop_list, loops_left, LoopListed}
+use Rattle.outlines.specs.Holes.{hole_list}
+use Rattle.outlines.specs.Loops.{looped, hole_loop, loop_list, loops_from, LoopsAhead, LoopListed}
 use Rattle.outlines.proofs.HoleList.{hole_list_length, hole_list_at}
 
 map_length : {A B : Type 0} (f : A → B) (xs : List A) → length (map f xs) ≡ length xs
@@ -36,7 +38,7 @@ loop_list_at o d (suc k) h =
 -- ---- a loop `for each in outlines::loops_of(..)`: what its iterator gave so far, and gives next
 
 abbrev left : Loops → List (ℕ × (ℕ × List Float))
-left s = loops_left s.outer s.holes.index s.holes.start s.holes.lens.now s.holes.points.now
+left s = loops_from (outline_of s.domain) s.index
 
 abbrev pub GivesLoops : Loops → Option Loop → Loops → Type 0
 GivesLoops = YieldsFirstBy looped left
@@ -65,11 +67,44 @@ module _ (o : Outline) (first here next : Loops) (given : List Loop) (all : left
   pub loops_given : {r : Option Loop} → r ≡ None → GivesLoops here r next → length given ≡ suc (length o.lens)
   loops_given e step = (YieldsList-end (loops_yield o first all) given here so_far _ next e step).1 ∙ loop_list_length o
 
--- the number of the loop that a hole is
-pub loop_numbered : (k start : ℕ) (lens : List ℕ) (s : List Float) {h : ℕ × (ℕ × List Float)} {hs : List (ℕ × (ℕ × List Float))} → Filled k start lens s → cut k start lens s ≡ h ∷ hs
-    → h.0 + 1 < 2 ^ 64
-loop_numbered k start [] s f e = absurd (omega (arith, ap length e))
-loop_numbered k start (n ∷ lens) s f e = let same = ap (λ (xs : List (ℕ × (ℕ × List Float))). (get_or xs 0 (0, (0, []))).0) e in omega (arith, f.numbered)
+-- what its next call gives, and what it leaves
+module _ {o : Outline} {k start : ℕ} (l : LoopsAhead o k start) where
+  pub loop_ahead : k ≤ length o.lens → {s : List Float} → s ≡ loop_at o k → loops_from o k ≡ (k, (start, s)) ∷ loops_from o (k + 1)
+  loop_ahead h e =
+      let within : k < length (loop_list o) = omega (arith, loop_list_length o) in
+      drop_more (loop_list o) k (0, (0, [])) within
+      ∙ ap (λ (x : ℕ × (ℕ × List Float)). x ∷ loops_from o (k + 1)) (loop_list_at o (0, (0, [])) k (omega arith) ∙ ap₂ (λ (a : ℕ) (t : List Float). (k, (a, t))) (sym l.at) (sym e))
+
+  pub none_ahead : length o.lens < k → loops_from o k ≡ []
+  none_ahead h = drop_all k (loop_list o) (omega (arith, loop_list_length o))
+
+  pub ahead_place : k ≤ length o.lens → LoopPlace o k start
+  ahead_place h = record { shape = l.shape; within = h; at = l.at }
+
+  -- the loop passed has n hole points
+  pub loop_passed : k ≤ length o.lens → {n : ℕ} → (k ≡ 0 → n ≡ 0) → ((k ≡ 0 → ⊥) → n ≡ hole_length o.lens (k - 1)) → LoopsAhead o (k + 1) (start + n)
+  loop_passed h {n} outer hole = record { shape = l.shape; within = omega arith; at = ap (λ (a : ℕ). a + n) l.at ∙ next k outer hole; few = l.few }
+    where
+      one : (k : ℕ) → suc k - 1 ≡ k
+      one k = omega arith
+
+      two : (k : ℕ) → suc k ≡ k + 1
+      two k = omega arith
+
+      next : (k : ℕ) → (k ≡ 0 → n ≡ 0) → ((k ≡ 0 → ⊥) → n ≡ hole_length o.lens (k - 1)) → loop_start o.lens k + n ≡ loop_start o.lens (k + 1)
+      next zero outer hole = omega (arith, outer refl, start_first o.lens)
+      next (suc k) outer hole = rw add-one (omega (arith, hole (λ e. omega arith), start_next o.lens k, ap (hole_length o.lens) (one k), ap (hole_start o.lens) (two k)))
+
+-- no more hole points are passed than an outline has
+pub passed_few : {o : Outline} {k start : ℕ} → LoopsAhead o k start → start ≤ most_points
+passed_few {o} {k} l = let s = shaped o l.shape in omega (arith, l.at, s.sum, s.few, by k l.within)
+  where
+    by : (k : ℕ) → k ≤ suc (length o.lens) → loop_start o.lens k ≤ hole_start o.lens (length o.lens)
+    by zero h = omega arith
+    by (suc k) h = omega (arith, start_grows o.lens k (length o.lens - k), ap (hole_start o.lens) (whole k h))
+      where
+        whole : (k : ℕ) → suc k ≤ suc (length o.lens) → k + (length o.lens - k) ≡ length o.lens
+        whole k h = omega arith
 
 -- ---- loops and folds over all loops
 

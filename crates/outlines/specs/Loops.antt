@@ -1,9 +1,8 @@
 -- The loops of an outline as a list. Definitions only.
-use Rattle.std.specs.Prelude.{Option, Some, None, List, ◌∷◌, ◌≡◌, ℕ, ◌+◌, ◌≤◌, length, map, Float}
-use denote.Ref.{Bor}
-use Rattle.domain.specs.Outline.{Outline, loop_at, loop_start}
+use Rattle.std.specs.Prelude.{Bool, false, List, ◌∷◌, ◌≡◌, ℕ, suc, ◌+◌, ◌≤◌, ◌<◌, ◌^◌, length, drop, map, Float}
+use Rattle.domain.specs.Outline.{Outline, loop_at, loop_start, misshapen}
 use Rattle.outlines.specs.declared.Loop.{Loop}
-use Rattle.outlines.specs.Holes.{cut, hole_list}
+use Rattle.outlines.specs.Holes.{hole_list}
 
 -- a loop's index, how many hole points stand before it, and its coordinates
 abbrev pub looped : Loop → ℕ × (ℕ × List Float)
@@ -17,14 +16,16 @@ hole_loop h = (h.0 + 1, h.1)
 unfoldable pub loop_list : Outline → List (ℕ × (ℕ × List Float))
 loop_list o = (0, (0, o.outer)) ∷ map hole_loop (hole_list o)
 
--- the outer loop, where there is one, before the others
-abbrev pub with_outer : Option (Bor (List Float)) → List (ℕ × (ℕ × List Float)) → List (ℕ × (ℕ × List Float))
-with_outer None ls = ls
-with_outer (Some s) ls = (0, (0, s.now)) ∷ ls
+-- the loops from the k-th on
+abbrev pub loops_from : Outline → ℕ → List (ℕ × (ℕ × List Float))
+loops_from o k = drop k (loop_list o)
 
--- the outer loop where it is still to come, and the loops of the holes left
-abbrev pub loops_left : Option (Bor (List Float)) → ℕ → ℕ → List ℕ → List Float → List (ℕ × (ℕ × List Float))
-loops_left outer k start lens s = with_outer outer (map hole_loop (cut k start lens s))
+-- the first k loops are passed, with `start` hole points, and no number of a loop overflows
+pub record LoopsAhead (o : Outline) (k start : ℕ) : Type 0 where
+  pub shape : misshapen o ≡ false
+  pub within : k ≤ suc (length o.lens)
+  pub at : start ≡ loop_start o.lens k
+  pub few : suc (length o.lens) < 2 ^ 64
 
 -- the loop is the outline's k-th
 pub record LoopListed (o : Outline) (k : ℕ) (l : Loop) : Type 0 where

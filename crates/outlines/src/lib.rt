@@ -2,13 +2,13 @@
 #![tactic(auto)]
 
 ghost use Rattle.std.specs.Prelude.{◌≡◌, false, ◌+◌, ◌*◌, ◌<◌, eqb, length};
-ghost use Rattle.domain.specs.Outline.{outline_of, hole_start, point_at, after, point_after, any_float, not_finite, beyond, misshapen};
+ghost use Rattle.domain.specs.Outline.{outline_of, hole_start, loop_at, LoopPlace, point_at, after, point_after, any_float, not_finite, beyond, misshapen};
 ghost use Rattle.domain.specs.Outline.{loop_refusal, loops_refusal, outline_refusal, point_refusal};
 ghost use Rattle.domain.specs.Refusals.{refused};
 ghost use Rattle.std.specs.Iterator.{YieldsFirstBy, item_count};
 ghost use Rattle.outlines.specs.Order.{lower_of, higher_of};
 ghost use Rattle.outlines.specs.Holes.{placed, cut, hole_list, Filled};
-ghost use Rattle.outlines.specs.Loops.{looped, loops_left, loop_list};
+ghost use Rattle.outlines.specs.Loops.{looped, loops_from, loop_list, LoopsAhead};
 ghost use Rattle.domain.specs.Queries.{ray_crosses, squared_distance, foot_of};
 ghost use Rattle.domain.specs.Search.{search_start, searched};
 
@@ -123,6 +123,19 @@ pub fn holes_of<'a>(domain: Domain<'a>) -> Holes<'a>
     }
 }
 
+// The points of loop k, a part of one of the two slices: loop 0 is the outer one, and `start` hole points stand before loop k.
+pub fn loop_points<'a>(domain: Domain<'a>, k: usize, start: usize) -> &'a [f64]
+    requires { LoopPlace (outline_of domain) k start }
+    ensures { result.now ≡ loop_at (outline_of domain.entry) k }
+{
+    if k == 0 {
+        return domain.outer;
+    }
+    let from = 2 * start;
+    let to = from + 2 * domain.lens[k - 1];
+    &domain.holes[from..to]
+}
+
 // Stays beside `Hole`, which has the same fields: a hole's index is its place among the lengths, and the definitions (`hole_at`, `in_hole`) go by that.
 // A loop of an outline: 0 for the outer one and k + 1 for hole k, how many hole points stand before it, and its coordinates.
 #[derive(Clone, Copy)]
@@ -132,43 +145,56 @@ pub struct Loop<'a> {
     pub points: &'a [f64],
 }
 
-// The loops of an outline, the outer one first.
+// The loops of an outline from the one with this index on, before which so many hole points stand; the outer one is the first.
 #[derive(Clone, Copy)]
 pub struct Loops<'a> {
-    outer: Option<&'a [f64]>,
-    holes: Holes<'a>,
+    domain: Domain<'a>,
+    index: usize,
+    start: usize,
+    ghost ahead: { LoopsAhead (outline_of domain) index start },
 }
 
 impl<'a> Iterator for Loops<'a> {
     type Item = Loop<'a>;
 
-    ghost next_gives = { YieldsFirstBy looped (λ s. loops_left s.outer s.holes.index s.holes.start s.holes.lens.now s.holes.points.now) };
+    ghost next_gives = { YieldsFirstBy looped (λ s. loops_from (outline_of s.domain) s.index) };
 
-    ghost remaining = { item_count (λ s. loops_left s.outer s.holes.index s.holes.start s.holes.lens.now s.holes.points.now) };
+    ghost remaining = { item_count (λ s. loops_from (outline_of s.domain) s.index) };
 
     fn next(&mut self) -> Option<Loop<'a>> {
-        let (index, start, points) = match self.outer.take() {
-            Some(points) => (0, 0, points),
-            None => {
-                let hole = self.holes.next()?;
-                (hole.index + 1, hole.start, hole.points)
-            }
-        };
-        Some(Loop {
+        let domain = self.domain;
+        let index = self.index;
+        let start = self.start;
+        if index > domain.lens.len() {
+            return None;
+        }
+        let each = Loop {
             index,
             start,
-            points,
-        })
+            points: loop_points(domain, index, start),
+        };
+        let passed = if index == 0 {
+            0
+        } else {
+            domain.lens[index - 1]
+        };
+        *self = Loops {
+            domain,
+            index: index + 1,
+            start: start + passed,
+        };
+        Some(each)
     }
 }
 
 pub fn loops_of<'a>(domain: Domain<'a>) -> Loops<'a>
     requires { misshapen (outline_of domain) ≡ false }
-    ensures { loops_left result.outer result.holes.index result.holes.start result.holes.lens.now result.holes.points.now ≡ loop_list (outline_of domain.entry) }
+    ensures { loops_from (outline_of result.domain) result.index ≡ loop_list (outline_of domain.entry) }
 {
     Loops {
-        outer: Some(domain.outer),
-        holes: holes_of(domain),
+        domain,
+        index: 0,
+        start: 0,
     }
 }
 

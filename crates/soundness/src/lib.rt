@@ -144,19 +144,20 @@ impl<'a> PointRing<'a> {
                 && self.segment(i).meets(self.segment(j)))
     }
 
-    // Whether segment i clashes with one before it.
-    fn clash_before(self, i: usize) -> bool
-        requires { i < points self.points.now }
-        ensures { result ≡ any_up i (λ j. clash self.entry.points.now j i) }
-    {
-        (0..i).any(|j| self.clash(j, i))
-    }
-
-    // Whether some two of its segments clash.
+    // Whether some two of its segments clash. The pairs are left at the first that do.
     fn crosses_itself(self) -> bool
         ensures { result ≡ crosses_itself self.entry.points.now }
     {
-        (0..self.len()).any(|i| self.clash_before(i))
+        let mut found = false;
+        'pairs: for i in 0..self.len() {
+            for j in 0..i {
+                if self.clash(j, i) {
+                    found = true;
+                    break 'pairs;
+                }
+            }
+        }
+        found
     }
 
     // Whether the segment meets some segment of it.

@@ -7,7 +7,7 @@ ghost use Rattle.sweeps.specs.Sweeps.{swept, change, set_value, relaxed, sweep_n
 
 use averages::{GridNode, GridRow};
 use direction::{CrossField, Grid};
-use domain::Point;
+use domain::{Point, Settings};
 
 // The grid of a field whose values are swept, and a mark for each of its nodes: 0 where the node is not fixed.
 #[derive(Clone, Copy)]
@@ -50,7 +50,7 @@ impl MarkedGrid<'_> {
             values,
         };
         let v = averages::average(field, node);
-        let moved = 1.0e-7 <= change(outlines::point_at(values, node.id), v);
+        let moved = Settings::QUIET <= change(outlines::point_at(values, node.id), v);
         set_value(values, node.id, v);
         quiet && !moved
     }

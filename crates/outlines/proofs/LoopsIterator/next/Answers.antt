@@ -1,7 +1,31 @@
--- `next` meets its contract.
-use Rattle.std.proofs.Common.{arith}
-use Rattle.outlines.proofs.LoopList.{loop_numbered}
+-- `next` meets its contract: the first of what is left is the loop whose points are handed out.
+use Rattle.std.proofs.Common.{arith, ap, length}
+use Rattle.outlines.proofs.LoopList.{loop_ahead, none_ahead, loop_passed, passed_few}
 use Rattle.outlines.proofs.LoopsIterator.next.Goals as goal
+use Rattle.outlines.proofs.LoopsIterator.next.Goals.{then-index-eq0, else-index-eq0}
 
-pub overflow_add-index : goal.overflow_add-index
-overflow_add-index c = omega (arith, loop_numbered _ _ _ _ c.args.self.now.holes.filled c.in_ok-hole-in-None.ensures.steps)
+pub returns-then-index-domain-clause-steps : goal.returns-then-index-domain-clause-steps
+returns-then-index-domain-clause-steps c = let e = none_ahead c.args.self.now.ahead (omega (arith, c.if-index-domain.true)) in (e, e)
+
+pub invariant_of-self : goal.invariant_of-self
+invariant_of-self c =
+    record {
+      ahead = loop_passed c.args.self.now.ahead (omega (arith, c.if-index-domain.false))
+          (λ z. elim c.if-index-eq0.branch [ then-index-eq0 w ↦ w.passed-is | else-index-eq0 w ↦ absurd (w.if-index-eq0.false z) ])
+          (λ n. elim c.if-index-eq0.branch [ then-index-eq0 w ↦ absurd (n w.if-index-eq0.true) | else-index-eq0 w ↦ w.passed-is ]);
+    }
+
+pub overflow_add-self-2 : goal.overflow_add-self-2
+overflow_add-self-2 c =
+    let passed = loop_passed c.args.self.now.ahead (omega (arith, c.if-index-domain.false))
+    (λ z. elim c.if-index-eq0.branch [ then-index-eq0 w ↦ w.passed-is | else-index-eq0 w ↦ absurd (w.if-index-eq0.false z) ])
+    (λ n. elim c.if-index-eq0.branch [ then-index-eq0 w ↦ absurd (n w.if-index-eq0.true) | else-index-eq0 w ↦ w.passed-is ]) in
+    omega (arith, passed_few passed)
+
+pub returns-clause-steps : goal.returns-clause-steps
+returns-clause-steps c = loop_ahead c.args.self.now.ahead (omega (arith, c.if-index-domain.false)) c.loop_points.ensures
+
+pub returns-clause-goes : goal.returns-clause-goes
+returns-clause-goes c =
+    let less = ap length (loop_ahead c.args.self.now.ahead (omega (arith, c.if-index-domain.false)) c.loop_points.ensures) in
+    record { on = λ f. (f, cc, omega (arith, less)); keeps = tt; rests = λ f. tt }

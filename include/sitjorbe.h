@@ -827,6 +827,400 @@ SITJORBE_MUST_USE sitjorbe_preview_answer sitjorbe_preview(
     uint32_t b,
     uint32_t *list, size_t list_len);
 
+/* ---- the same with structs
+ *
+ * Parameters that belong together as structs, and for each entry that takes some of them a call that takes the structs; what it doesn't write may be const.
+ */
+
+/** An outline as it is lent: the outer loop, and any number of holes in it. */
+typedef struct sitjorbe_outline {
+    const double *outer; /**< the outer loop's points, x then y */
+    size_t outer_len; /**< its length */
+    const double *holes; /**< the points of all holes, one hole after the other */
+    size_t holes_len; /**< its length */
+    const size_t *lens; /**< the number of points of each hole */
+    size_t lens_len; /**< its length */
+} sitjorbe_outline;
+
+/** What an exam sets for a run. 400 sweeps and 600 passes are usual. */
+typedef struct sitjorbe_settings {
+    double size; /**< the length wanted of a quad's side, 0.01 to 100 */
+    size_t sweeps; /**< the most sweeps of the field, at most 1,000 */
+    size_t passes; /**< the passes of the paving; more than 600 count as 600 */
+} sitjorbe_settings;
+
+/** A field record: where the field's grid stands and how many nodes it has. Answers have one. */
+typedef struct sitjorbe_record {
+    double xmin; /**< the field record: the grid's left column */
+    double ymin; /**< the field record: the grid's lowest row */
+    double h; /**< the field record: the distance of two neighbours of the grid */
+    size_t nx; /**< the field record: nodes in a row */
+    size_t ny; /**< the field record: nodes in a column */
+} sitjorbe_record;
+
+/**
+ * The lists of a field. Directions, steps and previews want just as many places as it has nodes, which is what
+ * sitjorbe_list_lengths_for answers.
+ */
+typedef struct sitjorbe_field_lists {
+    double *values; /**< the field's values, two floats a field node */
+    size_t values_len; /**< its length */
+    uint8_t *marks; /**< the field's marks, a byte a field node: 1 where the outline fixes its value, else 0 */
+    size_t marks_len; /**< its length */
+} sitjorbe_field_lists;
+
+/** The lists of a mesh. A run writes them all, a step all but the last two. */
+typedef struct sitjorbe_mesh_lists {
+    double *xs; /**< the nodes' first coordinates */
+    size_t xs_len; /**< its length */
+    double *ys; /**< the nodes' second coordinates */
+    size_t ys_len; /**< its length */
+    uint32_t *next; /**< for each node the one that follows it on the front, or SITJORBE_OFF */
+    size_t next_len; /**< its length */
+    uint32_t *prev; /**< for each node the one before it on the front, or SITJORBE_OFF */
+    size_t prev_len; /**< its length */
+    uint16_t *origins; /**< for each node the number of the outline's loop that it came from: 0 for the outer one, k + 1 for hole k */
+    size_t origins_len; /**< its length */
+    uint32_t *quads; /**< four node numbers a quad, in the order a, b, d, c, which runs round it */
+    size_t quads_len; /**< its length */
+    uint32_t *edges; /**< two node numbers a distinct edge, the smaller first */
+    size_t edges_len; /**< its length */
+    uint32_t *loops; /**< the node numbers of the listed loops, one loop after the other; a place a node */
+    size_t loops_len; /**< its length */
+    uint32_t *lengths; /**< the lengths of the listed loops; a place a loop of the outline */
+    size_t lengths_len; /**< its length */
+} sitjorbe_mesh_lists;
+
+/** How much of a mesh's lists is in use. Answers of runs and steps have them. */
+typedef struct sitjorbe_mesh_counts {
+    uint32_t nodes; /**< how many nodes the mesh has */
+    size_t quads; /**< how many quads the mesh has */
+    size_t edges; /**< how many distinct edges the mesh has */
+    size_t front; /**< how many edges the front has */
+} sitjorbe_mesh_counts;
+
+/** Lists for a run's own use. Of all but the snapshot any length will do. */
+typedef struct sitjorbe_scratch {
+    uint32_t *snapshot; /**< a place a node, for the run's own use */
+    size_t snapshot_len; /**< its length */
+    uint32_t *node_pool; /**< scratch of any length, which saves time: four numbers a node place are enough */
+    size_t node_pool_len; /**< its length */
+    uint32_t *edge_pool; /**< scratch of any length, which saves time: sixteen numbers an edge place are enough */
+    size_t edge_pool_len; /**< its length */
+    uint32_t *blocks; /**< scratch of any length, which saves time: two numbers a point of the outline are enough */
+    size_t blocks_len; /**< its length */
+    uint32_t *tried; /**< scratch of any length, which saves time: three numbers a node place are enough */
+    size_t tried_len; /**< its length */
+} sitjorbe_scratch;
+
+/** What is asked of an exam. */
+typedef struct sitjorbe_asked {
+    uint32_t role; /**< who asks: 1 the desk, 2 a reader, 3 a masked reader */
+    uint32_t operation; /**< what is asked: 1 begin, 2 enter, 3 withdraw; 4 to 6 read a node, a quad, a loop; 7 to 9 read a threshold, the figures, an estimate */
+    uint32_t item; /**< the number of the node, quad or loop, from 0 */
+    uint32_t value; /**< the threshold to enter, in tenths of a decibel, 0 to 500 */
+    uint32_t u; /**< the weight from a towards b, 0 to 256 */
+    uint32_t v; /**< the weight from a towards c, 0 to 256 */
+} sitjorbe_asked;
+
+/** The results of an exam. A desk's call takes what the last one left, and begins with SITJORBE_BEGIN. */
+typedef struct sitjorbe_results {
+    uint16_t *thresholds; /**< a threshold a node, in tenths of a decibel; anything above SITJORBE_MOST_THRESHOLD means none */
+    size_t thresholds_len; /**< its length */
+    uint32_t count; /**< how many quads have all four thresholds */
+    uint32_t sum; /**< the sum of those quads' thresholds, a node counted once for each such quad */
+} sitjorbe_results;
+
+/** Calls sitjorbe_sound. */
+SITJORBE_MUST_USE static inline sitjorbe_sound_answer sitjorbe_sound_with(const sitjorbe_outline *outline) {
+    return sitjorbe_sound(
+        outline->outer, outline->outer_len, outline->holes, outline->holes_len, outline->lens, outline->lens_len);
+}
+
+/** Calls sitjorbe_directions. */
+SITJORBE_MUST_USE static inline uint32_t sitjorbe_directions_with(
+    const sitjorbe_record *record, const sitjorbe_field_lists *field, const double *points, size_t points_len,
+    const double *targets, size_t targets_len, double *answers, size_t answers_len) {
+    return sitjorbe_directions(
+        record->xmin, record->ymin, record->h, record->nx, record->ny, field->values, field->values_len, field->marks,
+        field->marks_len, points, points_len, targets, targets_len, answers, answers_len);
+}
+
+/** Calls sitjorbe_order. */
+SITJORBE_MUST_USE static inline sitjorbe_order_answer sitjorbe_order_with(
+    const sitjorbe_mesh_lists *mesh, const sitjorbe_mesh_counts *counts, const uint32_t *order, size_t order_len,
+    size_t *places, size_t places_len, uint32_t *pool, size_t pool_len) {
+    return sitjorbe_order(
+        counts->quads, mesh->quads, mesh->quads_len, order, order_len, places, places_len, pool, pool_len);
+}
+
+/** Calls sitjorbe_steps. */
+SITJORBE_MUST_USE static inline sitjorbe_steps_answer sitjorbe_steps_with(
+    const sitjorbe_mesh_lists *mesh, const sitjorbe_mesh_counts *counts, int32_t *steps, size_t steps_len) {
+    return sitjorbe_steps(
+        mesh->xs, mesh->xs_len, mesh->ys, mesh->ys_len, mesh->next, mesh->next_len, mesh->prev, mesh->prev_len,
+        mesh->origins, mesh->origins_len, mesh->quads, mesh->quads_len, mesh->edges, mesh->edges_len, counts->nodes,
+        counts->quads, counts->edges, counts->front, steps, steps_len);
+}
+
+/** Calls sitjorbe_places. */
+SITJORBE_MUST_USE static inline sitjorbe_places_answer sitjorbe_places_with(
+    const sitjorbe_outline *outline, const sitjorbe_settings *settings) {
+    return sitjorbe_places(
+        outline->outer, outline->outer_len, outline->holes, outline->holes_len, outline->lens, outline->lens_len,
+        settings->size);
+}
+
+/** Calls sitjorbe_contains. */
+SITJORBE_MUST_USE static inline sitjorbe_contains_answer sitjorbe_contains_with(
+    const sitjorbe_outline *outline, double x, double y) {
+    return sitjorbe_contains(
+        outline->outer, outline->outer_len, outline->holes, outline->holes_len, outline->lens, outline->lens_len, x, y);
+}
+
+/** Calls sitjorbe_nearest_segment. */
+SITJORBE_MUST_USE static inline sitjorbe_nearest_answer sitjorbe_nearest_segment_with(
+    const sitjorbe_outline *outline, double x, double y) {
+    return sitjorbe_nearest_segment(
+        outline->outer, outline->outer_len, outline->holes, outline->holes_len, outline->lens, outline->lens_len, x, y);
+}
+
+/** Calls sitjorbe_distance_to_boundary. */
+SITJORBE_MUST_USE static inline sitjorbe_distance_answer sitjorbe_distance_to_boundary_with(
+    const sitjorbe_outline *outline, double x, double y) {
+    return sitjorbe_distance_to_boundary(
+        outline->outer, outline->outer_len, outline->holes, outline->holes_len, outline->lens, outline->lens_len, x, y);
+}
+
+/** Calls sitjorbe_field. */
+SITJORBE_MUST_USE static inline sitjorbe_field_record_answer sitjorbe_field_with(
+    const sitjorbe_outline *outline, const sitjorbe_settings *settings, const sitjorbe_field_lists *field,
+    const sitjorbe_scratch *scratch) {
+    return sitjorbe_field(
+        outline->outer, outline->outer_len, outline->holes, outline->holes_len, outline->lens, outline->lens_len,
+        settings->size, settings->sweeps, field->values, field->values_len, field->marks, field->marks_len,
+        scratch->blocks, scratch->blocks_len);
+}
+
+/** Calls sitjorbe_direction. */
+SITJORBE_MUST_USE static inline sitjorbe_direction_answer sitjorbe_direction_with(
+    const sitjorbe_record *record, const sitjorbe_field_lists *field, double x, double y, double tx, double ty) {
+    return sitjorbe_direction(
+        record->xmin, record->ymin, record->h, record->nx, record->ny, field->values, field->values_len, field->marks,
+        field->marks_len, x, y, tx, ty);
+}
+
+/** Calls sitjorbe_pave. */
+SITJORBE_MUST_USE static inline sitjorbe_pave_answer sitjorbe_pave_with(
+    const sitjorbe_outline *outline, const sitjorbe_settings *settings, const sitjorbe_field_lists *field,
+    const sitjorbe_mesh_lists *mesh, const sitjorbe_scratch *scratch) {
+    return sitjorbe_pave(
+        outline->outer, outline->outer_len, outline->holes, outline->holes_len, outline->lens, outline->lens_len,
+        settings->size, settings->sweeps, settings->passes, field->values, field->values_len, field->marks,
+        field->marks_len, mesh->xs, mesh->xs_len, mesh->ys, mesh->ys_len, mesh->next, mesh->next_len, mesh->prev,
+        mesh->prev_len, scratch->snapshot, scratch->snapshot_len, mesh->origins, mesh->origins_len, mesh->quads,
+        mesh->quads_len, mesh->edges, mesh->edges_len, mesh->loops, mesh->loops_len, mesh->lengths, mesh->lengths_len,
+        scratch->node_pool, scratch->node_pool_len, scratch->edge_pool, scratch->edge_pool_len, scratch->blocks,
+        scratch->blocks_len, scratch->tried, scratch->tried_len);
+}
+
+/** Calls sitjorbe_exam. */
+SITJORBE_MUST_USE static inline sitjorbe_exam_answer sitjorbe_exam_with(
+    const sitjorbe_mesh_lists *mesh, const sitjorbe_mesh_counts *counts, const sitjorbe_asked *asked,
+    sitjorbe_results *results, uint32_t *reply, size_t reply_len) {
+    return sitjorbe_exam(
+        asked->role, asked->operation, asked->item, asked->value, asked->u, asked->v, counts->nodes, mesh->xs,
+        mesh->xs_len, mesh->ys, mesh->ys_len, counts->quads, mesh->quads, mesh->quads_len, mesh->next, mesh->next_len,
+        mesh->prev, mesh->prev_len, mesh->origins, mesh->origins_len, results->thresholds, results->thresholds_len,
+        &results->count, &results->sum, reply, reply_len);
+}
+
+/** Calls sitjorbe_step. */
+SITJORBE_MUST_USE static inline sitjorbe_step_answer sitjorbe_step_with(
+    const sitjorbe_outline *outline, const sitjorbe_settings *settings, const sitjorbe_record *record,
+    const sitjorbe_field_lists *field, const sitjorbe_mesh_lists *mesh, const sitjorbe_mesh_counts *counts, uint32_t a,
+    uint32_t b) {
+    return sitjorbe_step(
+        outline->outer, outline->outer_len, outline->holes, outline->holes_len, outline->lens, outline->lens_len,
+        settings->size, record->xmin, record->ymin, record->h, record->nx, record->ny, field->values, field->values_len,
+        field->marks, field->marks_len, mesh->xs, mesh->xs_len, mesh->ys, mesh->ys_len, mesh->next, mesh->next_len,
+        mesh->prev, mesh->prev_len, mesh->origins, mesh->origins_len, mesh->quads, mesh->quads_len, mesh->edges,
+        mesh->edges_len, counts->nodes, counts->quads, counts->edges, counts->front, a, b);
+}
+
+/** Calls sitjorbe_preview. */
+SITJORBE_MUST_USE static inline sitjorbe_preview_answer sitjorbe_preview_with(
+    const sitjorbe_outline *outline, const sitjorbe_settings *settings, const sitjorbe_record *record,
+    const sitjorbe_field_lists *field, const sitjorbe_mesh_lists *mesh, const sitjorbe_mesh_counts *counts, uint32_t a,
+    uint32_t b, uint32_t *list, size_t list_len) {
+    return sitjorbe_preview(
+        outline->outer, outline->outer_len, outline->holes, outline->holes_len, outline->lens, outline->lens_len,
+        settings->size, record->xmin, record->ymin, record->h, record->nx, record->ny, field->values, field->values_len,
+        field->marks, field->marks_len, mesh->xs, mesh->xs_len, mesh->ys, mesh->ys_len, mesh->next, mesh->next_len,
+        mesh->prev, mesh->prev_len, mesh->origins, mesh->origins_len, mesh->quads, mesh->quads_len, mesh->edges,
+        mesh->edges_len, counts->nodes, counts->quads, counts->edges, counts->front, a, b, list, list_len);
+}
+
+/** The counts in an answer of sitjorbe_pave. */
+static inline sitjorbe_mesh_counts sitjorbe_pave_counts(sitjorbe_pave_answer answer) {
+    sitjorbe_mesh_counts counts;
+    counts.nodes = answer.nodes;
+    counts.quads = answer.quads;
+    counts.edges = answer.edges;
+    counts.front = answer.front;
+    return counts;
+}
+
+/** The counts in an answer of sitjorbe_step. */
+static inline sitjorbe_mesh_counts sitjorbe_step_counts(sitjorbe_step_answer answer) {
+    sitjorbe_mesh_counts counts;
+    counts.nodes = answer.nodes;
+    counts.quads = answer.quads;
+    counts.edges = answer.edges;
+    counts.front = answer.front;
+    return counts;
+}
+
+/** The record in an answer of sitjorbe_field. */
+static inline sitjorbe_record sitjorbe_field_record(sitjorbe_field_record_answer answer) {
+    sitjorbe_record record;
+    record.xmin = answer.xmin;
+    record.ymin = answer.ymin;
+    record.h = answer.h;
+    record.nx = answer.nx;
+    record.ny = answer.ny;
+    return record;
+}
+
+/** The record in an answer of sitjorbe_pave. */
+static inline sitjorbe_record sitjorbe_pave_record(sitjorbe_pave_answer answer) {
+    sitjorbe_record record;
+    record.xmin = answer.xmin;
+    record.ymin = answer.ymin;
+    record.h = answer.h;
+    record.nx = answer.nx;
+    record.ny = answer.ny;
+    return record;
+}
+
+/** How long each list of a run wants to be; the members are called as the lists. */
+typedef struct sitjorbe_list_lengths {
+    uint32_t refusal; /**< what refuses the outline or the size, 0 where nothing is refused; the lengths are 0 otherwise */
+    size_t values, marks, xs, ys, next, prev, origins, quads, edges, loops, lengths, snapshot, node_pool, edge_pool, blocks, tried;
+} sitjorbe_list_lengths;
+
+/**
+ * How long the lists of a run want to be: as long as it can't do without, and with places for `growth` times a guess of how many quads there will be, and for the
+ * nodes and edges that they add. With 1 a run seldom ends SITJORBE_END_FULL; where it does, ask for twice as much and call again. A growth of 250,000 or
+ * more is always enough.
+ */
+static inline sitjorbe_list_lengths sitjorbe_list_lengths_for(
+    const sitjorbe_outline *outline, const sitjorbe_settings *settings, size_t growth) {
+    const sitjorbe_places_answer least = sitjorbe_places_with(outline, settings);
+    const size_t guess = least.sampled_nodes + least.field_nodes / 4;
+    const size_t times = growth < SITJORBE_MOST_QUADS ? growth : SITJORBE_MOST_QUADS;
+    const size_t quads = times * guess < SITJORBE_MOST_QUADS ? times * guess : SITJORBE_MOST_QUADS;
+    const size_t field_nodes = least.field_nodes, nodes = least.sampled_nodes + 2 * quads;
+    const size_t edges = least.sampled_nodes + 3 * quads;
+    const int refused = least.refusal != 0;
+    sitjorbe_list_lengths lengths;
+    lengths.refusal = least.refusal;
+    lengths.values = refused ? 0 : 2 * field_nodes;
+    lengths.marks = refused ? 0 : field_nodes;
+    lengths.xs = refused ? 0 : nodes;
+    lengths.ys = refused ? 0 : nodes;
+    lengths.next = refused ? 0 : nodes;
+    lengths.prev = refused ? 0 : nodes;
+    lengths.origins = refused ? 0 : nodes;
+    lengths.quads = refused ? 0 : 4 * quads;
+    lengths.edges = refused ? 0 : 2 * edges;
+    lengths.loops = refused ? 0 : nodes;
+    lengths.lengths = refused ? 0 : outline->lens_len + 1;
+    lengths.snapshot = refused ? 0 : nodes;
+    lengths.node_pool = refused ? 0 : 4 * nodes;
+    lengths.edge_pool = refused ? 0 : 16 * edges;
+    lengths.blocks = refused ? 0 : outline->outer_len + outline->holes_len;
+    lengths.tried = refused ? 0 : 3 * nodes;
+    return lengths;
+}
+
+/** How many bytes all these lists take. */
+static inline size_t sitjorbe_list_bytes(const sitjorbe_list_lengths *lengths) {
+    return lengths->values * sizeof(double)
+        + lengths->xs * sizeof(double)
+        + lengths->ys * sizeof(double)
+        + lengths->next * sizeof(uint32_t)
+        + lengths->prev * sizeof(uint32_t)
+        + lengths->quads * sizeof(uint32_t)
+        + lengths->edges * sizeof(uint32_t)
+        + lengths->loops * sizeof(uint32_t)
+        + lengths->lengths * sizeof(uint32_t)
+        + lengths->snapshot * sizeof(uint32_t)
+        + lengths->node_pool * sizeof(uint32_t)
+        + lengths->edge_pool * sizeof(uint32_t)
+        + lengths->blocks * sizeof(uint32_t)
+        + lengths->tried * sizeof(uint32_t)
+        + lengths->origins * sizeof(uint16_t)
+        + lengths->marks * sizeof(uint8_t);
+}
+
+/**
+ * Cuts memory into lists of these lengths: sitjorbe_list_bytes of it, aligned to 8 as malloc's is. What it holds doesn't matter.
+ */
+static inline void sitjorbe_cut_lists(void *memory, const sitjorbe_list_lengths *lengths,
+    sitjorbe_field_lists *field, sitjorbe_mesh_lists *mesh, sitjorbe_scratch *scratch) {
+    char *at = (char *)memory;
+    field->values = (double *)(void *)at;
+    field->values_len = lengths->values;
+    at += lengths->values * sizeof(double);
+    mesh->xs = (double *)(void *)at;
+    mesh->xs_len = lengths->xs;
+    at += lengths->xs * sizeof(double);
+    mesh->ys = (double *)(void *)at;
+    mesh->ys_len = lengths->ys;
+    at += lengths->ys * sizeof(double);
+    mesh->next = (uint32_t *)(void *)at;
+    mesh->next_len = lengths->next;
+    at += lengths->next * sizeof(uint32_t);
+    mesh->prev = (uint32_t *)(void *)at;
+    mesh->prev_len = lengths->prev;
+    at += lengths->prev * sizeof(uint32_t);
+    mesh->quads = (uint32_t *)(void *)at;
+    mesh->quads_len = lengths->quads;
+    at += lengths->quads * sizeof(uint32_t);
+    mesh->edges = (uint32_t *)(void *)at;
+    mesh->edges_len = lengths->edges;
+    at += lengths->edges * sizeof(uint32_t);
+    mesh->loops = (uint32_t *)(void *)at;
+    mesh->loops_len = lengths->loops;
+    at += lengths->loops * sizeof(uint32_t);
+    mesh->lengths = (uint32_t *)(void *)at;
+    mesh->lengths_len = lengths->lengths;
+    at += lengths->lengths * sizeof(uint32_t);
+    scratch->snapshot = (uint32_t *)(void *)at;
+    scratch->snapshot_len = lengths->snapshot;
+    at += lengths->snapshot * sizeof(uint32_t);
+    scratch->node_pool = (uint32_t *)(void *)at;
+    scratch->node_pool_len = lengths->node_pool;
+    at += lengths->node_pool * sizeof(uint32_t);
+    scratch->edge_pool = (uint32_t *)(void *)at;
+    scratch->edge_pool_len = lengths->edge_pool;
+    at += lengths->edge_pool * sizeof(uint32_t);
+    scratch->blocks = (uint32_t *)(void *)at;
+    scratch->blocks_len = lengths->blocks;
+    at += lengths->blocks * sizeof(uint32_t);
+    scratch->tried = (uint32_t *)(void *)at;
+    scratch->tried_len = lengths->tried;
+    at += lengths->tried * sizeof(uint32_t);
+    mesh->origins = (uint16_t *)(void *)at;
+    mesh->origins_len = lengths->origins;
+    at += lengths->origins * sizeof(uint16_t);
+    field->marks = (uint8_t *)(void *)at;
+    field->marks_len = lengths->marks;
+    at += lengths->marks * sizeof(uint8_t);
+    (void)at;
+}
+
 /* Every file that includes this one asks for the entry with the number of its shape, so that it links with no other library. */
 #if defined(__GNUC__)
 #if defined(__has_attribute)

@@ -104,15 +104,30 @@ def c_function(function):
         words_of(names.PARAMETERS, function.name, typed.name)
     head = f"SITJORBE_MUST_USE {c_answer(function)} {function.name}("
     parameters = [f"{c_type(typed)}{typed.name}" for typed in function.parameters] or ["void"]
-    whole = f"{head}{', '.join(parameters)});"
-    if len(whole) > WIDTH:
+    if len(f"{head}{', '.join(parameters)});") > WIDTH:
         pairs, k = [], 0
         while k < len(parameters):
             step = 2 if function.parameters[k].pointer and k + 1 < len(parameters) and parameters[k + 1].endswith("_len") else 1
             pairs.append(", ".join(parameters[k:k + step]))
             k += step
-        whole = head + "\n    " + ",\n    ".join(pairs) + ");"
-    return f"{c_comment(function.words)}\n{whole}"
+        parameters = pairs
+    return f"{c_comment(function.words)}\n{c_listed(head, parameters, ');')}"
+
+
+def c_listed(head, parts, end):
+    """Parts between commas, each in a line of its own where they don't fit in one."""
+    whole = f"{head}{', '.join(parts)}{end}"
+    return whole if len(whole) <= WIDTH else head + "\n    " + ",\n    ".join(parts) + end
+
+
+def c_wrapped(head, parts, end, indent="    "):
+    """Parts between commas, as many in a line as fit."""
+    whole = f"{head}{', '.join(parts)}{end}"
+    if len(whole) <= WIDTH:
+        return whole
+    kept = [part.replace(" ", "\0") for part in parts]  # no part goes over the end of a line
+    lines = textwrap.wrap(f"{', '.join(kept)}{end}", WIDTH - len(indent), break_long_words=False, break_on_hyphens=False)
+    return "\n".join([head, *(indent + line.replace("\0", " ") for line in lines)])
 
 
 def c_declared(reading, struct):
@@ -231,6 +246,13 @@ static inline const char *sitjorbe_refusal_words(uint32_t refusal) {{
 
 {functions}
 
+/* ---- the same with structs
+ *
+ * Parameters that belong together as structs, and for each entry that takes some of them a call that takes the structs; what it doesn't write may be const.
+ */
+
+{grouped}
+
 /* Every file that includes this one asks for the entry with the number of its shape, so that it links with no other library. */
 #if defined(__GNUC__)
 #if defined(__has_attribute)
@@ -251,6 +273,8 @@ __attribute__((used)) static uint32_t (*const sitjorbe_abi)(void) = sitjorbe_abi
 
 def header(reading):
     """The text of include/sitjorbe.h."""
+    import calls  # which is made of what stands above
+
     return HEADER.format(
         version=commands.version(),
         number=reading.number(),
@@ -259,7 +283,8 @@ def header(reading):
         words=c_refusal_words(),
         structs="\n\n".join(c_declared(reading, struct) for struct in reading.structs),
         glossary=c_glossary(reading),
-        functions="\n\n".join(map(c_function, reading.functions)))
+        functions="\n\n".join(map(c_function, reading.functions)),
+        grouped=calls.text(reading))
 
 
 # ---- Rust

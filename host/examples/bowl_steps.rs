@@ -6,16 +6,25 @@
 use std::error::Error;
 use std::fmt::Write;
 
-use sitjorbe::raw::{Outline, Settings};
-use sitjorbe::{Memory, Places, Steps, STEPS_PER_DEGREE};
+use sitjorbe::{Outline, Paver, Steps, STEPS_PER_DEGREE};
 
 /// A field of less than a degree round the fovea, x and y in degrees.
-const OUTER: [f64; 24] = [
-    0.41, 0.0, 0.36, 0.17, 0.21, 0.29, 0.0, 0.33, -0.21, 0.29, -0.36, 0.17, -0.41, 0.0, -0.36, -0.17, -0.21, -0.29,
-    0.0, -0.33, 0.21, -0.29, 0.36, -0.17,
+const OUTER: [[f64; 2]; 12] = [
+    [0.41, 0.0],
+    [0.36, 0.17],
+    [0.21, 0.29],
+    [0.0, 0.33],
+    [-0.21, 0.29],
+    [-0.36, 0.17],
+    [-0.41, 0.0],
+    [-0.36, -0.17],
+    [-0.21, -0.29],
+    [0.0, -0.33],
+    [0.21, -0.29],
+    [0.36, -0.17],
 ];
 
-const SETTINGS: Settings = Settings { size: 0.07, sweeps: 400, passes: 600 };
+const SIZE: f64 = 0.07;
 
 /// Pixels a degree, and from the picture's corner to its middle.
 const SCALE: f64 = 768.0;
@@ -43,13 +52,10 @@ fn longest_way(nodes: &[[f64; 2]], steps: &Steps) -> f64 {
 }
 
 fn main() -> Result<(), Box<dyn Error>> {
-    let outline = Outline { outer: &OUTER, holes: &[], hole_lengths: &[] };
-    let mut memory = Memory::new(Places { field_nodes: 1_600, nodes: 400, quads: 400, edges: 1_200, points: 12 })?;
-    let mesh = memory.pave(&outline, &SETTINGS)?;
-    let steps = mesh.steps()?;
-    let (nodes, quads): (Vec<[f64; 2]>, Vec<[u32; 4]>) = (mesh.nodes().collect(), mesh.quads().collect());
+    let mesh = Paver::new(SIZE).pave(&Outline::new(OUTER))?;
+    let (nodes, quads, steps) = (mesh.nodes(), mesh.quads(), mesh.bowl_steps()?);
     let stepped: Vec<[f64; 2]> = steps.degrees().collect();
-    let longest = longest_way(&nodes, &steps);
+    let longest = longest_way(nodes, &steps);
     let ([width, height], lattice) = (HALF.map(|half| 2.0 * half), SCALE / f64::from(STEPS_PER_DEGREE));
     println!("<svg xmlns=\"http://www.w3.org/2000/svg\" viewBox=\"0 0 {width} {height}\" font-family=\"sans-serif\">");
     println!("<title>{} quads as paved (orange) and in steps of 1/64 degree (black)</title>", quads.len());
@@ -59,8 +65,8 @@ fn main() -> Result<(), Box<dyn Error>> {
     );
     println!("<rect width=\"{width}\" height=\"{height}\" fill=\"white\"/>");
     println!("<rect width=\"{width}\" height=\"{height}\" fill=\"url(#steps)\"/>");
-    println!("<path d=\"{}\" fill=\"none\" stroke=\"#f80\" stroke-width=\"1.5\"/>", path(&nodes, &quads));
-    println!("<path d=\"{}\" fill=\"none\" stroke=\"black\" stroke-width=\"1.5\"/>", path(&stepped, &quads));
+    println!("<path d=\"{}\" fill=\"none\" stroke=\"#f80\" stroke-width=\"1.5\"/>", path(nodes, quads));
+    println!("<path d=\"{}\" fill=\"none\" stroke=\"black\" stroke-width=\"1.5\"/>", path(&stepped, quads));
     let caption = format!(
         "{} nodes; no coordinate moves by more than {:.5} of a degree, of 1/128 = 0.00781",
         nodes.len(),

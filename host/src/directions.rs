@@ -9,6 +9,16 @@ use crate::{ffi, floats, FieldRecord, Refusal};
 ///
 /// A point that isn't finite or is beyond 1,000 has its refusal among the answers; the others don't notice.
 ///
+/// ```
+/// # use sitjorbe::raw::Outline;
+/// # let square = Outline { outer: &[0.0, 0.0, 2.0, 0.0, 2.0, 2.0, 0.0, 2.0], holes: &[], hole_lengths: &[] };
+/// # let (mut values, mut marks) = ([0.0; 98], [0; 49]);
+/// # let record = sitjorbe::raw::field(&square, 1.0, 400, &mut values, &mut marks, &mut [])?;
+/// let all = sitjorbe::raw::directions(&record, &values, &marks, &[[1.0, 0.0]], &[[0.9, 0.1]])?;
+/// assert_eq!(all, [Ok([1.0, 0.0])]);
+/// # Ok::<(), sitjorbe::Refusal>(())
+/// ```
+///
 /// # Errors
 ///
 /// [`Refusal::AnswerLists`] if there aren't as many targets as points, then [`Refusal::NoFieldRecord`], also where there are no points.
@@ -26,6 +36,17 @@ pub fn directions(
 /// [`directions`] in memory that is kept from one list to the next: an answer's place for each point. The others keep their contents.
 ///
 /// An answer is left there as three floats: 0 and the direction, or the refusal's number and two zeros.
+///
+/// ```
+/// # use sitjorbe::raw::Outline;
+/// # let square = Outline { outer: &[0.0, 0.0, 2.0, 0.0, 2.0, 2.0, 0.0, 2.0], holes: &[], hole_lengths: &[] };
+/// # let (mut values, mut marks) = ([0.0; 98], [0; 49]);
+/// # let record = sitjorbe::raw::field(&square, 1.0, 400, &mut values, &mut marks, &mut [])?;
+/// let mut places = [[0.0; 3]; 2];
+/// let mut all = sitjorbe::raw::directions_in(&record, &values, &marks, &[[1.0, 0.0]], &[[0.9, 0.1]], &mut places)?;
+/// assert_eq!(all.next(), Some(Ok([1.0, 0.0])));
+/// # Ok::<(), sitjorbe::Refusal>(())
+/// ```
 ///
 /// # Errors
 ///

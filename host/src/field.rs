@@ -24,6 +24,11 @@ pub struct FieldRecord {
 impl FieldRecord {
     /// The number of nodes of a field that [`field`] made: it has written twice as many values, and as many marks.
     ///
+    /// ```
+    /// let record = sitjorbe::FieldRecord { xmin: 0.0, ymin: 0.0, h: 0.5, nx: 7, ny: 5 };
+    /// assert_eq!(record.nodes(), 35);
+    /// ```
+    ///
     /// # Panics
     ///
     /// If the counts are so great that their product isn't a `usize`; those of a field are at most 250,000 together.
@@ -42,6 +47,15 @@ impl FieldRecord {
 /// that can matter to it. Two numbers for each point of the outline are always enough, and any slice may be lent: segments
 /// whose block has no place are looked at one by one, which takes longer, and the field is the same. What is left in it means
 /// nothing.
+///
+/// ```
+/// # use sitjorbe::raw::Outline;
+/// # let square = Outline { outer: &[0.0, 0.0, 2.0, 0.0, 2.0, 2.0, 0.0, 2.0], holes: &[], hole_lengths: &[] };
+/// let (mut values, mut marks, mut blocks) = ([0.0; 98], [0; 49], [0; 8]);
+/// let record = sitjorbe::raw::field(&square, 1.0, 400, &mut values, &mut marks, &mut blocks)?;
+/// assert_eq!((record.nx, record.ny, record.nodes()), (7, 7, 49));
+/// # Ok::<(), sitjorbe::Refusal>(())
+/// ```
 ///
 /// # Errors
 ///
@@ -86,6 +100,16 @@ pub fn field(
 /// Of the field's four directions at a point, the one nearest to a target, which may be any two floats.
 ///
 /// Lend exactly the field's values and marks: of lists that were longer, the first `2 * nodes` and `nodes` places.
+///
+/// ```
+/// # use sitjorbe::raw::Outline;
+/// # let square = Outline { outer: &[0.0, 0.0, 2.0, 0.0, 2.0, 2.0, 0.0, 2.0], holes: &[], hole_lengths: &[] };
+/// # let (mut values, mut marks) = ([0.0; 98], [0; 49]);
+/// # let record = sitjorbe::raw::field(&square, 1.0, 400, &mut values, &mut marks, &mut [])?;
+/// let towards = sitjorbe::raw::direction(&record, &values, &marks, [1.0, 0.0], [0.9, 0.1])?;
+/// assert_eq!(towards, [1.0, 0.0]);
+/// # Ok::<(), sitjorbe::Refusal>(())
+/// ```
 ///
 /// # Errors
 ///

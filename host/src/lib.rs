@@ -8,95 +8,83 @@
 //! link. Nothing here needs `std`, but an allocator for what owns its lists, as [`Memory`] does.
 //!
 //! ```
-//! use sitjorbe::raw::{contains, direction, directions, distance_to_boundary, field, nearest_segment, Outline};
-//! use sitjorbe::Refusal;
-//! use sitjorbe::raw::{check_order, nearest_order, Settings};
-//! use sitjorbe::{End, Memory, Places};
+//! use sitjorbe::{NotPaved, Outline, Paver};
 //!
-//! // A square with a square hole.
-//! let outline = Outline {
-//!     outer: &[0.0, 0.0, 8.0, 0.0, 8.0, 8.0, 0.0, 8.0],
-//!     holes: &[2.0, 2.0, 2.0, 4.0, 4.0, 4.0, 4.0, 2.0],
-//!     hole_lengths: &[4],
-//! };
-//! assert_eq!(contains(&outline, [1.0, 1.0]), Ok(true));
-//! assert_eq!(contains(&outline, [3.0, 3.0]), Ok(false));
-//! assert_eq!(distance_to_boundary(&outline, [5.5, 3.0]), Ok(1.5));
-//!
-//! let nearest = nearest_segment(&outline, [7.0, 5.0])?;
-//! assert_eq!((nearest.a, nearest.b, nearest.distance), ([8.0, 0.0], [8.0, 8.0], 1.0));
-//! assert_eq!((nearest.loop_index, nearest.segment_index), (0, 1), "the outer loop's second side");
-//!
-//! // The cross field for elements of size 2, after at most 400 sweeps: two floats and a mark a node, in memory lent for it,
-//! // and two numbers for each of the outline's eight points, which save it time.
-//! let (mut values, mut marks, mut blocks) = (vec![0.0; 2 * 200], vec![0; 200], vec![0; 2 * 8]);
-//! let record = field(&outline, 2.0, 400, &mut values, &mut marks, &mut blocks)?;
-//! assert_eq!((record.nx, record.ny, record.h), (11, 11, 1.0));
-//!
-//! // Of its four directions at a point, the one nearest to a target; near the left side they are along it and across it.
-//! let nodes = record.nodes();
-//! let toward = direction(&record, &values[..2 * nodes], &marks[..nodes], [0.0, 4.0], [0.1, -1.0])?;
-//! assert_eq!(toward, [0.0, -1.0]);
-//!
-//! // The same for a list of points and their targets, with the field looked through once. A point may be refused by itself.
-//! let (points, targets) = ([[0.0, 4.0], [4.0, f64::NAN]], [[0.1, -1.0], [1.0, 0.0]]);
-//! let all = directions(&record, &values[..2 * nodes], &marks[..nodes], &points, &targets)?;
-//! assert_eq!(all, [Ok([0.0, -1.0]), Err(Refusal::NotFinite)]);
-//!
-//! // The whole run, in memory that is kept for one run after the other: the outline paved with quads of size 1. The library says how many places it
-//! // can't do without; those for quads, and the nodes and edges that they add, are a guess.
-//! let mut memory = Memory::new(Places::for_outline(&outline, 1.0, 1)?)?;
-//! let mesh = memory.pave(&outline, &Settings { size: 1.0, sweeps: 400, passes: 600 })?;
-//! assert_eq!((mesh.node_count(), mesh.quad_count(), mesh.end()), (80, 44, End::Still));
-//! assert_eq!(mesh.quads().next(), Some([0, 1, 40, 31]));
-//! assert!(!mesh.is_whole());
-//!
-//! // The order in which the quads are to be tested: the last one as soon as may be.
-//! let quads: Vec<u32> = mesh.quads().flatten().collect();
-//! let order = nearest_order(44, &quads, &[43]);
-//! assert_eq!(check_order(44, &quads, &order), Ok(()));
-//! assert!(check_order(44, &quads, &order[1..]).is_err());
-//!
-//! // For the motor bowl: the nodes in whole steps of 1/64 degree, and as the degrees that these are.
-//! let steps = mesh.steps()?;
-//! assert_eq!(steps.counts().nth(1), Some([64, 0]));
-//! assert_eq!(steps.degrees().nth(1), Some([1.0, 0.0]));
+//! // A field with a blind spot, in degrees, and quads with sides of about 1 degree.
+//! let field = Outline::new([[0.0, 0.0], [8.0, 0.0], [8.0, 8.0], [0.0, 8.0]]).hole([[2.0, 2.0], [2.0, 4.0], [4.0, 4.0], [4.0, 2.0]]);
+//! let mesh = Paver::new(1.0).pave(&field)?;
+//! assert_eq!((mesh.nodes().len(), mesh.quads().len()), (80, 44));
+//! assert_eq!((mesh.nodes()[1], mesh.quads()[0]), ([1.0, 0.0], [0, 1, 40, 31]));
 //!
 //! // A refusal says what is wrong and what to do about it.
-//! let refusal = contains(&outline, [f64::NAN, 0.0]).unwrap_err();
-//! assert_eq!(refusal, Refusal::NotFinite);
-//! println!("{refusal}");
-//! # Ok::<(), Box<dyn std::error::Error>>(())
+//! let refused = Paver::new(-1.0).pave(&field).unwrap_err();
+//! assert_eq!(refused.to_string(), "refused (5): the element size isn't a number above 0: set one from 0.01 to 100");
+//! # Ok::<(), NotPaved>(())
 //! ```
+//!
+//! | to | take |
+//! |---|---|
+//! | draw an outline, ask whether it is sound and what is inside | [`Outline`] |
+//! | pave it | [`Paver::pave`]; in memory that is kept for one run after the other, [`Paver::pave_in`] |
+//! | read the mesh, order its quads, show it on the motor bowl | [`Mesh`] |
+//! | step the front by hand | [`Stepper`] |
+//! | run an exam, with roles that can do no more than they may | [`Exam`] |
+//! | draw the field of directions | [`Field`] |
+//! | lend lists of the host's own, or see the numbers as they cross | [`raw`] |
+//!
+//! Coordinates and sizes are degrees, x to the right and y up; thresholds tenths of a decibel. Nodes, quads and loops count from 0.
 
 #![cfg_attr(not(test), no_std)]
 #![deny(missing_docs)]
 
 extern crate alloc;
 
+mod cross_field;
 mod directions;
+mod ends;
 mod exam;
+mod exam_call;
 pub mod ffi;
 mod field;
 mod floats;
+mod lent_mesh;
+mod lent_stepper;
+mod memory;
+mod mesh;
+mod mesh_uses;
+mod net;
 mod order;
+mod outcomes;
+mod outline;
 mod pave;
+mod paver;
 mod places;
 mod queries;
 pub mod raw;
 mod refusal;
+mod roles;
 mod small_quads;
 mod sound;
 mod step;
+mod stepper;
 mod steps;
 
-pub use exam::{Desk, Exam, MaskedReader, Node, Reader, MOST_THRESHOLD, MOST_WEIGHT, NO_THRESHOLD};
+pub use cross_field::Field;
+pub use ends::End;
+pub use exam::Exam;
+pub use exam_call::{Node, MOST_THRESHOLD, MOST_WEIGHT, NO_THRESHOLD};
 pub use field::FieldRecord;
 pub use floats::are_floats_as_proved;
+pub use memory::{Memory, Places, TooManyPlaces};
+pub use mesh::Mesh;
 pub use order::NotAccepted;
-pub use pave::{End, Memory, Places, TooManyPlaces, OFF};
+pub use outcomes::{Outcome, Pass, Preview};
+pub use outline::Outline;
+pub use pave::OFF;
+pub use paver::{NotPaved, Paver};
 pub use queries::Segment;
 pub use refusal::Refusal;
+pub use roles::{Desk, MaskedReader, Reader};
 pub use small_quads::small_quads;
-pub use step::{Outcome, Pass, Preview};
+pub use stepper::Stepper;
 pub use steps::{NotShown, Steps, STEPS_PER_DEGREE};

@@ -23,6 +23,10 @@ pub enum NotAccepted {
 
 impl NotAccepted {
     /// The refusal: 21 or 22.
+    ///
+    /// ```
+    /// assert_eq!(sitjorbe::NotAccepted::TooEarly { place: 3 }.refusal().number(), 22);
+    /// ```
     #[must_use]
     pub fn refusal(self) -> Refusal {
         match self {
@@ -57,6 +61,11 @@ pub struct OrderScratch {
 
 impl OrderScratch {
     /// Enough for so many quads; more than 250,000 count as 250,000.
+    ///
+    /// ```
+    /// let scratch = sitjorbe::raw::OrderScratch::new(10);
+    /// assert_eq!((scratch.places.len(), scratch.pool.len()), (10, 82));
+    /// ```
     #[must_use]
     pub fn new(quads: usize) -> OrderScratch {
         let quads = quads.min(MOST_QUADS);
@@ -100,6 +109,11 @@ pub fn check_order(quad_count: usize, quads: &[u32], order: &[u32]) -> Result<()
 /// As [`check_order`], with scratch lent for it. Any slices will do, empty ones as well: they save time, and change no answer. What is left
 /// in them means nothing.
 ///
+/// ```
+/// let quads = [0, 1, 2, 3, 3, 2, 4, 5];
+/// assert_eq!(sitjorbe::raw::check_order_in(2, &quads, &[0, 1], &mut [], &mut []), Ok(()));
+/// ```
+///
 /// # Errors
 ///
 /// Those of [`check_order`].
@@ -120,6 +134,12 @@ pub fn check_order_in(
 }
 
 /// As [`check_order_in`], with the numbers as they cross.
+///
+/// ```
+/// let quads = [0, 1, 2, 3, 3, 2, 4, 5];
+/// let answer = sitjorbe::raw::order_numbers(2, &quads, &[1, 0], &mut [], &mut []);
+/// assert_eq!((answer.refusal, answer.place), (22, 0));
+/// ```
 pub fn order_numbers(
     quad_count: usize,
     quads: &[u32],
@@ -149,6 +169,11 @@ pub fn order_numbers(
 ///
 /// The wish may be any list: quads that it doesn't name come last, by their numbers, and what isn't a quad is passed over. This function
 /// isn't proved; what it makes has been accepted by [`check_order`], which is.
+///
+/// ```
+/// let quads = [0, 1, 2, 3, 3, 2, 4, 5];
+/// assert_eq!(sitjorbe::raw::nearest_order(2, &quads, &[1]), [0, 1]);
+/// ```
 ///
 /// # Panics
 ///

@@ -16,6 +16,14 @@ pub struct LeastPlaces {
 /// The places that a run can't do without, proved to be what the refusals for want of space count. With them a run isn't refused for that; for quads, and the
 /// nodes and edges that they add, it needs more.
 ///
+/// ```
+/// # use sitjorbe::raw::Outline;
+/// # let square = Outline { outer: &[0.0, 0.0, 2.0, 0.0, 2.0, 2.0, 0.0, 2.0], holes: &[], hole_lengths: &[] };
+/// let least = sitjorbe::raw::least_places(&square, 1.0)?;
+/// assert_eq!((least.field_nodes, least.sampled_nodes), (49, 8));
+/// # Ok::<(), sitjorbe::Refusal>(())
+/// ```
+///
 /// # Errors
 ///
 /// What refuses the outline or the size, as [`crate::raw::field`] does before it counts: [`Refusal::Lists`], [`Refusal::ShortLoop`], [`Refusal::NotFinite`],
@@ -42,6 +50,14 @@ impl Places {
     ///
     /// With a `growth` of 1 they seldom do. Where they do the run stops before the first quad that has no place, ends [`crate::End::Full`] and keeps the
     /// mesh so far: ask for a greater one and pave again. With 0 nothing is paved. No more than 250,000 quads are asked for, at which every run ends.
+    ///
+    /// ```
+    /// # use sitjorbe::raw::Outline;
+    /// # let square = Outline { outer: &[0.0, 0.0, 2.0, 0.0, 2.0, 2.0, 0.0, 2.0], holes: &[], hole_lengths: &[] };
+    /// let places = sitjorbe::Places::for_outline(&square, 1.0, 1)?;
+    /// assert_eq!((places.field_nodes, places.quads, places.nodes, places.edges), (49, 20, 48, 68));
+    /// # Ok::<(), sitjorbe::Refusal>(())
+    /// ```
     ///
     /// # Errors
     ///

@@ -74,6 +74,14 @@ pub fn contains(outline: &Outline<'_>, point: [f64; 2]) -> Result<bool, Refusal>
 /// Its name tells it from any other segment with the same ends, as in a loop that is run twice. What is answered is always a
 /// segment of the outline: the loop is one of its loops, the place one of that loop's segments, one a point.
 ///
+/// ```
+/// # use sitjorbe::raw::Outline;
+/// # let square = Outline { outer: &[0.0, 0.0, 2.0, 0.0, 2.0, 2.0, 0.0, 2.0], holes: &[], hole_lengths: &[] };
+/// let nearest = sitjorbe::raw::nearest_segment(&square, [1.75, 1.0])?;
+/// assert_eq!((nearest.segment_index, nearest.distance), (1, 0.25));
+/// # Ok::<(), sitjorbe::Refusal>(())
+/// ```
+///
 /// # Errors
 ///
 /// Those of [`contains`].
@@ -84,6 +92,12 @@ pub fn nearest_segment(outline: &Outline<'_>, point: [f64; 2]) -> Result<Segment
 }
 
 /// The distance from a point to the nearest segment of the outline.
+///
+/// ```
+/// # use sitjorbe::raw::Outline;
+/// # let square = Outline { outer: &[0.0, 0.0, 2.0, 0.0, 2.0, 2.0, 0.0, 2.0], holes: &[], hole_lengths: &[] };
+/// assert_eq!(sitjorbe::raw::distance_to_boundary(&square, [1.75, 1.0]), Ok(0.25));
+/// ```
 ///
 /// # Errors
 ///

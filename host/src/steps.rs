@@ -25,6 +25,10 @@ pub enum NotShown {
 
 impl NotShown {
     /// The refusal: 23 or 25.
+    ///
+    /// ```
+    /// assert_eq!(sitjorbe::NotShown::Quad { quad: 3 }.refusal().number(), 25);
+    /// ```
     #[must_use]
     pub fn refusal(self) -> Refusal {
         match self {
@@ -57,6 +61,15 @@ pub struct Steps {
 
 impl Steps {
     /// The steps of a mesh as it is lent.
+    ///
+    /// ```
+    /// # let square = sitjorbe::Outline::new([[0.0, 0.0], [2.0, 0.0], [2.0, 2.0], [0.0, 2.0]]);
+    /// # let mesh = sitjorbe::Paver::new(1.0).pave(&square)?;
+    /// let steps = mesh.bowl_steps()?;
+    /// assert_eq!(steps.as_slice()[16..], [64, 64]);
+    /// assert_eq!(steps.degrees().last(), Some([1.0, 1.0]));
+    /// # Ok::<(), Box<dyn std::error::Error>>(())
+    /// ```
     ///
     /// # Errors
     ///
@@ -96,13 +109,7 @@ impl Mesh<'_> {
     pub fn steps(&self) -> Result<Steps, NotShown> {
         let ((xs, ys), (next, prev)) = (self.coordinates(), self.links());
         let (quads, edges, origins) = (self.quad_ids(), self.edge_ids(), self.origins());
-        let counts = MeshCounts {
-            nodes: xs.len() as u32,
-            quads: self.quad_count(),
-            edges: self.edge_count(),
-            front: self.front_count(),
-        };
-        Steps::of(&MeshRead { xs, ys, next, prev, origins, quads, edges }, counts)
+        Steps::of(&MeshRead { xs, ys, next, prev, origins, quads, edges }, self.counts())
     }
 }
 

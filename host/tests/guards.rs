@@ -491,7 +491,7 @@ impl RunPages {
         let RunPages { floats, marks, origins, numbers } = self;
         let (floats, numbers) =
             (floats.each_mut().map(pages::Pages::list_mut), numbers.each_mut().map(pages::Pages::list_mut));
-        Lists::new(floats, marks.list_mut(), origins.list_mut(), numbers)
+        common::lists_by_kind(floats, marks.list_mut(), origins.list_mut(), numbers)
     }
 }
 

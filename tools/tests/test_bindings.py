@@ -1,9 +1,12 @@
 """What crosses to a host: the reading of the Rattle source, and the header and declarations made from it."""
 
+import ctypes
+import importlib.util
 import re
 import unittest
 
 from common import ROOT, command
+import calls
 import crates
 import declarations
 import entries
@@ -179,6 +182,68 @@ class Repository(unittest.TestCase):
         defined = re.findall(r"^#define (\w+)|^    (SITJORBE_\w+) =", declarations.header(self.reading), re.MULTILINE)
         once = {name or case for name, case in defined} - {"SITJORBE_ASSERT", "SITJORBE_MUST_USE"}
         self.assertEqual(len(defined), len(once) + 4)
+
+
+class Calls(unittest.TestCase):
+    """What stands beside the entries in the header."""
+
+    def setUp(self):
+        self.reading = entries.repository()
+
+    def test_each_parameter_is_handed_on_in_its_place(self):
+        for function in filter(calls.grouped, self.reading.functions):
+            _, arguments = calls.handed_on(self.reading, function)
+            self.assertEqual(len(arguments), len(function.parameters), function.name)
+            for argument, typed in zip(arguments, function.parameters):
+                base = typed.name.removesuffix("_len")
+                group, member = calls.BY_PARAMETER.get(base, (None, base))
+                self.assertEqual(argument.lstrip("&"), f"{group.argument}->{member}{typed.name[len(base):]}" if group else typed.name)
+                self.assertEqual(argument.startswith("&"), bool(group and typed.pointer and f"{base}_len" not in {other.name for other in function.parameters}))
+
+    def test_a_member_is_what_the_parameter_is(self):
+        every = calls.parameters(self.reading)
+        for group in calls.GROUPS:
+            for typed, _, is_list in calls.member_kinds(self.reading, group):
+                self.assertEqual(is_list, bool(typed.pointer), f"{group.struct}.{typed.name}")
+            for parameter, member in group.members.items():
+                same = [other for other in group.members if (group.members[other] or other) == (member or parameter)]
+                self.assertEqual({every[other].kind for other in same}, {every[parameter].kind}, f"{group.struct}.{parameter}")
+
+    def test_no_entry_goes_without_a_call(self):
+        text = declarations.header(self.reading)
+        without = [function.name for function in self.reading.functions if f" {function.name}_with(" not in text]
+        self.assertTrue(all("abi" in name or "small_quads" in name for name in without), without)
+
+    def test_the_example_that_calls_every_entry_does(self):
+        text = (ROOT / "examples/c/every_entry.c").read_text()
+        calls_of = {function.name: text.count(f"{function.name}(") for function in self.reading.functions if not entries.SHAPE_ENTRY.fullmatch(function.name)}
+        self.assertEqual(set(calls_of.values()), {1}, calls_of)
+
+
+class Python(unittest.TestCase):
+    """The entries as ctypes has them."""
+
+    def setUp(self):
+        self.reading = entries.repository()
+        path = ROOT / "python/sitjorbe/_entries.py"
+        spec = importlib.util.spec_from_file_location("_entries", path)
+        self.declared = importlib.util.module_from_spec(spec)
+        spec.loader.exec_module(self.declared)
+
+    def test_answers_are_laid_out_as_the_library_has_them(self):
+        for struct in self.reading.structs:
+            kind = getattr(self.declared, struct.name)
+            found = [getattr(kind, field.name).offset for field in struct.fields] + [ctypes.sizeof(kind)]
+            self.assertEqual(found, self.reading.offsets(struct), struct.name)
+
+    def test_entries_take_what_the_library_takes(self):
+        self.assertEqual(list(self.declared.ENTRIES), [function.name for function in self.reading.functions])
+        for function in self.reading.functions:
+            answer, takes = self.declared.ENTRIES[function.name]
+            self.assertEqual([name for name, _ in takes], [typed.name for typed in function.parameters])
+            for (_, kind), typed in zip(takes, function.parameters):
+                self.assertEqual(ctypes.sizeof(kind), 8 if typed.pointer else self.reading.layout(typed.kind)[0], typed)
+            self.assertEqual(ctypes.sizeof(answer), self.reading.layout(function.answer)[0])
 
 
 if __name__ == "__main__":

@@ -6,11 +6,13 @@ import platform
 import re
 import shutil
 import subprocess
+import sys
 import tempfile
 import unittest
 
-from common import ROOT, TOOLS
+from common import ROOT, TOOLS, command
 import entries
+import unpacked
 
 ARCHIVE = ROOT / "target/staticlib/libsitjorbe.a"
 PAGE = (ROOT / "docs/INTEGRATION.md").read_text()
@@ -27,6 +29,76 @@ def missing(needs):
 
 def needing(*needs):
     return unittest.skipIf(missing(needs), f"there is no {' and no '.join(missing(needs))} here")
+
+
+# This Python, and the system's where that has numpy, which this may lack.
+PYTHONS = [sys.executable, *(other for other in ("/usr/bin/python3",) if shutil.which(other) and subprocess.run([other, "-c", "import numpy"], capture_output=True).returncode == 0)]
+
+# Paves a square in C++ in few places at first, and steps where these run out.
+GROW = r"""
+#include <cstdio>
+#include "sitjorbe.hpp"
+int main() {
+    const sitjorbe::outline square({{0, 0}, {40, 0}, {40, 40}, {0, 40}});
+    auto paved = sitjorbe::paver(1.0).pave(square), stepped = sitjorbe::paver(1.0, 400, 0).pave(square);
+    if (!paved || !stepped)
+        return 1;
+    for (bool placed = true; placed;) {
+        placed = false;
+        std::vector<std::array<std::uint32_t, 2>> front;
+        for (std::uint32_t a = 0; a < stepped->node_count(); a++)
+            if (stepped->next()[a] != SITJORBE_OFF)
+                front.push_back({a, stepped->next()[a]});
+        for (const auto &[a, b] : front)
+            if (auto outcome = stepped->step(a, b); outcome && *outcome == SITJORBE_OUTCOME_PLACED)
+                placed = true;
+    }
+    if (paved->quad_count() != stepped->quad_count() || paved->node_count() != stepped->node_count())
+        return 2;
+    for (std::size_t k = 0; k < paved->quad_count(); k++)
+        if (paved->quad(k) != stepped->quad(k))
+            return 3;
+    sitjorbe::mesh moved = std::move(*stepped);
+    return moved.exam().enter(0, 501).refusal() == SITJORBE_REFUSED_THRESHOLD_TOO_HIGH ? 0 : 4;
+}
+"""
+
+# Compares the Python package's mesh with the command's, bit by bit, and its exam and order with what is worked out afresh.
+HELD = r"""
+import json, sys
+sys.path.insert(0, sys.argv[3])
+import pave, sitjorbe
+told = json.load(open("mesh.json"))
+mesh = pave.read(sys.argv[1]).pave(float(sys.argv[2]))
+assert [[float(x), float(y)] for x, y in mesh.nodes] == told["nodes"]
+assert [list(map(int, quad)) for quad in mesh.quads] == told["quads"]
+assert list(map(int, mesh.origins)) == told["origins"]
+assert [list(map(int, loop)) for loop in mesh.loops] == told["left"]
+count = len(told["quads"])
+exam, value = mesh.exam(), {node: 100 + 7 * node % 401 for node in range(0, len(told["nodes"]), 2)} | {node: 250 for node in told["quads"][0]}
+for node, threshold in value.items():
+    exam.enter(node, threshold)
+full = [quad for quad in told["quads"] if all(node in value for node in quad)]
+assert exam.figures == (len(full), sum(value[node] for quad in full for node in quad)), exam.figures
+assert exam.estimate(0, 128, 128) == 250
+exam.withdraw(told["quads"][0][0])
+for wrong, number in ((lambda: exam.threshold(told["quads"][0][0]), 17), (lambda: exam.enter(0, 501), 16), (lambda: exam.threshold(0, "masked reader"), 20)):
+    try:
+        wrong()
+    except sitjorbe.Refused as refused:
+        assert refused.number == number, refused
+    else:
+        raise AssertionError(number)
+order = mesh.order(range(count - 1, -1, -1))
+assert sorted(order) == list(range(count)) and mesh.order(order) == order and mesh.order() == list(range(count))
+mesh.check_order(order)
+assert len(mesh.bowl_steps()) == len(told["nodes"])
+"""
+
+
+def entries_version(root):
+    """The package's version, by its Rust crate."""
+    return re.search(r'^version = "(.+)"$', (root / "rust/Cargo.toml").read_text(), re.MULTILINE)[1]
 
 
 def bash(lines, folder):
@@ -56,7 +128,7 @@ def compiled(text):
 
 @unittest.skipUnless(platform.machine() == "x86_64", "the library is for x86-64")
 @unittest.skipUnless(ARCHIVE.is_file(), "the library isn't built: tools/archive writes it")
-@needing("cc")
+@needing("cc", "cargo")
 class Package(unittest.TestCase):
     @classmethod
     def setUpClass(cls):
@@ -91,7 +163,7 @@ class Package(unittest.TestCase):
         listed = dict(reversed(line.split("  ")) for line in (root / "SHA256SUMS").read_text().splitlines())
         there = {str(path.relative_to(root)): path for path in root.glob("**/*") if path.is_file()}
         self.assertEqual({name: hashlib.sha256(path.read_bytes()).hexdigest() for name, path in there.items() if name != "SHA256SUMS"}, listed)
-        for name in ("NOTICE", "CHANGELOG.md", "include/sitjorbe.h", "docs/FORMATS.md", "rust/Cargo.toml", "lib/libsitjorbe.so", "examples/24-2.csv"):
+        for name in ("NOTICE", "CHANGELOG.md", "include/sitjorbe.h", "include/sitjorbe.hpp", "bin/sitjorbe", "share/man/man1/sitjorbe.1", "python/pyproject.toml", "docs/FORMATS.md", "rust/Cargo.toml", "lib/libsitjorbe.so", "examples/24-2.csv"):
             self.assertIn(name, listed)
         self.assertEqual((root / "lib/libsitjorbe.a").read_bytes(), ARCHIVE.read_bytes())
         self.assertNotIn(str(ROOT), "".join(path.read_bytes().decode("latin-1") for path in there.values()), "a path of this machine")
@@ -109,15 +181,139 @@ class Package(unittest.TestCase):
                 self.passes(run(compiler, "-x", language, f"-std={standard}", *WARNINGS, "-I", root / "include", "-c", "alone.c", folder=self.folder))
         self.assertTrue(ran, "no compiler of C is here")
 
+    def built(self, root, source, compiler="cc", standard="c11", language="c"):
+        """A program of the package's examples, built without a warning; its path."""
+        path = self.folder / pathlib.Path(source).name.replace(".", "-")
+        self.passes(run(compiler, "-x", language, f"-std={standard}", *WARNINGS, "-I", root / "include", root / source, "-x", "none", root / "lib/libsitjorbe.a",
+                        "-o", path, folder=self.folder))
+        return path
+
     def test_the_example_is_clean_and_refuses_in_words(self):
-        root = self.unpacked()
-        words = ["cc", "-std=c11", *WARNINGS, "-I", root / "include", root / "examples/c/pave.c", root / "lib/libsitjorbe.a", "-o", "pave"]
-        self.passes(run(*words, folder=self.folder))
+        pave = self.built(self.unpacked(), "examples/c/pave.c")
         for points, size, status, said in (("0,0\n1,0\n", "1", 1, "refused (2)"), ("0,0\nx\n", "1", 2, "a line isn't a point"), ("0,0\n2,0\n1,2\n", "", 2, "the size"),
-                                           ("0,0\n9,0\n9,9\n0,9\n\n3,3\n3,6\n6,6\n6,3\n", "0.03", 0, "")):
-            result = subprocess.run([self.folder / "pave", size], input=points, capture_output=True, text=True)
+                                           ("0,0\n2,0\n1,2\n", "0", 1, "refused (5)"), ("0,0\n9,0\n9,9\n0,9\n\n3,3\n3,6\n6,6\n6,3\n", "0.03", 0, "")):
+            result = subprocess.run([pave, size], input=points, capture_output=True, text=True)
             self.assertEqual(result.returncode, status, result.stderr)
             self.assertIn(said, result.stderr)
+
+    def test_the_examples_of_c_and_cpp(self):
+        root = self.unpacked()
+        for source in [*(root / "examples/c").iterdir(), *(root / "examples/cpp").iterdir()]:
+            if source.name != "every_entry.c":
+                self.assertLess(len(source.read_text().splitlines()), 80, source.name)
+        exam = "4 quads of 4 have all thresholds, with the sum 4876\nin the middle of quad 0 304 tenths of a decibel\n"
+        for source, said in (("c/exam.c", exam), ("c/step.c", "edge 0 to 1: quad 0 1 8 7 with 1 new nodes\n"), ("cpp/pave.cpp", "80 nodes, 44 quads, open\n"),
+                             ("cpp/exam.cpp", exam), ("cpp/step.cpp", "edge 0 to 1: a quad with 1 new nodes\n")):
+            is_c = source.startswith("c/")
+            if missing(["cc" if is_c else "c++"]):
+                continue
+            program = self.built(root, f"examples/{source}", *(("cc", "c11", "c") if is_c else ("c++", "c++17", "c++")))
+            result = run(program, folder=self.folder)
+            self.passes(result)
+            self.assertEqual(result.stdout[:len(said)], said)
+            self.assertEqual(result.stderr, "")
+
+    def test_every_entry_is_called(self):
+        root = self.unpacked()
+        for compiler, language, standard in (("gcc", "c", "c11"), ("clang", "c", "c11"), ("g++", "c++", "c++17"), ("clang++", "c++", "c++17")):
+            if shutil.which(compiler):
+                result = run(self.built(root, "examples/c/every_entry.c", compiler, standard, language), folder=self.folder)
+                self.assertEqual((result.returncode, result.stdout), (0, "every entry was called\n"), result.stderr)
+
+    @needing("c++")
+    def test_a_mesh_in_cpp_grows(self):
+        root = self.unpacked()
+        (self.folder / "grow.cpp").write_text(GROW)
+        program = self.built(root, self.folder / "grow.cpp", "c++", "c++17", "c++")
+        self.passes(run(program, folder=self.folder))
+
+    # ---- the command, its pages and completions
+
+    def test_it_runs_without_a_toolchain(self):
+        self.assertEqual(len(list(unpacked.check(self.packed))), len(unpacked.CALLS) + 1)
+
+    def test_pages_and_completions_name_every_command_and_option(self):
+        root = self.unpacked()
+        said = {name: subprocess.run([root / "bin/sitjorbe", name, "--help"], capture_output=True, text=True, check=True).stdout for name in ("pave", "check", "draw", "quality")}
+        texts = [(root / "share" / place).read_text().replace("\\-", "-") for place in
+                 ("man/man1/sitjorbe.1", "bash-completion/completions/sitjorbe", "zsh/site-functions/_sitjorbe")]
+        fish = (root / "share/fish/vendor_completions.d/sitjorbe.fish").read_text()
+        for name, text in said.items():
+            for option in sorted(set(re.findall(r"(?<![\w-])--[a-z]+", text))):
+                for other in texts:
+                    self.assertIn(option, other)
+                self.assertIn(f"-l {option[2:]}", fish)
+            self.assertIn(f"-a {name} ", fish)
+
+    def test_bash_completes(self):
+        place = self.unpacked() / "share/bash-completion/completions/sitjorbe"
+        for words, wanted in ((["sitjorbe", "pa"], "pave"), (["sitjorbe", "pave", "--siz"], "--size"), (["sitjorbe", "pave", "--eye", "ri"], "right")):
+            line = f"source {place}; COMP_WORDS=({' '.join(words)}); COMP_CWORD={len(words) - 1}; _sitjorbe; echo ${{COMPREPLY[@]}}"
+            self.assertEqual(bash(line, self.folder).stdout.strip(), wanted)
+
+    def test_other_shells_read_theirs(self):
+        share = self.unpacked() / "share"
+        for shell, place in (("zsh", "zsh/site-functions/_sitjorbe"), ("fish", "fish/vendor_completions.d/sitjorbe.fish")):
+            if shutil.which(shell):
+                self.passes(run(shell, "-n", share / place, folder=self.folder))
+
+    @needing("man")
+    def test_the_manual_is_clean(self):
+        result = run("man", "--warnings", "--local-file", self.unpacked() / "share/man/man1/sitjorbe.1", folder=self.folder, LC_ALL="C.UTF-8", MANWIDTH="200")
+        self.passes(result)
+        self.assertEqual(result.stderr, "")
+        self.assertIn("--thresholds FILE", result.stdout)
+
+    # ---- Debian
+
+    def debian(self):
+        """The Debian package of the package's folder, as --deb writes it."""
+        package, root = command("package"), self.unpacked()
+        words = {"version": entries_version(root), "series": ".".join(entries_version(root).split(".")[:2]), "number": entries.repository().number(), "shared": f"libsitjorbe.so.{entries.repository().number()}"}
+        return package.debian.write(root, self.folder, words, package.oldest_glibc(root, words), package.cmake(words, package.IN_DEBIAN))
+
+    @needing("dpkg-deb", "pkg-config")
+    def test_debian_has_all_in_its_places(self):
+        packed, into = self.debian(), self.folder / "debian"
+        self.passes(run("dpkg-deb", "--extract", packed, into, folder=self.folder))
+        self.assertEqual(unpacked.subprocess.run([into / "usr/bin/sitjorbe", "--version"], capture_output=True, text=True).returncode, 0)
+        flags = run("pkg-config", "--cflags", "--libs", "sitjorbe", folder=self.folder, PKG_CONFIG_SYSROOT_DIR=into,
+                    PKG_CONFIG_LIBDIR=into / "usr/lib/x86_64-linux-gnu/pkgconfig", PKG_CONFIG_ALLOW_SYSTEM_CFLAGS=1, PKG_CONFIG_ALLOW_SYSTEM_LIBS=1).stdout.split()
+        self.passes(run("cc", "-std=c11", into.parent / self.packed.name.removesuffix(".tar.gz") / "examples/c/exam.c", *flags, "-o", "exam", folder=self.folder))
+        self.passes(run("./exam", folder=self.folder, LD_LIBRARY_PATH=into / "usr/lib/x86_64-linux-gnu"))
+
+    @needing("dpkg-deb", "lintian")
+    def test_lintian_has_no_error(self):
+        result = run("lintian", "--allow-root", "--fail-on", "error", self.debian(), folder=self.folder)
+        self.passes(result)
+
+    # ---- Python
+
+    def python(self, root, *words, python=sys.executable):
+        return run(python, *words, folder=self.folder, PYTHONPATH=root / "python", PYTHONDONTWRITEBYTECODE=1)
+
+    def test_pythons_own_example(self):
+        self.passes(self.python(self.unpacked(), "-m", "doctest", "-v", self.folder / self.packed.name.removesuffix(".tar.gz") / "python/sitjorbe/__init__.py"))
+
+    def test_python_draws_or_says_why_not(self):
+        root = self.unpacked()
+        for python in PYTHONS:
+            result = self.python(root, root / "examples/python/pave.py", root / "examples/24-2.csv", "3", "mesh.png", python=python)
+            self.passes(result)
+            self.assertEqual((self.folder / "mesh.png").is_file(), "nothing is drawn" not in result.stdout)
+            (self.folder / "mesh.png").unlink(missing_ok=True)
+
+    def test_python_agrees_with_the_command(self):
+        root = self.unpacked()
+        (self.folder / "held.py").write_text(HELD)
+        for name, size in (("24-2", "3"), ("30-2", "3"), ("left-eye", "3.6"), ("right-eye", "3.6"), ("hemianopia", "3"), ("hand-drawn", "2.5")):
+            field = root / f"examples/{name}.csv"
+            self.passes(run(root / "bin/sitjorbe", "pave", field, "--size", size, "-o", "mesh.json", folder=self.folder))
+            for python in PYTHONS:
+                self.passes(self.python(root, "held.py", field, size, root / "examples/python", python=python))
+            self.passes(self.python(root, root / "examples/python/pave.py", field, size))
+        result = self.python(root, root / "examples/python/pave.py", root / "examples/24-2.csv", "-1")
+        self.assertEqual((result.returncode, "refused (5)" in result.stderr), (1, True), result.stderr)
 
     @needing("nm")
     def test_the_library_has_no_data_of_its_own(self):

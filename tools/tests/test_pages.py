@@ -70,7 +70,8 @@ class Entries(unittest.TestCase):
                 self.assertIn(f"`{function.name}`", INTEGRATION)
 
     def test_no_call_is_there_that_is_none(self):
-        there = {function.name for function in entries.repository().functions} | {"sitjorbe_refusal_words", "sitjorbe_abi_NUMBER"}
+        declared = re.findall(r"\bsitjorbe_\w+", (ROOT / "include/sitjorbe.h").read_text())
+        there = {*declared, "sitjorbe_abi_NUMBER"}
         self.assertEqual(set(re.findall(r"sitjorbe_\w+", INTEGRATION + SCOPE)) - there, set())
 
 

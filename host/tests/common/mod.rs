@@ -291,12 +291,41 @@ pub fn said(mesh: &Mesh<'_>) -> Vec<Vec<u64>> {
     all
 }
 
-/// Lengths by kind, as `Lists::new` takes the lists.
+/// Lengths by kind, as `lists_by_kind` takes the lists.
 pub fn by_kind(lengths: Lengths) -> ([usize; 3], usize, usize, [usize; 11]) {
     let [values, marks, xs, ys, next, prev, snapshot, origins, quads, edges, loops, by_loop, nodes, filed, blocks, tried] =
         lengths;
     let numbers = [next, prev, snapshot, quads, edges, loops, by_loop, nodes, filed, blocks, tried];
     ([values, xs, ys], marks, origins, numbers)
+}
+
+/// A run's lists, each kind in the order of the fields: `values`, `xs`, `ys`; `marks`; `origins`; `next` to `tried`.
+pub fn lists_by_kind<'a>(
+    floats: [&'a mut [f64]; 3],
+    marks: &'a mut [u8],
+    origins: &'a mut [u16],
+    numbers: [&'a mut [u32]; 11],
+) -> Lists<'a> {
+    let [values, xs, ys] = floats;
+    let [next, prev, snapshot, quads, edges, loops, lengths, node_pool, edge_pool, blocks, tried] = numbers;
+    Lists {
+        values,
+        marks,
+        xs,
+        ys,
+        origins,
+        next,
+        prev,
+        snapshot,
+        quads,
+        edges,
+        loops,
+        lengths,
+        node_pool,
+        edge_pool,
+        blocks,
+        tried,
+    }
 }
 
 /// The bits of each place.
@@ -306,7 +335,7 @@ pub fn bits<T: Place>(list: &[T]) -> Vec<u64> {
 
 /// A run's lists, each with its guards, filled with numbers that no run writes there.
 pub struct RunPlaces {
-    /// By kind, as `Lists::new` takes them.
+    /// By kind, as `lists_by_kind` takes them.
     pub floats: [Guarded<f64>; 3],
     pub marks: Guarded<u8>,
     pub origins: Guarded<u16>,
@@ -323,7 +352,7 @@ impl RunPlaces {
     pub fn lists(&mut self) -> Lists<'_> {
         let RunPlaces { floats, marks, origins, numbers } = self;
         let (floats, numbers) = (floats.each_mut().map(Guarded::list_mut), numbers.each_mut().map(Guarded::list_mut));
-        Lists::new(floats, marks.list_mut(), origins.list_mut(), numbers)
+        lists_by_kind(floats, marks.list_mut(), origins.list_mut(), numbers)
     }
 
     /// The outline's blocks.

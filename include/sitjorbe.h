@@ -273,65 +273,6 @@ static inline const char *sitjorbe_refusal_words(uint32_t refusal) {
 
 /* ---- answers */
 
-/** The answer of `sitjorbe_sound`. */
-typedef struct sitjorbe_sound_answer {
-    uint32_t refusal; /**< the refusal's number, 0 where nothing is refused */
-    bool sound; /**< whether the outline is sound */
-} sitjorbe_sound_answer;
-SITJORBE_ASSERT(offsetof(sitjorbe_sound_answer, refusal) == 0);
-SITJORBE_ASSERT(offsetof(sitjorbe_sound_answer, sound) == 4);
-SITJORBE_ASSERT(sizeof(sitjorbe_sound_answer) == 8);
-
-/**
- * The answer of `sitjorbe_small_quads`. `refusal` is 26 where the lent list is too short, 0 otherwise; `count` is how
- * many fours are listed.
- */
-typedef struct sitjorbe_small_quads_answer {
-    uint32_t refusal; /**< the refusal's number, 0 where nothing is refused */
-    size_t count; /**< how many small quads are listed */
-} sitjorbe_small_quads_answer;
-SITJORBE_ASSERT(offsetof(sitjorbe_small_quads_answer, refusal) == 0);
-SITJORBE_ASSERT(offsetof(sitjorbe_small_quads_answer, count) == 8);
-SITJORBE_ASSERT(sizeof(sitjorbe_small_quads_answer) == 16);
-
-/**
- * The answer of `sitjorbe_order`. `refusal` is 0 where the list is accepted; 21 where some quad is absent, repeated or
- * unknown; 22 where the quad at `place` stands too early.
- */
-typedef struct sitjorbe_order_answer {
-    uint32_t refusal; /**< the refusal's number, 0 where nothing is refused */
-    size_t place; /**< where in the order a quad stands too early, on refusal 22 */
-} sitjorbe_order_answer;
-SITJORBE_ASSERT(offsetof(sitjorbe_order_answer, refusal) == 0);
-SITJORBE_ASSERT(offsetof(sitjorbe_order_answer, place) == 8);
-SITJORBE_ASSERT(sizeof(sitjorbe_order_answer) == 16);
-
-/**
- * The answer of `sitjorbe_steps`. `refusal` is 23 or 25, 0 where nothing is refused; `quad` is the lowest quad that the
- * bowl can't show, where 25 says so.
- */
-typedef struct sitjorbe_steps_answer {
-    uint32_t refusal; /**< the refusal's number, 0 where nothing is refused */
-    size_t quad; /**< the lowest quad that the bowl can't show, on refusal 25 */
-} sitjorbe_steps_answer;
-SITJORBE_ASSERT(offsetof(sitjorbe_steps_answer, refusal) == 0);
-SITJORBE_ASSERT(offsetof(sitjorbe_steps_answer, quad) == 8);
-SITJORBE_ASSERT(sizeof(sitjorbe_steps_answer) == 16);
-
-/**
- * The answer of `sitjorbe_places`. `refusal` is the refusal's number, 0 where nothing is refused; on a refusal both
- * counts are 0.
- */
-typedef struct sitjorbe_places_answer {
-    uint32_t refusal; /**< the refusal's number, 0 where nothing is refused */
-    size_t field_nodes; /**< how many nodes the field has; with fewer places refusal 9 */
-    size_t sampled_nodes; /**< how many nodes the sampled outline has, and as many edges; with fewer places for either refusal 10 */
-} sitjorbe_places_answer;
-SITJORBE_ASSERT(offsetof(sitjorbe_places_answer, refusal) == 0);
-SITJORBE_ASSERT(offsetof(sitjorbe_places_answer, field_nodes) == 8);
-SITJORBE_ASSERT(offsetof(sitjorbe_places_answer, sampled_nodes) == 16);
-SITJORBE_ASSERT(sizeof(sitjorbe_places_answer) == 24);
-
 /**
  * The answer of `sitjorbe_contains`. `refusal` is the refusal's number, 0 where nothing is refused. The values of a
  * refused query are false, 0.0 or 0.
@@ -374,6 +315,15 @@ SITJORBE_ASSERT(offsetof(sitjorbe_distance_answer, refusal) == 0);
 SITJORBE_ASSERT(offsetof(sitjorbe_distance_answer, distance) == 8);
 SITJORBE_ASSERT(sizeof(sitjorbe_distance_answer) == 16);
 
+/** The answer of `sitjorbe_sound`. */
+typedef struct sitjorbe_sound_answer {
+    uint32_t refusal; /**< the refusal's number, 0 where nothing is refused */
+    bool sound; /**< whether the outline is sound */
+} sitjorbe_sound_answer;
+SITJORBE_ASSERT(offsetof(sitjorbe_sound_answer, refusal) == 0);
+SITJORBE_ASSERT(offsetof(sitjorbe_sound_answer, sound) == 4);
+SITJORBE_ASSERT(sizeof(sitjorbe_sound_answer) == 8);
+
 /**
  * The answer of `sitjorbe_field`. A field record's floats and counts; its values and marks are in the lists lent.
  * `refusal` is the refusal's number, 0 where nothing is refused; on a refusal all else is 0.
@@ -404,6 +354,20 @@ SITJORBE_ASSERT(offsetof(sitjorbe_direction_answer, refusal) == 0);
 SITJORBE_ASSERT(offsetof(sitjorbe_direction_answer, x) == 8);
 SITJORBE_ASSERT(offsetof(sitjorbe_direction_answer, y) == 16);
 SITJORBE_ASSERT(sizeof(sitjorbe_direction_answer) == 24);
+
+/**
+ * The answer of `sitjorbe_places`. `refusal` is the refusal's number, 0 where nothing is refused; on a refusal both
+ * counts are 0.
+ */
+typedef struct sitjorbe_places_answer {
+    uint32_t refusal; /**< the refusal's number, 0 where nothing is refused */
+    size_t field_nodes; /**< how many nodes the field has; with fewer places refusal 9 */
+    size_t sampled_nodes; /**< how many nodes the sampled outline has, and as many edges; with fewer places for either refusal 10 */
+} sitjorbe_places_answer;
+SITJORBE_ASSERT(offsetof(sitjorbe_places_answer, refusal) == 0);
+SITJORBE_ASSERT(offsetof(sitjorbe_places_answer, field_nodes) == 8);
+SITJORBE_ASSERT(offsetof(sitjorbe_places_answer, sampled_nodes) == 16);
+SITJORBE_ASSERT(sizeof(sitjorbe_places_answer) == 24);
 
 /**
  * The answer of `sitjorbe_pave`. A run's end (0 still, 1 passes, 2 cap, 3 full) and whether it is whole, its field
@@ -441,40 +405,6 @@ SITJORBE_ASSERT(offsetof(sitjorbe_pave_answer, front) == 80);
 SITJORBE_ASSERT(offsetof(sitjorbe_pave_answer, loops) == 88);
 SITJORBE_ASSERT(offsetof(sitjorbe_pave_answer, ids) == 96);
 SITJORBE_ASSERT(sizeof(sitjorbe_pave_answer) == 104);
-
-/**
- * The answer of `sitjorbe_exam`. The reply as it crosses: `refusal` is 0 where nothing is refused; what isn't asked for
- * is 0.
- */
-typedef struct sitjorbe_exam_answer {
-    uint32_t refusal; /**< the refusal's number, 0 where nothing is refused */
-    double x; /**< the node's first coordinate */
-    double y; /**< the node's second coordinate */
-    uint32_t a; /**< the quad's first node */
-    uint32_t b; /**< its second node */
-    uint32_t d; /**< its third node */
-    uint32_t c; /**< its fourth node */
-    size_t length; /**< how many nodes the loop has */
-    uint32_t threshold; /**< in tenths of a decibel */
-    uint32_t count; /**< how many quads have all four thresholds */
-    uint32_t sum; /**< the sum of those quads' thresholds */
-    uint32_t estimate; /**< in tenths of a decibel */
-    uint32_t origin; /**< the number of the outline's loop that the node came from */
-} sitjorbe_exam_answer;
-SITJORBE_ASSERT(offsetof(sitjorbe_exam_answer, refusal) == 0);
-SITJORBE_ASSERT(offsetof(sitjorbe_exam_answer, x) == 8);
-SITJORBE_ASSERT(offsetof(sitjorbe_exam_answer, y) == 16);
-SITJORBE_ASSERT(offsetof(sitjorbe_exam_answer, a) == 24);
-SITJORBE_ASSERT(offsetof(sitjorbe_exam_answer, b) == 28);
-SITJORBE_ASSERT(offsetof(sitjorbe_exam_answer, d) == 32);
-SITJORBE_ASSERT(offsetof(sitjorbe_exam_answer, c) == 36);
-SITJORBE_ASSERT(offsetof(sitjorbe_exam_answer, length) == 40);
-SITJORBE_ASSERT(offsetof(sitjorbe_exam_answer, threshold) == 48);
-SITJORBE_ASSERT(offsetof(sitjorbe_exam_answer, count) == 52);
-SITJORBE_ASSERT(offsetof(sitjorbe_exam_answer, sum) == 56);
-SITJORBE_ASSERT(offsetof(sitjorbe_exam_answer, estimate) == 60);
-SITJORBE_ASSERT(offsetof(sitjorbe_exam_answer, origin) == 64);
-SITJORBE_ASSERT(sizeof(sitjorbe_exam_answer) == 72);
 
 /**
  * The answer of `sitjorbe_step`. What became of the edge (0 placed, 1 none, 2 full, 3 cap), and how many nodes, quads,
@@ -529,6 +459,76 @@ SITJORBE_ASSERT(offsetof(sitjorbe_preview_answer, dy) == 56);
 SITJORBE_ASSERT(offsetof(sitjorbe_preview_answer, front) == 64);
 SITJORBE_ASSERT(sizeof(sitjorbe_preview_answer) == 72);
 
+/**
+ * The answer of `sitjorbe_exam`. The reply as it crosses: `refusal` is 0 where nothing is refused; what isn't asked for
+ * is 0.
+ */
+typedef struct sitjorbe_exam_answer {
+    uint32_t refusal; /**< the refusal's number, 0 where nothing is refused */
+    double x; /**< the node's first coordinate */
+    double y; /**< the node's second coordinate */
+    uint32_t a; /**< the quad's first node */
+    uint32_t b; /**< its second node */
+    uint32_t d; /**< its third node */
+    uint32_t c; /**< its fourth node */
+    size_t length; /**< how many nodes the loop has */
+    uint32_t threshold; /**< in tenths of a decibel */
+    uint32_t count; /**< how many quads have all four thresholds */
+    uint32_t sum; /**< the sum of those quads' thresholds */
+    uint32_t estimate; /**< in tenths of a decibel */
+    uint32_t origin; /**< the number of the outline's loop that the node came from */
+} sitjorbe_exam_answer;
+SITJORBE_ASSERT(offsetof(sitjorbe_exam_answer, refusal) == 0);
+SITJORBE_ASSERT(offsetof(sitjorbe_exam_answer, x) == 8);
+SITJORBE_ASSERT(offsetof(sitjorbe_exam_answer, y) == 16);
+SITJORBE_ASSERT(offsetof(sitjorbe_exam_answer, a) == 24);
+SITJORBE_ASSERT(offsetof(sitjorbe_exam_answer, b) == 28);
+SITJORBE_ASSERT(offsetof(sitjorbe_exam_answer, d) == 32);
+SITJORBE_ASSERT(offsetof(sitjorbe_exam_answer, c) == 36);
+SITJORBE_ASSERT(offsetof(sitjorbe_exam_answer, length) == 40);
+SITJORBE_ASSERT(offsetof(sitjorbe_exam_answer, threshold) == 48);
+SITJORBE_ASSERT(offsetof(sitjorbe_exam_answer, count) == 52);
+SITJORBE_ASSERT(offsetof(sitjorbe_exam_answer, sum) == 56);
+SITJORBE_ASSERT(offsetof(sitjorbe_exam_answer, estimate) == 60);
+SITJORBE_ASSERT(offsetof(sitjorbe_exam_answer, origin) == 64);
+SITJORBE_ASSERT(sizeof(sitjorbe_exam_answer) == 72);
+
+/**
+ * The answer of `sitjorbe_order`. `refusal` is 0 where the list is accepted; 21 where some quad is absent, repeated or
+ * unknown; 22 where the quad at `place` stands too early.
+ */
+typedef struct sitjorbe_order_answer {
+    uint32_t refusal; /**< the refusal's number, 0 where nothing is refused */
+    size_t place; /**< where in the order a quad stands too early, on refusal 22 */
+} sitjorbe_order_answer;
+SITJORBE_ASSERT(offsetof(sitjorbe_order_answer, refusal) == 0);
+SITJORBE_ASSERT(offsetof(sitjorbe_order_answer, place) == 8);
+SITJORBE_ASSERT(sizeof(sitjorbe_order_answer) == 16);
+
+/**
+ * The answer of `sitjorbe_steps`. `refusal` is 23 or 25, 0 where nothing is refused; `quad` is the lowest quad that the
+ * bowl can't show, where 25 says so.
+ */
+typedef struct sitjorbe_steps_answer {
+    uint32_t refusal; /**< the refusal's number, 0 where nothing is refused */
+    size_t quad; /**< the lowest quad that the bowl can't show, on refusal 25 */
+} sitjorbe_steps_answer;
+SITJORBE_ASSERT(offsetof(sitjorbe_steps_answer, refusal) == 0);
+SITJORBE_ASSERT(offsetof(sitjorbe_steps_answer, quad) == 8);
+SITJORBE_ASSERT(sizeof(sitjorbe_steps_answer) == 16);
+
+/**
+ * The answer of `sitjorbe_small_quads`. `refusal` is 26 where the lent list is too short, 0 otherwise; `count` is how
+ * many fours are listed.
+ */
+typedef struct sitjorbe_small_quads_answer {
+    uint32_t refusal; /**< the refusal's number, 0 where nothing is refused */
+    size_t count; /**< how many small quads are listed */
+} sitjorbe_small_quads_answer;
+SITJORBE_ASSERT(offsetof(sitjorbe_small_quads_answer, refusal) == 0);
+SITJORBE_ASSERT(offsetof(sitjorbe_small_quads_answer, count) == 8);
+SITJORBE_ASSERT(sizeof(sitjorbe_small_quads_answer) == 16);
+
 /* ---- entries
  *
  * The names of their parameters mean the same everywhere; a name's length is the same name with _len.
@@ -536,7 +536,8 @@ SITJORBE_ASSERT(sizeof(sitjorbe_preview_answer) == 72);
  * outer        the outer loop's points, x then y
  * holes        the points of all holes, one hole after the other
  * lens         the number of points of each hole
- * fours        four numbers a small quad; 14,944 places are enough
+ * x            the point asked about
+ * y            the point asked about
  * xmin         the field record: the grid's left column
  * ymin         the field record: the grid's lowest row
  * h            the field record: the distance of two neighbours of the grid
@@ -547,35 +548,32 @@ SITJORBE_ASSERT(sizeof(sitjorbe_preview_answer) == 72);
  * points       the points asked about, x then y
  * targets      a target for each point, x then y, any floats
  * answers      three floats a point: 0 and the direction, or the refusal's number and two zeros
- * quad_count   how many quads the mesh has
- * quads        four node numbers a quad, in the order a, b, d, c, which runs round it
- * order        quads' numbers in the order in which they are to be tested
- * places       scratch of any length, which saves time: a number a quad is enough
- * pool         scratch of any length, which saves time: eight numbers a quad, and two more, are enough
- * xs           the nodes' first coordinates
- * ys           the nodes' second coordinates
- * next         for each node the one that follows it on the front, or SITJORBE_OFF
- * prev         for each node the one before it on the front, or SITJORBE_OFF
- * origins      for each node the number of the outline's loop that it came from: 0 for the outer one, k + 1 for hole k
- * edges        two node numbers a distinct edge, the smaller first
- * node_count   how many nodes the mesh has
- * edge_count   how many distinct edges the mesh has
- * front_count  how many edges the front has
- * steps        gets two whole numbers a node, x then y, in steps of 1/64
  * size         the length wanted of a quad's side, 0.01 to 100
- * x            the point asked about
- * y            the point asked about
  * sweeps       the most sweeps of the field, at most 1,000
  * blocks       scratch of any length, which saves time: two numbers a point of the outline are enough
  * tx           the target, any two floats
  * ty           the target, any two floats
  * passes       the passes of the paving; more than 600 count as 600
+ * xs           the nodes' first coordinates
+ * ys           the nodes' second coordinates
+ * next         for each node the one that follows it on the front, or SITJORBE_OFF
+ * prev         for each node the one before it on the front, or SITJORBE_OFF
  * snapshot     a place a node, for the run's own use
+ * origins      for each node the number of the outline's loop that it came from: 0 for the outer one, k + 1 for hole k
+ * quads        four node numbers a quad, in the order a, b, d, c, which runs round it
+ * edges        two node numbers a distinct edge, the smaller first
  * loops        the node numbers of the listed loops, one loop after the other; a place a node
  * lengths      the lengths of the listed loops; a place a loop of the outline
  * node_pool    scratch of any length, which saves time: four numbers a node place are enough
  * edge_pool    scratch of any length, which saves time: sixteen numbers an edge place are enough
  * tried        scratch of any length, which saves time: three numbers a node place are enough
+ * node_count   how many nodes the mesh has
+ * quad_count   how many quads the mesh has
+ * edge_count   how many distinct edges the mesh has
+ * front_count  how many edges the front has
+ * a            the first node of the front edge that is stepped on
+ * b            the node after it on the front
+ * list         gets the front edges that the step would leave, two node numbers an edge, by their first node; two numbers a front edge are wanted, and four more
  * role         who asks: 1 the desk, 2 a reader, 3 a masked reader
  * operation    what is asked: 1 begin, 2 enter, 3 withdraw; 4 to 6 read a node, a quad, a loop; 7 to 9 read a threshold, the figures, an estimate
  * item         the number of the node, quad or loop, from 0
@@ -587,78 +585,15 @@ SITJORBE_ASSERT(sizeof(sitjorbe_preview_answer) == 72);
  * count        how many quads have all four thresholds
  * sum          the sum of those quads' thresholds, a node counted once for each such quad
  * reply        gets the node numbers of the loop that is read; a place a node is enough
- * a            the first node of the front edge that is stepped on
- * b            the node after it on the front
- * list         gets the front edges that the step would leave, two node numbers an edge, by their first node; two numbers a front edge are wanted, and four more
+ * order        quads' numbers in the order in which they are to be tested
+ * places       scratch of any length, which saves time: a number a quad is enough
+ * pool         scratch of any length, which saves time: eight numbers a quad, and two more, are enough
+ * steps        gets two whole numbers a node, x then y, in steps of 1/64
+ * fours        four numbers a small quad; 14,944 places are enough
  */
 
 /** The number of the library's shape, which its name has too. */
 SITJORBE_MUST_USE uint32_t sitjorbe_abi_1(void);
-
-/** Whether the outline is sound; refusals 1 to 4 come first, with false. */
-SITJORBE_MUST_USE sitjorbe_sound_answer sitjorbe_sound(
-    const double *outer, size_t outer_len,
-    const double *holes, size_t holes_len,
-    const size_t *lens, size_t lens_len);
-
-/** Every small quad, on the first places of the lent list: four numbers a four, in dictionary order. */
-SITJORBE_MUST_USE sitjorbe_small_quads_answer sitjorbe_small_quads(uint32_t *fours, size_t fours_len);
-
-/**
- * Of the field's four directions at each point the one nearest to its target, which may be any two floats: three floats
- * a point, 0 and the direction, or the number of what refuses the point and two zeros. Nothing is written where the
- * whole list is refused.
- */
-SITJORBE_MUST_USE uint32_t sitjorbe_directions(
-    double xmin,
-    double ymin,
-    double h,
-    size_t nx,
-    size_t ny,
-    const double *values, size_t values_len,
-    const uint8_t *marks, size_t marks_len,
-    const double *points, size_t points_len,
-    const double *targets, size_t targets_len,
-    double *answers, size_t answers_len);
-
-/**
- * Whether the quads may be tested in this order: each of them once, and after every quad that laid a front edge which
- * it used up. `places` and `pool` are scratch of any length: what they hold doesn't change the answer.
- */
-SITJORBE_MUST_USE sitjorbe_order_answer sitjorbe_order(
-    size_t quad_count,
-    const uint32_t *quads, size_t quads_len,
-    const uint32_t *order, size_t order_len,
-    size_t *places, size_t places_len,
-    uint32_t *pool, size_t pool_len);
-
-/**
- * The nodes of a lent mesh in whole steps of 1/64 degree, each coordinate at the nearest step, halves at the even one.
- * The mesh is only read, and the buffer is written once nothing is refused.
- */
-SITJORBE_MUST_USE sitjorbe_steps_answer sitjorbe_steps(
-    const double *xs, size_t xs_len,
-    const double *ys, size_t ys_len,
-    const uint32_t *next, size_t next_len,
-    const uint32_t *prev, size_t prev_len,
-    const uint16_t *origins, size_t origins_len,
-    const uint32_t *quads, size_t quads_len,
-    const uint32_t *edges, size_t edges_len,
-    uint32_t node_count,
-    size_t quad_count,
-    size_t edge_count,
-    size_t front_count,
-    int32_t *steps, size_t steps_len);
-
-/**
- * The places that a run of this outline and size can't do without. Quads, and the nodes and edges that they add, need
- * more.
- */
-SITJORBE_MUST_USE sitjorbe_places_answer sitjorbe_places(
-    const double *outer, size_t outer_len,
-    const double *holes, size_t holes_len,
-    const size_t *lens, size_t lens_len,
-    double size);
 
 /** Whether the point is inside the outer loop and outside every hole. */
 SITJORBE_MUST_USE sitjorbe_contains_answer sitjorbe_contains(
@@ -686,6 +621,29 @@ SITJORBE_MUST_USE sitjorbe_distance_answer sitjorbe_distance_to_boundary(
     const size_t *lens, size_t lens_len,
     double x,
     double y);
+
+/** Whether the outline is sound; refusals 1 to 4 come first, with false. */
+SITJORBE_MUST_USE sitjorbe_sound_answer sitjorbe_sound(
+    const double *outer, size_t outer_len,
+    const double *holes, size_t holes_len,
+    const size_t *lens, size_t lens_len);
+
+/**
+ * Of the field's four directions at each point the one nearest to its target, which may be any two floats: three floats
+ * a point, 0 and the direction, or the number of what refuses the point and two zeros. Nothing is written where the
+ * whole list is refused.
+ */
+SITJORBE_MUST_USE uint32_t sitjorbe_directions(
+    double xmin,
+    double ymin,
+    double h,
+    size_t nx,
+    size_t ny,
+    const double *values, size_t values_len,
+    const uint8_t *marks, size_t marks_len,
+    const double *points, size_t points_len,
+    const double *targets, size_t targets_len,
+    double *answers, size_t answers_len);
 
 /**
  * The field of the outline, in the lists lent: two floats and a mark a node. Nothing is written on a refusal. The list
@@ -716,6 +674,16 @@ SITJORBE_MUST_USE sitjorbe_direction_answer sitjorbe_direction(
     double ty);
 
 /**
+ * The places that a run of this outline and size can't do without. Quads, and the nodes and edges that they add, need
+ * more.
+ */
+SITJORBE_MUST_USE sitjorbe_places_answer sitjorbe_places(
+    const double *outer, size_t outer_len,
+    const double *holes, size_t holes_len,
+    const size_t *lens, size_t lens_len,
+    double size);
+
+/**
  * The run whole, from the field to the loops of the front, in the lists lent. `origins` gets for each node the number
  * of the outline's loop that it came from. Nothing is written on a refusal. The pools, the list of blocks and `tried`
  * are scratch of any length, which searches go by as far as they have room, and which edges tried in vain are noted in,
@@ -744,27 +712,6 @@ SITJORBE_MUST_USE sitjorbe_pave_answer sitjorbe_pave(
     uint32_t *edge_pool, size_t edge_pool_len,
     uint32_t *blocks, size_t blocks_len,
     uint32_t *tried, size_t tried_len);
-
-/** One request of one role to an exam. 20 comes before all else; where anything is refused, nothing lent is written. */
-SITJORBE_MUST_USE sitjorbe_exam_answer sitjorbe_exam(
-    uint32_t role,
-    uint32_t operation,
-    uint32_t item,
-    uint32_t value,
-    uint32_t u,
-    uint32_t v,
-    uint32_t nodes,
-    const double *xs, size_t xs_len,
-    const double *ys, size_t ys_len,
-    size_t quad_count,
-    const uint32_t *quads, size_t quads_len,
-    const uint32_t *next, size_t next_len,
-    const uint32_t *prev, size_t prev_len,
-    const uint16_t *origins, size_t origins_len,
-    uint16_t *thresholds, size_t thresholds_len,
-    uint32_t *count,
-    uint32_t *sum,
-    uint32_t *reply, size_t reply_len);
 
 /**
  * A step on the front edge a to b, in the mesh lent: one quad placed or none. Refusals are 1 to 7, 11, 23 and 24, in
@@ -826,6 +773,59 @@ SITJORBE_MUST_USE sitjorbe_preview_answer sitjorbe_preview(
     uint32_t a,
     uint32_t b,
     uint32_t *list, size_t list_len);
+
+/** One request of one role to an exam. 20 comes before all else; where anything is refused, nothing lent is written. */
+SITJORBE_MUST_USE sitjorbe_exam_answer sitjorbe_exam(
+    uint32_t role,
+    uint32_t operation,
+    uint32_t item,
+    uint32_t value,
+    uint32_t u,
+    uint32_t v,
+    uint32_t nodes,
+    const double *xs, size_t xs_len,
+    const double *ys, size_t ys_len,
+    size_t quad_count,
+    const uint32_t *quads, size_t quads_len,
+    const uint32_t *next, size_t next_len,
+    const uint32_t *prev, size_t prev_len,
+    const uint16_t *origins, size_t origins_len,
+    uint16_t *thresholds, size_t thresholds_len,
+    uint32_t *count,
+    uint32_t *sum,
+    uint32_t *reply, size_t reply_len);
+
+/**
+ * Whether the quads may be tested in this order: each of them once, and after every quad that laid a front edge which
+ * it used up. `places` and `pool` are scratch of any length: what they hold doesn't change the answer.
+ */
+SITJORBE_MUST_USE sitjorbe_order_answer sitjorbe_order(
+    size_t quad_count,
+    const uint32_t *quads, size_t quads_len,
+    const uint32_t *order, size_t order_len,
+    size_t *places, size_t places_len,
+    uint32_t *pool, size_t pool_len);
+
+/**
+ * The nodes of a lent mesh in whole steps of 1/64 degree, each coordinate at the nearest step, halves at the even one.
+ * The mesh is only read, and the buffer is written once nothing is refused.
+ */
+SITJORBE_MUST_USE sitjorbe_steps_answer sitjorbe_steps(
+    const double *xs, size_t xs_len,
+    const double *ys, size_t ys_len,
+    const uint32_t *next, size_t next_len,
+    const uint32_t *prev, size_t prev_len,
+    const uint16_t *origins, size_t origins_len,
+    const uint32_t *quads, size_t quads_len,
+    const uint32_t *edges, size_t edges_len,
+    uint32_t node_count,
+    size_t quad_count,
+    size_t edge_count,
+    size_t front_count,
+    int32_t *steps, size_t steps_len);
+
+/** Every small quad, on the first places of the lent list: four numbers a four, in dictionary order. */
+SITJORBE_MUST_USE sitjorbe_small_quads_answer sitjorbe_small_quads(uint32_t *fours, size_t fours_len);
 
 /* ---- the same with structs
  *
@@ -931,46 +931,6 @@ typedef struct sitjorbe_results {
     uint32_t sum; /**< the sum of those quads' thresholds, a node counted once for each such quad */
 } sitjorbe_results;
 
-/** Calls sitjorbe_sound. */
-SITJORBE_MUST_USE static inline sitjorbe_sound_answer sitjorbe_sound_with(const sitjorbe_outline *outline) {
-    return sitjorbe_sound(
-        outline->outer, outline->outer_len, outline->holes, outline->holes_len, outline->lens, outline->lens_len);
-}
-
-/** Calls sitjorbe_directions. */
-SITJORBE_MUST_USE static inline uint32_t sitjorbe_directions_with(
-    const sitjorbe_record *record, const sitjorbe_field_lists *field, const double *points, size_t points_len,
-    const double *targets, size_t targets_len, double *answers, size_t answers_len) {
-    return sitjorbe_directions(
-        record->xmin, record->ymin, record->h, record->nx, record->ny, field->values, field->values_len, field->marks,
-        field->marks_len, points, points_len, targets, targets_len, answers, answers_len);
-}
-
-/** Calls sitjorbe_order. */
-SITJORBE_MUST_USE static inline sitjorbe_order_answer sitjorbe_order_with(
-    const sitjorbe_mesh_lists *mesh, const sitjorbe_mesh_counts *counts, const uint32_t *order, size_t order_len,
-    size_t *places, size_t places_len, uint32_t *pool, size_t pool_len) {
-    return sitjorbe_order(
-        counts->quads, mesh->quads, mesh->quads_len, order, order_len, places, places_len, pool, pool_len);
-}
-
-/** Calls sitjorbe_steps. */
-SITJORBE_MUST_USE static inline sitjorbe_steps_answer sitjorbe_steps_with(
-    const sitjorbe_mesh_lists *mesh, const sitjorbe_mesh_counts *counts, int32_t *steps, size_t steps_len) {
-    return sitjorbe_steps(
-        mesh->xs, mesh->xs_len, mesh->ys, mesh->ys_len, mesh->next, mesh->next_len, mesh->prev, mesh->prev_len,
-        mesh->origins, mesh->origins_len, mesh->quads, mesh->quads_len, mesh->edges, mesh->edges_len, counts->nodes,
-        counts->quads, counts->edges, counts->front, steps, steps_len);
-}
-
-/** Calls sitjorbe_places. */
-SITJORBE_MUST_USE static inline sitjorbe_places_answer sitjorbe_places_with(
-    const sitjorbe_outline *outline, const sitjorbe_settings *settings) {
-    return sitjorbe_places(
-        outline->outer, outline->outer_len, outline->holes, outline->holes_len, outline->lens, outline->lens_len,
-        settings->size);
-}
-
 /** Calls sitjorbe_contains. */
 SITJORBE_MUST_USE static inline sitjorbe_contains_answer sitjorbe_contains_with(
     const sitjorbe_outline *outline, double x, double y) {
@@ -992,6 +952,21 @@ SITJORBE_MUST_USE static inline sitjorbe_distance_answer sitjorbe_distance_to_bo
         outline->outer, outline->outer_len, outline->holes, outline->holes_len, outline->lens, outline->lens_len, x, y);
 }
 
+/** Calls sitjorbe_sound. */
+SITJORBE_MUST_USE static inline sitjorbe_sound_answer sitjorbe_sound_with(const sitjorbe_outline *outline) {
+    return sitjorbe_sound(
+        outline->outer, outline->outer_len, outline->holes, outline->holes_len, outline->lens, outline->lens_len);
+}
+
+/** Calls sitjorbe_directions. */
+SITJORBE_MUST_USE static inline uint32_t sitjorbe_directions_with(
+    const sitjorbe_record *record, const sitjorbe_field_lists *field, const double *points, size_t points_len,
+    const double *targets, size_t targets_len, double *answers, size_t answers_len) {
+    return sitjorbe_directions(
+        record->xmin, record->ymin, record->h, record->nx, record->ny, field->values, field->values_len, field->marks,
+        field->marks_len, points, points_len, targets, targets_len, answers, answers_len);
+}
+
 /** Calls sitjorbe_field. */
 SITJORBE_MUST_USE static inline sitjorbe_field_record_answer sitjorbe_field_with(
     const sitjorbe_outline *outline, const sitjorbe_settings *settings, const sitjorbe_field_lists *field,
@@ -1010,6 +985,14 @@ SITJORBE_MUST_USE static inline sitjorbe_direction_answer sitjorbe_direction_wit
         field->marks_len, x, y, tx, ty);
 }
 
+/** Calls sitjorbe_places. */
+SITJORBE_MUST_USE static inline sitjorbe_places_answer sitjorbe_places_with(
+    const sitjorbe_outline *outline, const sitjorbe_settings *settings) {
+    return sitjorbe_places(
+        outline->outer, outline->outer_len, outline->holes, outline->holes_len, outline->lens, outline->lens_len,
+        settings->size);
+}
+
 /** Calls sitjorbe_pave. */
 SITJORBE_MUST_USE static inline sitjorbe_pave_answer sitjorbe_pave_with(
     const sitjorbe_outline *outline, const sitjorbe_settings *settings, const sitjorbe_field_lists *field,
@@ -1022,17 +1005,6 @@ SITJORBE_MUST_USE static inline sitjorbe_pave_answer sitjorbe_pave_with(
         mesh->quads_len, mesh->edges, mesh->edges_len, mesh->loops, mesh->loops_len, mesh->lengths, mesh->lengths_len,
         scratch->node_pool, scratch->node_pool_len, scratch->edge_pool, scratch->edge_pool_len, scratch->blocks,
         scratch->blocks_len, scratch->tried, scratch->tried_len);
-}
-
-/** Calls sitjorbe_exam. */
-SITJORBE_MUST_USE static inline sitjorbe_exam_answer sitjorbe_exam_with(
-    const sitjorbe_mesh_lists *mesh, const sitjorbe_mesh_counts *counts, const sitjorbe_asked *asked,
-    sitjorbe_results *results, uint32_t *reply, size_t reply_len) {
-    return sitjorbe_exam(
-        asked->role, asked->operation, asked->item, asked->value, asked->u, asked->v, counts->nodes, mesh->xs,
-        mesh->xs_len, mesh->ys, mesh->ys_len, counts->quads, mesh->quads, mesh->quads_len, mesh->next, mesh->next_len,
-        mesh->prev, mesh->prev_len, mesh->origins, mesh->origins_len, results->thresholds, results->thresholds_len,
-        &results->count, &results->sum, reply, reply_len);
 }
 
 /** Calls sitjorbe_step. */
@@ -1059,6 +1031,34 @@ SITJORBE_MUST_USE static inline sitjorbe_preview_answer sitjorbe_preview_with(
         field->marks, field->marks_len, mesh->xs, mesh->xs_len, mesh->ys, mesh->ys_len, mesh->next, mesh->next_len,
         mesh->prev, mesh->prev_len, mesh->origins, mesh->origins_len, mesh->quads, mesh->quads_len, mesh->edges,
         mesh->edges_len, counts->nodes, counts->quads, counts->edges, counts->front, a, b, list, list_len);
+}
+
+/** Calls sitjorbe_exam. */
+SITJORBE_MUST_USE static inline sitjorbe_exam_answer sitjorbe_exam_with(
+    const sitjorbe_mesh_lists *mesh, const sitjorbe_mesh_counts *counts, const sitjorbe_asked *asked,
+    sitjorbe_results *results, uint32_t *reply, size_t reply_len) {
+    return sitjorbe_exam(
+        asked->role, asked->operation, asked->item, asked->value, asked->u, asked->v, counts->nodes, mesh->xs,
+        mesh->xs_len, mesh->ys, mesh->ys_len, counts->quads, mesh->quads, mesh->quads_len, mesh->next, mesh->next_len,
+        mesh->prev, mesh->prev_len, mesh->origins, mesh->origins_len, results->thresholds, results->thresholds_len,
+        &results->count, &results->sum, reply, reply_len);
+}
+
+/** Calls sitjorbe_order. */
+SITJORBE_MUST_USE static inline sitjorbe_order_answer sitjorbe_order_with(
+    const sitjorbe_mesh_lists *mesh, const sitjorbe_mesh_counts *counts, const uint32_t *order, size_t order_len,
+    size_t *places, size_t places_len, uint32_t *pool, size_t pool_len) {
+    return sitjorbe_order(
+        counts->quads, mesh->quads, mesh->quads_len, order, order_len, places, places_len, pool, pool_len);
+}
+
+/** Calls sitjorbe_steps. */
+SITJORBE_MUST_USE static inline sitjorbe_steps_answer sitjorbe_steps_with(
+    const sitjorbe_mesh_lists *mesh, const sitjorbe_mesh_counts *counts, int32_t *steps, size_t steps_len) {
+    return sitjorbe_steps(
+        mesh->xs, mesh->xs_len, mesh->ys, mesh->ys_len, mesh->next, mesh->next_len, mesh->prev, mesh->prev_len,
+        mesh->origins, mesh->origins_len, mesh->quads, mesh->quads_len, mesh->edges, mesh->edges_len, counts->nodes,
+        counts->quads, counts->edges, counts->front, steps, steps_len);
 }
 
 /** The counts in an answer of sitjorbe_pave. */

@@ -10,67 +10,6 @@ use core::mem::{offset_of, size_of};
 /// The number of the shape that these declarations have: the library links only if its number is the same.
 pub const ABI: u32 = 1;
 
-/// The answer of `sitjorbe_sound`.
-#[repr(C)]
-#[derive(Clone, Copy, Debug, PartialEq)]
-#[must_use = "an answer may be a refusal"]
-pub struct SoundAnswer {
-    /// The refusal's number, 0 where nothing is refused.
-    pub refusal: u32,
-    /// Whether the outline is sound.
-    pub sound: bool,
-}
-
-/// The answer of `sitjorbe_small_quads`. `refusal` is 26 where the lent list is too short, 0 otherwise; `count` is how
-/// many fours are listed.
-#[repr(C)]
-#[derive(Clone, Copy, Debug, PartialEq)]
-#[must_use = "an answer may be a refusal"]
-pub struct SmallQuadsAnswer {
-    /// The refusal's number, 0 where nothing is refused.
-    pub refusal: u32,
-    /// How many small quads are listed.
-    pub count: usize,
-}
-
-/// The answer of `sitjorbe_order`. `refusal` is 0 where the list is accepted; 21 where some quad is absent, repeated or
-/// unknown; 22 where the quad at `place` stands too early.
-#[repr(C)]
-#[derive(Clone, Copy, Debug, PartialEq)]
-#[must_use = "an answer may be a refusal"]
-pub struct OrderAnswer {
-    /// The refusal's number, 0 where nothing is refused.
-    pub refusal: u32,
-    /// Where in the order a quad stands too early, on refusal 22.
-    pub place: usize,
-}
-
-/// The answer of `sitjorbe_steps`. `refusal` is 23 or 25, 0 where nothing is refused; `quad` is the lowest quad that
-/// the bowl can't show, where 25 says so.
-#[repr(C)]
-#[derive(Clone, Copy, Debug, PartialEq)]
-#[must_use = "an answer may be a refusal"]
-pub struct StepsAnswer {
-    /// The refusal's number, 0 where nothing is refused.
-    pub refusal: u32,
-    /// The lowest quad that the bowl can't show, on refusal 25.
-    pub quad: usize,
-}
-
-/// The answer of `sitjorbe_places`. `refusal` is the refusal's number, 0 where nothing is refused; on a refusal both
-/// counts are 0.
-#[repr(C)]
-#[derive(Clone, Copy, Debug, PartialEq)]
-#[must_use = "an answer may be a refusal"]
-pub struct PlacesAnswer {
-    /// The refusal's number, 0 where nothing is refused.
-    pub refusal: u32,
-    /// How many nodes the field has; with fewer places refusal 9.
-    pub field_nodes: usize,
-    /// How many nodes the sampled outline has, and as many edges; with fewer places for either refusal 10.
-    pub sampled_nodes: usize,
-}
-
 /// The answer of `sitjorbe_contains`. `refusal` is the refusal's number, 0 where nothing is refused. The values of a
 /// refused query are false, 0.0 or 0.
 #[repr(C)]
@@ -117,6 +56,17 @@ pub struct DistanceAnswer {
     pub distance: f64,
 }
 
+/// The answer of `sitjorbe_sound`.
+#[repr(C)]
+#[derive(Clone, Copy, Debug, PartialEq)]
+#[must_use = "an answer may be a refusal"]
+pub struct SoundAnswer {
+    /// The refusal's number, 0 where nothing is refused.
+    pub refusal: u32,
+    /// Whether the outline is sound.
+    pub sound: bool,
+}
+
 /// The answer of `sitjorbe_field`. A field record's floats and counts; its values and marks are in the lists lent.
 /// `refusal` is the refusal's number, 0 where nothing is refused; on a refusal all else is 0.
 #[repr(C)]
@@ -148,6 +98,20 @@ pub struct DirectionAnswer {
     pub x: f64,
     /// The direction's second coordinate.
     pub y: f64,
+}
+
+/// The answer of `sitjorbe_places`. `refusal` is the refusal's number, 0 where nothing is refused; on a refusal both
+/// counts are 0.
+#[repr(C)]
+#[derive(Clone, Copy, Debug, PartialEq)]
+#[must_use = "an answer may be a refusal"]
+pub struct PlacesAnswer {
+    /// The refusal's number, 0 where nothing is refused.
+    pub refusal: u32,
+    /// How many nodes the field has; with fewer places refusal 9.
+    pub field_nodes: usize,
+    /// How many nodes the sampled outline has, and as many edges; with fewer places for either refusal 10.
+    pub sampled_nodes: usize,
 }
 
 /// The answer of `sitjorbe_pave`. A run's end (0 still, 1 passes, 2 cap, 3 full) and whether it is whole, its field
@@ -185,40 +149,6 @@ pub struct PaveAnswer {
     pub loops: usize,
     /// How many node numbers the listed loops have in all.
     pub ids: usize,
-}
-
-/// The answer of `sitjorbe_exam`. The reply as it crosses: `refusal` is 0 where nothing is refused; what isn't asked
-/// for is 0.
-#[repr(C)]
-#[derive(Clone, Copy, Debug, PartialEq)]
-#[must_use = "an answer may be a refusal"]
-pub struct ExamAnswer {
-    /// The refusal's number, 0 where nothing is refused.
-    pub refusal: u32,
-    /// The node's first coordinate.
-    pub x: f64,
-    /// The node's second coordinate.
-    pub y: f64,
-    /// The quad's first node.
-    pub a: u32,
-    /// Its second node.
-    pub b: u32,
-    /// Its third node.
-    pub d: u32,
-    /// Its fourth node.
-    pub c: u32,
-    /// How many nodes the loop has.
-    pub length: usize,
-    /// In tenths of a decibel.
-    pub threshold: u32,
-    /// How many quads have all four thresholds.
-    pub count: u32,
-    /// The sum of those quads' thresholds.
-    pub sum: u32,
-    /// In tenths of a decibel.
-    pub estimate: u32,
-    /// The number of the outline's loop that the node came from.
-    pub origin: u32,
 }
 
 /// The answer of `sitjorbe_step`. What became of the edge (0 placed, 1 none, 2 full, 3 cap), and how many nodes, quads,
@@ -274,25 +204,79 @@ pub struct PreviewAnswer {
     pub front: usize,
 }
 
+/// The answer of `sitjorbe_exam`. The reply as it crosses: `refusal` is 0 where nothing is refused; what isn't asked
+/// for is 0.
+#[repr(C)]
+#[derive(Clone, Copy, Debug, PartialEq)]
+#[must_use = "an answer may be a refusal"]
+pub struct ExamAnswer {
+    /// The refusal's number, 0 where nothing is refused.
+    pub refusal: u32,
+    /// The node's first coordinate.
+    pub x: f64,
+    /// The node's second coordinate.
+    pub y: f64,
+    /// The quad's first node.
+    pub a: u32,
+    /// Its second node.
+    pub b: u32,
+    /// Its third node.
+    pub d: u32,
+    /// Its fourth node.
+    pub c: u32,
+    /// How many nodes the loop has.
+    pub length: usize,
+    /// In tenths of a decibel.
+    pub threshold: u32,
+    /// How many quads have all four thresholds.
+    pub count: u32,
+    /// The sum of those quads' thresholds.
+    pub sum: u32,
+    /// In tenths of a decibel.
+    pub estimate: u32,
+    /// The number of the outline's loop that the node came from.
+    pub origin: u32,
+}
+
+/// The answer of `sitjorbe_order`. `refusal` is 0 where the list is accepted; 21 where some quad is absent, repeated or
+/// unknown; 22 where the quad at `place` stands too early.
+#[repr(C)]
+#[derive(Clone, Copy, Debug, PartialEq)]
+#[must_use = "an answer may be a refusal"]
+pub struct OrderAnswer {
+    /// The refusal's number, 0 where nothing is refused.
+    pub refusal: u32,
+    /// Where in the order a quad stands too early, on refusal 22.
+    pub place: usize,
+}
+
+/// The answer of `sitjorbe_steps`. `refusal` is 23 or 25, 0 where nothing is refused; `quad` is the lowest quad that
+/// the bowl can't show, where 25 says so.
+#[repr(C)]
+#[derive(Clone, Copy, Debug, PartialEq)]
+#[must_use = "an answer may be a refusal"]
+pub struct StepsAnswer {
+    /// The refusal's number, 0 where nothing is refused.
+    pub refusal: u32,
+    /// The lowest quad that the bowl can't show, on refusal 25.
+    pub quad: usize,
+}
+
+/// The answer of `sitjorbe_small_quads`. `refusal` is 26 where the lent list is too short, 0 otherwise; `count` is how
+/// many fours are listed.
+#[repr(C)]
+#[derive(Clone, Copy, Debug, PartialEq)]
+#[must_use = "an answer may be a refusal"]
+pub struct SmallQuadsAnswer {
+    /// The refusal's number, 0 where nothing is refused.
+    pub refusal: u32,
+    /// How many small quads are listed.
+    pub count: usize,
+}
+
 /// As C lays the answers out on x86-64.
 #[cfg(target_pointer_width = "64")]
 const _: () = {
-    assert!(offset_of!(SoundAnswer, refusal) == 0);
-    assert!(offset_of!(SoundAnswer, sound) == 4);
-    assert!(size_of::<SoundAnswer>() == 8);
-    assert!(offset_of!(SmallQuadsAnswer, refusal) == 0);
-    assert!(offset_of!(SmallQuadsAnswer, count) == 8);
-    assert!(size_of::<SmallQuadsAnswer>() == 16);
-    assert!(offset_of!(OrderAnswer, refusal) == 0);
-    assert!(offset_of!(OrderAnswer, place) == 8);
-    assert!(size_of::<OrderAnswer>() == 16);
-    assert!(offset_of!(StepsAnswer, refusal) == 0);
-    assert!(offset_of!(StepsAnswer, quad) == 8);
-    assert!(size_of::<StepsAnswer>() == 16);
-    assert!(offset_of!(PlacesAnswer, refusal) == 0);
-    assert!(offset_of!(PlacesAnswer, field_nodes) == 8);
-    assert!(offset_of!(PlacesAnswer, sampled_nodes) == 16);
-    assert!(size_of::<PlacesAnswer>() == 24);
     assert!(offset_of!(ContainsAnswer, refusal) == 0);
     assert!(offset_of!(ContainsAnswer, inside) == 4);
     assert!(size_of::<ContainsAnswer>() == 8);
@@ -308,6 +292,9 @@ const _: () = {
     assert!(offset_of!(DistanceAnswer, refusal) == 0);
     assert!(offset_of!(DistanceAnswer, distance) == 8);
     assert!(size_of::<DistanceAnswer>() == 16);
+    assert!(offset_of!(SoundAnswer, refusal) == 0);
+    assert!(offset_of!(SoundAnswer, sound) == 4);
+    assert!(size_of::<SoundAnswer>() == 8);
     assert!(offset_of!(FieldRecordAnswer, refusal) == 0);
     assert!(offset_of!(FieldRecordAnswer, xmin) == 8);
     assert!(offset_of!(FieldRecordAnswer, ymin) == 16);
@@ -319,6 +306,10 @@ const _: () = {
     assert!(offset_of!(DirectionAnswer, x) == 8);
     assert!(offset_of!(DirectionAnswer, y) == 16);
     assert!(size_of::<DirectionAnswer>() == 24);
+    assert!(offset_of!(PlacesAnswer, refusal) == 0);
+    assert!(offset_of!(PlacesAnswer, field_nodes) == 8);
+    assert!(offset_of!(PlacesAnswer, sampled_nodes) == 16);
+    assert!(size_of::<PlacesAnswer>() == 24);
     assert!(offset_of!(PaveAnswer, refusal) == 0);
     assert!(offset_of!(PaveAnswer, end) == 4);
     assert!(offset_of!(PaveAnswer, whole) == 8);
@@ -334,20 +325,6 @@ const _: () = {
     assert!(offset_of!(PaveAnswer, loops) == 88);
     assert!(offset_of!(PaveAnswer, ids) == 96);
     assert!(size_of::<PaveAnswer>() == 104);
-    assert!(offset_of!(ExamAnswer, refusal) == 0);
-    assert!(offset_of!(ExamAnswer, x) == 8);
-    assert!(offset_of!(ExamAnswer, y) == 16);
-    assert!(offset_of!(ExamAnswer, a) == 24);
-    assert!(offset_of!(ExamAnswer, b) == 28);
-    assert!(offset_of!(ExamAnswer, d) == 32);
-    assert!(offset_of!(ExamAnswer, c) == 36);
-    assert!(offset_of!(ExamAnswer, length) == 40);
-    assert!(offset_of!(ExamAnswer, threshold) == 48);
-    assert!(offset_of!(ExamAnswer, count) == 52);
-    assert!(offset_of!(ExamAnswer, sum) == 56);
-    assert!(offset_of!(ExamAnswer, estimate) == 60);
-    assert!(offset_of!(ExamAnswer, origin) == 64);
-    assert!(size_of::<ExamAnswer>() == 72);
     assert!(offset_of!(StepAnswer, refusal) == 0);
     assert!(offset_of!(StepAnswer, outcome) == 4);
     assert!(offset_of!(StepAnswer, nodes) == 8);
@@ -368,6 +345,29 @@ const _: () = {
     assert!(offset_of!(PreviewAnswer, dy) == 56);
     assert!(offset_of!(PreviewAnswer, front) == 64);
     assert!(size_of::<PreviewAnswer>() == 72);
+    assert!(offset_of!(ExamAnswer, refusal) == 0);
+    assert!(offset_of!(ExamAnswer, x) == 8);
+    assert!(offset_of!(ExamAnswer, y) == 16);
+    assert!(offset_of!(ExamAnswer, a) == 24);
+    assert!(offset_of!(ExamAnswer, b) == 28);
+    assert!(offset_of!(ExamAnswer, d) == 32);
+    assert!(offset_of!(ExamAnswer, c) == 36);
+    assert!(offset_of!(ExamAnswer, length) == 40);
+    assert!(offset_of!(ExamAnswer, threshold) == 48);
+    assert!(offset_of!(ExamAnswer, count) == 52);
+    assert!(offset_of!(ExamAnswer, sum) == 56);
+    assert!(offset_of!(ExamAnswer, estimate) == 60);
+    assert!(offset_of!(ExamAnswer, origin) == 64);
+    assert!(size_of::<ExamAnswer>() == 72);
+    assert!(offset_of!(OrderAnswer, refusal) == 0);
+    assert!(offset_of!(OrderAnswer, place) == 8);
+    assert!(size_of::<OrderAnswer>() == 16);
+    assert!(offset_of!(StepsAnswer, refusal) == 0);
+    assert!(offset_of!(StepsAnswer, quad) == 8);
+    assert!(size_of::<StepsAnswer>() == 16);
+    assert!(offset_of!(SmallQuadsAnswer, refusal) == 0);
+    assert!(offset_of!(SmallQuadsAnswer, count) == 8);
+    assert!(size_of::<SmallQuadsAnswer>() == 16);
 };
 
 /// The number of the shape that the library has. It is [`ABI`], since a library of another shape doesn't link.
@@ -385,91 +385,6 @@ static SHAPE: unsafe extern "C" fn() -> u32 = sitjorbe_abi_1;
 extern "C" {
     /// The number of the library's shape, which its name has too.
     pub fn sitjorbe_abi_1() -> u32;
-
-    /// Whether the outline is sound; refusals 1 to 4 come first, with false.
-    pub fn sitjorbe_sound(
-        outer: *const f64,
-        outer_len: usize,
-        holes: *const f64,
-        holes_len: usize,
-        lens: *const usize,
-        lens_len: usize,
-    ) -> SoundAnswer;
-
-    /// Every small quad, on the first places of the lent list: four numbers a four, in dictionary order.
-    pub fn sitjorbe_small_quads(fours: *mut u32, fours_len: usize) -> SmallQuadsAnswer;
-
-    /// Of the field's four directions at each point the one nearest to its target, which may be any two floats: three
-    /// floats a point, 0 and the direction, or the number of what refuses the point and two zeros. Nothing is written
-    /// where the whole list is refused.
-    pub fn sitjorbe_directions(
-        xmin: f64,
-        ymin: f64,
-        h: f64,
-        nx: usize,
-        ny: usize,
-        values: *const f64,
-        values_len: usize,
-        marks: *const u8,
-        marks_len: usize,
-        points: *const f64,
-        points_len: usize,
-        targets: *const f64,
-        targets_len: usize,
-        answers: *mut f64,
-        answers_len: usize,
-    ) -> u32;
-
-    /// Whether the quads may be tested in this order: each of them once, and after every quad that laid a front edge
-    /// which it used up. `places` and `pool` are scratch of any length: what they hold doesn't change the answer.
-    pub fn sitjorbe_order(
-        quad_count: usize,
-        quads: *const u32,
-        quads_len: usize,
-        order: *const u32,
-        order_len: usize,
-        places: *mut usize,
-        places_len: usize,
-        pool: *mut u32,
-        pool_len: usize,
-    ) -> OrderAnswer;
-
-    /// The nodes of a lent mesh in whole steps of 1/64 degree, each coordinate at the nearest step, halves at the even
-    /// one. The mesh is only read, and the buffer is written once nothing is refused.
-    pub fn sitjorbe_steps(
-        xs: *const f64,
-        xs_len: usize,
-        ys: *const f64,
-        ys_len: usize,
-        next: *const u32,
-        next_len: usize,
-        prev: *const u32,
-        prev_len: usize,
-        origins: *const u16,
-        origins_len: usize,
-        quads: *const u32,
-        quads_len: usize,
-        edges: *const u32,
-        edges_len: usize,
-        node_count: u32,
-        quad_count: usize,
-        edge_count: usize,
-        front_count: usize,
-        steps: *mut i32,
-        steps_len: usize,
-    ) -> StepsAnswer;
-
-    /// The places that a run of this outline and size can't do without. Quads, and the nodes and edges that they add,
-    /// need more.
-    pub fn sitjorbe_places(
-        outer: *const f64,
-        outer_len: usize,
-        holes: *const f64,
-        holes_len: usize,
-        lens: *const usize,
-        lens_len: usize,
-        size: f64,
-    ) -> PlacesAnswer;
 
     /// Whether the point is inside the outer loop and outside every hole.
     pub fn sitjorbe_contains(
@@ -508,6 +423,37 @@ extern "C" {
         y: f64,
     ) -> DistanceAnswer;
 
+    /// Whether the outline is sound; refusals 1 to 4 come first, with false.
+    pub fn sitjorbe_sound(
+        outer: *const f64,
+        outer_len: usize,
+        holes: *const f64,
+        holes_len: usize,
+        lens: *const usize,
+        lens_len: usize,
+    ) -> SoundAnswer;
+
+    /// Of the field's four directions at each point the one nearest to its target, which may be any two floats: three
+    /// floats a point, 0 and the direction, or the number of what refuses the point and two zeros. Nothing is written
+    /// where the whole list is refused.
+    pub fn sitjorbe_directions(
+        xmin: f64,
+        ymin: f64,
+        h: f64,
+        nx: usize,
+        ny: usize,
+        values: *const f64,
+        values_len: usize,
+        marks: *const u8,
+        marks_len: usize,
+        points: *const f64,
+        points_len: usize,
+        targets: *const f64,
+        targets_len: usize,
+        answers: *mut f64,
+        answers_len: usize,
+    ) -> u32;
+
     /// The field of the outline, in the lists lent: two floats and a mark a node. Nothing is written on a refusal. The
     /// list of blocks is scratch of any length, which searches go by as far as it has room; the answer doesn't depend
     /// on it.
@@ -544,6 +490,18 @@ extern "C" {
         tx: f64,
         ty: f64,
     ) -> DirectionAnswer;
+
+    /// The places that a run of this outline and size can't do without. Quads, and the nodes and edges that they add,
+    /// need more.
+    pub fn sitjorbe_places(
+        outer: *const f64,
+        outer_len: usize,
+        holes: *const f64,
+        holes_len: usize,
+        lens: *const usize,
+        lens_len: usize,
+        size: f64,
+    ) -> PlacesAnswer;
 
     /// The run whole, from the field to the loops of the front, in the lists lent. `origins` gets for each node the
     /// number of the outline's loop that it came from. Nothing is written on a refusal. The pools, the list of blocks
@@ -592,37 +550,6 @@ extern "C" {
         tried: *mut u32,
         tried_len: usize,
     ) -> PaveAnswer;
-
-    /// One request of one role to an exam. 20 comes before all else; where anything is refused, nothing lent is
-    /// written.
-    pub fn sitjorbe_exam(
-        role: u32,
-        operation: u32,
-        item: u32,
-        value: u32,
-        u: u32,
-        v: u32,
-        nodes: u32,
-        xs: *const f64,
-        xs_len: usize,
-        ys: *const f64,
-        ys_len: usize,
-        quad_count: usize,
-        quads: *const u32,
-        quads_len: usize,
-        next: *const u32,
-        next_len: usize,
-        prev: *const u32,
-        prev_len: usize,
-        origins: *const u16,
-        origins_len: usize,
-        thresholds: *mut u16,
-        thresholds_len: usize,
-        count: *mut u32,
-        sum: *mut u32,
-        reply: *mut u32,
-        reply_len: usize,
-    ) -> ExamAnswer;
 
     /// A step on the front edge a to b, in the mesh lent: one quad placed or none. Refusals are 1 to 7, 11, 23 and 24,
     /// in that order. New nodes take what stands in `origins` at node a.
@@ -707,4 +634,77 @@ extern "C" {
         list: *mut u32,
         list_len: usize,
     ) -> PreviewAnswer;
+
+    /// One request of one role to an exam. 20 comes before all else; where anything is refused, nothing lent is
+    /// written.
+    pub fn sitjorbe_exam(
+        role: u32,
+        operation: u32,
+        item: u32,
+        value: u32,
+        u: u32,
+        v: u32,
+        nodes: u32,
+        xs: *const f64,
+        xs_len: usize,
+        ys: *const f64,
+        ys_len: usize,
+        quad_count: usize,
+        quads: *const u32,
+        quads_len: usize,
+        next: *const u32,
+        next_len: usize,
+        prev: *const u32,
+        prev_len: usize,
+        origins: *const u16,
+        origins_len: usize,
+        thresholds: *mut u16,
+        thresholds_len: usize,
+        count: *mut u32,
+        sum: *mut u32,
+        reply: *mut u32,
+        reply_len: usize,
+    ) -> ExamAnswer;
+
+    /// Whether the quads may be tested in this order: each of them once, and after every quad that laid a front edge
+    /// which it used up. `places` and `pool` are scratch of any length: what they hold doesn't change the answer.
+    pub fn sitjorbe_order(
+        quad_count: usize,
+        quads: *const u32,
+        quads_len: usize,
+        order: *const u32,
+        order_len: usize,
+        places: *mut usize,
+        places_len: usize,
+        pool: *mut u32,
+        pool_len: usize,
+    ) -> OrderAnswer;
+
+    /// The nodes of a lent mesh in whole steps of 1/64 degree, each coordinate at the nearest step, halves at the even
+    /// one. The mesh is only read, and the buffer is written once nothing is refused.
+    pub fn sitjorbe_steps(
+        xs: *const f64,
+        xs_len: usize,
+        ys: *const f64,
+        ys_len: usize,
+        next: *const u32,
+        next_len: usize,
+        prev: *const u32,
+        prev_len: usize,
+        origins: *const u16,
+        origins_len: usize,
+        quads: *const u32,
+        quads_len: usize,
+        edges: *const u32,
+        edges_len: usize,
+        node_count: u32,
+        quad_count: usize,
+        edge_count: usize,
+        front_count: usize,
+        steps: *mut i32,
+        steps_len: usize,
+    ) -> StepsAnswer;
+
+    /// Every small quad, on the first places of the lent list: four numbers a four, in dictionary order.
+    pub fn sitjorbe_small_quads(fours: *mut u32, fours_len: usize) -> SmallQuadsAnswer;
 }

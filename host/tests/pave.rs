@@ -395,7 +395,7 @@ fn too_many_points_go_before_each_later_refusal() {
 /// The host's bound is the one in the source of the library, whose contract has it.
 #[test]
 fn the_most_points_are_those_of_the_source() {
-    let source = fs::read_to_string(concat!(env!("CARGO_MANIFEST_DIR"), "/../crates/domain/src/lib.rt")).unwrap();
+    let source = fs::read_to_string(concat!(env!("CARGO_MANIFEST_DIR"), "/../crates/outline/src/lib.rt")).unwrap();
     let text = source.split("pub const MOST_POINTS: usize = ").nth(1).unwrap();
     assert_eq!(text.split(';').next().unwrap().parse(), Ok(Outline::MOST_POINTS));
     let blocks = |points| Places { points, ..PROGRAM }.blocks();

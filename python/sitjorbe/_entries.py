@@ -73,52 +73,6 @@ REFUSALS = {
 # ---- answers
 
 
-class SoundAnswer(Structure):
-    """The answer of `sitjorbe_sound`."""
-
-    _fields_ = [
-        ("refusal", c_uint32),  # the refusal's number, 0 where nothing is refused
-        ("sound", c_bool),  # whether the outline is sound
-    ]
-
-
-class SmallQuadsAnswer(Structure):
-    """The answer of `sitjorbe_small_quads`. `refusal` is 26 where the lent list is too short, 0 otherwise; `count` is how many fours are listed."""
-
-    _fields_ = [
-        ("refusal", c_uint32),  # the refusal's number, 0 where nothing is refused
-        ("count", c_size_t),  # how many small quads are listed
-    ]
-
-
-class OrderAnswer(Structure):
-    """The answer of `sitjorbe_order`. `refusal` is 0 where the list is accepted; 21 where some quad is absent, repeated or unknown; 22 where the quad at `place` stands too early."""
-
-    _fields_ = [
-        ("refusal", c_uint32),  # the refusal's number, 0 where nothing is refused
-        ("place", c_size_t),  # where in the order a quad stands too early, on refusal 22
-    ]
-
-
-class StepsAnswer(Structure):
-    """The answer of `sitjorbe_steps`. `refusal` is 23 or 25, 0 where nothing is refused; `quad` is the lowest quad that the bowl can't show, where 25 says so."""
-
-    _fields_ = [
-        ("refusal", c_uint32),  # the refusal's number, 0 where nothing is refused
-        ("quad", c_size_t),  # the lowest quad that the bowl can't show, on refusal 25
-    ]
-
-
-class PlacesAnswer(Structure):
-    """The answer of `sitjorbe_places`. `refusal` is the refusal's number, 0 where nothing is refused; on a refusal both counts are 0."""
-
-    _fields_ = [
-        ("refusal", c_uint32),  # the refusal's number, 0 where nothing is refused
-        ("field_nodes", c_size_t),  # how many nodes the field has; with fewer places refusal 9
-        ("sampled_nodes", c_size_t),  # how many nodes the sampled outline has, and as many edges; with fewer places for either refusal 10
-    ]
-
-
 class ContainsAnswer(Structure):
     """The answer of `sitjorbe_contains`. `refusal` is the refusal's number, 0 where nothing is refused. The values of a refused query are false, 0.0 or 0."""
 
@@ -152,6 +106,15 @@ class DistanceAnswer(Structure):
     ]
 
 
+class SoundAnswer(Structure):
+    """The answer of `sitjorbe_sound`."""
+
+    _fields_ = [
+        ("refusal", c_uint32),  # the refusal's number, 0 where nothing is refused
+        ("sound", c_bool),  # whether the outline is sound
+    ]
+
+
 class FieldRecordAnswer(Structure):
     """The answer of `sitjorbe_field`. A field record's floats and counts; its values and marks are in the lists lent. `refusal` is the refusal's number, 0 where nothing is refused; on a refusal all else is 0."""
 
@@ -175,6 +138,16 @@ class DirectionAnswer(Structure):
     ]
 
 
+class PlacesAnswer(Structure):
+    """The answer of `sitjorbe_places`. `refusal` is the refusal's number, 0 where nothing is refused; on a refusal both counts are 0."""
+
+    _fields_ = [
+        ("refusal", c_uint32),  # the refusal's number, 0 where nothing is refused
+        ("field_nodes", c_size_t),  # how many nodes the field has; with fewer places refusal 9
+        ("sampled_nodes", c_size_t),  # how many nodes the sampled outline has, and as many edges; with fewer places for either refusal 10
+    ]
+
+
 class PaveAnswer(Structure):
     """The answer of `sitjorbe_pave`. A run's end (0 still, 1 passes, 2 cap, 3 full) and whether it is whole, its field record's floats and counts, how many nodes, quads, distinct edges and front edges it has, how many loops of the front are listed, and the ids in all of them. All else is in the lists lent. All is 0 on a refusal."""
 
@@ -193,26 +166,6 @@ class PaveAnswer(Structure):
         ("front", c_size_t),  # how many edges the front has
         ("loops", c_size_t),  # how many loops of the front are listed
         ("ids", c_size_t),  # how many node numbers the listed loops have in all
-    ]
-
-
-class ExamAnswer(Structure):
-    """The answer of `sitjorbe_exam`. The reply as it crosses: `refusal` is 0 where nothing is refused; what isn't asked for is 0."""
-
-    _fields_ = [
-        ("refusal", c_uint32),  # the refusal's number, 0 where nothing is refused
-        ("x", c_double),  # the node's first coordinate
-        ("y", c_double),  # the node's second coordinate
-        ("a", c_uint32),  # the quad's first node
-        ("b", c_uint32),  # its second node
-        ("d", c_uint32),  # its third node
-        ("c", c_uint32),  # its fourth node
-        ("length", c_size_t),  # how many nodes the loop has
-        ("threshold", c_uint32),  # in tenths of a decibel
-        ("count", c_uint32),  # how many quads have all four thresholds
-        ("sum", c_uint32),  # the sum of those quads' thresholds
-        ("estimate", c_uint32),  # in tenths of a decibel
-        ("origin", c_uint32),  # the number of the outline's loop that the node came from
     ]
 
 
@@ -248,81 +201,57 @@ class PreviewAnswer(Structure):
     ]
 
 
+class ExamAnswer(Structure):
+    """The answer of `sitjorbe_exam`. The reply as it crosses: `refusal` is 0 where nothing is refused; what isn't asked for is 0."""
+
+    _fields_ = [
+        ("refusal", c_uint32),  # the refusal's number, 0 where nothing is refused
+        ("x", c_double),  # the node's first coordinate
+        ("y", c_double),  # the node's second coordinate
+        ("a", c_uint32),  # the quad's first node
+        ("b", c_uint32),  # its second node
+        ("d", c_uint32),  # its third node
+        ("c", c_uint32),  # its fourth node
+        ("length", c_size_t),  # how many nodes the loop has
+        ("threshold", c_uint32),  # in tenths of a decibel
+        ("count", c_uint32),  # how many quads have all four thresholds
+        ("sum", c_uint32),  # the sum of those quads' thresholds
+        ("estimate", c_uint32),  # in tenths of a decibel
+        ("origin", c_uint32),  # the number of the outline's loop that the node came from
+    ]
+
+
+class OrderAnswer(Structure):
+    """The answer of `sitjorbe_order`. `refusal` is 0 where the list is accepted; 21 where some quad is absent, repeated or unknown; 22 where the quad at `place` stands too early."""
+
+    _fields_ = [
+        ("refusal", c_uint32),  # the refusal's number, 0 where nothing is refused
+        ("place", c_size_t),  # where in the order a quad stands too early, on refusal 22
+    ]
+
+
+class StepsAnswer(Structure):
+    """The answer of `sitjorbe_steps`. `refusal` is 23 or 25, 0 where nothing is refused; `quad` is the lowest quad that the bowl can't show, where 25 says so."""
+
+    _fields_ = [
+        ("refusal", c_uint32),  # the refusal's number, 0 where nothing is refused
+        ("quad", c_size_t),  # the lowest quad that the bowl can't show, on refusal 25
+    ]
+
+
+class SmallQuadsAnswer(Structure):
+    """The answer of `sitjorbe_small_quads`. `refusal` is 26 where the lent list is too short, 0 otherwise; `count` is how many fours are listed."""
+
+    _fields_ = [
+        ("refusal", c_uint32),  # the refusal's number, 0 where nothing is refused
+        ("count", c_size_t),  # how many small quads are listed
+    ]
+
+
 # ---- entries
 
 ENTRIES = {
     "sitjorbe_abi_1": (c_uint32, [
-    ]),
-    "sitjorbe_sound": (SoundAnswer, [
-        ("outer", POINTER(c_double)),
-        ("outer_len", c_size_t),
-        ("holes", POINTER(c_double)),
-        ("holes_len", c_size_t),
-        ("lens", POINTER(c_size_t)),
-        ("lens_len", c_size_t),
-    ]),
-    "sitjorbe_small_quads": (SmallQuadsAnswer, [
-        ("fours", POINTER(c_uint32)),
-        ("fours_len", c_size_t),
-    ]),
-    "sitjorbe_directions": (c_uint32, [
-        ("xmin", c_double),
-        ("ymin", c_double),
-        ("h", c_double),
-        ("nx", c_size_t),
-        ("ny", c_size_t),
-        ("values", POINTER(c_double)),
-        ("values_len", c_size_t),
-        ("marks", POINTER(c_uint8)),
-        ("marks_len", c_size_t),
-        ("points", POINTER(c_double)),
-        ("points_len", c_size_t),
-        ("targets", POINTER(c_double)),
-        ("targets_len", c_size_t),
-        ("answers", POINTER(c_double)),
-        ("answers_len", c_size_t),
-    ]),
-    "sitjorbe_order": (OrderAnswer, [
-        ("quad_count", c_size_t),
-        ("quads", POINTER(c_uint32)),
-        ("quads_len", c_size_t),
-        ("order", POINTER(c_uint32)),
-        ("order_len", c_size_t),
-        ("places", POINTER(c_size_t)),
-        ("places_len", c_size_t),
-        ("pool", POINTER(c_uint32)),
-        ("pool_len", c_size_t),
-    ]),
-    "sitjorbe_steps": (StepsAnswer, [
-        ("xs", POINTER(c_double)),
-        ("xs_len", c_size_t),
-        ("ys", POINTER(c_double)),
-        ("ys_len", c_size_t),
-        ("next", POINTER(c_uint32)),
-        ("next_len", c_size_t),
-        ("prev", POINTER(c_uint32)),
-        ("prev_len", c_size_t),
-        ("origins", POINTER(c_uint16)),
-        ("origins_len", c_size_t),
-        ("quads", POINTER(c_uint32)),
-        ("quads_len", c_size_t),
-        ("edges", POINTER(c_uint32)),
-        ("edges_len", c_size_t),
-        ("node_count", c_uint32),
-        ("quad_count", c_size_t),
-        ("edge_count", c_size_t),
-        ("front_count", c_size_t),
-        ("steps", POINTER(c_int32)),
-        ("steps_len", c_size_t),
-    ]),
-    "sitjorbe_places": (PlacesAnswer, [
-        ("outer", POINTER(c_double)),
-        ("outer_len", c_size_t),
-        ("holes", POINTER(c_double)),
-        ("holes_len", c_size_t),
-        ("lens", POINTER(c_size_t)),
-        ("lens_len", c_size_t),
-        ("size", c_double),
     ]),
     "sitjorbe_contains": (ContainsAnswer, [
         ("outer", POINTER(c_double)),
@@ -354,6 +283,31 @@ ENTRIES = {
         ("x", c_double),
         ("y", c_double),
     ]),
+    "sitjorbe_sound": (SoundAnswer, [
+        ("outer", POINTER(c_double)),
+        ("outer_len", c_size_t),
+        ("holes", POINTER(c_double)),
+        ("holes_len", c_size_t),
+        ("lens", POINTER(c_size_t)),
+        ("lens_len", c_size_t),
+    ]),
+    "sitjorbe_directions": (c_uint32, [
+        ("xmin", c_double),
+        ("ymin", c_double),
+        ("h", c_double),
+        ("nx", c_size_t),
+        ("ny", c_size_t),
+        ("values", POINTER(c_double)),
+        ("values_len", c_size_t),
+        ("marks", POINTER(c_uint8)),
+        ("marks_len", c_size_t),
+        ("points", POINTER(c_double)),
+        ("points_len", c_size_t),
+        ("targets", POINTER(c_double)),
+        ("targets_len", c_size_t),
+        ("answers", POINTER(c_double)),
+        ("answers_len", c_size_t),
+    ]),
     "sitjorbe_field": (FieldRecordAnswer, [
         ("outer", POINTER(c_double)),
         ("outer_len", c_size_t),
@@ -384,6 +338,15 @@ ENTRIES = {
         ("y", c_double),
         ("tx", c_double),
         ("ty", c_double),
+    ]),
+    "sitjorbe_places": (PlacesAnswer, [
+        ("outer", POINTER(c_double)),
+        ("outer_len", c_size_t),
+        ("holes", POINTER(c_double)),
+        ("holes_len", c_size_t),
+        ("lens", POINTER(c_size_t)),
+        ("lens_len", c_size_t),
+        ("size", c_double),
     ]),
     "sitjorbe_pave": (PaveAnswer, [
         ("outer", POINTER(c_double)),
@@ -427,34 +390,6 @@ ENTRIES = {
         ("blocks_len", c_size_t),
         ("tried", POINTER(c_uint32)),
         ("tried_len", c_size_t),
-    ]),
-    "sitjorbe_exam": (ExamAnswer, [
-        ("role", c_uint32),
-        ("operation", c_uint32),
-        ("item", c_uint32),
-        ("value", c_uint32),
-        ("u", c_uint32),
-        ("v", c_uint32),
-        ("nodes", c_uint32),
-        ("xs", POINTER(c_double)),
-        ("xs_len", c_size_t),
-        ("ys", POINTER(c_double)),
-        ("ys_len", c_size_t),
-        ("quad_count", c_size_t),
-        ("quads", POINTER(c_uint32)),
-        ("quads_len", c_size_t),
-        ("next", POINTER(c_uint32)),
-        ("next_len", c_size_t),
-        ("prev", POINTER(c_uint32)),
-        ("prev_len", c_size_t),
-        ("origins", POINTER(c_uint16)),
-        ("origins_len", c_size_t),
-        ("thresholds", POINTER(c_uint16)),
-        ("thresholds_len", c_size_t),
-        ("count", POINTER(c_uint32)),
-        ("sum", POINTER(c_uint32)),
-        ("reply", POINTER(c_uint32)),
-        ("reply_len", c_size_t),
     ]),
     "sitjorbe_step": (StepAnswer, [
         ("outer", POINTER(c_double)),
@@ -533,6 +468,71 @@ ENTRIES = {
         ("b", c_uint32),
         ("list", POINTER(c_uint32)),
         ("list_len", c_size_t),
+    ]),
+    "sitjorbe_exam": (ExamAnswer, [
+        ("role", c_uint32),
+        ("operation", c_uint32),
+        ("item", c_uint32),
+        ("value", c_uint32),
+        ("u", c_uint32),
+        ("v", c_uint32),
+        ("nodes", c_uint32),
+        ("xs", POINTER(c_double)),
+        ("xs_len", c_size_t),
+        ("ys", POINTER(c_double)),
+        ("ys_len", c_size_t),
+        ("quad_count", c_size_t),
+        ("quads", POINTER(c_uint32)),
+        ("quads_len", c_size_t),
+        ("next", POINTER(c_uint32)),
+        ("next_len", c_size_t),
+        ("prev", POINTER(c_uint32)),
+        ("prev_len", c_size_t),
+        ("origins", POINTER(c_uint16)),
+        ("origins_len", c_size_t),
+        ("thresholds", POINTER(c_uint16)),
+        ("thresholds_len", c_size_t),
+        ("count", POINTER(c_uint32)),
+        ("sum", POINTER(c_uint32)),
+        ("reply", POINTER(c_uint32)),
+        ("reply_len", c_size_t),
+    ]),
+    "sitjorbe_order": (OrderAnswer, [
+        ("quad_count", c_size_t),
+        ("quads", POINTER(c_uint32)),
+        ("quads_len", c_size_t),
+        ("order", POINTER(c_uint32)),
+        ("order_len", c_size_t),
+        ("places", POINTER(c_size_t)),
+        ("places_len", c_size_t),
+        ("pool", POINTER(c_uint32)),
+        ("pool_len", c_size_t),
+    ]),
+    "sitjorbe_steps": (StepsAnswer, [
+        ("xs", POINTER(c_double)),
+        ("xs_len", c_size_t),
+        ("ys", POINTER(c_double)),
+        ("ys_len", c_size_t),
+        ("next", POINTER(c_uint32)),
+        ("next_len", c_size_t),
+        ("prev", POINTER(c_uint32)),
+        ("prev_len", c_size_t),
+        ("origins", POINTER(c_uint16)),
+        ("origins_len", c_size_t),
+        ("quads", POINTER(c_uint32)),
+        ("quads_len", c_size_t),
+        ("edges", POINTER(c_uint32)),
+        ("edges_len", c_size_t),
+        ("node_count", c_uint32),
+        ("quad_count", c_size_t),
+        ("edge_count", c_size_t),
+        ("front_count", c_size_t),
+        ("steps", POINTER(c_int32)),
+        ("steps_len", c_size_t),
+    ]),
+    "sitjorbe_small_quads": (SmallQuadsAnswer, [
+        ("fours", POINTER(c_uint32)),
+        ("fours_len", c_size_t),
     ]),
 }
 

@@ -44,7 +44,7 @@ class Proving(unittest.TestCase):
             return told.getvalue().splitlines(), (root / "asked").read_text(), (root / "log/first-build").read_text()
 
     def test_how_far_it_is(self):
-        names = ["abi", "domain"]
+        names = ["abi", "outline"]
         wanted = [crate for name in names for crate in crates.reached(name, crates.dependencies())]
         told, asked, log = self.prove(names, ["topology", *wanted, *wanted])
         self.assertEqual(sorted(asked.split("\n")), sorted(["", *(f"{crate}: lib" for crate in set(wanted))]))

@@ -3,3 +3,9 @@ pub mod BookLaws
 pub mod Booked
 pub mod NetLaws
 pub mod Points
+pub mod Answered
+pub mod Matches
+pub mod NetExamples
+pub mod PointsExamples
+pub mod Snapshot
+pub mod Step

@@ -5,7 +5,7 @@ use Rattle.std.proofs.Math.Option.{Option, none, some}
 use Rattle.std.specs.Float.{nan}
 use Rattle.laws.specs.Loop.{for_up}
 use Rattle.numbers.specs.Float.{zero_f}
-use Rattle.domain.specs.Outline.{Outline}
+use Rattle.outline.specs.Outline.{Outline}
 use Rattle.exact.specs.Corner.{Vector, cross}
 use Rattle.topology.specs.Links.{off}
 use Rattle.topology.specs.Front.{head_or}

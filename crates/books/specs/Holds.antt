@@ -2,16 +2,16 @@
 use Rattle.std.specs.Prelude.{◌≡◌, Bool, true, not, ◌↔◌, ℕ, pos, ◌+◌, ◌*◌, ◌<◌, ◌≤◌, ◌+ℤ◌, T, length, take, Float}
 use Rattle.std.proofs.Math.Option.{some}
 use mathlib.Core.List.{List, map, flatten}
-use Rattle.domain.specs.Outline.{Outline}
+use Rattle.outline.specs.Outline.{Outline}
 use Rattle.front.specs.State.{State, next_of}
 use Rattle.front.specs.Sampling.{loop_count, sampled_count}
 use Rattle.topology.specs.Sums.{All, Even}
 use Rattle.topology.specs.LongLoops.{LongLoops}
 use Rattle.paving.specs.Loops.{front_loops}
-use Rattle.sound_outlines.specs.Sound.{outline_sound}
+use Rattle.outline_sound.specs.Sound.{outline_sound}
 use Rattle.exact.specs.Units.{units}
 use Rattle.exact.specs.Corner.{Vector, step_units, sine_above_third, is_short}
-use Rattle.turns.specs.Turn.{Covers}
+use Rattle.cover_turns.specs.Turn.{Covers}
 use Rattle.books.specs.Book.{Book, Quad, start_book, quad_at, quad_edges, book_after, x_of, y_of, loop_edges, front_area, quads_area, follow}
 use Rattle.books.specs.Net.{count_edge, net, quads_edges}
 use Rattle.books.specs.Points.{winding, quads_round, LeftOfAll, RightOfNone}

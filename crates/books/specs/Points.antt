@@ -6,7 +6,7 @@ use Rattle.exact.specs.Units.{units}
 use Rattle.exact.specs.Corner.{Vector}
 use Rattle.topology.specs.Sums.{All}
 use Rattle.front.specs.State.{State}
-use Rattle.turns.specs.Turn.{turn, IsLeft, NotRight}
+use Rattle.cover_turns.specs.Turn.{turn, IsLeft, NotRight}
 use Rattle.books.specs.Book.{Book, Edge, Quad, quad_at, place_of, edges_sumℤ, quad_edges}
 
 -- what the edge from node u to node v counts

@@ -3,19 +3,19 @@ use Rattle.std.specs.Prelude.{ℕ, List, ◌≡◌, length, Float}
 use Rattle.std.proofs.Common.{sym, ◌∙◌, ap, subst}
 use Rattle.std.proofs.Math.Option.{some}
 use Rattle.exact.specs.Units.{units}
-use Rattle.domain.specs.Outline.{Outline}
+use Rattle.outline.specs.Outline.{Outline}
 use Rattle.front.specs.State.{State}
 use Rattle.front.specs.Sampling.{loop_count, sampled_count}
-use Rattle.front.specs.FrameLaws.{frame_same}
+use Rattle.front.proofs.FrameLaws.{frame_same}
 use Rattle.paving.specs.Reach.{Reaches}
 use Rattle.books.specs.Book.{Book, quad_at, book_after}
 use Rattle.books.specs.Holds.{HoldsAfter, Closes, BooksHold}
 use Rattle.books.proofs.Areas.{areas_balance}
 use Rattle.books.proofs.Points.{quad_holds_covers, points_balance}
-use Rattle.books_hold.specs.Stages.{Start, Stage, QuadsTurn}
+use Rattle.books_hold.proofs.Stages.{Start, Stage, QuadsTurn}
 use Rattle.books_hold.proofs.Stages.{stage_at, stage_before}
-use Rattle.books_hold.specs.Areas.{start_joins, net_edges, quads_turn}
-use Rattle.books_hold.specs.Fronts.{loops_hold, counts_hold, closes}
+use Rattle.books_hold.proofs.Areas.{start_joins, net_edges, quads_turn}
+use Rattle.books_hold.proofs.Fronts.{loops_hold, counts_hold, closes}
 
 module _ (o : Outline) (size : Float) (s : State) (ls : List (List ℕ)) (S : Start o size s ls) (number : length ls ≡ loop_count o) where
   holds_after : (final : State) (k : ℕ) (t : State) → Stage o size s ls final k t → HoldsAfter o size final k

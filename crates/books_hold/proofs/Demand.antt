@@ -1,11 +1,11 @@
 -- The exact books, in the words in which they were asked for.
 use Rattle.std.specs.Prelude.{◌≡◌}
-use Rattle.domain.specs.declared.Settings.{Settings}
-use Rattle.domain.specs.Outline.{Outline}
-use Rattle.domain.specs.Accepted.{OutlineFits}
-use Rattle.direction.specs.Record.{FieldLists}
+use Rattle.outline.specs.declared.Settings.{Settings}
+use Rattle.outline.specs.Outline.{Outline}
+use Rattle.outline.specs.Accepted.{OutlineFits}
+use Rattle.field_direction.specs.Record.{FieldLists}
 use Rattle.front.specs.State.{State}
-use Rattle.whole_run.specs.Run.{run_refusal, run_of}
+use Rattle.run_whole.specs.Run.{run_refusal, run_of}
 use Rattle.books_hold.specs.Demanded.{Demanded, as_demanded}
 use Rattle.books_hold.proofs.Theorem.{books_hold}
 

@@ -4,3 +4,5 @@ pub mod Runs
 pub mod Stages
 pub mod Theorem
 pub mod Demand
+pub mod Areas
+pub mod Fronts

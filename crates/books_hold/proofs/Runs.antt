@@ -1,31 +1,31 @@
 -- What holds of the definitions of specs/Runs.antt.
 use Rattle.std.specs.Prelude.{List, ◌≡◌, ℕ, ◌≤◌, Float}
 use Rattle.std.proofs.Common.{arith}
-use Rattle.domain.specs.declared.Settings.{Settings}
-use Rattle.domain.specs.Outline.{Outline}
-use Rattle.domain.specs.Accepted.{OutlineFits}
-use Rattle.direction.specs.Record.{FieldLists, FieldRecord}
-use Rattle.crossfield.specs.Field.{field_of}
+use Rattle.outline.specs.declared.Settings.{Settings}
+use Rattle.outline.specs.Outline.{Outline}
+use Rattle.outline.specs.Accepted.{OutlineFits}
+use Rattle.field_direction.specs.Record.{FieldLists, FieldRecord}
+use Rattle.field_cross.specs.Field.{field_of}
 use Rattle.front.specs.State.{State, cleared}
 use Rattle.front.specs.Sampling.{sampled_count, from_boundary, boundary_loops}
-use Rattle.front.specs.FrameLaws.{frame_trans}
+use Rattle.front.proofs.FrameLaws.{frame_trans}
 use Rattle.paving.specs.declared.End.{End}
 use Rattle.paving.specs.declared.End.TheVariants.{Still, Passes, Cap, Full}
 use Rattle.paving.specs.Advance.{most_quads, advance}
 use Rattle.paving.specs.Reach.{Reaches}
 use Rattle.paving.specs.ReachLaws.{Reached, advance_reaches}
-use Rattle.whole_run.specs.Run.{run_refusal, run_of}
+use Rattle.run_whole.specs.Run.{run_refusal, run_of}
 use Rattle.books.specs.Book.{start_book}
 use Rattle.books.specs.Holds.{BooksHold}
-use Rattle.books.specs.Areas.{FrontJoins}
-use Rattle.sampled.specs.Outlines.{outline_three}
-use Rattle.sampled.specs.Begun.{Begun}
-use Rattle.sampled.proofs.Begun.{begun}
-use Rattle.sampled.proofs.Starts.{starts}
-use Rattle.bounded.specs.Placed.{placement_holds}
-use Rattle.bounded.specs.Run.{run_bounded}
-use Rattle.books_hold.specs.Stages.{Start, QuadsTurn, standing}
-use Rattle.books_hold.specs.Areas.{start_joins}
+use Rattle.books.proofs.Areas.{FrontJoins}
+use Rattle.front_sampled.proofs.Outlines.{outline_three}
+use Rattle.front_sampled.proofs.Begun.{Begun}
+use Rattle.front_sampled.proofs.Begun.{begun}
+use Rattle.front_sampled.proofs.Starts.{starts}
+use Rattle.books_bounded.proofs.Placed.{placement_holds}
+use Rattle.books_bounded.proofs.Run.{run_bounded}
+use Rattle.books_hold.proofs.Stages.{Start, QuadsTurn, standing}
+use Rattle.books_hold.proofs.Areas.{start_joins}
 use Rattle.books_hold.proofs.Assembled.{reached_hold}
 use Rattle.books_hold.specs.Ends.{Ended}
 use Rattle.books_hold.proofs.EndLaws.{advance_ends}

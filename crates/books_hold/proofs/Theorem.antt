@@ -1,13 +1,13 @@
 -- THE THEOREM of the exact books. What it says: crates/books/specs/Holds.antt, over the book of crates/books/specs/Book.antt. Demanded.antt gives
 -- it in the demand's own words, and Runs.antt what else holds of a run.
 use Rattle.std.specs.Prelude.{◌≡◌}
-use Rattle.domain.specs.declared.Settings.{Settings}
-use Rattle.domain.specs.Outline.{Outline}
-use Rattle.domain.specs.Accepted.{OutlineFits}
-use Rattle.direction.specs.Record.{FieldLists}
-use Rattle.crossfield.specs.Field.{field_of}
+use Rattle.outline.specs.declared.Settings.{Settings}
+use Rattle.outline.specs.Outline.{Outline}
+use Rattle.outline.specs.Accepted.{OutlineFits}
+use Rattle.field_direction.specs.Record.{FieldLists}
+use Rattle.field_cross.specs.Field.{field_of}
 use Rattle.front.specs.State.{State}
-use Rattle.whole_run.specs.Run.{run_refusal, run_of}
+use Rattle.run_whole.specs.Run.{run_refusal, run_of}
 use Rattle.books.specs.Holds.{BooksHold}
 use Rattle.books_hold.specs.Runs.{accepted_run_lem}
 use Rattle.books_hold.proofs.Runs.{advance_holds}

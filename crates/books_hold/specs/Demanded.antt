@@ -1,7 +1,7 @@
 -- The exact books in the words in which they were asked for, which except corners at a side shorter than 1e-150. It follows from `BooksHold`, which has no exception.
 use Rattle.std.specs.Prelude.{◌≡◌, ℕ, ◌+◌, ◌*◌, ◌<◌, ◌≤◌, ◌+ℤ◌, T, length, Float}
 use Rattle.std.proofs.Math.Option.{some}
-use Rattle.domain.specs.Outline.{Outline}
+use Rattle.outline.specs.Outline.{Outline}
 use Rattle.exact.specs.Units.{units}
 use Rattle.exact.specs.Corner.{sine_above_third, is_short}
 use Rattle.front.specs.State.{State}

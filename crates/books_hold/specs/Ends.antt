@@ -1,9 +1,9 @@
 -- The four ends of a run of passes, each described exactly by the state that is left. Definitions only.
 use Rattle.std.specs.Prelude.{◌≡◌, true, ◌≢◌, ℕ, suc, min, ◌<◌, Float, Some, None}
 use Rattle.laws.specs.Loop.{go, out}
-use Rattle.domain.specs.Outline.{Outline}
+use Rattle.outline.specs.Outline.{Outline}
 use Rattle.topology.specs.Links.{off}
-use Rattle.direction.specs.Record.{FieldRecord}
+use Rattle.field_direction.specs.Record.{FieldRecord}
 use Rattle.front.specs.declared.Corner.{Corner}
 use Rattle.front.specs.State.{State, next_of}
 use Rattle.front.specs.Place.{is_full}

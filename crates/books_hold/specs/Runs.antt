@@ -1,17 +1,17 @@
 -- A run that no refusal stops: its start, that each of its quads turns left, and what holds of the state it leaves: `run_facts`.
 use Rattle.std.specs.Prelude.{◌≡◌, ℕ, ◌≤◌, Float}
-use Rattle.domain.specs.declared.Settings.{Settings}
-use Rattle.domain.specs.Outline.{Outline, outline_refusal}
-use Rattle.domain.specs.Accepted.{OutlineFits, first_zero}
-use Rattle.direction.specs.Record.{FieldLists, FieldRecord}
-use Rattle.crossfield.specs.Field.{field_refusal}
+use Rattle.outline.specs.declared.Settings.{Settings}
+use Rattle.outline.specs.Outline.{Outline, outline_refusal}
+use Rattle.outline.specs.Accepted.{OutlineFits, first_zero}
+use Rattle.field_direction.specs.Record.{FieldLists, FieldRecord}
+use Rattle.field_cross.specs.Field.{field_refusal}
 use Rattle.front.specs.State.{State, cleared}
 use Rattle.front.specs.Sampling.{front_refusal, from_boundary}
 use Rattle.front.specs.Sound.{Frame}
 use Rattle.paving.specs.Advance.{EndedPaving, most_quads}
-use Rattle.whole_run.specs.Run.{run_refusal}
-use Rattle.bounded.specs.Point.{Bounded}
-use Rattle.bounded.specs.Nodes.{AllNodes}
+use Rattle.run_whole.specs.Run.{run_refusal}
+use Rattle.books_bounded.proofs.Point.{Bounded}
+use Rattle.books_bounded.proofs.Nodes.{AllNodes}
 use Rattle.books_hold.specs.Ends.{Ended}
 
 -- ---- definitions

@@ -1,2 +1,5 @@
 pub mod Meaning
 pub mod Searched
+pub mod Examples
+pub mod GivenLaws
+pub mod StepsLaws

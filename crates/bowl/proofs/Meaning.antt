@@ -4,7 +4,7 @@ use Rattle.std.proofs.Common.{⊎_elim, ap, ◌∙◌, le_of_suc-le-suc, eq-or-l
 use Rattle.std.proofs.lemmas.Bool.{eqb-false}
 use Rattle.laws.specs.Loop.{go, out, Kept, run_keeps_at}
 use Rattle.front.specs.State.{State}
-use Rattle.mesh_check.specs.Check.{mesh_refusal}
+use Rattle.hand_mesh_check.specs.Check.{mesh_refusal}
 use Rattle.bowl.specs.declared.StepsAnswer.{StepsAnswer}
 use Rattle.bowl.specs.Steps.{steps_given, mesh_unstepped, hidden_at, hidden_turn, lowest_hidden, steps_answer}
 use Rattle.bowl.specs.Meaning.{shown_in, Steppable, StepsMean, is_given, is_unsound, is_hidden}

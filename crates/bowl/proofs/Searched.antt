@@ -3,7 +3,7 @@ use Rattle.std.proofs.Common.{Bool, true, false, ◌≡◌, refl, List, ℕ, zer
 use Rattle.std.specs.Float.{Float}
 use Rattle.std.specs.Option.{MatchOption}
 use Rattle.laws.specs.Loop.{Run, run_start, run_go, run_out, run_end}
-use Rattle.lent_mesh.specs.Mesh.{quad_in}
+use Rattle.front_lent_mesh.specs.Mesh.{quad_in}
 use Rattle.bowl.specs.Steps.{is_shown, steps_given, hidden_at, hidden_turn, lowest_hidden, hidden_answer}
 
 module _ (xs ys : List Float) (quads : List ℕ) (n : ℕ) where

@@ -1,8 +1,8 @@
 -- What each answer means: 25 names the lowest quad that doesn't turn left in steps at all four corners, and nothing is refused exactly if there is none (`steps_mean`).
 use Rattle.std.specs.Prelude.{Bool, true, false, ◌≡◌, ℕ, ◌*◌, ◌<◌, ◌≤◌}
 use Rattle.front.specs.State.{State}
-use Rattle.lent_mesh.specs.Mesh.{quad_in}
-use Rattle.mesh_check.specs.Check.{mesh_refusal}
+use Rattle.front_lent_mesh.specs.Mesh.{quad_in}
+use Rattle.hand_mesh_check.specs.Check.{mesh_refusal}
 use Rattle.bowl.specs.declared.StepsAnswer.{StepsAnswer}
 use Rattle.bowl.specs.Steps.{is_shown, steps_given, mesh_unstepped, hidden_at}
 

@@ -4,7 +4,7 @@ use Rattle.std.specs.Float.{nan}
 use Rattle.exact.specs.Units.{W, units, Within}
 use Rattle.exact.specs.Corner.{Vector}
 use Rattle.front.specs.State.{State}
-use Rattle.lent_mesh.specs.declared.QuadIds.{QuadIds}
+use Rattle.front_lent_mesh.specs.declared.QuadIds.{QuadIds}
 use Rattle.bowl.specs.declared.StepsAnswer.{StepsAnswer}
 use Rattle.bowl.specs.declared.Steps.{Steps}
 use Rattle.bowl.specs.Steps.{steps_answer, steps_left}

@@ -4,12 +4,12 @@ use Rattle.std.specs.Int.Signed.{lt_z}
 use Rattle.std.specs.Float.{nan}
 use Rattle.laws.specs.Loop.{for_up, Turn, go, out, run}
 use Rattle.exact.specs.Corner.{Vector, cross}
-use Rattle.orientation.specs.Orient.{way}
+use Rattle.outline_orientation.specs.Orient.{way}
 use Rattle.front.specs.State.{State}
-use Rattle.lent_mesh.specs.declared.QuadIds.{QuadIds}
-use Rattle.lent_mesh.specs.Mesh.{quad_in}
-use Rattle.mesh_check.specs.Check.{mesh_refusal}
-use Rattle.nearest_step.specs.Step.{nearest_step}
+use Rattle.front_lent_mesh.specs.declared.QuadIds.{QuadIds}
+use Rattle.front_lent_mesh.specs.Mesh.{quad_in}
+use Rattle.hand_mesh_check.specs.Check.{mesh_refusal}
+use Rattle.bowl_nearest_step.specs.Step.{nearest_step}
 use Rattle.bowl.specs.declared.StepsAnswer.{StepsAnswer}
 
 -- ---- which quads can be shown

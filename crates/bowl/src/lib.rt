@@ -2,18 +2,18 @@
 #![tactic(auto)]
 
 ghost use Rattle.std.specs.Prelude.{◌≡◌, not, ◌*◌, ◌≤◌, ◌<◌, length};
-ghost use Rattle.domain.specs.Accepted.{AllFit};
-ghost use Rattle.orientation.specs.Orient.{way};
+ghost use Rattle.outline.specs.Accepted.{AllFit};
+ghost use Rattle.outline_orientation.specs.Orient.{way};
 ghost use Rattle.front.specs.State.{counted};
-ghost use Rattle.lent_mesh.specs.Mesh.{quad_in};
-ghost use Rattle.mesh_check.specs.Check.{lent_state, lent_in};
+ghost use Rattle.front_lent_mesh.specs.Mesh.{quad_in};
+ghost use Rattle.hand_mesh_check.specs.Check.{lent_state, lent_in};
 ghost use Rattle.bowl.specs.Steps.{steps_at, turns_left, is_shown, lowest_hidden, hidden_answer, steps_answer, stored_steps};
 ghost use Rattle.bowl.specs.Stepped.{vector, NodeWithin, FewSteps, IsVector, QuadWithin, QuadsWithin, NodesWithin, MeshStepped};
 
-use domain::Refusal;
 use front::{Counts, Mesh};
-use lent_mesh::QuadIds;
-use mesh_check::NumberedMesh;
+use front_lent_mesh::QuadIds;
+use hand_mesh_check::NumberedMesh;
+use outline::Refusal;
 
 // `refusal` is 23 or 25, 0 where nothing is refused; `quad` is the lowest quad that the bowl can't show, where 25 says so.
 // Stays a number beside a quad: the C interface answers this struct.
@@ -60,8 +60,8 @@ fn steps_at(mesh: &Mesh<'_>, id: u32) -> Steps
     ensures { IsVector 64064 result (steps_at mesh.now.xs.now mesh.now.ys.now id) }
 {
     let i = id as usize;
-    let x = nearest_step::nearest_step(mesh.xs[i]);
-    let y = nearest_step::nearest_step(mesh.ys[i]);
+    let x = bowl_nearest_step::nearest_step(mesh.xs[i]);
+    let y = bowl_nearest_step::nearest_step(mesh.ys[i]);
     Steps {
         x: x as i64,
         y: y as i64,
@@ -89,7 +89,7 @@ fn is_hidden(mesh: &Mesh<'_>, k: usize) -> bool
     requires { QuadsWithin mesh.now.xs.now mesh.now.ys.now mesh.now.quads.now mesh.now.counts.quads × (k < mesh.now.counts.quads) }
     ensures { result ≡ not (is_shown mesh.now.xs.now mesh.now.ys.now (quad_in mesh.now.quads.now k)) }
 {
-    !is_shown(mesh, lent_mesh::quad_at(mesh.quads, k))
+    !is_shown(mesh, front_lent_mesh::quad_at(mesh.quads, k))
 }
 
 // The lowest quad that can't be shown.
@@ -109,8 +109,8 @@ fn store_steps(mesh: &Mesh<'_>, steps: &mut [i32])
     ensures { steps.new ≡ stored_steps mesh.now.xs.now mesh.now.ys.now mesh.now.counts.nodes steps.old }
 {
     for i in 0..mesh.counts.nodes as usize {
-        steps[2 * i] = nearest_step::nearest_step(mesh.xs[i]);
-        steps[2 * i + 1] = nearest_step::nearest_step(mesh.ys[i]);
+        steps[2 * i] = bowl_nearest_step::nearest_step(mesh.xs[i]);
+        steps[2 * i + 1] = bowl_nearest_step::nearest_step(mesh.ys[i]);
     }
 }
 

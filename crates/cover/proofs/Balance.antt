@@ -3,22 +3,22 @@ use Rattle.std.specs.Prelude.{true, false, cond, Bool, ◌≡◌, refl, List, []
 use Rattle.std.proofs.Common.{sym, ap, ap₂, ◌∙◌, arith, true≢false}
 use Rattle.std.proofs.Math.IntN.{+ℤ_idr}
 use Rattle.laws.specs.Loop.{sum_up}
-use Rattle.laws.specs.Sums.{sum_zero, sum_suc}
-use Rattle.laws.specs.Ring.{var, num, neg, ◌+ᵉ◌}
+use Rattle.laws.proofs.Sums.{sum_zero, sum_suc}
+use Rattle.laws.proofs.Ring.{var, num, neg, ◌+ᵉ◌}
 use Rattle.laws.proofs.Ring.{ring}
 use Rattle.exact.specs.Units.{units}
 use Rattle.exact.specs.Corner.{Vector}
-use Rattle.domain.specs.Outline.{Outline}
+use Rattle.outline.specs.Outline.{Outline}
 use Rattle.topology.specs.Sums.{All}
 use Rattle.topology.specs.Balance.{Antisymmetric, difference}
 use Rattle.front.specs.State.{State}
-use Rattle.turns.proofs.Turns.{turn_back}
+use Rattle.cover_turns.proofs.Turns.{turn_back}
 use Rattle.books.specs.Book.{Book, quad_at, start_book, place_of, edges_sumℤ, edges_to, loop_edges}
 use Rattle.books.specs.Net.{net}
 use Rattle.books.proofs.NetLaws.{same_net}
 use Rattle.books.specs.Points.{turn_of, winding, is_round, quads_round}
 use Rattle.books.specs.Holds.{LoopsHold, HoldsAfter}
-use Rattle.books_hold.specs.EndLaws.{last_or_less}
+use Rattle.books_hold.proofs.EndLaws.{last_or_less}
 use Rattle.cover.specs.Cover.{InOne, PavedOnce}
 
 -- ---- a count of 1

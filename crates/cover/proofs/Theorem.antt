@@ -1,17 +1,17 @@
 -- No point of the plane is lost or counted twice: of every run that isn't refused, and of every hand-stepped sequence.
 use Rattle.std.specs.Prelude.{List, ◌≡◌, ℕ, ◌≤◌, Float}
-use Rattle.domain.specs.declared.Settings.{Settings}
-use Rattle.domain.specs.Outline.{Outline}
-use Rattle.domain.specs.Accepted.{OutlineFits}
-use Rattle.direction.specs.Record.{FieldLists, FieldRecord}
+use Rattle.outline.specs.declared.Settings.{Settings}
+use Rattle.outline.specs.Outline.{Outline}
+use Rattle.outline.specs.Accepted.{OutlineFits}
+use Rattle.field_direction.specs.Record.{FieldLists, FieldRecord}
 use Rattle.front.specs.State.{State}
 use Rattle.front.specs.Sampling.{from_boundary}
-use Rattle.whole_run.specs.Run.{run_refusal, run_of}
+use Rattle.run_whole.specs.Run.{run_refusal, run_of}
 use Rattle.books.specs.Holds.{BooksHold}
 use Rattle.books_hold.specs.Runs.{AcceptedRun}
 use Rattle.books_hold.proofs.Theorem.{books_hold}
-use Rattle.hand_books.specs.Moves.{Move, moves_on}
-use Rattle.hand_books.proofs.Sequences.{sequence_holds}
+use Rattle.books_hand.specs.Moves.{Move, moves_on}
+use Rattle.books_hand.proofs.Sequences.{sequence_holds}
 use Rattle.cover.specs.Cover.{PavedOnce}
 use Rattle.cover.proofs.Balance.{paved_once}
 

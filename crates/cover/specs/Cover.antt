@@ -2,7 +2,7 @@
 use Rattle.std.specs.Prelude.{◌≡◌, true, ℕ, ◌<◌, pos, length, Float}
 use Rattle.std.proofs.Math.Option.{some}
 use Rattle.exact.specs.Corner.{Vector}
-use Rattle.domain.specs.Outline.{Outline}
+use Rattle.outline.specs.Outline.{Outline}
 use Rattle.topology.specs.Sums.{All}
 use Rattle.front.specs.State.{State}
 use Rattle.books.specs.Book.{Book, quad_at, start_book, book_after}

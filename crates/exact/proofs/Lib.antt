@@ -1,3 +1,13 @@
 pub mod Examples
 pub mod Part
 pub mod Sine
+pub mod Blend
+pub mod Constants
+pub mod Keeps
+pub mod Monotone
+pub mod Operations
+pub mod Order
+pub mod PartLaws
+pub mod Root
+pub mod Rounding
+pub mod SineBounds

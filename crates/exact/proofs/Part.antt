@@ -1,20 +1,20 @@
--- What holds of the definitions of specs/Part.antt.
+-- What holds of the definitions of proofs/Part.antt.
 use Rattle.std.specs.Prelude.{◌≡◌, [], ◌∷◌, false, not, ℕ, ◌+◌, ◌*◌, ◌^◌, ◌≤◌, ◌<◌, ℤ, ◌≤ℤ◌, T, Float}
 use Rattle.std.proofs.Common.{sym, ◌∙◌, subst, inl, inr, zero-le}
 use Rattle.std.specs.Float.{binary64}
 use Rattle.std.specs.Float.Ieee.{fits, le, unlike}
 use Rattle.std.specs.Float.Ieee.Fits.{add-fits, div-fits}
-use Rattle.laws.specs.Ring.{var, ◌+ᵉ◌, ◌-ᵉ◌}
-use Rattle.laws.specs.Certificate.{of-≤ℤ, to-≤ℤ, <ℤ_or-≤ℤ, hyp, ◌⊞◌}
+use Rattle.laws.proofs.Ring.{var, ◌+ᵉ◌, ◌-ᵉ◌}
+use Rattle.laws.proofs.Certificate.{of-≤ℤ, to-≤ℤ, <ℤ_or-≤ℤ, hyp, ◌⊞◌}
 use Rattle.laws.proofs.Certificate.{<ℤ_weaken, prove}
 use Rattle.numbers.specs.Float.{◌⊕◌, ◌⊖◌, ◌⊗◌, ◌⊘◌, zero_f, one_f, clamp_f}
 use Rattle.exact.specs.Units.{W-pos, units, Within, within_units}
-use Rattle.exact.specs.Operations.{Moderate}
-use Rattle.exact.specs.Keeps.{rounds_keep_over, sum_rounds, double_rounds}
-use Rattle.exact.specs.Keeps.{add_within, sub_within, mul_within, square_within}
-use Rattle.exact.specs.Keeps.{zero_within, one_within, zero_units, zero_times, one_times}
-use Rattle.exact.specs.Keeps.{le_within, le_chain, nonneg_units, add_keeps_right, mul_keeps, mul_turns}
-use Rattle.exact.specs.Part.{ZeroToOne, signed_zero, part_within, clamp_part, quotient_number}
+use Rattle.exact.proofs.Operations.{Moderate}
+use Rattle.exact.proofs.Keeps.{rounds_keep_over, sum_rounds, double_rounds}
+use Rattle.exact.proofs.Keeps.{add_within, sub_within, mul_within, square_within}
+use Rattle.exact.proofs.Keeps.{zero_within, one_within, zero_units, zero_times, one_times}
+use Rattle.exact.proofs.Keeps.{le_within, le_chain, nonneg_units, add_keeps_right, mul_keeps, mul_turns}
+use Rattle.exact.proofs.PartLaws.{ZeroToOne, signed_zero, part_within, clamp_part, quotient_number}
 
 -- ---- t times w lies between 0 and w
 

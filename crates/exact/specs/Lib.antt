@@ -1,14 +1,2 @@
-pub mod Blend
-pub mod Constants
 pub mod Corner
-pub mod Examples
-pub mod Keeps
-pub mod Monotone
-pub mod Operations
-pub mod Order
-pub mod Part
-pub mod Root
-pub mod Rounding
-pub mod Sine
-pub mod SineBounds
 pub mod Units

@@ -1,17 +1,17 @@
--- What holds of the definitions of specs/Given.antt.
+-- What holds of the definitions of proofs/Given.antt.
 use Rattle.std.specs.Prelude.{Bool, cond, List, [], ◌∷◌, ◌≡◌, ℕ, zero, suc, ◌≤◌, set, Result, Ok, Err, IfOk}
 use Rattle.std.proofs.Math.Bool.{true, false}
 use Rattle.std.proofs.Math.Path.{refl, subst}
 use Rattle.std.proofs.Common.{sym, ◌∙◌, eqb-true}
 use Rattle.std.proofs.Math.Dec.{eqb}
 use Rattle.numbers.specs.Float.{zero_f}
-use Rattle.lent_mesh.specs.Mesh.{Mesh, quad_of}
-use Rattle.thresholds.specs.Figures.{threshold_at, Results}
-use Rattle.thresholds.specs.Kept.{Afresh, enter_unmoved, withdraw_unmoved}
-use Rattle.thresholds.specs.Figures.{begin_answer}
-use Rattle.estimates.specs.Estimate.{least_threshold, greatest_threshold, estimate_answer, estimate_refusal, estimate_of, estimated}
-use Rattle.estimates.specs.OneOff.{tenths_apart, EqualWithin, elsewhere}
-use Rattle.estimates.proofs.OneOff.{one_off, between_corners}
+use Rattle.front_lent_mesh.specs.Mesh.{Mesh, quad_of}
+use Rattle.exam_thresholds.specs.Figures.{threshold_at, Results}
+use Rattle.exam_thresholds.specs.Kept.{Afresh, enter_unmoved, withdraw_unmoved}
+use Rattle.exam_thresholds.specs.Figures.{begin_answer}
+use Rattle.exam_estimates.specs.Estimate.{least_threshold, greatest_threshold, estimate_answer, estimate_refusal, estimate_of, estimated}
+use Rattle.exam_estimates.specs.OneOff.{tenths_apart, EqualWithin, elsewhere}
+use Rattle.exam_estimates.proofs.OneOff.{one_off, between_corners}
 use Rattle.exam.specs.declared.ResultChange.{ResultChange}
 use Rattle.exam.specs.declared.ResultChange.TheVariants.{Begin, Enter, Withdraw}
 use Rattle.exam.specs.declared.ResultRead.TheVariants.{ReadEstimate}
@@ -23,7 +23,7 @@ use Rattle.exam.specs.declared.ExamAnswer.{ExamAnswer}
 use Rattle.exam.specs.Exam.{ExamMesh, mesh_in, may, may_read_mesh, may_read_results, mesh_seen, change_answer, reply_or, reply_with, result_reply, estimate_reply}
 use Rattle.exam.specs.Exam.{acted, does, exam_acts, flat, exam_numbers, ExamExit, exam_exit, exam_answer, masked_exit, masked_answer}
 use Rattle.exam.specs.Statement.{EstimateGiven, ExamGiven}
-use Rattle.exam.specs.Given.{masked_sees, exam_kept, exam_begun, Call, after_calls}
+use Rattle.exam.proofs.GivenLaws.{masked_sees, exam_kept, exam_begun, Call, after_calls}
 
 -- ---- the masked reader
 

@@ -1,11 +1,11 @@
 -- THE EXAM: its record, who may ask what, and what is answered. Definitions only.
 use Rattle.std.specs.Prelude.{Bool, false, ◌||◌, cond, List, ℕ, min, eqb, leb, length, get_or, Float, Result, Ok, Err}
 use Rattle.numbers.specs.Float.{zero_f}
-use Rattle.domain.specs.Queries.{answer_by}
+use Rattle.outline.specs.Queries.{answer_by}
 use Rattle.front.specs.State.{node_in}
-use Rattle.lent_mesh.specs.Mesh.{Mesh, mesh, node_count_of, quad_count_of, quad_in}
-use Rattle.thresholds.specs.Figures.{threshold_at, Results, Outcome, refusal_at, begin_answer, enter_answer, withdraw_answer}
-use Rattle.estimates.specs.Estimate.{estimate_answer}
+use Rattle.front_lent_mesh.specs.Mesh.{Mesh, mesh, node_count_of, quad_count_of, quad_in}
+use Rattle.exam_thresholds.specs.Figures.{threshold_at, Results, Outcome, refusal_at, begin_answer, enter_answer, withdraw_answer}
+use Rattle.exam_estimates.specs.Estimate.{estimate_answer}
 use Rattle.exam_loops.specs.Loops.{read_loop}
 use Rattle.exam.specs.declared.Role.{Role}
 use Rattle.exam.specs.declared.Role.TheVariants.{Desk, Reader, MaskedReader}

@@ -1,7 +1,7 @@
 -- Which number a role has.
 use Rattle.std.specs.Prelude.{false, ◌≡◌, ℕ, Result, MatchResult}
-use Rattle.domain.specs.declared.Refusal.{Refusal}
-use Rattle.domain.specs.declared.Refusal.TheVariants.{NotAllowed}
+use Rattle.outline.specs.declared.Refusal.{Refusal}
+use Rattle.outline.specs.declared.Refusal.TheVariants.{NotAllowed}
 use Rattle.exam.specs.declared.Role.{Role}
 use Rattle.exam.specs.Exam.{role_number, may_read_mesh}
 

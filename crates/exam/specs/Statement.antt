@@ -1,11 +1,11 @@
 -- What a host gets of an exam. Statements only.
 use Rattle.std.specs.Prelude.{true, false, List, ◌≡◌, ℕ, ◌≤◌, set, Result, IfOk}
 use Rattle.numbers.specs.Float.{zero_f}
-use Rattle.lent_mesh.specs.Mesh.{Mesh, quad_of}
-use Rattle.thresholds.specs.Figures.{most_threshold, threshold_at, stands, names, Results}
-use Rattle.thresholds.specs.Kept.{Afresh}
-use Rattle.estimates.specs.Estimate.{least_threshold, greatest_threshold, estimate_answer, estimated}
-use Rattle.estimates.specs.OneOff.{tenths_apart, EqualWithin}
+use Rattle.front_lent_mesh.specs.Mesh.{Mesh, quad_of}
+use Rattle.exam_thresholds.specs.Figures.{most_threshold, threshold_at, stands, names, Results}
+use Rattle.exam_thresholds.specs.Kept.{Afresh}
+use Rattle.exam_estimates.specs.Estimate.{least_threshold, greatest_threshold, estimate_answer, estimated}
+use Rattle.exam_estimates.specs.OneOff.{tenths_apart, EqualWithin}
 use Rattle.exam.specs.declared.ExamRequest.{ExamRequest}
 use Rattle.exam.specs.declared.ExamRequest.TheVariants.{Changes, ReadsResults}
 use Rattle.exam.specs.declared.ResultChange.TheVariants.{Begin}

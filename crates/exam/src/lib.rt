@@ -4,12 +4,12 @@
 #![tactic(auto)]
 
 ghost use Rattle.std.specs.Prelude.{◌≡◌};
-ghost use Rattle.domain.specs.Refusals.{numbered};
+ghost use Rattle.outline.specs.Refusals.{numbered};
 ghost use Rattle.exam.specs.Exam.{role_number, may, exam_numbers};
 ghost use Rattle.exam.specs.Roles.{NumbersRole};
 
-use domain::{Point, Refusal};
-use lent_mesh::QuadIds;
+use front_lent_mesh::QuadIds;
+use outline::{Point, Refusal};
 
 // Who asks.
 #[derive(Clone, Copy, PartialEq, Eq)]

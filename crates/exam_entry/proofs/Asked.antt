@@ -1,8 +1,8 @@
 -- What a host gets by what the role may and what the request does: each law takes what was called and what it ensures.
 use Rattle.std.specs.Prelude.{Bool, true, false, List, ◌≡◌, ℕ, Result, Err}
 use Rattle.std.proofs.Common.{sym, ◌∙◌, ap}
-use Rattle.lent_mesh.specs.Mesh.{mesh, quad_count_of}
-use Rattle.thresholds.specs.Figures.{Results, outcome}
+use Rattle.front_lent_mesh.specs.Mesh.{mesh, quad_count_of}
+use Rattle.exam_thresholds.specs.Figures.{Results, outcome}
 use Rattle.exam.specs.declared.ResultChange.{ResultChange}
 use Rattle.exam.specs.declared.MeshRead.{MeshRead}
 use Rattle.exam.specs.declared.ResultRead.{ResultRead}

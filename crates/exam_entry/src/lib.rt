@@ -3,21 +3,21 @@
 #![tactic(auto)]
 
 ghost use Rattle.std.specs.Prelude.{◌≡◌};
-ghost use Rattle.domain.specs.Refusals.{numbered};
-ghost use Rattle.thresholds.specs.Figures.{results};
+ghost use Rattle.outline.specs.Refusals.{numbered};
+ghost use Rattle.exam_thresholds.specs.Figures.{results};
 ghost use Rattle.exam_results.specs.Lent.{results_lent, SameBorrows};
 ghost use Rattle.exam.specs.Exam.{request_numbered, exam_mesh, acted, exam_acts};
 ghost use Rattle.exam.specs.Statement.{ExamGiven};
 ghost use Rattle.exam_requests.specs.Lent.{exam_mesh_lent};
 
-use domain::Refusal;
 use exam::{ExamAnswer, ExamReply, ExamRequest, Role};
 use exam_requests::LentExamMesh;
 use exam_results::LentResults;
+use outline::Refusal;
 
 // What is replied. It is refused before all else where the role lacks the operation.
 // Stays with the role's number: one that no role has is refused here as well, by `?`.
-#[tactic(auto, using(crate::specs::Code::no_role, exam_results::specs::FigureLaws::refusal_answered), unfolding(exam::specs::Exam::exam_acts, exam::specs::Exam::reply_or))]
+#[tactic(auto, using(crate::proofs::CodeLaws::no_role, exam_results::specs::FigureLaws::refusal_answered), unfolding(exam::specs::Exam::exam_acts, exam::specs::Exam::reply_or))]
 fn ask(
     role: u32,
     request: ExamRequest,

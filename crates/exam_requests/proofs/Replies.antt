@@ -1,10 +1,10 @@
 -- That a reply is the definition's: each law takes what was called and what it ensures.
 use Rattle.std.specs.Prelude.{List, ◌≡◌, ℕ, ◌≤◌, ◌<◌, Result, Ok, Err}
 use borrow.Author.Tests.{le-leb, lt-leb}
-use Rattle.lent_mesh.specs.declared.QuadIds.{QuadIds}
-use Rattle.lent_mesh.specs.Mesh.{Mesh, quad_count_of, quad_in}
-use Rattle.thresholds.specs.Figures.{threshold_at, refusal_at}
-use Rattle.estimates.specs.Estimate.{estimate_answer}
+use Rattle.front_lent_mesh.specs.declared.QuadIds.{QuadIds}
+use Rattle.front_lent_mesh.specs.Mesh.{Mesh, quad_count_of, quad_in}
+use Rattle.exam_thresholds.specs.Figures.{threshold_at, refusal_at}
+use Rattle.exam_estimates.specs.Estimate.{estimate_answer}
 use Rattle.exam_loops.specs.Loops.{loop_reading, read_loop}
 use Rattle.exam.specs.declared.MeshRead.{MeshRead}
 use Rattle.exam.specs.declared.MeshRead.TheVariants.{ReadNode, ReadQuad, ReadLoop}

@@ -2,19 +2,19 @@
 #![tactic(auto)]
 
 ghost use Rattle.std.specs.Prelude.{◌≡◌};
-ghost use Rattle.domain.specs.Refusals.{refused, numbered};
-ghost use Rattle.lent_mesh.specs.Mesh.{mesh_lent};
-ghost use Rattle.thresholds.specs.Figures.{outcome};
+ghost use Rattle.outline.specs.Refusals.{refused, numbered};
+ghost use Rattle.front_lent_mesh.specs.Mesh.{mesh_lent};
+ghost use Rattle.exam_thresholds.specs.Figures.{outcome};
 ghost use Rattle.exam_results.specs.Lent.{results_lent, SameBorrows};
 ghost use Rattle.exam.specs.Exam.{request_numbered, nodes_in, mesh_in};
 ghost use Rattle.exam.specs.Exam.{node_reply, quad_reply, loop_seen, seen, mesh_seen, change_answer, threshold_reply, estimate_reply, result_reply};
 ghost use Rattle.exam_requests.specs.Lent.{exam_mesh_lent};
 
-use domain::Refusal;
 use exam::{ExamReply, ExamRequest, MeshRead, ResultChange, ResultRead};
+use exam_loop_reads::LentLinks;
 use exam_results::{LentResults, Thresholds, Weights};
-use lent_mesh::LentMesh;
-use loop_reads::LentLinks;
+use front_lent_mesh::LentMesh;
+use outline::Refusal;
 
 // The mesh of an exam as it is lent.
 // Stays with x and y apart, and next and prev: C lends them so.
@@ -60,7 +60,7 @@ impl<'a> LentExamMesh<'a> {
     pub fn nodes(self) -> u32
         ensures { result ≡ nodes_in (exam_mesh_lent self.entry) }
     {
-        let placed = lent_mesh::node_count(self.nodes, self.xs, self.ys);
+        let placed = front_lent_mesh::node_count(self.nodes, self.xs, self.ys);
         (placed as usize).min(self.origins.len()) as u32
     }
 
@@ -106,10 +106,10 @@ impl LentExamMesh<'_> {
         ensures { numbered result ≡ quad_reply self.entry.quad_count self.entry.quads.now k }
     {
         let i = k as usize;
-        if i >= lent_mesh::quad_count(self.quad_count, self.quads) {
+        if i >= front_lent_mesh::quad_count(self.quad_count, self.quads) {
             return Err(Refusal::NoQuad);
         }
-        Ok(ExamReply::Quad(lent_mesh::quad_at(self.quads, i)))
+        Ok(ExamReply::Quad(front_lent_mesh::quad_at(self.quads, i)))
     }
 
     #[tactic(auto, unfolding(exam::specs::Exam::loop_seen))]

@@ -6,11 +6,11 @@ use Rattle.std.proofs.Math.Nat.{le_antisymm}
 use Rattle.std.proofs.lemmas.List.{length-replicate}
 use Rattle.std.proofs.lemmas.Bool.{lt-leb}
 use Rattle.std.proofs.lemmas.List.Edits.{fill_none, fill_more}
-use Rattle.domain.specs.RefusalLaws.{answer_refused}
-use Rattle.lent_mesh.specs.declared.QuadIds.{QuadIds}
-use Rattle.lent_mesh.specs.Mesh.{Mesh, mesh, quad_count_of}
-use Rattle.thresholds.specs.Figures.{no_threshold, most_threshold, threshold_at, stands, count_at, sum_at, names, share_of, moved}
-use Rattle.thresholds.specs.Figures.{Results, results, outcome, unless_refused, is_missing, refusal_at, with_threshold, enter_answer, withdraw_answer}
+use Rattle.outline.proofs.RefusalLaws.{answer_refused}
+use Rattle.front_lent_mesh.specs.declared.QuadIds.{QuadIds}
+use Rattle.front_lent_mesh.specs.Mesh.{Mesh, mesh, quad_count_of}
+use Rattle.exam_thresholds.specs.Figures.{no_threshold, most_threshold, threshold_at, stands, count_at, sum_at, names, share_of, moved}
+use Rattle.exam_thresholds.specs.Figures.{Results, results, outcome, unless_refused, is_missing, refusal_at, with_threshold, enter_answer, withdraw_answer}
 
 -- ---- reading
 

@@ -2,11 +2,11 @@
 use Rattle.std.specs.Prelude.{◌≡◌, ℕ, ◌<◌, ◌≤◌, Bool, true, false, List, ◌≢◌, Ok, Err}
 use Rattle.std.proofs.Common.{sym, arith}
 use borrow.Author.Tests.{le-leb, lt-leb, lt-ltb, le-ltb}
-use Rattle.domain.specs.RefusalLaws.{answer_refused}
-use Rattle.lent_mesh.specs.declared.QuadIds.{QuadIds}
-use Rattle.lent_mesh.specs.Mesh.{mesh, quad_in, quad_count_of}
-use Rattle.thresholds.specs.Figures.{threshold_at, is_complete}
-use Rattle.estimates.specs.Estimate.{estimate, estimate_of, estimate_refusal, estimate_answer}
+use Rattle.outline.proofs.RefusalLaws.{answer_refused}
+use Rattle.front_lent_mesh.specs.declared.QuadIds.{QuadIds}
+use Rattle.front_lent_mesh.specs.Mesh.{mesh, quad_in, quad_count_of}
+use Rattle.exam_thresholds.specs.Figures.{threshold_at, is_complete}
+use Rattle.exam_estimates.specs.Estimate.{estimate, estimate_of, estimate_refusal, estimate_answer}
 use Rattle.exam_results.specs.EstimateLaws.{Weighable, Estimable}
 
 pub weighable : (n : ℕ) (t : List ℕ) (q : QuadIds) (u v a b d c : ℕ) → Estimable n t q u v

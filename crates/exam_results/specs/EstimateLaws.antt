@@ -4,12 +4,12 @@ use Rattle.std.proofs.Math.Path.{refl}
 use Rattle.std.proofs.Common.{sym, mul-le-mul, arith}
 use borrow.Author.Tests.{leb-false, ltb-false, not-false}
 use Rattle.laws.specs.Tests.{neither}
-use Rattle.lent_mesh.specs.declared.QuadIds.{QuadIds}
-use Rattle.lent_mesh.specs.Mesh.{Mesh, quad_of}
-use Rattle.thresholds.specs.Figures.{most_threshold, is_complete}
-use Rattle.thresholds.specs.Laws.{AllStand}
-use Rattle.thresholds.proofs.Laws.{complete_means}
-use Rattle.estimates.specs.Estimate.{estimate_refusal}
+use Rattle.front_lent_mesh.specs.declared.QuadIds.{QuadIds}
+use Rattle.front_lent_mesh.specs.Mesh.{Mesh, quad_of}
+use Rattle.exam_thresholds.specs.Figures.{most_threshold, is_complete}
+use Rattle.exam_thresholds.specs.Laws.{AllStand}
+use Rattle.exam_thresholds.proofs.Laws.{complete_means}
+use Rattle.exam_estimates.specs.Estimate.{estimate_refusal}
 
 -- ---- no step of the sum wraps
 

@@ -4,17 +4,17 @@ use Rattle.std.proofs.Math.Path.{refl, ap}
 use Rattle.std.proofs.Common.{sym, ◌∙◌, add-one, arith}
 use Rattle.std.proofs.Math.Nat.{le_antisymm}
 use Rattle.laws.specs.Loop.{sum_up}
-use Rattle.laws.specs.Sums.{sum_zero, sum_suc}
-use Rattle.domain.specs.declared.Refusal.{Refusal}
-use Rattle.domain.specs.Queries.{answer_by}
-use Rattle.domain.specs.Refusals.{refusal_number}
-use Rattle.domain.specs.RefusalLaws.{answer_refused}
-use Rattle.domain.proofs.Refused.{refusal_some}
-use Rattle.lent_mesh.specs.declared.QuadIds.{QuadIds}
-use Rattle.lent_mesh.specs.Mesh.{Mesh, quad_of}
-use Rattle.thresholds.specs.Figures.{is_complete, quad_total, count_at, sum_at, names, share_at, share_of}
-use Rattle.thresholds.specs.Laws.{share_at_most, count_at_most}
-use Rattle.thresholds.proofs.Laws.{sum_at_most, quad_total_most}
+use Rattle.laws.proofs.Sums.{sum_zero, sum_suc}
+use Rattle.outline.specs.declared.Refusal.{Refusal}
+use Rattle.outline.specs.Queries.{answer_by}
+use Rattle.outline.specs.Refusals.{refusal_number}
+use Rattle.outline.proofs.RefusalLaws.{answer_refused}
+use Rattle.outline.proofs.Refused.{refusal_some}
+use Rattle.front_lent_mesh.specs.declared.QuadIds.{QuadIds}
+use Rattle.front_lent_mesh.specs.Mesh.{Mesh, quad_of}
+use Rattle.exam_thresholds.specs.Figures.{is_complete, quad_total, count_at, sum_at, names, share_at, share_of}
+use Rattle.exam_thresholds.specs.Laws.{share_at_most, count_at_most}
+use Rattle.exam_thresholds.proofs.Laws.{sum_at_most, quad_total_most}
 
 -- ---- a refusal is what is answered
 

@@ -1,6 +1,6 @@
 -- The results as they are lent.
 use Rattle.std.specs.Prelude.{◌≡◌}
-use Rattle.thresholds.specs.Figures.{Results, results}
+use Rattle.exam_thresholds.specs.Figures.{Results, results}
 use Rattle.exam_results.specs.declared.LentResults.{LentResults}
 
 abbrev pub results_lent : LentResults → Results

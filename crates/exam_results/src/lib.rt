@@ -4,17 +4,17 @@
 
 ghost use Rattle.std.specs.Prelude.{◌≡◌, ◌<◌, ◌≤◌, ◌||◌, length, eqb, ltb};
 ghost use Rattle.std.specs.List.{list_any};
-ghost use Rattle.domain.specs.Refusals.{refusal_number, refused, numbered};
-ghost use Rattle.lent_mesh.specs.Mesh.{mesh_lent};
-ghost use Rattle.thresholds.specs.Figures.{threshold_at, stands, is_complete, once_only, quad_total, count_at, sum_at, share_of};
-ghost use Rattle.thresholds.specs.Figures.{moved, outcome, is_missing, refusal_at, with_threshold, begin_answer, enter_answer, withdraw_answer};
-ghost use Rattle.estimates.specs.Estimate.{estimate, estimate_of, estimate_refusal, estimate_answer};
+ghost use Rattle.outline.specs.Refusals.{refusal_number, refused, numbered};
+ghost use Rattle.front_lent_mesh.specs.Mesh.{mesh_lent};
+ghost use Rattle.exam_thresholds.specs.Figures.{threshold_at, stands, is_complete, once_only, quad_total, count_at, sum_at, share_of};
+ghost use Rattle.exam_thresholds.specs.Figures.{moved, outcome, is_missing, refusal_at, with_threshold, begin_answer, enter_answer, withdraw_answer};
+ghost use Rattle.exam_estimates.specs.Estimate.{estimate, estimate_of, estimate_refusal, estimate_answer};
 ghost use Rattle.exam_results.specs.FigureLaws.{count_share, sum_share};
 ghost use Rattle.exam_results.specs.EstimateLaws.{Weighable, Estimable};
 ghost use Rattle.exam_results.specs.Lent.{results_lent, SameBorrows};
 
-use domain::Refusal;
-use lent_mesh::{LentMesh, QuadIds};
+use front_lent_mesh::{LentMesh, QuadIds};
+use outline::Refusal;
 
 // The greatest threshold, in tenths of a decibel; anything above it means none.
 pub const MOST_THRESHOLD: u32 = 500;
@@ -76,7 +76,7 @@ impl Thresholds<'_> {
     }
 
     // Whether a threshold stands at id.
-    #[tactic(auto, unfolding(thresholds::specs::Figures::stands))]
+    #[tactic(auto, unfolding(exam_thresholds::specs::Figures::stands))]
     pub fn stands(&self, id: u32) -> bool
         ensures { result ≡ stands self.now.mesh.nodes self.now.list.now id }
     {
@@ -84,7 +84,7 @@ impl Thresholds<'_> {
     }
 
     // Whether a threshold stands at all four.
-    #[tactic(auto, unfolding(thresholds::specs::Figures::is_complete))]
+    #[tactic(auto, unfolding(exam_thresholds::specs::Figures::is_complete))]
     pub fn is_complete(&self, q: QuadIds) -> bool
         ensures { result ≡ is_complete self.now.mesh.nodes self.now.list.now q }
     {
@@ -103,7 +103,7 @@ impl Thresholds<'_> {
     }
 
     // The thresholds of the quad's nodes, each node counted once.
-    #[tactic(auto, unfolding(thresholds::specs::Figures::quad_total))]
+    #[tactic(auto, unfolding(exam_thresholds::specs::Figures::quad_total))]
     fn quad_total(&self, q: QuadIds) -> u32
         ensures { result ≡ quad_total self.now.list.now q }
     {
@@ -119,7 +119,7 @@ impl Thresholds<'_> {
 
 impl Thresholds<'_> {
     // What the quad adds to the shares of id.
-    #[tactic(auto, unfolding(crate::specs::FigureLaws::count_share, crate::specs::FigureLaws::sum_share, thresholds::specs::Figures::names))]
+    #[tactic(auto, unfolding(crate::specs::FigureLaws::count_share, crate::specs::FigureLaws::sum_share, exam_thresholds::specs::Figures::names))]
     fn quad_share(&self, q: QuadIds, id: u32) -> Share
         ensures { (result.count ≡ count_share self.now.mesh.nodes self.now.list.now q id)
             × (result.sum ≡ sum_share self.now.mesh.nodes self.now.list.now q id) }
@@ -151,7 +151,7 @@ impl Thresholds<'_> {
 }
 
 // A figure moved by what was lost and won, modulo 2^32.
-#[tactic(auto, unfolding(thresholds::specs::Figures::moved))]
+#[tactic(auto, unfolding(exam_thresholds::specs::Figures::moved))]
 fn moved(x: u32, lost: u32, won: u32) -> u32
     ensures { result ≡ moved x lost won }
 {
@@ -162,7 +162,7 @@ fn moved(x: u32, lost: u32, won: u32) -> u32
 
 impl Thresholds<'_> {
     // Whether id is no node, or past the list.
-    #[tactic(auto, unfolding(thresholds::specs::Figures::is_missing))]
+    #[tactic(auto, unfolding(exam_thresholds::specs::Figures::is_missing))]
     pub fn is_missing(&self, id: u32) -> bool
         ensures { result ≡ is_missing self.now.mesh.nodes self.now.list.now id }
     {
@@ -170,7 +170,7 @@ impl Thresholds<'_> {
     }
 
     // No node where the node is missing, then `high` where v is no threshold.
-    #[tactic(auto, unfolding(thresholds::specs::Figures::refusal_at))]
+    #[tactic(auto, unfolding(exam_thresholds::specs::Figures::refusal_at))]
     pub fn check(&self, id: u32, v: u32, high: Refusal) -> Result<(), Refusal>
         ensures { refused result ≡ refusal_at self.now.mesh.nodes self.now.list.now id v (refusal_number high) }
     {
@@ -198,7 +198,7 @@ impl LentResults<'_> {
     }
 
     // v written at id, and the figures moved by what the quads that name id had before and have after.
-    #[tactic(auto, unfolding(thresholds::specs::Figures::with_threshold))]
+    #[tactic(auto, unfolding(exam_thresholds::specs::Figures::with_threshold))]
     fn set_threshold(&mut self, mesh: LentMesh<'_>, id: u32, v: u16)
         requires { id < length self.old.thresholds.now }
         ensures same { SameBorrows self.old self.new }
@@ -212,7 +212,7 @@ impl LentResults<'_> {
     }
 
     // An exam begins: none in every place, and both figures 0.
-    #[tactic(auto, unfolding(thresholds::specs::Figures::begin_answer))]
+    #[tactic(auto, unfolding(exam_thresholds::specs::Figures::begin_answer))]
     pub fn begin(&mut self)
         ensures same { SameBorrows self.old self.new }
         ensures left { outcome 0 (results_lent self.new) ≡ begin_answer (results_lent self.old) }
@@ -223,7 +223,7 @@ impl LentResults<'_> {
     }
 
     // A threshold arrives at a node.
-    #[tactic(auto, using(crate::specs::FigureLaws::refusal_answered), unfolding(thresholds::specs::Figures::enter_answer, thresholds::specs::Figures::refusal_at, thresholds::specs::Figures::is_missing))]
+    #[tactic(auto, using(crate::specs::FigureLaws::refusal_answered), unfolding(exam_thresholds::specs::Figures::enter_answer, exam_thresholds::specs::Figures::refusal_at, exam_thresholds::specs::Figures::is_missing))]
     pub fn enter(&mut self, mesh: LentMesh<'_>, node: u32, threshold: u32) -> Result<(), Refusal>
         ensures same { SameBorrows self.old self.new }
         ensures left { outcome (refused result) (results_lent self.new)
@@ -236,7 +236,7 @@ impl LentResults<'_> {
     }
 
     // The threshold at a node is withdrawn.
-    #[tactic(auto, using(crate::specs::FigureLaws::refusal_answered), unfolding(thresholds::specs::Figures::withdraw_answer, thresholds::specs::Figures::refusal_at, thresholds::specs::Figures::is_missing))]
+    #[tactic(auto, using(crate::specs::FigureLaws::refusal_answered), unfolding(exam_thresholds::specs::Figures::withdraw_answer, exam_thresholds::specs::Figures::refusal_at, exam_thresholds::specs::Figures::is_missing))]
     pub fn withdraw(&mut self, mesh: LentMesh<'_>, node: u32) -> Result<(), Refusal>
         ensures same { SameBorrows self.old self.new }
         ensures left { outcome (refused result) (results_lent self.new)
@@ -260,7 +260,7 @@ impl Weights {
     }
 
     // The thresholds at a quad's corners by the weights, rounded down once.
-    #[tactic(auto, using(crate::specs::EstimateLaws::terms_small), unfolding(estimates::specs::Estimate::estimate))]
+    #[tactic(auto, using(crate::specs::EstimateLaws::terms_small), unfolding(exam_estimates::specs::Estimate::estimate))]
     fn weigh(self, at: CornerThresholds) -> u32
         requires { Weighable self.u self.v at.a at.b at.d at.c }
         ensures { result ≡ estimate self.u self.v at.a at.b at.d at.c }
@@ -273,7 +273,7 @@ impl Weights {
 
 impl Thresholds<'_> {
     // The estimate in a quad that has all four thresholds.
-    #[tactic(auto, unfolding(estimates::specs::Estimate::estimate_of))]
+    #[tactic(auto, unfolding(exam_estimates::specs::Estimate::estimate_of))]
     fn estimate_in(&self, q: QuadIds, weights: Weights) -> u32
         requires { Estimable self.now.mesh.nodes self.now.list.now q weights.u weights.v }
         ensures { result ≡ estimate_of weights.u weights.v self.now.list.now q }
@@ -287,7 +287,7 @@ impl Thresholds<'_> {
     }
 
     // A quad that isn't in the mesh or lacks a threshold, then a weight above 256.
-    #[tactic(auto, unfolding(estimates::specs::Estimate::estimate_refusal))]
+    #[tactic(auto, unfolding(exam_estimates::specs::Estimate::estimate_refusal))]
     fn check_estimate(&self, quad: usize, weights: Weights) -> Result<(), Refusal>
         ensures { refused result ≡ estimate_refusal (mesh_lent self.now.mesh) self.now.list.now quad weights.u weights.v }
     {
@@ -301,7 +301,7 @@ impl Thresholds<'_> {
     }
 
     // The estimate in quad `quad` at the weights.
-    #[tactic(auto, using(crate::specs::FigureLaws::refusal_answered), unfolding(estimates::specs::Estimate::estimate_answer))]
+    #[tactic(auto, using(crate::specs::FigureLaws::refusal_answered), unfolding(exam_estimates::specs::Estimate::estimate_answer))]
     pub fn estimate_at(&self, quad: usize, weights: Weights) -> Result<u32, Refusal>
         ensures { numbered result ≡ estimate_answer (mesh_lent self.now.mesh) self.now.list.now quad weights.u weights.v }
     {

@@ -2,10 +2,10 @@
 -- Definitions only. The number 0 says that nothing is refused; the values of a refusal are 0.0 or 0.
 use Rattle.std.specs.Prelude.{List, Result, Ok, Err, ℕ, Float}
 use Rattle.numbers.specs.Float.{zero_f}
-use Rattle.domain.specs.declared.Point.{Point}
-use Rattle.direction.specs.declared.Grid.{Grid}
-use Rattle.direction.specs.Record.{FieldLists, field_lists}
-use Rattle.crossfield.specs.Field.{FieldResult}
+use Rattle.outline.specs.declared.Point.{Point}
+use Rattle.field_direction.specs.declared.Grid.{Grid}
+use Rattle.field_direction.specs.Record.{FieldLists, field_lists}
+use Rattle.field_cross.specs.Field.{FieldResult}
 use Rattle.field_entries.specs.declared.FieldRecordAnswer.{FieldRecordAnswer}
 use Rattle.field_entries.specs.declared.DirectionAnswer.{DirectionAnswer}
 

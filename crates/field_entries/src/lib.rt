@@ -3,14 +3,14 @@
 #![tactic(auto)]
 
 ghost use Rattle.std.specs.Prelude.{◌≡◌};
-ghost use Rattle.domain.specs.Outline.{outline, point};
-ghost use Rattle.direction.specs.Record.{field_lists, field_record};
-ghost use Rattle.direction.specs.Direction.{direction_answer};
-ghost use Rattle.crossfield.specs.Field.{field_answer};
+ghost use Rattle.outline.specs.Outline.{outline, point};
+ghost use Rattle.field_direction.specs.Record.{field_lists, field_record};
+ghost use Rattle.field_direction.specs.Direction.{direction_answer};
+ghost use Rattle.field_cross.specs.Field.{field_answer};
 ghost use Rattle.field_entries.specs.Answers.{grid_lent, field_exit, field_numbers, direction_numbers};
 
-use direction::{CrossField, Grid};
-use domain::{Domain, Point};
+use field_direction::{CrossField, Grid};
+use outline::{Domain, Point};
 
 // A field record's floats and counts; its values and marks are in the lists lent. `refusal` is the refusal's number, 0 where nothing is refused; on a
 // refusal all else is 0.
@@ -55,7 +55,7 @@ pub extern "C" fn sitjorbe_field<'a>(
         × ((result.refusal ≡ 0 → ⊥) → blocks.new ≡ blocks.old) }
 {
     let domain = Domain { outer, holes, lens };
-    match crossfield::field(domain, size, sweeps, values, marks, blocks) {
+    match field_cross::field(domain, size, sweeps, values, marks, blocks) {
         Err(refusal) => FieldRecordAnswer {
             refusal: u32::from(refusal),
             ..FieldRecordAnswer::default()
@@ -99,7 +99,7 @@ pub extern "C" fn sitjorbe_direction(
     };
     let p = Point { x, y };
     let target = Point { x: tx, y: ty };
-    match direction::query_direction(CrossField { grid, values }, marks, p, target) {
+    match field_direction::query_direction(CrossField { grid, values }, marks, p, target) {
         Err(refusal) => DirectionAnswer {
             refusal: u32::from(refusal),
             ..DirectionAnswer::default()

@@ -1,2 +1,3 @@
 -- Parts of a list of doubles: Slices.
 pub mod Slices
+pub mod Books

@@ -5,21 +5,21 @@ use Rattle.std.proofs.Math.Path.{refl, ap}
 use Rattle.std.proofs.Common.{sym, ◌∙◌, subst, arith, length-append, length-take-le}
 use Rattle.laws.specs.Overlay.{overlay, overlay_length}
 use Rattle.laws.specs.Tabulate.{tabulate_length, tabulate_at}
-use Rattle.laws.specs.Sums.{sum_term}
-use Rattle.domain.specs.declared.Settings.{Settings}
-use Rattle.domain.specs.Outline.{Outline, outline}
-use Rattle.domain.specs.Queries.{answer_by}
+use Rattle.laws.proofs.Sums.{sum_term}
+use Rattle.outline.specs.declared.Settings.{Settings}
+use Rattle.outline.specs.Outline.{Outline, outline}
+use Rattle.outline.specs.Queries.{answer_by}
 use Rattle.run.specs.declared.Paved.{Paved}
 use Rattle.run.specs.Run.{Lent, Paves}
-use Rattle.outline_file.specs.declared.Head.{Head}
-use Rattle.outline_file.specs.File.{block_at, head_loops, head_length, head_points, coordinate_at, file_points, file_refusal, Request, request_of, outline_of}
-use Rattle.outline_file.specs.File.{head_of, Reading, reading, read_as, read_file}
-use Rattle.outline_file.specs.ReadLaws.{accepted_file}
-use Rattle.outline_file.specs.Lent.{lent_outline_lem}
-use Rattle.outline_file.specs.Enough.{enough}
+use Rattle.file_outline.specs.declared.Head.{Head}
+use Rattle.file_outline.specs.File.{block_at, head_loops, head_length, head_points, coordinate_at, file_points, file_refusal, Request, request_of, outline_of}
+use Rattle.file_outline.specs.File.{head_of, Reading, reading, read_as, read_file}
+use Rattle.file_outline.specs.ReadLaws.{accepted_file}
+use Rattle.file_outline.proofs.Lent.{lent_outline_lem}
+use Rattle.file_outline.proofs.Enough.{enough}
 use Rattle.listing.specs.Listing.{refused_listing, listing}
 use Rattle.listing.specs.Buffer.{Buffer, buffer, buffer_written}
-use Rattle.listing.specs.Fits.{refused_fits, listing_fits, written_front}
+use Rattle.listing.proofs.Fits.{refused_fits, listing_fits, written_front}
 use Rattle.file_listing.specs.Program.{program_lent, headed, ran_listing, outline_listing, program_listing, ListingGiven}
 
 -- ---- the buffer

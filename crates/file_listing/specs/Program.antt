@@ -1,13 +1,13 @@
 -- THE PROGRAM: the bytes that it prints for the bytes of its standard input (docs/FORMATS.md). Definitions only.
 use Rattle.std.specs.Prelude.{List, ◌≡◌, ℕ, ◌≤◌, length, take, replicate, Float, Result, Ok, Err}
 use Rattle.numbers.specs.Float.{zero_f}
-use Rattle.domain.specs.declared.Settings.{Settings}
-use Rattle.domain.specs.Outline.{Outline}
-use Rattle.domain.specs.Queries.{answer_by}
+use Rattle.outline.specs.declared.Settings.{Settings}
+use Rattle.outline.specs.Outline.{Outline}
+use Rattle.outline.specs.Queries.{answer_by}
 use Rattle.paving.specs.Ends.{end_number}
 use Rattle.run.specs.declared.Paved.{Paved}
 use Rattle.run.specs.Run.{Lent, lent, Ran, run_answer}
-use Rattle.outline_file.specs.File.{outline_of, file_refusal, request_of}
+use Rattle.file_outline.specs.File.{outline_of, file_refusal, request_of}
 use Rattle.listing.specs.declared.Heading.{Heading}
 use Rattle.listing.specs.Listing.{heading, refused_listing, listing}
 use Rattle.listing.specs.Buffer.{buffer, buffer_written}

@@ -2,21 +2,21 @@
 #![tactic(auto)]
 
 ghost use Rattle.std.specs.Prelude.{◌≡◌};
-ghost use Rattle.domain.specs.Outline.{outline_of};
-ghost use Rattle.domain.specs.Refusals.{numbered};
+ghost use Rattle.outline.specs.Outline.{outline_of};
+ghost use Rattle.outline.specs.Refusals.{numbered};
 ghost use Rattle.listing.specs.Buffer.{buffer, buffer_written};
 ghost use Rattle.listing.specs.Listing.{listing};
 ghost use Rattle.file_listing.specs.Program.{heading_of, headed, outline_listing, program_listing, ListingGiven};
 ghost use Rattle.file_listing.specs.Laws.{RequestHeld, held_outline};
 
-use domain::{Domain, Refusal, Settings};
+use file_outline::Head;
 use listing::{Heading, MeshLists};
-use outline_file::Head;
+use outline::{Domain, Refusal, Settings};
 use paving::Scratch;
 use run::{Paved, RunLists};
 
 // So many bytes of a file decide: the longest has one fewer.
-pub const DECISIVE: usize = outline_file::LONGEST_FILE + 1;
+pub const DECISIVE: usize = file_outline::LONGEST_FILE + 1;
 
 pub const LONGEST_LISTING: usize = 117681;
 
@@ -29,7 +29,7 @@ const QUADS: usize = 800;
 
 const EDGES: usize = 2400;
 
-const LOOPS: usize = outline_file::MOST_LOOPS;
+const LOOPS: usize = file_outline::MOST_LOOPS;
 
 // One for 16 of up to 248 points, and one more for each of up to eight loops.
 const BLOCKS: usize = 23;
@@ -139,9 +139,9 @@ pub fn list_file(file: &[u8], out: &mut [u8]) -> usize
     ensures { ListingGiven (program_listing file.now) out.old out.new result }
 {
     // Stays arrays: the program allocates nothing.
-    let mut points = [0.0; 2 * outline_file::MOST_FILE_POINTS];
-    let mut lens = [0usize; outline_file::MOST_LOOPS];
-    match outline_file::read_file(file, &mut points, &mut lens) {
+    let mut points = [0.0; 2 * file_outline::MOST_FILE_POINTS];
+    let mut lens = [0usize; file_outline::MOST_LOOPS];
+    match file_outline::read_file(file, &mut points, &mut lens) {
         Ok(head) => list_request(&points, &lens, head, out),
         Err(refusal) => listing::write_refused(out, u32::from(refusal)),
     }

@@ -6,9 +6,9 @@ use Rattle.std.proofs.Math.Nat.{pow-suc, div-div-eq-div-mul}
 use mir.Syntax.{w64}
 use Rattle.std.proofs.Math.Seq.{sets, sets-eq}
 use Rattle.laws.specs.Overlay.{overlay}
-use Rattle.outline_file.specs.File.{number_bytes, block_of, point_bytes, point_blocks}
-use Rattle.file_writing.specs.RoundTrip.{bytes_length, block_wide}
-use Rattle.file_writing.specs.WriteLaws.{Blocks, blocks_long, blocks_put, points_used, sets_first, sets_part}
+use Rattle.file_outline.specs.File.{number_bytes, block_of, point_bytes, point_blocks}
+use Rattle.file_writing.proofs.RoundTrip.{bytes_length, block_wide}
+use Rattle.file_writing.proofs.WriteLaws.{Blocks, blocks_long, blocks_put, points_used, sets_first, sets_part}
 
 -- a part of a list, replaced by a list of its length
 pub part_put : {A : Type 0} (l : List A) (at k : ℕ) (part : List A) → length part ≡ k → at + k ≤ length l

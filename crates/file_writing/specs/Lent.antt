@@ -1,5 +1,5 @@
 -- A request as it is lent.
-use Rattle.outline_file.specs.File.{Request, request}
+use Rattle.file_outline.specs.File.{Request, request}
 use Rattle.file_writing.specs.declared.LentRequest.{LentRequest}
 
 abbrev pub request_lent : LentRequest → Request

@@ -1,4 +1,1 @@
-pub mod Example
 pub mod Lent
-pub mod RoundTrip
-pub mod WriteLaws

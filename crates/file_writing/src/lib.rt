@@ -4,15 +4,15 @@
 ghost use Rattle.std.specs.Prelude.{◌≡◌, ◌+◌, ◌-◌, ◌/◌, ◌%◌, ◌≤◌, ◌<◌, length, take, MatchOption, IfSome};
 ghost use Rattle.std.specs.Option.{unwrap_or};
 ghost use Rattle.std.proofs.lemmas.List.Edits.{sets};
-ghost use Rattle.outline_file.specs.File.{number_bytes, block_of, length_bytes, head_bytes, point_bytes, blocks_of};
+ghost use Rattle.file_outline.specs.File.{number_bytes, block_of, length_bytes, head_bytes, point_bytes, blocks_of};
 ghost use Rattle.file_writing.specs.Lent.{request_lent};
-ghost use Rattle.outline_file.specs.File.{file_length, total_points, fileable, file_written, write_file};
+ghost use Rattle.file_outline.specs.File.{file_length, total_points, fileable, file_written, write_file};
 
-use domain::Settings;
-use outline_file::{
+use file_outline::{
     BLOCK_COORDINATES, CONTENTS, FILE_BLOCK, LENGTHS_AT, LOOPS_AT, MOST_FILE_POINTS, MOST_LOOPS,
     PASSES_AT, SWEEPS_AT,
 };
+use outline::Settings;
 use std::num;
 
 // Of sweeps or of passes, since two bytes have them.
@@ -42,7 +42,7 @@ fn seal(b: &mut [u8; FILE_BLOCK], used: usize)
     ensures { b.new ≡ sets b.old 0 (block_of (take used b.old)) }
 {
     b[used..CONTENTS].fill(0);
-    let sum = outline_file::check_of(b);
+    let sum = file_outline::check_of(b);
     put_number(2, sum, b, CONTENTS);
 }
 
@@ -117,7 +117,7 @@ fn few_points(lens: &[usize]) -> Option<usize>
 
 impl LentRequest<'_> {
     // Whether a file can hold it.
-    #[tactic(auto, unfolding(outline_file::specs::File::fileable))]
+    #[tactic(auto, unfolding(file_outline::specs::File::fileable))]
     fn can_file(self) -> bool
         ensures { result ≡ fileable (request_lent self.entry) }
     {
@@ -140,7 +140,7 @@ impl LentRequest<'_> {
         if !self.can_file() {
             return None;
         }
-        let n = outline_file::file_length(self.points.len() / 2);
+        let n = file_outline::file_length(self.points.len() / 2);
         if file.len() < n {
             return None;
         }

@@ -8,7 +8,7 @@ use Rattle.front.specs.State.{State, state_of}
 use Rattle.front.specs.Place.{added, corner_id, new_quad}
 use Rattle.front.specs.Ready.{Ready}
 use Rattle.front.specs.Stores.{PlacesQuad, counts_with_quad, is_beyond, known_across, new_edges, store_x, store_y, store_edges, store_quad, store_next, store_prev}
-use Rattle.front.specs.StoreLaws.{Fitting, when_full, when_fits, when_stored}
+use Rattle.front.proofs.StoreLaws.{Fitting, when_full, when_fits, when_stored}
 
 module _ (s : State) (a b : ℕ) (c d : Corner) (R : Ready s a b c d) (more : ℕ) (across : Bool) (w : ℕ) (pm : more ≡ added c + added d)
     (pk : across ≡ known_across s.edges s.counts.edges c d) (pw : w ≡ new_edges across c d) where

@@ -1,7 +1,7 @@
 -- The placing of a quad: `attempt_quad` of src/alt_crossfield.rs from the commit on, and when it is full. Definitions only.
 use Rattle.std.specs.Prelude.{Bool, ◌||◌, cond, ℕ, ◌+◌, ltb}
-use Rattle.domain.specs.declared.Point.{Point}
-use Rattle.domain.specs.Outline.{point}
+use Rattle.outline.specs.declared.Point.{Point}
+use Rattle.outline.specs.Outline.{point}
 use Rattle.front.specs.declared.Corner.{Corner}
 use Rattle.front.specs.declared.Corner.TheVariants.{Reused, Fresh}
 use Rattle.front.specs.declared.NewQuad.{NewQuad}

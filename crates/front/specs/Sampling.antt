@@ -6,8 +6,8 @@ use Rattle.laws.specs.Tabulate.{tabulate}
 use Rattle.numbers.specs.Float.{◌⊕◌, ◌⊖◌, ◌⊗◌, ◌⊘◌, bits, zero_f, two_f, half_f, to_float}
 use Rattle.numbers.specs.Whole.{ceil_count}
 use Rattle.topology.specs.Links.{off}
-use Rattle.domain.specs.declared.Point.{Point}
-use Rattle.domain.specs.Outline.{Outline, loop_at, points, point, point_at, point_after, after}
+use Rattle.outline.specs.declared.Point.{Point}
+use Rattle.outline.specs.Outline.{Outline, loop_at, points, point, point_at, point_after, after}
 use Rattle.geometry.specs.Plane.{distance, area_term}
 use Rattle.front.specs.declared.Ring.{Ring}
 use Rattle.front.specs.State.{State, node_places, edge_places, node_in, push_node, add_front, add_edge, cleared}

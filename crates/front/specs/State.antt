@@ -4,8 +4,8 @@ use Rattle.std.specs.Prelude.{Bool, ◌&&◌, cond, List, ℕ, ◌+◌, ◌-◌,
 use Rattle.std.specs.Float.{nan}
 use Rattle.laws.specs.Loop.{any_up}
 use Rattle.topology.specs.Links.{off, link_of}
-use Rattle.domain.specs.declared.Point.{Point}
-use Rattle.domain.specs.Outline.{point}
+use Rattle.outline.specs.declared.Point.{Point}
+use Rattle.outline.specs.Outline.{point}
 use Rattle.front.specs.declared.Counts.{Counts}
 
 -- The lent lists, each of a fixed length, and the counts. Node i is (xs[i], ys[i]); next and prev hold `off` for a node off the front; snapshot holds

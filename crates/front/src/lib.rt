@@ -13,7 +13,7 @@ ghost use Rattle.front.specs.Ready.{Ready};
 ghost use Rattle.front.specs.Stores.{PlacesQuad, counts_with_quad, places_exceeded, is_beyond, store_x, store_y, reuses_node, known_across, unless, new_edges};
 ghost use Rattle.front.specs.Stores.{store_edge, store_edges, store_quad, store_side, store_next, store_prev, Ids, Countable};
 
-use domain::{Point, Settings};
+use outline::{Point, Settings};
 
 // How much of the lent lists is in use. `front` counts the front's edges.
 #[derive(Clone, Copy, Debug, Default, PartialEq, Eq)]
@@ -313,7 +313,7 @@ fn put_edge(edges: &mut [u32], known: bool, n: usize, u: u32, v: u32)
 }
 
 // Stores the edges b to d, d to c and c to a, from place n on.
-#[tactic(auto, using(crate::specs::StoreLaws::length_store), unfolding(crate::specs::Stores::store_edges, crate::specs::Stores::new_edges))]
+#[tactic(auto, using(crate::proofs::StoreLaws::length_store), unfolding(crate::specs::Stores::store_edges, crate::specs::Stores::new_edges))]
 fn put_edges(edges: &mut [u32], n: usize, across: bool, q: NewQuad)
     requires { 2 * (n + new_edges across q.c q.d) ≤ length edges.old }
     ensures { edges.new ≡ store_edges across q.c q.d q.a q.b q.id_c q.id_d n edges.old }

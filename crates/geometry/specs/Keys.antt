@@ -3,8 +3,8 @@ use Rattle.std.specs.Prelude.{Bool, true, false, not, ◌&&◌, cond, ℕ, ◌+�
 use Rattle.std.specs.Float.Ieee.{lt}
 use Rattle.numbers.specs.Float.{◌⊕◌, ◌⊖◌, ◌⊗◌, bits, two_f, infinity_f, neg_infinity_f, min_f, max_f}
 use Rattle.numbers.specs.Whole.{floor_quotient}
-use Rattle.domain.specs.declared.Point.{Point}
-use Rattle.domain.specs.Outline.{point}
+use Rattle.outline.specs.declared.Point.{Point}
+use Rattle.outline.specs.Outline.{point}
 use Rattle.geometry.specs.declared.Key.{Key}
 use Rattle.geometry.specs.declared.KeyRect.{KeyRect}
 use Rattle.geometry.specs.declared.Spans.{Spans}

@@ -12,7 +12,7 @@ use Rattle.std.specs.Float.Ieee.Positive.{positive, above, above_of_le, mul_mono
 use Rattle.numbers.specs.Float.{◌⊕◌, ◌⊖◌, ◌⊗◌, ◌⊘◌, zero_f, tolerance, is_finite}
 use Rattle.exact.specs.Corner.{sin20}
 use Rattle.exact.specs.Corner.{norm, corner_ok}
-use Rattle.domain.specs.declared.Point.{Point}
+use Rattle.outline.specs.declared.Point.{Point}
 use Rattle.geometry.specs.declared.Corners.{Corners}
 use Rattle.geometry.specs.Plane.{convex_at}
 use Rattle.geometry.specs.SignLaws.{HasSign, round_sign, square_sign, sum_sign, root_sign, le_of_not, finite_difference, finite_product}

@@ -5,8 +5,8 @@ use Rattle.std.specs.Prelude.{Bool, not, ◌&&◌, ◌||◌, cond, Float}
 use Rattle.std.specs.Float.Ieee.{neg, lt, le}
 use Rattle.numbers.specs.Float.{◌⊕◌, ◌⊖◌, ◌⊗◌, ◌⊘◌, zero_f, one_f, four_f, tolerance, abs_f, min_f, max_f}
 use Rattle.exact.specs.Corner.{norm, corner_ok}
-use Rattle.domain.specs.declared.Point.{Point}
-use Rattle.domain.specs.Outline.{point}
+use Rattle.outline.specs.declared.Point.{Point}
+use Rattle.outline.specs.Outline.{point}
 use Rattle.geometry.specs.declared.Corners.{Corners}
 
 -- `distance`

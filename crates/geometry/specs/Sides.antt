@@ -4,7 +4,7 @@ use Rattle.std.specs.Float.Ieee.{le}
 use Rattle.numbers.specs.Float.{◌⊖◌, ◌⊗◌, ◌⊘◌, tolerance}
 use Rattle.exact.specs.Corner.{sin20}
 use Rattle.exact.specs.Corner.{norm, corner_ok}
-use Rattle.domain.specs.declared.Point.{Point}
+use Rattle.outline.specs.declared.Point.{Point}
 use Rattle.geometry.specs.declared.Side.{Side}
 use Rattle.geometry.specs.Plane.{convex_at}
 

@@ -10,7 +10,7 @@ ghost use Rattle.geometry.specs.LeftTurns.{no_left_turn, lacks_left_turn, corner
 ghost use Rattle.geometry.specs.Keys.{key_of, rect_between, spans_of, spans_kept, ranges_meet, rectangles_meet, candidate_at};
 ghost use Rattle.geometry.specs.Keys.{is_candidate, near_keys, too_close_at, is_too_close, picked, lowest, highest, between, in_box_at, is_in_box};
 
-use domain::{Point, Settings};
+use outline::{Point, Settings};
 
 // The corners of a quad, in the order in which it runs.
 #[derive(Clone, Copy)]

@@ -6,36 +6,36 @@ use Rattle.std.proofs.Common.{◌∙◌, add-one, arith, eqb-true}
 use Rattle.std.proofs.Math.Dec.{eqb}
 use Rattle.laws.specs.Loop.{for_up, for_up_same}
 use Rattle.laws.specs.Overlay.{overlay}
-use Rattle.domain.specs.Outline.{Outline}
-use Rattle.domain.specs.Accepted.{first_zero}
-use Rattle.direction.specs.Record.{FieldRecord}
+use Rattle.outline.specs.Outline.{Outline}
+use Rattle.outline.specs.Accepted.{first_zero}
+use Rattle.field_direction.specs.Record.{FieldRecord}
 use Rattle.front.specs.declared.Corner.{Corner}
 use Rattle.front.specs.State.{State, node_places}
 use Rattle.front.specs.Place.{added, id_c, id_d, place, is_full}
 use Rattle.front.specs.Ready.{room_fits}
 use Rattle.front.specs.Sampling.{sampled_count}
-use Rattle.lent_mesh.specs.declared.QuadIds.{QuadIds}
-use Rattle.lent_mesh.specs.Mesh.{quad_in}
-use Rattle.lent_mesh.specs.Answered.{ids_of, quad_same}
+use Rattle.front_lent_mesh.specs.declared.QuadIds.{QuadIds}
+use Rattle.front_lent_mesh.specs.Mesh.{quad_in}
+use Rattle.front_lent_mesh.proofs.Answered.{ids_of, quad_same}
 use Rattle.front.specs.declared.FarCorners.{FarCorners}
 use Rattle.paving.specs.Attempt.{try_edge, far}
 use Rattle.paving.specs.Advance.{most_quads}
 use Rattle.paving.specs.Reach.{Placement}
 use Rattle.paving.specs.ReachLaws.{tried}
-use Rattle.books.specs.BookLaws.{frame_quad}
-use Rattle.books.specs.Step.{Stepped, answered_step}
-use Rattle.books_hold.specs.Stages.{standing}
+use Rattle.books.proofs.BookLaws.{frame_quad}
+use Rattle.books.proofs.Step.{Stepped, answered_step}
+use Rattle.books_hold.proofs.Stages.{standing}
 use Rattle.books_hold.proofs.Runs.{start, reached_holds}
-use Rattle.origins.specs.Origins.{push_origin, quad_origins, origins_after}
-use Rattle.origins.proofs.Theorem.{origins_booked}
-use Rattle.origins.specs.Writing.{push_count, push_at, push_length, push_over}
+use Rattle.run_origins.specs.Origins.{push_origin, quad_origins, origins_after}
+use Rattle.run_origins.proofs.Theorem.{origins_booked}
+use Rattle.run_origins.specs.Writing.{push_count, push_at, push_length, push_over}
 use Rattle.hand_steps.specs.declared.StepOutcome.TheVariants.{Placed, Full, Cap}
 use Rattle.hand_steps.specs.Hand.{hand_refusal, handled, settled_on, place_on, step_on, new_origins, origins_on}
-use Rattle.mesh_check.specs.Check.{mesh_refusal, edge_refusal}
-use Rattle.hand_steps.specs.UseLaws.{there_of, on_front_lem, quad_below}
-use Rattle.hand_steps.specs.StepLaws.{origins_same}
-use Rattle.hand_books.specs.MoveLaws.{FromOutline}
-use Rattle.hand_origins.specs.Pushed.{push_counts, new_pushed}
+use Rattle.hand_mesh_check.specs.Check.{mesh_refusal, edge_refusal}
+use Rattle.hand_steps.proofs.UseLaws.{there_of, on_front_lem, quad_below}
+use Rattle.hand_steps.proofs.StepLaws.{origins_same}
+use Rattle.books_hand.specs.MoveLaws.{FromOutline}
+use Rattle.hand_origins.proofs.Pushed.{push_counts, new_pushed}
 use Rattle.hand_origins.specs.Theorem.{NodesNumbered}
 
 -- ---- a step keeps the numbers written

@@ -1,17 +1,17 @@
 -- Origins in a hand-stepped sequence: no front loop and no quad has nodes of two numbers, and a step keeps the numbers written.
 use Rattle.std.specs.Prelude.{List, ◌≡◌, ℕ, ◌≤◌, Float}
 use Rattle.laws.specs.Overlay.{overlay}
-use Rattle.domain.specs.Outline.{Outline}
-use Rattle.direction.specs.Record.{FieldRecord}
+use Rattle.outline.specs.Outline.{Outline}
+use Rattle.field_direction.specs.Record.{FieldRecord}
 use Rattle.front.specs.State.{State}
 use Rattle.front.specs.Sampling.{from_boundary}
 use Rattle.books_hold.specs.Runs.{AcceptedRun}
-use Rattle.origins.specs.Origins.{origins_after, OneOrigin}
-use Rattle.origins.proofs.Theorem.{origins_booked}
-use Rattle.hand_books.specs.Moves.{Move, moves_on}
-use Rattle.hand_books.proofs.Sequences.{sequence_holds}
-use Rattle.hand_books.specs.MoveLaws.{from_outline}
-use Rattle.hand_books.proofs.MoveLaws.{moves_kept}
+use Rattle.run_origins.specs.Origins.{origins_after, OneOrigin}
+use Rattle.run_origins.proofs.Theorem.{origins_booked}
+use Rattle.books_hand.specs.Moves.{Move, moves_on}
+use Rattle.books_hand.proofs.Sequences.{sequence_holds}
+use Rattle.books_hand.specs.MoveLaws.{from_outline}
+use Rattle.books_hand.proofs.MoveLaws.{moves_kept}
 
 -- ---- NO FRONT LOOP AND NO QUAD OF A SEQUENCE HAS NODES OF TWO NUMBERS
 

@@ -7,12 +7,12 @@ use Rattle.front.specs.declared.NewQuad.{NewQuad}
 use Rattle.front.specs.declared.Paving.{Paving}
 use Rattle.front.specs.State.{State, push_node, add_edge, push_quad}
 use Rattle.front.specs.Lent.{paving_state}
-use Rattle.front.specs.MeshEdges.{with_edges, edged, quad_edged}
+use Rattle.front.proofs.MeshEdges.{with_edges, edged, quad_edged}
 use Rattle.front.specs.Place.{added, new_quad, push_corner, add_edges, move_front, place}
 use Rattle.front.specs.Stores.{Ids}
-use Rattle.mesh_changes.specs.Parts.{edges_in, NodesFit, EdgeFits, ChangedBy}
-use Rattle.hand_placing.specs.Local.{EdgesLocal, over_edges, bare_edges, alone, edge_local, local_then}
-use Rattle.hand_placing.specs.PlaceLaws.{second_edge_fits, second_pair}
+use Rattle.hand_mesh_changes.specs.Parts.{edges_in, NodesFit, EdgeFits, ChangedBy}
+use Rattle.hand_placing.proofs.Local.{EdgesLocal, over_edges, bare_edges, alone, edge_local, local_then}
+use Rattle.hand_placing.proofs.PlaceLaws.{second_edge_fits, second_pair}
 use Rattle.hand_placing.specs.Room.{QuadFits, EdgesFit, TwoFit}
 
 -- ---- edges

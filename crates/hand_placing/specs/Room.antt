@@ -7,7 +7,7 @@ use Rattle.front.specs.declared.Paving.{Paving}
 use Rattle.front.specs.State.{add_edge}
 use Rattle.front.specs.Place.{added, corner_id, add_edges}
 use Rattle.front.specs.Stores.{Ids}
-use Rattle.mesh_changes.specs.Parts.{edges_in, NodesFit}
+use Rattle.hand_mesh_changes.specs.Parts.{edges_in, NodesFit}
 
 -- a quad on the edge a to b has its places, and its ids are in range
 pub record QuadRoom (xs ys : List Float) (next prev quads edges : List ℕ) (k : Counts) (a b : ℕ) (c d : Corner) : Type 0 where

@@ -6,27 +6,27 @@ ghost use Rattle.std.specs.Prelude.{◌≡◌, List, ℕ, ◌+◌, ◌*◌, ◌^
 ghost use Rattle.front.specs.State.{add_edge, remove_front, add_front, push_quad};
 ghost use Rattle.front.specs.Lent.{paving_state, SameLists};
 ghost use Rattle.front.specs.Place.{added, push_corner, add_edges, take_off, put_on, move_front, place, is_full};
-ghost use Rattle.mesh_check.specs.Check.{lent_in};
-ghost use Rattle.mesh_check.specs.Passed.{CountsFit};
-ghost use Rattle.mesh_changes.specs.Parts.{NodesFit, LinkFits, ChangedBy, LinksKept};
+ghost use Rattle.hand_mesh_check.specs.Check.{lent_in};
+ghost use Rattle.hand_mesh_check.specs.Passed.{CountsFit};
+ghost use Rattle.hand_mesh_changes.specs.Parts.{NodesFit, LinkFits, ChangedBy, LinksKept};
 ghost use Rattle.hand_placing.specs.Room.{QuadFits, EdgesFit, TwoFit, SidesFit};
 
-use domain::Point;
 use front::{Corner, FarCorners, NewQuad, Paving};
-use mesh_check::NumberedMesh;
+use hand_mesh_check::NumberedMesh;
+use outline::Point;
 
 // ---- the mesh edges
 
 // Two edges of a quad, u to v and v to w.
-// Stays edges as ids, for the reason given at `stepping::attempt_on`.
+// Stays edges as ids, for the reason given at `hand_stepping::attempt_on`.
 #[tactic(auto, using(front::proofs::Lent::lists_trans))]
 fn add_two(paving: &mut Paving<'_>, u: u32, v: u32, w: u32)
     requires { TwoFit paving.old u v w }
     ensures same { SameLists paving.old paving.new }
     ensures added { ChangedBy (λ s. add_edge v w (add_edge u v s)) paving.old paving.new }
 {
-    mesh_changes::add_edge(paving, u, v);
-    mesh_changes::add_edge(paving, v, w);
+    hand_mesh_changes::add_edge(paving, u, v);
+    hand_mesh_changes::add_edge(paving, v, w);
 }
 
 // The mesh edges of the quad.
@@ -52,7 +52,7 @@ fn take_off(paving: &mut Paving<'_>, c: Corner, u: u32, v: u32)
     ensures few { paving.new.counts.front ≤ paving.old.counts.front }
 {
     match c {
-        Corner::Reused(_) => mesh_changes::remove_front(paving, u, v),
+        Corner::Reused(_) => hand_mesh_changes::remove_front(paving, u, v),
         Corner::Fresh(_, _) => (),
     }
 }
@@ -68,7 +68,7 @@ fn put_on(paving: &mut Paving<'_>, c: Corner, u: u32, v: u32)
 {
     match c {
         Corner::Reused(_) => (),
-        Corner::Fresh(_, _) => mesh_changes::add_front(paving, u, v),
+        Corner::Fresh(_, _) => hand_mesh_changes::add_front(paving, u, v),
     }
 }
 
@@ -81,7 +81,7 @@ fn strip(paving: &mut Paving<'_>, q: NewQuad)
     ensures kept { LinksKept paving.old paving.new }
     ensures few { paving.new.counts.front ≤ paving.old.counts.front }
 {
-    mesh_changes::remove_front(paving, q.a, q.b);
+    hand_mesh_changes::remove_front(paving, q.a, q.b);
     take_off(paving, q.c, q.id_c, q.a);
     take_off(paving, q.d, q.b, q.id_d);
 }
@@ -94,7 +94,7 @@ fn extend(paving: &mut Paving<'_>, q: NewQuad)
     ensures extended { ChangedBy (λ s. put_on q.d q.id_d q.b (add_front q.id_c q.id_d (put_on q.c q.a q.id_c s))) paving.old paving.new }
 {
     put_on(paving, q.c, q.a, q.id_c);
-    mesh_changes::add_front(paving, q.id_c, q.id_d);
+    hand_mesh_changes::add_front(paving, q.id_c, q.id_d);
     put_on(paving, q.d, q.id_d, q.b);
 }
 
@@ -162,7 +162,7 @@ pub fn is_full(lent: NumberedMesh<'_, '_>, a: u32, b: u32, far: FarCorners) -> b
     let mesh = lent.mesh;
     let k = mesh.counts;
     let q = NewQuad::new(k.nodes, a, b, far);
-    let e = mesh_changes::edges_added(&mesh, a, b, q.id_d, q.id_c);
+    let e = hand_mesh_changes::edges_added(&mesh, a, b, q.id_d, q.id_c);
     let nodes = (k.nodes as usize) + (far.c.added() as usize) + (far.d.added() as usize);
     lent.lacks_places(nodes, k.quads + 1, k.edges + e)
 }

@@ -1,2 +1,4 @@
 pub mod UseLaws
 pub mod Quads
+pub mod Readings
+pub mod StepLaws

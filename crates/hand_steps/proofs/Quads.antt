@@ -4,16 +4,16 @@ use Rattle.std.proofs.Math.Bool.{true, false, cond}
 use Rattle.std.proofs.Math.Path.{refl}
 use Rattle.std.proofs.Common.{◌∙◌, arith}
 use borrow.Author.Tests.{le-leb, lt-leb}
-use Rattle.domain.specs.Outline.{Outline}
-use Rattle.direction.specs.declared.Grid.{Grid}
-use Rattle.direction.specs.Record.{FieldRecord, field_record}
+use Rattle.outline.specs.Outline.{Outline}
+use Rattle.field_direction.specs.declared.Grid.{Grid}
+use Rattle.field_direction.specs.Record.{FieldRecord, field_record}
 use Rattle.front.specs.State.{State}
 use Rattle.front.specs.Place.{place, is_full}
 use Rattle.front.specs.declared.FarCorners.{FarCorners}
 use Rattle.paving.specs.Attempt.{try_edge}
 use Rattle.paving.specs.Advance.{most_quads}
-use Rattle.attempts.specs.Seen.{seen_of}
-use Rattle.attempts.specs.SeenLaws.{try_seen}
+use Rattle.paving_attempts.specs.Seen.{seen_of}
+use Rattle.paving_attempts.proofs.SeenLaws.{try_seen}
 use Rattle.hand_steps.specs.declared.StepOutcome.{StepOutcome}
 use Rattle.hand_steps.specs.declared.StepOutcome.TheVariants.{Placed, Full, Cap}
 use Rattle.hand_steps.specs.Hand.{Handled, handled, settled_on, place_on, fitting, quad_on}

@@ -1,14 +1,14 @@
 -- Hand stepping: a single placing on a named edge, and what a step answers and leaves. Definitions only.
 use Rattle.std.specs.Prelude.{cond, List, Result, Ok, Err, ◌≡◌, ℕ, ◌+◌, ◌-◌, leb, eqb, get_or, set, Float, Option, Some, None}
 use Rattle.laws.specs.Loop.{for_up}
-use Rattle.domain.specs.Outline.{Outline, first_of}
-use Rattle.direction.specs.Record.{FieldRecord}
+use Rattle.outline.specs.Outline.{Outline, first_of}
+use Rattle.field_direction.specs.Record.{FieldRecord}
 use Rattle.front.specs.State.{State}
 use Rattle.front.specs.Place.{place, is_full}
 use Rattle.front.specs.declared.FarCorners.{FarCorners}
 use Rattle.paving.specs.Attempt.{try_edge}
 use Rattle.paving.specs.Advance.{most_quads}
-use Rattle.mesh_check.specs.Check.{mesh_refusal, edge_refusal}
+use Rattle.hand_mesh_check.specs.Check.{mesh_refusal, edge_refusal}
 use Rattle.hand_steps.specs.declared.StepOutcome.{StepOutcome}
 use Rattle.hand_steps.specs.declared.StepOutcome.TheVariants.{Placed, None as NoQuad, Full, Cap}
 

@@ -1,18 +1,18 @@
 -- What a placing may use of a mesh that 23 and 24 let pass, and what the code asks. Definitions only.
 use Rattle.std.specs.Prelude.{false, List, ◌≡◌, ◌≢◌, ℕ, ◌<◌, Float, Option, Some}
 use Rattle.topology.specs.Links.{off}
-use Rattle.domain.specs.Outline.{Outline, outline_refusal}
-use Rattle.domain.specs.Accepted.{OutlineFits}
-use Rattle.direction.specs.declared.Grid.{Grid}
-use Rattle.direction.specs.Cells.{FieldLent}
+use Rattle.outline.specs.Outline.{Outline, outline_refusal}
+use Rattle.outline.specs.Accepted.{OutlineFits}
+use Rattle.field_direction.specs.declared.Grid.{Grid}
+use Rattle.field_direction.specs.Cells.{FieldLent}
 use Rattle.front.specs.declared.Counts.{Counts}
 use Rattle.front.specs.declared.Corner.{Corner}
 use Rattle.front.specs.State.{State, next_of, prev_of}
 use Rattle.front.specs.Place.{is_full}
 use Rattle.front.specs.declared.FarCorners.{FarCorners}
 use Rattle.paving.specs.Attempt.{far}
-use Rattle.mesh_check.specs.Check.{lent_state}
-use Rattle.mesh_check.specs.Passed.{MeshPasses, MeshRoom}
+use Rattle.hand_mesh_check.specs.Check.{lent_state}
+use Rattle.hand_mesh_check.specs.Passed.{MeshPasses, MeshRoom}
 use Rattle.hand_placing.specs.Room.{QuadRoom}
 
 -- the outline isn't refused, and the field's record has its places

@@ -4,8 +4,8 @@
 ghost use Rattle.std.specs.Prelude.{◌≡◌};
 ghost use Rattle.hand_steps.specs.Outcomes.{outcome_number};
 
-use direction::CrossField;
-use domain::Domain;
+use field_direction::CrossField;
+use outline::Domain;
 
 // What a step by hand reads besides the mesh: the outline, the size and the field. It has no blocks, since a step reads the whole mesh in any case.
 #[derive(Clone, Copy)]

@@ -7,15 +7,15 @@ use Rattle.std.proofs.Math.Path.{refl, sym, ap, ap₂}
 use borrow.Author.Tests.{ne_eqb}
 use Rattle.std.proofs.Math.ListN.{length}
 use Rattle.laws.specs.Loop.{any_up}
-use Rattle.pools.specs.declared.Rect.{Rect}
-use Rattle.pools.specs.Pool.{none, cells, capacity, own_at, link_at, head_at, falling, chain, any_of, cell_of, chain_at, filed}
-use Rattle.pools.specs.Pool.{Indexed}
-use Rattle.key_rects.specs.Rects.{Meets}
+use Rattle.index_pools.specs.declared.Rect.{Rect}
+use Rattle.index_pools.specs.Pool.{none, cells, capacity, own_at, link_at, head_at, falling, chain, any_of, cell_of, chain_at, filed}
+use Rattle.index_pools.specs.Pool.{Indexed}
+use Rattle.index_key_rects.specs.Rects.{Meets}
 use Rattle.index.specs.Walk.{columns, rows, visited}
-use Rattle.pools.specs.ChainLaws.{any_left, falling_high, falling_step, falling_on, falling_last}
-use Rattle.index.specs.AcrossLaws.{across_more}
-use Rattle.pools.specs.FileLaws.{place_small, next_column}
-use Rattle.index.specs.WalkLaws.{visited_filed}
+use Rattle.index_pools.specs.ChainLaws.{any_left, falling_high, falling_step, falling_on, falling_last}
+use Rattle.index.proofs.AcrossLaws.{across_more}
+use Rattle.index_pools.specs.FileLaws.{place_small, next_column}
+use Rattle.index.proofs.WalkLaws.{visited_filed}
 
 -- a place `t` in the chain of the cell of the key (i, j)
 pub record Cursor : Type 0 where

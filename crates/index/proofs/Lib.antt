@@ -1,3 +1,5 @@
 mod Scan
 mod Cursors
 mod Walked
+pub mod AcrossLaws
+pub mod WalkLaws

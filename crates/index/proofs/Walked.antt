@@ -2,13 +2,13 @@
 use Rattle.std.specs.Prelude.{Bool, true, false, ◌||◌, ◌≡◌, ℕ, zero, suc, ◌+◌, ◌-◌, ◌<◌, ◌≤◌, length}
 use Rattle.std.proofs.Common.{refl, sym, ap, ap₂, ◌∙◌, arith}
 use mathlib.Core.List.{List, ◌++◌}
-use Rattle.pools.specs.Pool.{cells, capacity, own_at, link_at, head_at, falling, chain, any_of, cell_of, chain_at}
-use Rattle.pools.specs.ChainLaws.{any_left, any_right, any_neither, falling_high, falling_step}
+use Rattle.index_pools.specs.Pool.{cells, capacity, own_at, link_at, head_at, falling, chain, any_of, cell_of, chain_at}
+use Rattle.index_pools.specs.ChainLaws.{any_left, any_right, any_neither, falling_high, falling_step}
 use Rattle.std.specs.Bool.{MatchBool}
 use Rattle.std.specs.List.{range_with_len, AllWithin, HoldsAt}
 use Rattle.std.proofs.lemmas.List.FromFn.{length-range_with_len, get_or-range_with_len}
 use Rattle.index.specs.Walk.{across, columns}
-use Rattle.index.specs.AcrossLaws.{across_some}
+use Rattle.index.proofs.AcrossLaws.{across_some}
 
 module _ (tests : ℕ → Bool) where
   any_joined : (l m : List ℕ) → any_of tests (l ++ m) ≡ (any_of tests l || any_of tests m)

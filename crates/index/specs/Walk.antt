@@ -1,8 +1,8 @@
 -- A walk along the chains of a rectangle's cells, row by row. Definitions only.
 use Rattle.std.specs.Prelude.{Bool, true, List, [], ◌++◌, ◌≡◌, ℕ, zero, suc, ◌+◌, ◌<◌, length}
-use Rattle.pools.specs.Pool.{chain_at, span}
-use Rattle.pools.specs.declared.Rect.{Rect}
-use Rattle.key_rects.specs.Rects.{Meets}
+use Rattle.index_pools.specs.Pool.{chain_at, span}
+use Rattle.index_pools.specs.declared.Rect.{Rect}
+use Rattle.index_key_rects.specs.Rects.{Meets}
 
 -- f i, f (i + 1), .., w of them, joined
 unfoldable pub across : (ℕ → List ℕ) → ℕ → ℕ → List ℕ

@@ -1,20 +1,20 @@
 // Walks along a pool, so that the items whose key rectangle meets a query's are found without a scan. A search by a walk is proved to give the scan's
-// answer: `visited_answers` in specs/WalkLaws.antt.
+// answer: `visited_answers` in proofs/WalkLaws.antt.
 #![tactic(auto)]
 
 ghost use Rattle.std.specs.Prelude.{◌≡◌, ℕ, Bool, ◌≤◌, ◌<◌, max, length};
-ghost use Rattle.pools.specs.Pool.{cells, capacity, own_at, link_at, head_at, chain, span, any_of, Indexed};
+ghost use Rattle.index_pools.specs.Pool.{cells, capacity, own_at, link_at, head_at, chain, span, any_of, Indexed};
 ghost use Rattle.index.specs.Walk.{columns, visited, Decides, AreMet};
 ghost use Rattle.laws.specs.Loop.{any_up};
 
-use pools::Rect;
+use index_pools::Rect;
 
 // The owner at a place, and the link from there.
 fn place_at(pool: &[u32], t: usize) -> (u32, u32)
     requires { t < capacity (length pool.now) }
     ensures { (result.0 ≡ own_at (length pool.now) pool.now t) × (result.1 ≡ link_at (length pool.now) pool.now t) }
 {
-    let at = 2 + pools::cells_of(pool.len()) + 2 * t;
+    let at = 2 + index_pools::cells_of(pool.len()) + 2 * t;
     (pool[at], pool[at + 1])
 }
 
@@ -32,7 +32,7 @@ fn any_in_chain<F: Fn(usize) -> bool>(pool: &[u32], t: u32, test: &F) -> bool
     requires tested { (id : ℕ) → id < 4294967296 → F.pre test.now id }
     ensures { (tests : ℕ → Bool) → Decides (F.post test.now) 4294967296 tests → result ≡ any_of tests (chain (length pool.now) pool.now t) }
 {
-    let mut limit = pools::capacity_of(pool.len());
+    let mut limit = index_pools::capacity_of(pool.len());
     let mut t = t as usize;
     // Stays a loop: `any` asks for an iterator that ends, of what `successors` makes the library doesn't say that, and an iterator of our own is longer.
     while t < limit {
@@ -52,14 +52,14 @@ fn any_in_row<F: Fn(usize) -> bool>(pool: &[u32], left: u32, right: u32, j: usiz
     requires tested { (id : ℕ) → id < 4294967296 → F.pre test.now id }
     ensures { (tests : ℕ → Bool) → Decides (F.post test.now) 4294967296 tests → result ≡ any_of tests (columns pool.now j (span left right) left) }
 {
-    let m = pools::cells_of(pool.len());
-    let mut cell = pools::cell_of(m, left as usize, j);
+    let m = index_pools::cells_of(pool.len());
+    let mut cell = index_pools::cell_of(m, left as usize, j);
     // Stays a loop: each turn goes on to the next cell without a division, and a closure for `any` would have to write where it is.
     for k in left as usize..right as usize + 1 {
         if any_in_chain(pool, head_at(pool, cell), test) {
             return true;
         }
-        cell = pools::next_cell(m, cell);
+        cell = index_pools::next_cell(m, cell);
     }
     false
 }
@@ -84,7 +84,7 @@ pub fn any_item<F: Fn(usize) -> bool>(pool: &[u32], r: Rect, count: usize, test:
         → AreMet tests rects r → result ≡ any_up count tests }
 {
     any_visited(pool, r, &test)
-        || (pools::filed(pool) as usize..count).any(
+        || (index_pools::filed(pool) as usize..count).any(
             |id|
                 requires { F.pre test id }
             { test(id) },

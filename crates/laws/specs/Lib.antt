@@ -1,9 +1,4 @@
-pub mod Certificate
-pub mod Chain
-pub mod Integer
 pub mod Loop
 pub mod Overlay
-pub mod Ring
-pub mod Sums
 pub mod Tabulate
 pub mod Tests

@@ -4,3 +4,8 @@ pub mod AsMany
 pub mod Digits
 pub mod Puts
 pub mod Turns
+pub mod BufferLaws
+pub mod Cases
+pub mod Examples
+pub mod Fits
+pub mod Left

@@ -3,8 +3,8 @@ use Rattle.std.proofs.Common.{◌≡◌, refl, ap, ap₂, ◌∙◌, List, [], �
 use Rattle.std.specs.Borrow.{MutBor}
 use Rattle.listing.specs.declared.Output.{Output}
 use Rattle.listing.specs.Buffer.{buffer, puts, buffer_written}
-use Rattle.listing.specs.BufferLaws.{then, wrote_as, nothing, wrote_written}
-use Rattle.listing.specs.Left.{Left, left_next, left_end}
+use Rattle.listing.proofs.BufferLaws.{then, wrote_as, nothing, wrote_written}
+use Rattle.listing.proofs.Left.{Left, left_next, left_end}
 use Rattle.listing.specs.Output.{held, Started, Put}
 
 pub put_then : {a b : List ℕ} {p q r : Output} → Put a p q → Put b q r → Put (a ++ b) p r

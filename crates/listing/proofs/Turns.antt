@@ -5,7 +5,7 @@ use Rattle.std.proofs.lemmas.List.{take_min, drop_min}
 use Rattle.std.specs.Prelude.{Float}
 use Prim.Native.Char.{code}
 use Rattle.listing.specs.Listing.{row, row_lines, node_line, node_lines}
-use Rattle.listing.specs.Left.{rows_first, rows_end}
+use Rattle.listing.proofs.Left.{rows_first, rows_end}
 
 no_items : {A : Type 0} (l : List A) → length l ≡ 0 → l ≡ []
 no_items [] h = refl

@@ -48,7 +48,7 @@ impl<'a> Output<'a> {
         Output { bytes, used: 0 }
     }
 
-    #[tactic(auto, using(crate::specs::BufferLaws::wrote_in, crate::specs::BufferLaws::wrote_out))]
+    #[tactic(auto, using(crate::proofs::BufferLaws::wrote_in, crate::proofs::BufferLaws::wrote_out))]
     fn put(&mut self, byte: u8)
         ensures { Put (byte ∷ []) self.old self.new }
     {

@@ -8,3 +8,4 @@ mod LibraryRoot
 mod LibraryWhole
 mod SmallFloor
 mod AbsAtMost
+pub mod Table

@@ -1,7 +1,6 @@
 pub mod Root
 pub mod Float
 pub mod Whole
-pub mod Table
 pub mod Isqrt
 pub mod RootUnits
 pub mod Nearest

@@ -1,5 +1,5 @@
 -- The square root of an f64 as IEEE 754 has it: the exact root rounded once, to the nearest double. Definitions only; specs/Nearest.antt
--- proves that it is the nearest, and specs/Table.antt computes some.
+-- proves that it is the nearest, and proofs/Table.antt computes some.
 use Rattle.std.specs.Prelude.{◌≡◌, ℕ, zero, suc, ◌+◌, ◌-◌, ◌*◌, ◌/◌, ◌^◌, ◌<◌, ◌≤◌, true, false, cond, from_bits, nat_le, Float}
 use Prim.Native.Nat.{compare}
 use Rattle.std.specs.Float.{nan, inf, fin, binary64}

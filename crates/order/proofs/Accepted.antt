@@ -5,12 +5,12 @@ use Rattle.std.proofs.lemmas.Bool.{eqb-false, lt-leb, not-true, not-false}
 use Rattle.laws.specs.Loop.{any_up, any_found, any_none, any_false}
 use Rattle.laws.specs.Tests.{both, neither, and_both, or_cases, or_left, or_right}
 use Rattle.laws.specs.Tabulate.{tabulate_length, tabulate_at}
-use Rattle.lent_mesh.specs.declared.QuadIds.{QuadIds}
-use Rattle.lent_mesh.specs.Mesh.{quad_count_of, quad_in}
+use Rattle.front_lent_mesh.specs.declared.QuadIds.{QuadIds}
+use Rattle.front_lent_mesh.specs.Mesh.{quad_count_of, quad_in}
 use Rattle.order.specs.declared.OrderAnswer.{OrderAnswer}
 use Rattle.order.specs.Order.{is_step, lays, lays_for, needs, first_place, is_wrong, is_absent, names_each_once, waits_for, too_early}
 use Rattle.order.specs.Order.{order_accepted, not_once, first_early, order_of, order_answer, placing_order}
-use Rattle.order.specs.PlaceLaws.{place_le, place_found, place_first}
+use Rattle.order.proofs.PlaceLaws.{place_le, place_found, place_first}
 use Rattle.order.proofs.PlaceLaws.{placing_early}
 use Rattle.order.specs.Accepted.{SameStep, Lays, laid_bd, laid_dc, laid_ca, Uses, used_ab, used_bd, used_ca, LaidFor, EachOnce, Respects, Searched, none_early, some_early, first_searched, Means, is_accepted, is_not_once, is_early_lem}
 

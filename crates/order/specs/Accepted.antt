@@ -3,8 +3,8 @@
 use Rattle.std.specs.Prelude.{ℕ, suc, ◌-◌, ◌<◌, ◌≡◌, refl, Bool, true, false, cond, List, ◌⊎◌, length, get_or}
 use Rattle.std.proofs.Common.{◌∙◌, ap, ⊎_elim, eq-or-lt_of_le, le_of_suc-le-suc, arith}
 use Rattle.laws.specs.Loop.{go, out, Kept, run_keeps_at}
-use Rattle.lent_mesh.specs.declared.QuadIds.{QuadIds}
-use Rattle.lent_mesh.specs.Mesh.{quad_in}
+use Rattle.front_lent_mesh.specs.declared.QuadIds.{QuadIds}
+use Rattle.front_lent_mesh.specs.Mesh.{quad_in}
 use Rattle.order.specs.declared.OrderAnswer.{OrderAnswer}
 use Rattle.order.specs.Order.{too_early}
 use Rattle.order.specs.Order.{order_accepted, not_once, early_at, early_turn, first_early}

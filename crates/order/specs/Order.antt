@@ -2,8 +2,8 @@
 use Rattle.std.specs.Prelude.{ℕ, suc, Bool, not, ◌&&◌, ◌||◌, cond, List, [], ◌∷◌, length, get_or, eqb, ltb, leb}
 use Rattle.laws.specs.Loop.{Turn, go, out, run, any_up}
 use Rattle.laws.specs.Tabulate.{tabulate}
-use Rattle.lent_mesh.specs.declared.QuadIds.{QuadIds}
-use Rattle.lent_mesh.specs.Mesh.{quad_count_of, quad_in}
+use Rattle.front_lent_mesh.specs.declared.QuadIds.{QuadIds}
+use Rattle.front_lent_mesh.specs.Mesh.{quad_count_of, quad_in}
 use Rattle.order.specs.declared.OrderAnswer.{OrderAnswer}
 
 -- ---- who comes after whom

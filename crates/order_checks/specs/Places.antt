@@ -3,7 +3,7 @@ use Rattle.std.specs.Prelude.{ℕ, suc, ◌+◌, ◌-◌, ◌≤◌, ◌<◌, �
 use Rattle.std.proofs.Common.{sym, ◌∙◌, ap, arith, length-set, get_or-set_same, get_or-set_other, eqb-true}
 use Rattle.std.proofs.lemmas.Bool.{eqb-false}
 use Rattle.order.specs.Order.{first_place}
-use Rattle.order.specs.PlaceLaws.{place_step, place_end}
+use Rattle.order.proofs.PlaceLaws.{place_step, place_end}
 
 -- the list has at i the first place of i, for each i that it has a place for
 pub record FirstPlaces (places order : List ℕ) : Type 0 where

@@ -7,7 +7,7 @@ ghost use Rattle.laws.specs.Loop.{Unfound};
 ghost use Rattle.order.specs.Order.{lays, lays_for, needs, first_place, is_wrong, names_each_once, waits_for, too_early};
 ghost use Rattle.order_checks.specs.Places.{FirstPlaces};
 
-use lent_mesh::QuadIds;
+use front_lent_mesh::QuadIds;
 
 // ---- who comes after whom
 
@@ -40,7 +40,11 @@ fn needs(quads: &[u32], j: usize, i: usize) -> bool
     requires { j < 4294967296 }
     ensures { result ≡ needs quads.now j i }
 {
-    i < j && lays_for(lent_mesh::quad_at(quads, i), lent_mesh::quad_at(quads, j))
+    i < j
+        && lays_for(
+            front_lent_mesh::quad_at(quads, i),
+            front_lent_mesh::quad_at(quads, j),
+        )
 }
 
 // ---- the list's places
@@ -109,7 +113,7 @@ impl Presentation<'_> {
     fn is_wrong(&self, n: usize, p: usize) -> bool
         ensures { result ≡ is_wrong n self.now.order.now p }
     {
-        let x = lent_mesh::entry_at(self.order, p) as usize;
+        let x = front_lent_mesh::entry_at(self.order, p) as usize;
         n <= x || self.place_of(x) != p
     }
 
@@ -134,7 +138,7 @@ impl Presentation<'_> {
         requires { Unfound (waits_for quads.now self.now.order.now p (get_or self.now.order.now p 0)) from n }
         ensures { result ≡ too_early quads.now n self.now.order.now p }
     {
-        let j = lent_mesh::entry_at(self.order, p) as usize;
+        let j = front_lent_mesh::entry_at(self.order, p) as usize;
         (from..n).any(|i| self.waits_for(quads, p, j, i))
     }
 }

@@ -1,8 +1,8 @@
 -- The steps that quads lay, as items of a pool of `index`: item 3 i + s is step s of quad i. Definitions only.
 use Rattle.std.specs.Prelude.{ℕ, ◌/◌, ◌%◌, Bool, ◌&&◌, cond, List, eqb, ltb, Option, Some, None}
-use Rattle.pools.specs.declared.Rect.{Rect}
-use Rattle.lent_mesh.specs.declared.QuadIds.{QuadIds}
-use Rattle.lent_mesh.specs.Mesh.{quad_in}
+use Rattle.index_pools.specs.declared.Rect.{Rect}
+use Rattle.front_lent_mesh.specs.declared.QuadIds.{QuadIds}
+use Rattle.front_lent_mesh.specs.Mesh.{quad_in}
 use Rattle.order.specs.declared.OrderAnswer.{OrderAnswer}
 use Rattle.order.specs.Order.{is_step, first_place, order_accepted, early_at}
 

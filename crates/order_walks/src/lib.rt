@@ -1,18 +1,18 @@
-// The entry of the presentation order. Who stands too early is found by walks over the steps that quads lay, each filed under its own key in a pool of `pools`, and by a scan
+// The entry of the presentation order. Who stands too early is found by walks over the steps that quads lay, each filed under its own key in a pool of `index_pools`, and by a scan
 // of the quads that came after the pool was full.
 #![tactic(auto)]
 
 ghost use Rattle.std.specs.Prelude.{◌≡◌, ◌*◌, ◌<◌, ◌≤◌};
 ghost use Rattle.laws.specs.Loop.{any_up};
-ghost use Rattle.pools.specs.Pool.{filed, Indexed};
+ghost use Rattle.index_pools.specs.Pool.{filed, Indexed};
 ghost use Rattle.order.specs.Order.{too_early, first_early, order_answer};
 ghost use Rattle.order_walks.specs.Steps.{laid_from, laid_to, step_key, step_rect, keeps_back, early_answer};
 
-use domain::Refusal;
-use lent_mesh::QuadIds;
+use front_lent_mesh::QuadIds;
+use index_pools::Rect;
 use order::OrderAnswer;
 use order_checks::Presentation;
-use pools::Rect;
+use outline::Refusal;
 
 // ---- the steps laid
 
@@ -43,7 +43,7 @@ fn step_rect(quads: &[u32], k: usize) -> Rect
     requires { k < 4294967296 }
     ensures { result ≡ step_rect quads.now k }
 {
-    let q = lent_mesh::quad_at(quads, k / 3);
+    let q = front_lent_mesh::quad_at(quads, k / 3);
     let (from, to) = laid_step(q, k % 3);
     step_key(to, from)
 }
@@ -53,8 +53,8 @@ fn file_steps(pool: &mut [u32], quads: &[u32], n: usize)
     requires { n ≤ 250000 }
     ensures { Indexed pool.new (step_rect quads.now) (3 * n) }
 {
-    pools::clear(pool);
-    pools::file_items(pool, 0, 3 * n, |k| step_rect(quads, k as usize));
+    index_pools::clear(pool);
+    index_pools::file_items(pool, 0, 3 * n, |k| step_rect(quads, k as usize));
 }
 
 // ---- too early
@@ -97,7 +97,7 @@ impl Tested<'_> {
         ensures { result ≡ keeps_back self.now.quads.now self.now.presentation.order.now p j u v k }
     {
         let i = k / 3;
-        let q = lent_mesh::quad_at(self.quads, i);
+        let q = front_lent_mesh::quad_at(self.quads, i);
         laid_step(q, k % 3) == (v, u) && i < j && p < self.presentation.place_of(i)
     }
 
@@ -115,9 +115,9 @@ impl Tested<'_> {
     fn is_early(&self, p: usize) -> bool
         ensures { result ≡ too_early self.now.quads.now self.now.n self.now.presentation.order.now p }
     {
-        let j = lent_mesh::entry_at(self.presentation.order, p) as usize;
-        let q = lent_mesh::quad_at(self.quads, j);
-        let from = pools::filed(self.pool) as usize / 3;
+        let j = front_lent_mesh::entry_at(self.presentation.order, p) as usize;
+        let q = front_lent_mesh::quad_at(self.quads, j);
+        let from = index_pools::filed(self.pool) as usize / 3;
         self.any_back(p, j, q.a, q.b)
             || self.any_back(p, j, q.b, q.d)
             || self.any_back(p, j, q.c, q.a)
@@ -147,7 +147,7 @@ pub extern "C" fn sitjorbe_order(
 ) -> OrderAnswer
     ensures { result ≡ order_answer quad_count quads.now order.now }
 {
-    let n = lent_mesh::quad_count(quad_count, quads);
+    let n = front_lent_mesh::quad_count(quad_count, quads);
     let presentation = Presentation::new(order, places);
     if !presentation.names_each_once(n) {
         return OrderAnswer {

@@ -1,9 +1,9 @@
 -- A pass and `advance` of src/alt_crossfield.rs, with SCOPE's four ends. Definitions only.
 use Rattle.std.specs.Prelude.{Bool, true, false, not, ◌&&◌, cond, List, ℕ, min, leb, eqb, get_or, set, Float, Option, Some, None}
 use Rattle.laws.specs.Loop.{for_up, Turn, go, out, run}
-use Rattle.domain.specs.Outline.{Outline}
+use Rattle.outline.specs.Outline.{Outline}
 use Rattle.topology.specs.Links.{off}
-use Rattle.direction.specs.Record.{FieldRecord}
+use Rattle.field_direction.specs.Record.{FieldRecord}
 use Rattle.front.specs.State.{State, next_of}
 use Rattle.front.specs.Place.{place, is_full}
 use Rattle.front.specs.declared.FarCorners.{FarCorners}

@@ -2,12 +2,12 @@
 use Rattle.std.specs.Prelude.{Bool, not, ◌&&◌, cond, ℕ, eqb, Float, Option, Some, None}
 use Rattle.std.specs.Float.Ieee.{neg, le}
 use Rattle.numbers.specs.Float.{◌⊕◌, ◌⊖◌, ◌⊗◌, ◌⊘◌, bits, tolerance}
-use Rattle.domain.specs.declared.Point.{Point}
-use Rattle.domain.specs.Outline.{Outline, point}
+use Rattle.outline.specs.declared.Point.{Point}
+use Rattle.outline.specs.Outline.{Outline, point}
 use Rattle.exact.specs.Corner.{norm}
 use Rattle.geometry.specs.Plane.{distance}
-use Rattle.direction.specs.Record.{FieldRecord}
-use Rattle.direction.specs.Direction.{nearest_direction}
+use Rattle.field_direction.specs.Record.{FieldRecord}
+use Rattle.field_direction.specs.Direction.{nearest_direction}
 use Rattle.front.specs.declared.Corner.{Corner}
 use Rattle.front.specs.declared.Corner.TheVariants.{Reused, Fresh}
 use Rattle.front.specs.State.{State, node}

@@ -3,9 +3,9 @@ use Rattle.std.specs.Prelude.{Bool, true, false, not, ◌&&◌, ◌||◌, ℕ, e
 use Rattle.std.specs.Float.Ieee.{le}
 use Rattle.laws.specs.Loop.{any_up}
 use Rattle.numbers.specs.Float.{◌⊗◌, is_finite}
-use Rattle.domain.specs.declared.Point.{Point}
-use Rattle.domain.specs.Outline.{Outline, point}
-use Rattle.domain.specs.Queries.{contains}
+use Rattle.outline.specs.declared.Point.{Point}
+use Rattle.outline.specs.Outline.{Outline, point}
+use Rattle.outline.specs.Queries.{contains}
 use Rattle.geometry.specs.declared.Corners.{Corners}
 use Rattle.geometry.specs.Plane.{distance, convex_ccw, point_in_convex, segments_cross, centroid}
 use Rattle.geometry.specs.Keys.{is_candidate, clearance, is_too_close, is_in_box}

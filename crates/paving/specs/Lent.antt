@@ -1,7 +1,7 @@
 -- What is lent round a paving, in the words of the definitions. Definitions only.
 use Rattle.std.specs.Prelude.{◌≡◌, [], Float}
-use Rattle.domain.specs.Outline.{Outline, outline_of}
-use Rattle.direction.specs.Record.{FieldRecord, field_record}
+use Rattle.outline.specs.Outline.{Outline, outline_of}
+use Rattle.field_direction.specs.Record.{FieldRecord, field_record}
 use Rattle.paving.specs.declared.Surroundings.{Surroundings}
 use Rattle.paving.specs.declared.Scratch.{Scratch}
 

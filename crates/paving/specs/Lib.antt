@@ -1,6 +1,5 @@
 pub mod Advance
 pub mod Attempt
-pub mod AttemptLaws
 pub mod Checks
 pub mod Ends
 pub mod Loops

@@ -1,7 +1,7 @@
 -- The states that a run of passes goes through: from one to the next by a snapshot or by one quad of the reference. Definitions only.
 use Rattle.std.specs.Prelude.{◌≡◌, true, false, ℕ, suc, Float, Some}
-use Rattle.domain.specs.declared.Point.{Point}
-use Rattle.domain.specs.Outline.{Outline}
+use Rattle.outline.specs.declared.Point.{Point}
+use Rattle.outline.specs.Outline.{Outline}
 use Rattle.front.specs.declared.Corner.{Corner}
 use Rattle.front.specs.State.{State}
 use Rattle.front.specs.Place.{place, is_full}

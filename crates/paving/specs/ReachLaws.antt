@@ -7,11 +7,11 @@ use Rattle.std.proofs.Math.ListN.{get_or}
 use Rattle.std.specs.Float.Ieee.{le}
 use Rattle.laws.specs.Loop.{go, out, Kept, run_keeps}
 use Rattle.numbers.specs.Float.{◌⊖◌, tolerance}
-use Rattle.domain.specs.declared.Point.{Point}
-use Rattle.domain.specs.Outline.{Outline}
+use Rattle.outline.specs.declared.Point.{Point}
+use Rattle.outline.specs.Outline.{Outline}
 use Rattle.exact.specs.Corner.{norm}
-use Rattle.direction.specs.Record.{FieldRecord}
-use Rattle.direction.specs.Direction.{nearest_direction}
+use Rattle.field_direction.specs.Record.{FieldRecord}
+use Rattle.field_direction.specs.Direction.{nearest_direction}
 use Rattle.front.specs.declared.Corner.{Corner}
 use Rattle.front.specs.State.{State, node}
 use Rattle.front.specs.Place.{place, is_full}

@@ -2,13 +2,13 @@
 #![tactic(auto)]
 
 ghost use Rattle.std.specs.Prelude.{◌≡◌};
-ghost use Rattle.domain.specs.Outline.{outline_of};
-ghost use Rattle.blocks.specs.Blocks.{Drawn};
+ghost use Rattle.outline.specs.Outline.{outline_of};
+ghost use Rattle.outline_blocks.specs.Blocks.{Drawn};
 ghost use Rattle.paving.specs.Ends.{end_number};
 
-use blocks::DrawnOutline;
-use direction::CrossField;
-use domain::Domain;
+use field_direction::CrossField;
+use outline::Domain;
+use outline_blocks::DrawnOutline;
 
 // How a run of passes ends.
 #[derive(Clone, Copy)]

@@ -1,3 +1,1 @@
--- The definitions: Compare. Laws says that they compare lists.
 pub mod Compare
-pub mod Laws

@@ -1,23 +1,23 @@
 -- THE RUN: what is lent, what is answered, and what a caller gets. Definitions only.
 use Rattle.std.specs.Prelude.{Bool, List, ◌++◌, ◌≡◌, ℕ, min, length, take, drop, Float, Result, Ok, Err, IfOk, OnErr}
 use Rattle.laws.specs.Overlay.{overlay}
-use Rattle.domain.specs.declared.Settings.{Settings}
-use Rattle.domain.specs.Outline.{Outline, first_of}
-use Rattle.domain.specs.Queries.{answer_by}
-use Rattle.direction.specs.declared.Grid.{Grid}
-use Rattle.direction.specs.Record.{FieldLists, field_lists, FieldRecord}
+use Rattle.outline.specs.declared.Settings.{Settings}
+use Rattle.outline.specs.Outline.{Outline, first_of}
+use Rattle.outline.specs.Queries.{answer_by}
+use Rattle.field_direction.specs.declared.Grid.{Grid}
+use Rattle.field_direction.specs.Record.{FieldLists, field_lists, FieldRecord}
 use Rattle.front.specs.declared.Counts.{Counts}
 use Rattle.front.specs.State.{State, state_of}
 use Rattle.paving.specs.declared.End.{End}
 use Rattle.paving.specs.Advance.{EndedPaving}
-use Rattle.whole_run.specs.Run.{run_refusal, WholeRun, run_of}
-use Rattle.loops.specs.declared.Listed.{Listed}
-use Rattle.loops.specs.Listed as loops
-use Rattle.sound_outlines.specs.Whole.{is_whole}
+use Rattle.run_whole.specs.Run.{run_refusal, WholeRun, run_of}
+use Rattle.front_loop_list.specs.declared.Listed.{Listed}
+use Rattle.front_loop_list.specs.Listed as loops
+use Rattle.outline_sound.specs.Whole.{is_whole}
 use Rattle.books.specs.Holds.{BooksAnswered}
-use Rattle.origins.specs.Origins.{origins_after, OriginsAnswered}
+use Rattle.run_origins.specs.Origins.{origins_after, OriginsAnswered}
 use Rattle.run_refusal.specs.Lengths.{lengths_refusal}
-use Rattle.sampled_advance.specs.Asked.{unused}
+use Rattle.run_sampled_advance.specs.Asked.{unused}
 use Rattle.run.specs.declared.Paved.{Paved}
 
 -- ---- what is handed over

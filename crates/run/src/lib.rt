@@ -2,21 +2,21 @@
 #![tactic(auto)]
 
 ghost use Rattle.std.specs.Prelude.{◌≡◌, Ok};
-ghost use Rattle.domain.specs.Outline.{outline_of};
-ghost use Rattle.domain.specs.Refusals.{refused, numbered};
-ghost use Rattle.direction.specs.Record.{field_lists, field_record};
+ghost use Rattle.outline.specs.Outline.{outline_of};
+ghost use Rattle.outline.specs.Refusals.{refused, numbered};
+ghost use Rattle.field_direction.specs.Record.{field_lists, field_record};
 ghost use Rattle.front.specs.Lent.{paving_state, SameLists};
 ghost use Rattle.paving.specs.Advance.{paved};
 ghost use Rattle.paving.specs.Lent.{SameScratch};
-ghost use Rattle.whole_run.specs.Run.{run_refusal, run_of};
-ghost use Rattle.sampled_advance.specs.Asked.{unsampled, CanPave};
+ghost use Rattle.run_whole.specs.Run.{run_refusal, run_of};
+ghost use Rattle.run_sampled_advance.specs.Asked.{unsampled, CanPave};
 ghost use Rattle.run.specs.Run.{snapshot_places, refusal_of, drawn_and_paved, accepted_run, ran, Paves, Spares};
 ghost use Rattle.run.specs.Lent.{lent_in, scratch_in, SameRunLists};
 
-use direction::{CrossField, Grid};
-use domain::{Domain, Refusal, Settings};
+use field_direction::{CrossField, Grid};
 use front::{Counts, Paving};
-use loops::Listed;
+use front_loop_list::Listed;
+use outline::{Domain, Refusal, Settings};
 use paving::{End, Scratch, Surroundings};
 use run_refusal::RunPlaces;
 
@@ -113,7 +113,7 @@ fn draw_and_pave(
         ≡ run_of (outline_of domain.entry) settings (field_lists values.old marks.old) (unsampled paving.old snapshot.old) }
 {
     let size = run_size(settings);
-    let grid = crossfield::make_field(domain, size, settings.sweeps, values, marks, blocks);
+    let grid = field_cross::make_field(domain, size, settings.sweeps, values, marks, blocks);
     let field = CrossField { grid, values };
     let around = Surroundings {
         domain,
@@ -122,7 +122,7 @@ fn draw_and_pave(
         field,
     };
     let passes = settings.passes;
-    let end = sampled_advance::sample_and_advance(&around, paving, snapshot, scratch, passes);
+    let end = run_sampled_advance::sample_and_advance(&around, paving, snapshot, scratch, passes);
     (grid, end)
 }
 
@@ -161,15 +161,21 @@ fn pave_in(
         blocks,
     );
     let counts = paving.counts;
-    origins::number_nodes(
+    run_origins::number_nodes(
         domain,
         settings.size,
         paving.quads(),
         counts.quads,
         lists.origins,
     );
-    let listed = loops::front_loops(counts, paving.next(), snapshot, lists.loops, lists.lengths);
-    let whole = soundness::is_whole(domain, listed.count);
+    let listed = front_loop_list::front_loops(
+        counts,
+        paving.next(),
+        snapshot,
+        lists.loops,
+        lists.lengths,
+    );
+    let whole = outline_soundness::is_whole(domain, listed.count);
     Paved {
         end,
         grid,

@@ -2,14 +2,14 @@
 #![tactic(auto)]
 
 ghost use Rattle.std.specs.Prelude.{◌≡◌, min};
-ghost use Rattle.domain.specs.Outline.{outline_of, first_of};
-ghost use Rattle.domain.specs.Refusals.{refused};
-ghost use Rattle.crossfield.specs.Field.{refusal_for};
+ghost use Rattle.outline.specs.Outline.{outline_of, first_of};
+ghost use Rattle.outline.specs.Refusals.{refused};
+ghost use Rattle.field_cross.specs.Field.{refusal_for};
 ghost use Rattle.front.specs.State.{most_nodes};
 ghost use Rattle.front.specs.Sampling.{sampled_refusal};
 ghost use Rattle.run_refusal.specs.Lengths.{lengths_refusal};
 
-use domain::{Domain, Refusal};
+use outline::{Domain, Refusal};
 
 // How many places there are for field nodes, nodes, edges and lengths of loops.
 #[derive(Clone, Copy)]
@@ -21,7 +21,7 @@ pub struct RunPlaces {
 }
 
 // Where so many places are lent.
-#[tactic(auto, using(domain::proofs::Refused::first_refused))]
+#[tactic(auto, using(outline::proofs::Refused::first_refused))]
 pub fn check_run(
     domain: Domain<'_>,
     size: f64,
@@ -34,8 +34,8 @@ pub fn check_run(
         (sampled_refusal (outline_of domain.entry) size (min places.nodes most_nodes) places.edges))
         (lengths_refusal (outline_of domain.entry) places.lengths) }
 {
-    crossfield::check_field(domain, size, sweeps, places.field)?;
-    boundary::check_front_places(domain, size, places.nodes, places.edges)?;
+    field_cross::check_field(domain, size, sweeps, places.field)?;
+    front_boundary::check_front_places(domain, size, places.nodes, places.edges)?;
     if domain.lens.len() < places.lengths {
         Ok(())
     } else {

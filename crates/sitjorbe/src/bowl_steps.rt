@@ -1,5 +1,5 @@
 ghost use Rattle.front.specs.State.{counted};
-ghost use Rattle.mesh_check.specs.Check.{lent_state};
+ghost use Rattle.hand_mesh_check.specs.Check.{lent_state};
 ghost use Rattle.bowl.specs.Stepped.{MeshStepped};
 
 use bowl::StepsAnswer;

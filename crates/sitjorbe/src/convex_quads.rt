@@ -1,5 +1,5 @@
 ghost use Rattle.std.specs.Prelude.{◌≡◌};
-ghost use Rattle.lattice.specs.Fours.{fours, fours_answer, small_quads};
+ghost use Rattle.small_quads_lattice.specs.Fours.{fours, fours_answer, small_quads};
 
 use small_quads::SmallQuadsAnswer;
 

@@ -1,8 +1,8 @@
 ghost use Rattle.std.specs.Prelude.{◌≡◌};
-ghost use Rattle.domain.specs.Outline.{outline, point};
-ghost use Rattle.direction.specs.Record.{field_lists, field_record};
-ghost use Rattle.direction.specs.Direction.{direction_answer};
-ghost use Rattle.crossfield.specs.Field.{field_answer};
+ghost use Rattle.outline.specs.Outline.{outline, point};
+ghost use Rattle.field_direction.specs.Record.{field_lists, field_record};
+ghost use Rattle.field_direction.specs.Direction.{direction_answer};
+ghost use Rattle.field_cross.specs.Field.{field_answer};
 ghost use Rattle.field_entries.specs.Answers.{grid_lent, field_exit, field_numbers, direction_numbers};
 
 use field_entries::{DirectionAnswer, FieldRecordAnswer};

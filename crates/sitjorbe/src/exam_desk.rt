@@ -1,4 +1,4 @@
-ghost use Rattle.thresholds.specs.Figures.{results};
+ghost use Rattle.exam_thresholds.specs.Figures.{results};
 ghost use Rattle.exam.specs.Exam.{request_numbered, exam_mesh};
 ghost use Rattle.exam.specs.Statement.{ExamGiven};
 

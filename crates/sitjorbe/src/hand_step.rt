@@ -1,10 +1,10 @@
-ghost use Rattle.domain.specs.Outline.{outline};
-ghost use Rattle.direction.specs.Record.{field_record};
+ghost use Rattle.outline.specs.Outline.{outline};
+ghost use Rattle.field_direction.specs.Record.{field_record};
 ghost use Rattle.front.specs.State.{counted};
-ghost use Rattle.mesh_check.specs.Check.{lent_state};
-ghost use Rattle.step_entries.specs.Entries.{grid_given, counts_given, HostSteps, HostPreviews};
+ghost use Rattle.hand_mesh_check.specs.Check.{lent_state};
+ghost use Rattle.hand_step_entries.specs.Entries.{grid_given, counts_given, HostSteps, HostPreviews};
 
-use step_answers::{PreviewAnswer, StepAnswer};
+use hand_step_answers::{PreviewAnswer, StepAnswer};
 
 // A step on the front edge a to b, in the mesh lent: one quad placed or none. Refusals are 1 to 7, 11, 23 and 24, in that order. New nodes take what stands in
 // `origins` at node a.
@@ -42,7 +42,7 @@ pub extern "C" fn sitjorbe_step<'a>(
         (lent_state xs.new ys.new next.new prev.new origins.new quads.new
         edges.new (counts_given (counted node_count quad_count edge_count front_count) result)) origins.new }
 {
-    step_entries::sitjorbe_step(
+    hand_step_entries::sitjorbe_step(
         outer,
         holes,
         lens,
@@ -105,7 +105,7 @@ pub extern "C" fn sitjorbe_preview<'a>(
         (lent_state xs.now ys.now next.now prev.now origins.now quads.now
         edges.now (counted node_count quad_count edge_count front_count)) list.old result list.new }
 {
-    step_entries::sitjorbe_preview(
+    hand_step_entries::sitjorbe_preview(
         outer,
         holes,
         lens,

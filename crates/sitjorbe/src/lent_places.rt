@@ -1,7 +1,7 @@
-ghost use Rattle.domain.specs.Outline.{outline};
-ghost use Rattle.places.specs.Needed.{PlacesGiven};
+ghost use Rattle.outline.specs.Outline.{outline};
+ghost use Rattle.run_places.specs.Needed.{PlacesGiven};
 
-use places::PlacesAnswer;
+use run_places::PlacesAnswer;
 
 // The places that a run of this outline and size can't do without. Quads, and the nodes and edges that they add, need more.
 #[unsafe(no_mangle)]
@@ -13,5 +13,5 @@ pub extern "C" fn sitjorbe_places<'a>(
 ) -> PlacesAnswer
     ensures { PlacesGiven (outline outer.now holes.now lens.now) size result }
 {
-    places::sitjorbe_places(outer, holes, lens, size)
+    run_places::sitjorbe_places(outer, holes, lens, size)
 }

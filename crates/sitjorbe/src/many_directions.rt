@@ -1,4 +1,4 @@
-ghost use Rattle.directions.specs.Directions.{record_lent, DirectionsGiven};
+ghost use Rattle.field_directions.specs.Directions.{record_lent, DirectionsGiven};
 
 // Of the field's four directions at each point the one nearest to its target, which may be any two floats: three floats a point, 0 and the direction, or
 // the number of what refuses the point and two zeros. Nothing is written where the whole list is refused.
@@ -18,7 +18,7 @@ pub extern "C" fn sitjorbe_directions(
     ensures { DirectionsGiven (record_lent xmin ymin h nx ny values.now marks.now) points.now
         targets.now answers.old result answers.new }
 {
-    directions::sitjorbe_directions(
+    field_directions::sitjorbe_directions(
         xmin, ymin, h, nx, ny, values, marks, points, targets, answers,
     )
 }

@@ -1,8 +1,8 @@
-ghost use Rattle.domain.specs.Outline.{outline};
+ghost use Rattle.outline.specs.Outline.{outline};
 ghost use Rattle.run.specs.Run.{settings, lent, scratch, Spares};
-ghost use Rattle.mesher.specs.Answers.{HostPaves};
+ghost use Rattle.run_mesher.specs.Answers.{HostPaves};
 
-use pave_answer::PaveAnswer;
+use run_pave_answer::PaveAnswer;
 
 // The run whole, from the field to the loops of the front, in the lists lent. `origins` gets for each node the number of the outline's loop that it came from.
 // Nothing is written on a refusal. The pools, the list of blocks and `tried` are scratch of any length, which searches go by as far as they have room, and
@@ -41,7 +41,7 @@ pub extern "C" fn sitjorbe_pave<'a>(
         × Spares result.refusal (scratch node_pool.old edge_pool.old blocks.old tried.old)
         (scratch node_pool.new edge_pool.new blocks.new tried.new) }
 {
-    mesher::sitjorbe_pave(
+    run_mesher::sitjorbe_pave(
         outer, holes, lens, size, sweeps, passes, values, marks, xs, ys, next, prev, snapshot,
         origins, quads, edges, loops, lengths, node_pool, edge_pool, blocks, tried,
     )

@@ -1,8 +1,8 @@
 ghost use Rattle.std.specs.Prelude.{◌≡◌};
-ghost use Rattle.domain.specs.Outline.{outline, point};
-ghost use Rattle.queries.specs.Answers.{contains_answer, distance_answer, contains_numbers, NearestGiven, distance_numbers};
+ghost use Rattle.outline.specs.Outline.{outline, point};
+ghost use Rattle.outline_queries.specs.Answers.{contains_answer, distance_answer, contains_numbers, NearestGiven, distance_numbers};
 
-use queries::{ContainsAnswer, DistanceAnswer, NearestAnswer};
+use outline_queries::{ContainsAnswer, DistanceAnswer, NearestAnswer};
 
 // Whether the point is inside the outer loop and outside every hole.
 #[unsafe(no_mangle)]
@@ -15,7 +15,7 @@ pub extern "C" fn sitjorbe_contains<'a>(
 ) -> ContainsAnswer
     ensures { result ≡ contains_numbers (contains_answer (outline outer.now holes.now lens.now) (point x y)) }
 {
-    queries::sitjorbe_contains(outer, holes, lens, x, y)
+    outline_queries::sitjorbe_contains(outer, holes, lens, x, y)
 }
 
 // The segment of the outline nearest to the point, from a to b, and its distance; its loop, 0 for the outer one, and its place there.
@@ -29,7 +29,7 @@ pub extern "C" fn sitjorbe_nearest_segment<'a>(
 ) -> NearestAnswer
     ensures { NearestGiven (outline outer.now holes.now lens.now) (point x y) result }
 {
-    queries::sitjorbe_nearest_segment(outer, holes, lens, x, y)
+    outline_queries::sitjorbe_nearest_segment(outer, holes, lens, x, y)
 }
 
 // The distance from the point to the nearest segment of the outline.
@@ -43,5 +43,5 @@ pub extern "C" fn sitjorbe_distance_to_boundary<'a>(
 ) -> DistanceAnswer
     ensures { result ≡ distance_numbers (distance_answer (outline outer.now holes.now lens.now) (point x y)) }
 {
-    queries::sitjorbe_distance_to_boundary(outer, holes, lens, x, y)
+    outline_queries::sitjorbe_distance_to_boundary(outer, holes, lens, x, y)
 }

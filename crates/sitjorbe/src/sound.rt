@@ -1,8 +1,8 @@
 ghost use Rattle.std.specs.Prelude.{◌≡◌};
-ghost use Rattle.domain.specs.Outline.{outline};
-ghost use Rattle.sound_entry.specs.Answer.{sound_answer};
+ghost use Rattle.outline.specs.Outline.{outline};
+ghost use Rattle.outline_sound_entry.specs.Answer.{sound_answer};
 
-use sound_entry::SoundAnswer;
+use outline_sound_entry::SoundAnswer;
 
 // Whether the outline is sound; refusals 1 to 4 come first, with false.
 #[unsafe(no_mangle)]
@@ -13,5 +13,5 @@ pub extern "C" fn sitjorbe_sound<'a>(
 ) -> SoundAnswer
     ensures { result ≡ sound_answer (outline outer.now holes.now lens.now) }
 {
-    sound_entry::sitjorbe_sound(outer, holes, lens)
+    outline_sound_entry::sitjorbe_sound(outer, holes, lens)
 }

@@ -5,12 +5,12 @@ use Rattle.std.proofs.Common.{sym, ◌∙◌, arith, lt-ltb, le-ltb}
 use Rattle.std.proofs.Math.Path.{ap, ap₂}
 use Rattle.std.specs.Bool.{beq}
 use Rattle.std.proofs.Math.Dec.{ltb}
-use Rattle.laws.specs.Chain.{passes, fails}
+use Rattle.laws.proofs.Chain.{passes, fails}
 use Rattle.laws.specs.Loop.{for_up, any_up, any_none}
 use Rattle.exact.specs.Corner.{cross, squared_length, sine_above_third}
-use Rattle.lattice.specs.Fours.{lattice_step, corner_turns}
-use Rattle.lattice.specs.Tables.{grid_step, same_bool}
-use Rattle.lattice.specs.Same.{shifted_difference, vector_of}
+use Rattle.small_quads_lattice.specs.Fours.{lattice_step, corner_turns}
+use Rattle.small_quads_lattice.specs.Tables.{grid_step, same_bool}
+use Rattle.small_quads_lattice.specs.Same.{shifted_difference, vector_of}
 
 -- ---- definitions
 

@@ -7,8 +7,8 @@ use Rattle.std.proofs.Math.ListN.{length}
 use Rattle.std.proofs.lemmas.List.Edits.{sets}
 use Rattle.laws.specs.Loop.{for_up}
 use Rattle.laws.specs.Overlay.{overlay, overlay_length, overlay_more}
-use Rattle.lattice.specs.Fours.{first_point, second_point, third_point, fourth_point, accepted_four, above_third, points_of, four_turn, fours, fours_answer, small_quads}
-use Rattle.lattice.specs.Same.{fours_same}
+use Rattle.small_quads_lattice.specs.Fours.{first_point, second_point, third_point, fourth_point, accepted_four, above_third, points_of, four_turn, fours, fours_answer, small_quads}
+use Rattle.small_quads_lattice.specs.Same.{fours_same}
 
 -- the fours of the list below k
 unfoldable pub fours_below : ℕ → List ℕ

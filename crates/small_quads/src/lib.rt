@@ -3,11 +3,11 @@
 
 ghost use Rattle.std.specs.Prelude.{◌≡◌, cond, ◌+◌, ◌-◌, ◌*◌, ◌/◌, ◌%◌, ◌<◌, ◌≤◌, length};
 ghost use Rattle.std.proofs.lemmas.List.Edits.{sets};
-ghost use Rattle.lattice.specs.Fours.{corner_turns, above_third, points_of, fours, fours_answer, small_quads};
+ghost use Rattle.small_quads_lattice.specs.Fours.{corner_turns, above_third, points_of, fours, fours_answer, small_quads};
 ghost use Rattle.small_quads.specs.Integers.{step_squared, left_turn};
 ghost use Rattle.small_quads.specs.ListLaws.{FourFits};
 
-use domain::Refusal;
+use outline::Refusal;
 
 // Stays a number beside the value: the C interface needs it.
 // `refusal` is 26 where the lent list is too short, 0 otherwise; `count` is how many fours are listed.
@@ -86,7 +86,7 @@ fn points_of(k: u32) -> [u32; 4]
 }
 
 // Whether the four k turns so at all four corners.
-#[tactic(auto, unfolding(lattice::specs::Fours::above_third))]
+#[tactic(auto, unfolding(small_quads_lattice::specs::Fours::above_third))]
 fn is_small_quad(k: u32) -> bool
     requires { k < 65536 }
     ensures { result ≡ above_third k }

@@ -6,3 +6,6 @@ pub mod LongLoops
 pub mod Pigeonhole
 pub mod Placing
 pub mod Walk
+pub mod Changes
+pub mod Examples
+pub mod Laying

@@ -3,7 +3,7 @@ use Rattle.std.specs.Prelude.{Bool, true, false, List, [], ◌∷◌, ◌≡◌,
 use Rattle.std.proofs.Common.{arith, eqb-true}
 use Rattle.std.proofs.lemmas.Bool.{eqb-false}
 use Rattle.laws.specs.Loop.{sum_up}
-use Rattle.laws.specs.Sums.{sum_zero, sum_suc, sum_most}
+use Rattle.laws.proofs.Sums.{sum_zero, sum_suc, sum_most}
 use Rattle.topology.specs.Sums.{total}
 use Rattle.topology.specs.Links.{delta, delta_same}
 use Rattle.topology.specs.Front.{Loops}

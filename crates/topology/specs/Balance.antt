@@ -5,7 +5,7 @@ use mathlib.Core.List.{List, [], ◌∷◌}
 use Rattle.std.proofs.Math.Path.{sym}
 use Rattle.std.proofs.Common.{◌∙◌, ap, ap₂}
 use Rattle.std.proofs.Math.IntN.{neg_ℤ-+ℤ, pos-+ℤ-pos}
-use Rattle.laws.specs.Integer.{+ℤ_swap}
+use Rattle.laws.proofs.Integer.{+ℤ_swap}
 
 -- ---- sums over ℤ
 

@@ -1,4 +1,4 @@
-//! The blocks of an outline, as crates/blocks/specs/Blocks.antt has them: up to 16 consecutive segments of one loop, with four numbers
+//! The blocks of an outline, as crates/outline_blocks/specs/Blocks.antt has them: up to 16 consecutive segments of one loop, with four numbers
 //! in the list lent for them.
 
 use std::ops::Range;

@@ -546,7 +546,7 @@ pub struct Filed {
     pub all: [usize; 2],
 }
 
-/// The places of a pool of this length, if it has a cell: crates/pools/specs/Pool.antt has the layout.
+/// The places of a pool of this length, if it has a cell: crates/index_pools/specs/Pool.antt has the layout.
 pub fn pool_places(length: usize) -> Option<usize> {
     (length >= 4).then(|| (length - 2 - length / 4) / 2)
 }

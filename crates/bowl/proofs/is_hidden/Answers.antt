@@ -1,6 +1,6 @@
 -- `bowl::is_hidden` meets its contract.
 use Rattle.std.proofs.Common.{◌+◌, ◌*◌, arith}
-use Rattle.lent_mesh.specs.Mesh.{quad_in}
+use Rattle.front_lent_mesh.specs.Mesh.{quad_in}
 use Rattle.bowl.proofs.is_hidden.Goals as goal
 
 pub is_shown-requires : goal.is_shown-requires

@@ -1,10 +1,10 @@
 -- `bowl::is_shown` meets its contract: `shown_is`.
 use mathlib.Core.Bool.{◌&&◌}
 use mathlib.Core.Path.{◌≡◌, sym, ◌∙◌}
-use Rattle.laws.specs.Chain.{passes, fails}
+use Rattle.laws.proofs.Chain.{passes, fails}
 use Rattle.bowl.specs.Steps.{turns_left, is_shown}
 use Rattle.bowl.specs.Stepped.{vector}
-use Rattle.bowl.specs.StepsLaws.{shown_is}
+use Rattle.bowl.proofs.StepsLaws.{shown_is}
 use Rattle.bowl.proofs.is_shown.Goals as goal
 use Rattle.bowl.proofs.is_shown.Goals.{After-way-ca, then-is_left, else-is_left, then-is_left-2, else-is_left-2}
 

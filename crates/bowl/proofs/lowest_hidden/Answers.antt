@@ -1,7 +1,7 @@
 -- `bowl::lowest_hidden` meets its contract.
 use Rattle.std.proofs.Common.{rules, tests, Bool, ◌≡◌, true, false, ℕ}
 use Rattle.std.proofs.lemmas.Iterator.{serves_from_Range, first_from_Range}
-use Rattle.lent_mesh.specs.Mesh.{quad_in}
+use Rattle.front_lent_mesh.specs.Mesh.{quad_in}
 use Rattle.bowl.specs.Steps.{is_shown}
 use Rattle.bowl.proofs.Searched.{found_lowest}
 use Rattle.bowl.proofs.lowest_hidden.Goals as goal

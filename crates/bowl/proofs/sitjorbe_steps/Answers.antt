@@ -3,9 +3,9 @@ use mathlib.Core.Path.{sym, ◌∙◌, ap}
 use borrow.Author.Rules.{rules}
 use Rattle.front.specs.declared.Counts.{Counts}
 use Rattle.front.specs.State.{State, counted}
-use Rattle.mesh_check.specs.Check.{lent_state}
+use Rattle.hand_mesh_check.specs.Check.{lent_state}
 use Rattle.bowl.specs.declared.StepsAnswer.{StepsAnswer}
-use Rattle.bowl.specs.GivenLaws.{nodes_within, given_passes, mesh_stored, mesh_refused}
+use Rattle.bowl.proofs.GivenLaws.{nodes_within, given_passes, mesh_stored, mesh_refused}
 use Rattle.bowl.proofs.sitjorbe_steps.Goals as goal
 use Rattle.bowl.proofs.sitjorbe_steps.Goals.{Start}
 

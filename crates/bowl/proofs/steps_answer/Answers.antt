@@ -2,14 +2,14 @@
 use Rattle.std.proofs.Common.{◌≡◌, true, false, ℕ, Result, Ok, Err, refl, sym, ap, ◌∙◌}
 use Rattle.std.proofs.Math.Path.{ap₂}
 use Rattle.std.specs.Result.{is_err}
-use Rattle.domain.specs.declared.Refusal.{Refusal}
-use Rattle.domain.specs.Refusals.{refused}
-use Rattle.domain.proofs.Refused.{refusal_some}
+use Rattle.outline.specs.declared.Refusal.{Refusal}
+use Rattle.outline.specs.Refusals.{refused}
+use Rattle.outline.proofs.Refused.{refusal_some}
 use Rattle.bowl.specs.declared.StepsAnswer.{StepsAnswer}
 use Rattle.bowl.specs.Steps.{steps_given, hidden_answer}
 use Rattle.front.specs.State.{State}
-use Rattle.mesh_check.specs.Check.{lent_in}
-use Rattle.bowl.specs.GivenLaws.{quads_within, answer_mesh, answer_places, answer_quads}
+use Rattle.hand_mesh_check.specs.Check.{lent_in}
+use Rattle.bowl.proofs.GivenLaws.{quads_within, answer_mesh, answer_places, answer_quads}
 use Rattle.bowl.proofs.steps_answer.Goals as goal
 use Rattle.bowl.proofs.steps_answer.Goals.{Start, then-is_err-via-then-is_err, then-is_err-via-else-is_err+then-places-lent}
 

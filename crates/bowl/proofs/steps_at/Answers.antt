@@ -1,5 +1,5 @@
 -- `bowl::steps_at` meets its contract: `steps_are`.
-use Rattle.bowl.specs.StepsLaws.{cast_fits, few_x, few_y, steps_are}
+use Rattle.bowl.proofs.StepsLaws.{cast_fits, few_x, few_y, steps_are}
 use Rattle.bowl.proofs.steps_at.Goals as goal
 
 pub overflow_cast-result : goal.overflow_cast-result

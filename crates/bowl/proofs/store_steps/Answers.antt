@@ -5,7 +5,7 @@ use lib.ListN.{length-set}
 use native.Mathlib.Omega.{arith}
 use Rattle.laws.specs.Loop.{loop_start_lem, loop_end}
 use Rattle.bowl.specs.Steps.{stored_steps}
-use Rattle.bowl.specs.StepsLaws.{store_length, store_next_lem}
+use Rattle.bowl.proofs.StepsLaws.{store_length, store_next_lem}
 use Rattle.bowl.proofs.store_steps.Goals as goal
 
 pub loop-i-init : goal.loop-i-init

@@ -1,6 +1,6 @@
 -- `file_listing::list_file` meets its contract: refused as the file is, or what was read listed. Assumes nothing.
 use Rattle.std.proofs.Common.{refl, sym, ap, ◌∙◌}
-use Rattle.domain.specs.Refusals.{numbered}
+use Rattle.outline.specs.Refusals.{numbered}
 use Rattle.listing.specs.Listing.{refused_listing}
 use Rattle.file_listing.specs.Laws.{RequestHeld, given_as, read_held, read_listed, refused_as, refused_listed}
 use Rattle.file_listing.proofs.list_file.Goals as goal

@@ -1,7 +1,7 @@
 -- `file_listing::list_outline` meets its contract: the run in the program's lists, then its listing. Assumes nothing.
 use Rattle.std.proofs.Common.{◌≡◌, arith}
-use Rattle.domain.specs.Outline.{outline_of}
-use Rattle.domain.specs.Refusals.{numbered}
+use Rattle.outline.specs.Outline.{outline_of}
+use Rattle.outline.specs.Refusals.{numbered}
 use Rattle.listing.specs.Buffer.{buffer, buffer_written}
 use Rattle.listing.specs.Listing.{listing}
 use Rattle.run.specs.Lent.{lent_in}

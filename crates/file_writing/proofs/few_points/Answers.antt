@@ -1,6 +1,6 @@
 -- `file_writing::few_points` meets its contract: the loop's invariant is `FewPoints`.
 use Rattle.std.proofs.Common.{arith}
-use Rattle.file_writing.specs.WriteLaws.{few_start, few_next, few_out, few_end}
+use Rattle.file_writing.proofs.WriteLaws.{few_start, few_next, few_out, few_end}
 use Rattle.file_writing.proofs.few_points.Goals as goal
 
 pub loop-n-init : goal.loop-n-init

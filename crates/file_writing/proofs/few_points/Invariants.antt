@@ -1,5 +1,5 @@
 -- `file_writing::few_points` meets its contract: the loop's invariant is `FewPoints`.
-use Rattle.file_writing.specs.WriteLaws.{FewPoints}
+use Rattle.file_writing.proofs.WriteLaws.{FewPoints}
 use Rattle.file_writing.proofs.few_points.Given as goal
 
 abbrev pub invariant-loop-n : goal.invariant-loop-n

@@ -2,11 +2,11 @@
 use Rattle.std.proofs.Common.{List, ℕ, replicate, ◌∙◌}
 use Rattle.std.proofs.lemmas.List.{length-replicate}
 use Rattle.file_writing.proofs.Bytes.{whole_block}
-use Rattle.file_writing.specs.RoundTrip.{head_length_lem}
-use Rattle.outline_file.specs.File.{head_bytes}
+use Rattle.file_writing.proofs.RoundTrip.{head_length_lem}
+use Rattle.file_outline.specs.File.{head_bytes}
 use native.Mathlib.Omega.{arith}
 use mathlib.Core.Path.{sym}
-use Rattle.file_writing.specs.WriteLaws.{sealed, head_put}
+use Rattle.file_writing.proofs.WriteLaws.{sealed, head_put}
 use Rattle.file_writing.proofs.head_block.Goals as goal
 
 pub returns : goal.returns

@@ -2,9 +2,9 @@
 use Rattle.std.proofs.Common.{List, ℕ, replicate, ◌∙◌}
 use Rattle.std.proofs.lemmas.List.{length-replicate}
 use Rattle.file_writing.proofs.Bytes.{whole_block}
-use Rattle.outline_file.specs.File.{point_bytes}
+use Rattle.file_outline.specs.File.{point_bytes}
 use native.Mathlib.Omega.{arith}
-use Rattle.file_writing.specs.WriteLaws.{sealed, points_used}
+use Rattle.file_writing.proofs.WriteLaws.{sealed, points_used}
 use Rattle.file_writing.proofs.points_block.Goals as goal
 
 pub returns : goal.returns

@@ -1,8 +1,8 @@
 -- `file_writing::put_lengths` meets its contract: the loop's invariant is `Pieces`.
 use Rattle.std.proofs.Common.{refl}
-use Rattle.file_writing.specs.WriteLaws.{pieces_next, pieces_end}
-use Rattle.file_writing.specs.RoundTrip.{bytes_length}
-use Rattle.outline_file.specs.File.{number_bytes, length_bytes}
+use Rattle.file_writing.proofs.WriteLaws.{pieces_next, pieces_end}
+use Rattle.file_writing.proofs.RoundTrip.{bytes_length}
+use Rattle.file_outline.specs.File.{number_bytes, length_bytes}
 use Rattle.file_writing.proofs.put_lengths.Goals as goal
 
 pub loop-k-preserved : goal.loop-k-preserved

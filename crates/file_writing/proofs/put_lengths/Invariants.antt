@@ -1,6 +1,6 @@
 -- `file_writing::put_lengths` meets its contract: the loop's invariant is `Pieces`.
-use Rattle.file_writing.specs.WriteLaws.{Pieces}
-use Rattle.outline_file.specs.File.{number_bytes}
+use Rattle.file_writing.proofs.WriteLaws.{Pieces}
+use Rattle.file_outline.specs.File.{number_bytes}
 use Rattle.file_writing.proofs.put_lengths.Given as goal
 
 abbrev pub invariant-loop-k : goal.invariant-loop-k

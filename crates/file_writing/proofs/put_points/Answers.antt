@@ -1,8 +1,8 @@
 -- `file_writing::put_points` meets its contract: the loop's invariant is `Pieces`.
 use Rattle.std.proofs.Common.{get_or, arith, ◌*◌}
 use Rattle.std.specs.Float.{nan}
-use Rattle.file_writing.specs.WriteLaws.{pieces_next, pieces_end, float_wide, put_float}
-use Rattle.outline_file.specs.File.{float_bytes, point_bytes}
+use Rattle.file_writing.proofs.WriteLaws.{pieces_next, pieces_end, float_wide, put_float}
+use Rattle.file_outline.specs.File.{float_bytes, point_bytes}
 use Rattle.file_writing.proofs.put_points.Goals as goal
 
 pub loop-c-preserved : goal.loop-c-preserved

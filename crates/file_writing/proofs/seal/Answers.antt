@@ -1,6 +1,6 @@
 -- `file_writing::seal` meets its contract: what the calls ensure makes it up.
 use Rattle.std.proofs.Common.{◌-◌, arith}
-use Rattle.file_writing.specs.WriteLaws.{block_sealed}
+use Rattle.file_writing.proofs.WriteLaws.{block_sealed}
 use Rattle.file_writing.proofs.Bytes.{zeros_put}
 use Rattle.file_writing.proofs.seal.Goals as goal
 

@@ -1,7 +1,7 @@
 -- `file_writing::write_blocks` meets its contract: the iterator has the points from block k on left, and the blocks before are written, as in `Blocks`.
 use Rattle.std.proofs.Common.{refl, ◌∙◌, arith, ap, ◌*◌, length, length-drop}
 use Rattle.std.specs.Iterator.Adapters.{enumerate_count}
-use Rattle.file_writing.specs.WriteLaws.{file_blocks_start, file_blocks_end}
+use Rattle.file_writing.proofs.WriteLaws.{file_blocks_start, file_blocks_end}
 use Rattle.file_writing.proofs.Bytes.{chunk_put, chunk_rest}
 use Rattle.file_writing.proofs.write_blocks.Goals as goal
 

@@ -2,8 +2,8 @@
 use Rattle.std.proofs.Common.{◌≡◌, ◌*◌, ◌/◌, length, drop}
 use Rattle.std.specs.Iterator.Adapters.{enumerate_source, enumerate_count}
 use Rattle.std.specs.Slice.Iter.{chunks_size, chunks_rest}
-use Rattle.file_writing.specs.WriteLaws.{Blocks}
-use Rattle.outline_file.specs.File.{point_blocks}
+use Rattle.file_writing.proofs.WriteLaws.{Blocks}
+use Rattle.file_outline.specs.File.{point_blocks}
 use Rattle.file_writing.proofs.write_blocks.Given as goal
 
 abbrev pub invariant-loop-k : goal.invariant-loop-k

@@ -1,6 +1,6 @@
 -- `geometry::ranges_meet` meets its contract: the library's order of whole numbers is the keys' (`KeyLaws`).
 use Rattle.std.proofs.Common.{sym, ◌∙◌}
-use Rattle.geometry.specs.KeyLaws.{back, back_of, ends_meet}
+use Rattle.geometry.proofs.KeyLaws.{back, back_of, ends_meet}
 use Rattle.geometry.specs.Keys.{ranges_meet}
 use Rattle.geometry.proofs.ranges_meet.Goals as goal
 

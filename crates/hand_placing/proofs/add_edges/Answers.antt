@@ -1,5 +1,5 @@
 -- `hand_placing::add_edges` meets its contract.
-use Rattle.hand_placing.specs.PlaceLaws.{first_pair}
+use Rattle.hand_placing.proofs.PlaceLaws.{first_pair}
 use Rattle.hand_placing.proofs.Next.{second_two}
 use Rattle.hand_placing.proofs.add_edges.Goals as goal
 

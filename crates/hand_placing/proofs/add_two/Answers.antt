@@ -1,5 +1,5 @@
 -- `hand_placing::add_two` meets its contract.
-use Rattle.hand_placing.specs.PlaceLaws.{first_edge_fits}
+use Rattle.hand_placing.proofs.PlaceLaws.{first_edge_fits}
 use Rattle.hand_placing.proofs.Next.{second_edge}
 use Rattle.hand_placing.proofs.add_two.Goals as goal
 

@@ -3,7 +3,7 @@ use Rattle.std.proofs.Common.{ap}
 use Rattle.front.specs.declared.NewQuad.{NewQuad}
 use Rattle.front.specs.State.{has_edge}
 use Rattle.front.specs.Place.{edges_added}
-use Rattle.hand_placing.specs.PlaceLaws.{full_is}
+use Rattle.hand_placing.proofs.PlaceLaws.{full_is}
 use Rattle.hand_placing.proofs.is_full.Goals as goal
 
 pub returns : goal.returns

@@ -1,6 +1,6 @@
 -- `index::any_in_chain` meets its contract: what is left of the chain answers.
 use Rattle.std.specs.Prelude.{Bool, ◌≡◌, ℕ, ◌≤◌, length}
-use Rattle.pools.specs.Pool.{capacity, own_at, link_at, falling, chain, any_of}
+use Rattle.index_pools.specs.Pool.{capacity, own_at, link_at, falling, chain, any_of}
 use Rattle.index.specs.Walk.{Decides}
 use Rattle.index.proofs.any_in_chain.Given as goal
 

@@ -1,8 +1,8 @@
 -- `index::any_in_row` meets its contract: the columns left answer.
 use Rattle.std.specs.Prelude.{ℕ, ◌+◌, ◌%◌, length}
 use Rattle.std.proofs.Common.{sym, ap, ◌∙◌, arith, rules}
-use Rattle.pools.specs.Pool.{cells}
-use Rattle.pools.specs.FileLaws.{cell_in, next_column}
+use Rattle.index_pools.specs.Pool.{cells}
+use Rattle.index_pools.specs.FileLaws.{cell_in, next_column}
 use Rattle.index.proofs.Walked.{row_hit, row_next, row_over}
 use Rattle.index.proofs.any_in_row.Goals as goal
 

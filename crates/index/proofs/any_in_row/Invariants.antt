@@ -1,6 +1,6 @@
 -- `index::any_in_row` meets its contract: the columns left answer.
 use Rattle.std.specs.Prelude.{Bool, ◌≡◌, ℕ, ◌+◌, ◌-◌, length}
-use Rattle.pools.specs.Pool.{cells, cell_of, span, any_of}
+use Rattle.index_pools.specs.Pool.{cells, cell_of, span, any_of}
 use Rattle.index.specs.Walk.{columns, Decides}
 use Rattle.index.proofs.any_in_row.Given as goal
 

@@ -3,8 +3,8 @@ use Rattle.std.specs.Prelude.{true, false}
 use Rattle.std.proofs.Common.{sym, ◌∙◌, arith, refl, rules, of_calls}
 use Rattle.std.proofs.lemmas.Iterator.{YieldsList-from_range, cases_from_any, serves_from_Range}
 use Rattle.laws.specs.Loop.{found_before}
-use Rattle.pools.specs.Filing.{unfound}
-use Rattle.index.specs.WalkLaws.{visited_filed}
+use Rattle.index_pools.specs.Filing.{unfound}
+use Rattle.index.proofs.WalkLaws.{visited_filed}
 use Rattle.index.proofs.Scan.{Answered, scanned}
 use Rattle.index.proofs.any_item.Goals as goal
 use Rattle.index.proofs.any_item.Goals.{then-any_visited, else-any_visited}

@@ -3,9 +3,9 @@ use Rattle.std.specs.Prelude.{ℕ, ◌≡◌, ◌+◌, ◌-◌, true, false, len
 use Rattle.std.proofs.Common.{sym, ap, ◌∙◌, arith, refl, rules, of_calls}
 use Rattle.std.proofs.lemmas.Bool.{lt-leb}
 use Rattle.std.proofs.lemmas.Iterator.{YieldsList-from_range, cases_from_any}
-use Rattle.pools.specs.Pool.{span, any_of}
+use Rattle.index_pools.specs.Pool.{span, any_of}
 use Rattle.index.specs.Walk.{across, columns, visited}
-use Rattle.index.specs.WalkLaws.{visited_short}
+use Rattle.index.proofs.WalkLaws.{visited_short}
 use Rattle.index.proofs.Walked.{across_any}
 use Rattle.index.proofs.any_visited.Goals as goal
 use Rattle.index.proofs.any_visited.Goals.{then-pool-ge4, else-pool-ge4}

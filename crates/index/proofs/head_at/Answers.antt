@@ -1,7 +1,7 @@
 -- `index::head_at` meets its contract: the cell's head stands in the list.
 use Rattle.std.specs.Prelude.{ℕ, ◌+◌, ◌<◌}
 use Rattle.std.proofs.Common.{arith}
-use Rattle.pools.specs.Pool.{cells}
+use Rattle.index_pools.specs.Pool.{cells}
 use Rattle.index.proofs.head_at.Goals as goal
 
 stands : (n cell : ℕ) → cell < cells n → 2 + cell < n

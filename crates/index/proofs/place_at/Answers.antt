@@ -2,8 +2,8 @@
 use Prim.Native.Nat.{◌<◌}
 use native.Mathlib.Omega.{arith}
 use lib.ListN.{length}
-use Rattle.pools.specs.Pool.{link_place}
-use Rattle.pools.specs.FileLaws.{place_fits}
+use Rattle.index_pools.specs.Pool.{link_place}
+use Rattle.index_pools.specs.FileLaws.{place_fits}
 use Rattle.index.proofs.place_at.Goals as goal
 use Rattle.index.proofs.place_at.Goals.{After-cells_of}
 

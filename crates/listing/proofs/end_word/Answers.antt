@@ -1,6 +1,6 @@
 use Rattle.std.proofs.Common.{sym, arith}
 use Rattle.listing.specs.Listing.{end_word}
-use Rattle.listing.specs.Cases.{end_full}
+use Rattle.listing.proofs.Cases.{end_full}
 use Rattle.listing.proofs.end_word.Goals as goal
 
 pub returns-in-0 : goal.returns-in-0

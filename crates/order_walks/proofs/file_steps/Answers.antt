@@ -1,8 +1,8 @@
 -- `order_walks::file_steps` meets its contract: the closure gives the key of the step.
 use Rattle.std.proofs.Common.{subst, sym, rules, arith}
 use Rattle.std.specs.Prelude.{ℕ, List}
-use Rattle.pools.specs.Pool.{Indexed}
-use Rattle.pools.specs.FileLaws.{indexed_none}
+use Rattle.index_pools.specs.Pool.{Indexed}
+use Rattle.index_pools.specs.FileLaws.{indexed_none}
 use Rattle.order_walks.specs.Steps.{step_rect}
 use Rattle.order_walks.proofs.file_steps.Goals as goal
 

@@ -1,7 +1,7 @@
 -- `order_walks::sitjorbe_order` meets its contract: the answer of its definition, on every input and whatever the scratch holds.
 use Rattle.std.specs.Prelude.{ℕ, ◌≡◌, refl, List, true, false}
 use Rattle.std.proofs.Common.{sym, ap₂, ◌∙◌}
-use Rattle.lent_mesh.specs.Mesh.{quad_count_of, quads_few}
+use Rattle.front_lent_mesh.specs.Mesh.{quad_count_of, quads_few}
 use Rattle.order.specs.declared.OrderAnswer.{OrderAnswer}
 use Rattle.order.specs.Order.{names_each_once, first_early, order_of, order_answer}
 use Rattle.order_walks.proofs.sitjorbe_order.Goals as goal

@@ -1,6 +1,6 @@
 -- `replay::check` meets its contract: the buffer has places for the whole listing.
 use native.Mathlib.Omega.{arith}
-use Rattle.replay.specs.Laws.{compared_as}
+use Rattle.replay.proofs.Laws.{compared_as}
 use Rattle.replay.proofs.check.Goals as goal
 
 pub returns : goal.returns

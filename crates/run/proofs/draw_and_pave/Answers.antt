@@ -1,9 +1,9 @@
 -- `run::draw_and_pave` meets its contract: the field gives what the paving asks. Assumes nothing.
 use mathlib.Core.Path.{sym, subst}
 use lib.Dec.{T}
-use Rattle.domain.specs.Outline.{outline_of}
-use Rattle.sampled_advance.specs.Asked.{unsampled, CanPave}
-use Rattle.run.specs.Laws.{none_field, can_pave, run_made}
+use Rattle.outline.specs.Outline.{outline_of}
+use Rattle.run_sampled_advance.specs.Asked.{unsampled, CanPave}
+use Rattle.run.proofs.Laws.{none_field, can_pave, run_made}
 use Rattle.run.proofs.draw_and_pave.Goals as goal
 use Rattle.run.proofs.draw_and_pave.Goals.{After-make_field-grid}
 

@@ -2,10 +2,10 @@
 use Rattle.std.specs.Prelude.{◌≡◌, Err}
 use Rattle.std.proofs.Common.{sym, arith}
 use Rattle.std.proofs.lemmas.Grind.{common_steps}
-use Rattle.domain.specs.Outline.{outline_of}
-use Rattle.domain.proofs.Refused.{refusal_some}
+use Rattle.outline.specs.Outline.{outline_of}
+use Rattle.outline.proofs.Refused.{refusal_some}
 use Rattle.run.specs.Lent.{lent_in}
-use Rattle.run.specs.Laws.{paves_accepted, paves_refused}
+use Rattle.run.proofs.Laws.{paves_accepted, paves_refused}
 use Rattle.run.proofs.pave.Goals as goal
 
 pub returns-in_err-check_places-clause-paves : goal.returns-in_err-check_places-clause-paves

@@ -1,12 +1,12 @@
 -- `run::pave_in` meets its contract: each stage gives what the next one asks, and together they are the run. Assumes nothing.
 use Rattle.std.specs.Prelude.{refl, take}
 use Rattle.std.proofs.Common.{arith}
-use Rattle.domain.specs.Outline.{outline_of}
-use Rattle.sampled_advance.specs.Laws.{can_number, can_list}
+use Rattle.outline.specs.Outline.{outline_of}
+use Rattle.run_sampled_advance.proofs.Laws.{can_number, can_list}
 use Rattle.run.specs.Run.{Lent, other_snapshot}
 use Rattle.run.specs.Lent.{lent_in}
-use Rattle.run.specs.Asked.{CanRun}
-use Rattle.run.specs.Laws.{can_run, paving_made, run_whole, run_broadened}
+use Rattle.run.proofs.Asked.{CanRun}
+use Rattle.run.proofs.Laws.{can_run, paving_made, run_whole, run_broadened}
 use Rattle.run.proofs.pave_in.Goals as goal
 use Rattle.run.proofs.pave_in.Goals.{After-snapshot_places-m}
 

@@ -1,7 +1,7 @@
 -- `run_refusal::check_run` meets its contract: an outline that the field takes is in shape.
 use Rattle.std.proofs.Common.{sym}
-use Rattle.domain.proofs.Accepted.{accepted}
-use Rattle.crossfield.specs.FieldLaws.{field_unrefused}
+use Rattle.outline.proofs.Accepted.{accepted}
+use Rattle.field_cross.proofs.FieldLaws.{field_unrefused}
 use Rattle.run_refusal.proofs.check_run.Goals as goal
 
 pub check_front_places-requires : goal.check_front_places-requires

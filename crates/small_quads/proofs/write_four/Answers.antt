@@ -1,7 +1,7 @@
 -- `small_quads::write_four` meets its contract: the part written is `sets`. Assumes nothing.
 use Rattle.std.proofs.Common.{◌≡◌, ℕ, ◌+◌, ◌-◌, ◌++◌, List, drop, take, sym, ap, ◌∙◌, append_assoc, drop-drop, arith}
 use Rattle.std.proofs.lemmas.List.Edits.{sets-eq}
-use Rattle.lattice.specs.Fours.{points_of}
+use Rattle.small_quads_lattice.specs.Fours.{points_of}
 use Rattle.small_quads.proofs.write_four.Goals as goal
 
 rest : (n : ℕ) (l : List ℕ) → drop (n + 4) l ≡ drop (n + 4 - n) (drop n l)

@@ -1,6 +1,6 @@
 -- `bowl::Steps::is_left` meets its contract: `left_is`.
 use native.Mathlib.Omega.{arith}
-use Rattle.bowl.specs.StepsLaws.{times_fits, left_is}
+use Rattle.bowl.proofs.StepsLaws.{times_fits, left_is}
 use Rattle.bowl.proofs.Steps.is_left.Goals as goal
 
 pub overflow_mul-result : goal.overflow_mul-result

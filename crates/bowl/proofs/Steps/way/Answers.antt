@@ -1,6 +1,6 @@
 -- `bowl::Steps::way` meets its contract: `way_is`.
 use native.Mathlib.Omega.{arith}
-use Rattle.bowl.specs.StepsLaws.{minus_fits, way_is}
+use Rattle.bowl.proofs.StepsLaws.{minus_fits, way_is}
 use Rattle.bowl.proofs.Steps.way.Goals as goal
 
 pub overflow_sub-result : goal.overflow_sub-result

@@ -1,6 +1,6 @@
 -- `Thresholds::estimate_at` meets its contract: what isn't refused can be estimated.
 use Rattle.std.proofs.Common.{arith}
-use Rattle.lent_mesh.specs.Mesh.{mesh_lent, quads_few}
+use Rattle.front_lent_mesh.specs.Mesh.{mesh_lent, quads_few}
 use Rattle.exam_results.specs.EstimateLaws.{answerable}
 use Rattle.exam_results.proofs.Thresholds.estimate_at.Goals as goal
 

@@ -1,5 +1,5 @@
 -- `Thresholds::node_share` meets its contract: the scan's invariant is `Scanned`.
-use Rattle.lent_mesh.specs.Mesh.{mesh_lent}
+use Rattle.front_lent_mesh.specs.Mesh.{mesh_lent}
 use Rattle.exam_results.specs.FigureLaws.{Scanned}
 use Rattle.exam_results.proofs.Thresholds.node_share.Given as goal
 

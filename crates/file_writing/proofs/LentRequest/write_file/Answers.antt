@@ -1,6 +1,6 @@
 -- `file_writing::LentRequest::write_file` meets its contract: refused, too short, or what the calls ensure makes it up.
-use Rattle.file_writing.specs.WriteLaws.{write_refused_lem, is_fileable, few_coordinates, write_short, blocks_room, write_whole}
-use Rattle.file_writing.specs.RoundTrip.{head_wide}
+use Rattle.file_writing.proofs.WriteLaws.{write_refused_lem, is_fileable, few_coordinates, write_short, blocks_room, write_whole}
+use Rattle.file_writing.proofs.RoundTrip.{head_wide}
 use Rattle.file_writing.proofs.Bytes.{first_block_put}
 use Rattle.file_writing.specs.Lent.{request_lent}
 use Rattle.std.proofs.Common.{arith, ap, ◌∙◌, not, length, length-take}

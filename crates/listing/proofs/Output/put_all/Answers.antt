@@ -1,5 +1,5 @@
 use Rattle.std.proofs.Common.{drop_of_length-le}
-use Rattle.listing.specs.Left.{bytes_next}
+use Rattle.listing.proofs.Left.{bytes_next}
 use Rattle.listing.proofs.Puts.{put_left_next, put_left_end}
 use Rattle.listing.proofs.Output.put_all.Goals as goal
 

@@ -1,4 +1,4 @@
-use Rattle.listing.specs.Left.{spaced_next, spaced_end}
+use Rattle.listing.proofs.Left.{spaced_next, spaced_end}
 use Rattle.listing.proofs.Puts.{put_left_next, put_left_end}
 use Rattle.listing.proofs.Output.put_all_spaced.Goals as goal
 

@@ -2,8 +2,8 @@
 use Rattle.std.proofs.Common.{◌∙◌, rules}
 use Rattle.std.proofs.Math.Bool.{Bool-set}
 use Rattle.std.proofs.Math.Logic.{∥∥₁_elim}
-use Rattle.index.specs.WalkLaws.{visited_filed}
-use Rattle.order_walks.specs.StepLaws.{back_meets}
+use Rattle.index.proofs.WalkLaws.{visited_filed}
+use Rattle.order_walks.proofs.StepLaws.{back_meets}
 use Rattle.order_walks.specs.Steps.{keeps_back}
 use Rattle.order_walks.proofs.Tested.any_back.Goals as goal
 

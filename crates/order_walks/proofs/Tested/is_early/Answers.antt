@@ -4,9 +4,9 @@ use Rattle.std.specs.Coded.{le_prop}
 use Rattle.std.proofs.Common.{sym, ap, ◌∙◌}
 use Rattle.std.proofs.Math.Logic.{∥∥₁_elim}
 use Rattle.laws.specs.Loop.{any_up}
-use Rattle.pools.specs.Pool.{filed}
+use Rattle.index_pools.specs.Pool.{filed}
 use Rattle.order_walks.specs.Steps.{keeps_back}
-use Rattle.order_walks.specs.StepLaws.{walks_some, walks_nothing}
+use Rattle.order_walks.proofs.StepLaws.{walks_some, walks_nothing}
 use Rattle.order_walks.proofs.Tested.is_early.Goals as goal
 use Rattle.order_walks.proofs.Tested.is_early.Goals.{Joined-any_back-2, then-any_back, else-any_back, then-any_back-2, else-any_back-2}
 

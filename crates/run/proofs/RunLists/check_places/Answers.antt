@@ -1,10 +1,10 @@
 -- `RunLists::check_places` meets its contract: of the lists of nodes the shortest counts, up to the most. Assumes nothing.
 use Rattle.std.specs.Prelude.{◌≡◌, ℕ, min, length, refl}
 use Rattle.std.proofs.Common.{arith}
-use Rattle.domain.specs.Outline.{outline_of}
+use Rattle.outline.specs.Outline.{outline_of}
 use Rattle.front.specs.State.{fewest, most_nodes}
 use Rattle.run.specs.Lent.{lent_in}
-use Rattle.run.specs.Laws.{run_number_is}
+use Rattle.run.proofs.Laws.{run_number_is}
 use Rattle.run.proofs.RunLists.check_places.Goals as goal
 
 -- places past the most count once

@@ -1,2 +1,0 @@
--- The passes of a paving: the laws of the turns.
-pub mod Laws

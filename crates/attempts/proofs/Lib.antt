@@ -1,3 +1,0 @@
-pub mod Chosen
-pub mod Kept
-pub mod Parts

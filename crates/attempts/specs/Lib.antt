@@ -1,5 +1,0 @@
-pub mod Seen
-pub mod FarCorners
-pub mod Props
-pub mod SeenLaws
-pub mod AttemptLaws

@@ -1,4 +1,0 @@
-pub mod StoppedSums
-pub mod Written
-pub mod LoopWritten
-pub mod LoopsLaid

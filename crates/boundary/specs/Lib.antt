@@ -1,5 +1,0 @@
-pub mod Counting
-pub mod Laying
-pub mod LayingLaws
-pub mod Unsearched
-pub mod Progress

@@ -1,8 +1,0 @@
--- `crossfield::Bounds::none` meets its contract. Assumes nothing.
-use mathlib.Core.Path.{refl}
-use lib.Ieee.{of_bits, div, neg}
-use Rattle.crossfield.proofs.Bounds.none.Goals as goal
-
-pub returns : goal.returns
-unfolding of_bits div neg
-returns c = refl

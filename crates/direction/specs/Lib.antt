@@ -1,4 +1,0 @@
-pub mod Record
-pub mod Direction
-pub mod Cells
-pub mod RecordLaws

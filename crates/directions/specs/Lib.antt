@@ -1,3 +1,0 @@
-pub mod Directions
-pub mod Laws
-pub mod Examples

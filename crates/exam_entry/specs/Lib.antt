@@ -1,2 +1,0 @@
--- What the entry's returns go by.
-pub mod Code

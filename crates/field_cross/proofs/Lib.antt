@@ -1,0 +1,9 @@
+pub mod Grown
+pub mod Box
+pub mod Counts
+pub mod FieldLaws
+pub mod Handed
+pub mod Past
+pub mod Sound
+pub mod SpacingLaws
+pub mod Unit

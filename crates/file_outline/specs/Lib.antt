@@ -1,0 +1,4 @@
+pub mod ByteLaws
+pub mod File
+pub mod ReadLaws
+pub mod RefusalLaws

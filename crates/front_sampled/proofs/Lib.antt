@@ -1,0 +1,11 @@
+pub mod Begun
+pub mod Points
+pub mod Same
+pub mod Starts
+pub mod Turn
+pub mod Cuts
+pub mod Laid
+pub mod Lists
+pub mod Outlines
+pub mod RingJoins
+pub mod Rings

@@ -1,0 +1,3 @@
+pub mod InfinityLaws
+pub mod KeyLaws
+pub mod TestLaws

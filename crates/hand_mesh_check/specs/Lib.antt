@@ -1,0 +1,3 @@
+pub mod Check
+pub mod CheckLaws
+pub mod Passed

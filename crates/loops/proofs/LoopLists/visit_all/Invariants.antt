@@ -1,8 +1,0 @@
--- `visit_all` meets its contract: the loop's invariant is `Visiting`.
-use Rattle.loops.specs.Visits.{Visiting}
-use Rattle.loops.specs.Listed.{listed_so_far, SameLoopLists}
-use Rattle.loops.proofs.LoopLists.visit_all.Given as goal
-
-abbrev pub invariant-loop-u : goal.invariant-loop-u
-invariant-loop-u l =
-    Visiting l.next (listed_so_far l.initial.self) l.u (listed_so_far l.self) × SameLoopLists l.initial.self l.self

@@ -1,2 +1,0 @@
--- Searches and counts over a list's first places, as specs/ have them.
-pub mod Listed

@@ -1,3 +1,0 @@
-pub mod Step
-pub mod StepLaws
-pub mod Examples

@@ -1,4 +1,0 @@
-pub mod Limbs
-pub mod Sums
-pub mod Orient
-pub mod Examples

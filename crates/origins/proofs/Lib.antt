@@ -1,4 +1,0 @@
-pub mod Start
-pub mod Theorem
-pub mod Writing
-pub mod Filled

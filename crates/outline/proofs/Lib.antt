@@ -1,0 +1,9 @@
+pub mod Accepted
+pub mod Inside
+pub mod OutlineLaws
+pub mod SearchLaws
+pub mod Refused
+pub mod Examples
+pub mod Limits
+pub mod RefusalLaws
+pub mod Table

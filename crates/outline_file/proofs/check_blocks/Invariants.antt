@@ -1,6 +1,0 @@
--- `outline_file::check_blocks` meets its contract: the loop's invariant is that no block so far is refused.
-use Rattle.outline_file.specs.RefusalLaws.{BlocksUnrefused}
-use Rattle.outline_file.proofs.check_blocks.Given as goal
-
-abbrev pub invariant-loop-k : goal.invariant-loop-k
-invariant-loop-k l = BlocksUnrefused l.file l.n l.k

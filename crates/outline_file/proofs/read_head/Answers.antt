@@ -1,9 +1,0 @@
--- `outline_file::read_head` meets its contract: what the calls ensure makes it up.
-use Rattle.outline_file.specs.ReadLaws.{head_made}
-use Rattle.outline_file.proofs.read_head.Goals as goal
-
-pub returns : goal.returns
-returns c =
-    head_made _ c.float_at.ensures (rw c.from.ensures c.number_at-2.ensures) (rw c.from-2.ensures c.number_at-3.ensures)
-    (rw c.from-loops.ensures c.number_at.ensures) (rw c.from-3.ensures c.number_at-4.ensures)
-    c.head_points.ensures

@@ -1,6 +1,0 @@
-pub mod ByteLaws
-pub mod Enough
-pub mod File
-pub mod Lent
-pub mod ReadLaws
-pub mod RefusalLaws

@@ -1,0 +1,4 @@
+pub mod FarLaws
+pub mod GuessLaws
+pub mod NamedLaws
+pub mod PassLaws

@@ -1,0 +1,3 @@
+mod Limbs
+mod Split
+pub mod Examples

@@ -1,0 +1,3 @@
+pub mod Limbs
+pub mod Sums
+pub mod Orient

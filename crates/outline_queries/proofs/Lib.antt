@@ -1,0 +1,3 @@
+mod Mapped
+pub mod Examples
+pub mod Laws

@@ -1,0 +1,12 @@
+-- `query_contains` meets its contract: answered by `contains_point`, with no blocks.
+use Rattle.std.specs.Prelude.{refl}
+use Rattle.std.proofs.Common.{rules}
+use Rattle.outline.specs.Outline.{outline_of}
+use Rattle.outline_queries.proofs.Laws.{query_drawn}
+use Rattle.outline_queries.proofs.query_contains.Goals as goal
+
+pub invariant_of-plain : goal.invariant_of-plain
+invariant_of-plain c =
+    record {
+      drawn = query_drawn (outline_of c.args.domain) c.args.p (search rules) (record { outer = λ i h. c.args.domain.doubles.outer i; holes = λ i h. c.args.domain.doubles.holes i }) refl;
+    }

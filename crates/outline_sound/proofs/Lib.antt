@@ -1,0 +1,4 @@
+pub mod FoldsLaws
+pub mod Meaning
+pub mod MeetsLaws
+pub mod Examples

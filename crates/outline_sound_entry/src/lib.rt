@@ -1,0 +1,40 @@
+// The public entry that judges an outline. It has no `requires`.
+#![tactic(auto)]
+
+ghost use Rattle.std.specs.Prelude.{◌≡◌};
+ghost use Rattle.outline.specs.Outline.{outline};
+ghost use Rattle.outline_sound_entry.specs.Answer.{sound_answer};
+
+use outline::Domain;
+
+// Stays a number beside a flag: the C interface needs it.
+#[repr(C)]
+#[derive(Clone, Copy)]
+pub struct SoundAnswer {
+    pub refusal: u32,
+    pub sound: bool,
+}
+
+// Whether the outline is sound; refusals 1 to 4 come first, with false.
+// Stays a row of slices and numbers: C calls it.
+#[unsafe(no_mangle)]
+pub extern "C" fn sitjorbe_sound<'a>(
+    outer: &'a [f64],
+    holes: &'a [f64],
+    lens: &[usize],
+) -> SoundAnswer
+    ensures { result ≡ sound_answer (outline outer.now holes.now lens.now) }
+{
+    let domain = Domain { outer, holes, lens };
+    match outline_loops::check_outline(domain) {
+        // Stays written out: a default for the one value besides is no plainer.
+        Err(refusal) => SoundAnswer {
+            refusal: u32::from(refusal),
+            sound: false,
+        },
+        Ok(()) => SoundAnswer {
+            refusal: 0,
+            sound: outline_soundness::is_sound(domain),
+        },
+    }
+}

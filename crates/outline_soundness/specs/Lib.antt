@@ -1,0 +1,2 @@
+pub mod AcceptedLoops
+pub mod WalkLaws

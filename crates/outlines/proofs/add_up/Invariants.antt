@@ -1,6 +1,0 @@
--- `add_up` meets its contract: the loop's invariant is `LengthsLeft`.
-use Rattle.domain.specs.OutlineLaws.{LengthsLeft}
-use Rattle.outlines.proofs.add_up.Given as goal
-
-abbrev pub invariant-loop-n : goal.invariant-loop-n
-invariant-loop-n l = LengthsLeft l.lens l.total l.left l.n-index

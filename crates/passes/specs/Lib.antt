@@ -1,2 +1,0 @@
--- A pass of a paving: the laws of its turns.
-pub mod Laws

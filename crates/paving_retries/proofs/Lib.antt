@@ -1,0 +1,4 @@
+pub mod Untried
+pub mod VainLaws
+pub mod Attempts
+pub mod Lasting

@@ -1,0 +1,2 @@
+pub mod Paveable
+pub mod Searchable

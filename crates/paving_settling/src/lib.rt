@@ -1,0 +1,80 @@
+// One edge of a pass of the paving (src/alt_crossfield.rs): it is tried, and the quad that is answered is placed and filed.
+#![tactic(auto)]
+
+ghost use Rattle.std.specs.Prelude.{◌≡◌, ◌*◌, ◌≤◌, ◌<◌, length};
+ghost use Rattle.front.specs.Lent.{paving_state, mesh_state, SameLists};
+ghost use Rattle.paving_indexed.specs.Rects.{NodesFiled, EdgesFiled};
+ghost use Rattle.paving_retries.specs.Vain.{forgotten};
+ghost use Rattle.paving.specs.Lent.{outline_in, field_in, SameScratch};
+ghost use Rattle.paving_ends.specs.Answers.{Settles};
+ghost use Rattle.paving_settling.specs.Paveable.{PaveableIn};
+ghost use Rattle.paving_settling.specs.Searchable.{SearchableIn, HelpedIn};
+
+use front::{Counts, Full, Mesh, Paving};
+use paving::{End, Scratch, Surroundings};
+use paving_indexed::Pools;
+use std::ops::ControlFlow;
+
+// Files what the mesh counts and `k` doesn't; nothing was tried from nodes that are new.
+fn file_added(size: f64, mesh: &Mesh<'_>, scratch: &mut Scratch<'_>, k: Counts)
+    requires nodes { NodesFiled scratch.old.node_pool.now size mesh.now.xs.now mesh.now.ys.now k.nodes mesh.now.counts.nodes }
+    requires edges { EdgesFiled scratch.old.edge_pool.now size mesh.now.xs.now mesh.now.ys.now mesh.now.edges.now k.edges mesh.now.counts.edges }
+    ensures same { SameScratch scratch.old scratch.new }
+    ensures filed { SearchableIn size (mesh_state mesh.now) scratch.new.node_pool.now scratch.new.edge_pool.now }
+    ensures tried { scratch.new.tried.now ≡ forgotten k.nodes mesh.now.counts.nodes scratch.old.tried.now }
+{
+    paving_indexed::file_nodes(scratch.node_pool, size, mesh, k.nodes);
+    paving_indexed::file_edges(scratch.edge_pool, size, mesh, k.edges);
+    paving_retries::forget(scratch.tried, k.nodes, mesh.counts.nodes);
+}
+
+// Tries the snapshot's edge from node a, and places and files the quad that is answered: whether there is one, or how the paving ends.
+// Stays four loans, here and where they are handed on: a method of a struct of them was tried, and can't lend the snapshot while it lends the paving, for
+// which the borrow checker has no rule; and of each loan in a struct it has to be said that it stays the same one.
+pub fn settle_edge(
+    around: &Surroundings<'_>,
+    paving: &mut Paving<'_>,
+    snapshot: &[u32],
+    scratch: &mut Scratch<'_>,
+    a: u32,
+) -> ControlFlow<End, bool>
+    requires paveable { PaveableIn around.now (paving_state paving.old snapshot.now) }
+    requires node { a < paving.old.counts.nodes }
+    requires helped { HelpedIn around.now (paving_state paving.old snapshot.now) scratch.old }
+    ensures same_lists { SameLists paving.old paving.new }
+    ensures same_scratch { SameScratch scratch.old scratch.new }
+    ensures settles { Settles (outline_in around.now) around.now.size (field_in around.now) (paving_state paving.old snapshot.now) a result
+        (paving_state paving.new snapshot.now) }
+    ensures helped { HelpedIn around.now (paving_state paving.new snapshot.now) scratch.new }
+{
+    let Some(b) = paving_ends::snapshot_edge(paving.next(), snapshot, a) else {
+        return ControlFlow::Continue(false);
+    };
+    let attempt = paving_retries::try_untried(around, &paving.mesh(), scratch, a, b);
+    let Some(far) = attempt else {
+        return ControlFlow::Continue(false);
+    };
+    let k = paving.counts;
+    let pools = Pools {
+        nodes: scratch.node_pool(),
+        edges: scratch.edge_pool(),
+    };
+    let across = pools.is_known_across(around.size, &paving.mesh(), far);
+    if let Err(Full) = paving.place(snapshot, a, b, far, across) {
+        return ControlFlow::Break(End::Full);
+    }
+    file_added(around.size, &paving.mesh(), scratch, k);
+    paving_ends::quad_settled(paving.counts.quads)
+}
+
+// Files all that the mesh counts, in pools that hold nothing else; nothing was tried from its nodes.
+pub fn file_all(size: f64, mesh: &Mesh<'_>, scratch: &mut Scratch<'_>)
+    requires { 2 * mesh.now.counts.edges ≤ length mesh.now.edges.now }
+    ensures same { SameScratch scratch.old scratch.new }
+    ensures filed { SearchableIn size (mesh_state mesh.now) scratch.new.node_pool.now scratch.new.edge_pool.now }
+    ensures tried { scratch.new.tried.now ≡ forgotten 0 mesh.now.counts.nodes scratch.old.tried.now }
+{
+    index_pools::clear(scratch.node_pool);
+    index_pools::clear(scratch.edge_pool);
+    file_added(size, mesh, scratch, Counts::default());
+}

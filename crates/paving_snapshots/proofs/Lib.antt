@@ -1,0 +1,4 @@
+pub mod Taking
+pub mod Examples
+pub mod OffLaws
+pub mod StretchLaws

@@ -1,4 +1,0 @@
-pub mod Needed
-pub mod Few
-pub mod Laws
-pub mod Examples

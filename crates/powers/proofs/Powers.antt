@@ -1,9 +1,0 @@
--- What holds of the definitions of specs/Powers.antt.
-use Rattle.std.specs.Prelude.{◌≡◌, Float}
-use Rattle.std.specs.Float.Ieee.{of_bits}
-use Rattle.numbers.specs.Float.{◌⊗◌, ◌⊘◌, half_f, two_f}
-use Rattle.powers.specs.Powers.{power_same}
-
-pub half_same : (x : Float) → x ⊗ half_f ≡ x ⊘ two_f
-unfolding of_bits
-half_same x = power_same 0 x

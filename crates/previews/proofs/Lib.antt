@@ -1,3 +1,0 @@
--- In reading order: what would become of the edge, from the quad that a placing places; a front's links as answers.
-pub mod Quads
-pub mod Neighbours

@@ -1,2 +1,0 @@
-pub mod Untried
-pub mod VainLaws

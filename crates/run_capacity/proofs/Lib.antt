@@ -1,0 +1,4 @@
+pub mod Agreement
+pub mod Lockstep
+pub mod SideBySide
+pub mod Starts

@@ -1,0 +1,5 @@
+pub mod Alike
+pub mod Attempts
+pub mod Placings
+pub mod Twins
+pub mod Agreement

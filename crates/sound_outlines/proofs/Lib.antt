@@ -1,3 +1,0 @@
-pub mod FoldsLaws
-pub mod Meaning
-pub mod MeetsLaws

@@ -1,2 +1,0 @@
--- Steps and previews of the worked square, computed from the definitions.
-pub mod Steps

@@ -1,3 +1,0 @@
-pub mod Sweeps
-pub mod TwoRows
-pub mod Worst

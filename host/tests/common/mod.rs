@@ -4,6 +4,7 @@
 pub mod blocks;
 pub mod book;
 pub mod exam;
+pub mod fields;
 pub mod origins;
 pub mod rng;
 pub mod sound;

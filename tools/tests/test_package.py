@@ -276,7 +276,7 @@ class Package(unittest.TestCase):
     def test_debian_has_all_in_its_places(self):
         packed, into = self.debian(), self.folder / "debian"
         self.passes(run("dpkg-deb", "--extract", packed, into, folder=self.folder))
-        self.assertEqual(unpacked.subprocess.run([into / "usr/bin/sitjorbe", "--version"], capture_output=True, text=True).returncode, 0)
+        self.passes(run(into / "usr/bin/sitjorbe", "--version", folder=self.folder))
         flags = run("pkg-config", "--cflags", "--libs", "sitjorbe", folder=self.folder, PKG_CONFIG_SYSROOT_DIR=into,
                     PKG_CONFIG_LIBDIR=into / "usr/lib/x86_64-linux-gnu/pkgconfig", PKG_CONFIG_ALLOW_SYSTEM_CFLAGS=1, PKG_CONFIG_ALLOW_SYSTEM_LIBS=1).stdout.split()
         self.passes(run("cc", "-std=c11", into.parent / self.packed.name.removesuffix(".tar.gz") / "examples/c/exam.c", *flags, "-o", "exam", folder=self.folder))
@@ -293,7 +293,9 @@ class Package(unittest.TestCase):
         return run(python, *words, folder=self.folder, PYTHONPATH=root / "python", PYTHONDONTWRITEBYTECODE=1)
 
     def test_pythons_own_example(self):
-        self.passes(self.python(self.unpacked(), "-m", "doctest", "-v", self.folder / self.packed.name.removesuffix(".tar.gz") / "python/sitjorbe/__init__.py"))
+        root = self.unpacked()
+        for python in PYTHONS:
+            self.passes(self.python(root, "-c", "import doctest, sitjorbe, sys; sys.exit(doctest.testmod(sitjorbe).failed)", python=python))
 
     def test_python_draws_or_says_why_not(self):
         root = self.unpacked()

@@ -61,12 +61,12 @@ class Struct(NamedTuple):
 
 
 def comment_above(text, place):
-    """The comment whose last line stands just above the line of a place; a line of it that begins "Stays" is for the code's readers alone."""
+    """The comment whose last line stands just above the line of a place."""
     lines = text[:place].split("\n")[:-1]
     told = []
     while lines and lines[-1].lstrip().startswith("//"):
         told.append(lines.pop().strip().lstrip("/").strip())
-    return " ".join(line for line in reversed(told) if not line.startswith("Stays "))
+    return " ".join(reversed(told))
 
 
 def listed(text):

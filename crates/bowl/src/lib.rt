@@ -16,7 +16,6 @@ use hand_mesh_check::NumberedMesh;
 use outline::Refusal;
 
 // `refusal` is 23 or 25, 0 where nothing is refused; `quad` is the lowest quad that the bowl can't show, where 25 says so.
-// Stays a number beside a quad: the C interface answers this struct.
 #[repr(C)]
 #[derive(Clone, Copy, Default)]
 pub struct StepsAnswer {
@@ -103,7 +102,7 @@ fn lowest_hidden(mesh: &Mesh<'_>) -> Option<usize>
 // ---- the step buffer
 
 // The steps of the nodes, two places a node.
-// Stays indexed: of what is written through `chunks_exact_mut` a proof learns the length alone.
+// LIMITS.md, 1: indexed.
 fn store_steps(mesh: &Mesh<'_>, steps: &mut [i32])
     requires { NodesWithin mesh.now.xs.now mesh.now.ys.now mesh.now.counts.nodes × (2 * mesh.now.counts.nodes ≤ length steps.old) }
     ensures { steps.new ≡ stored_steps mesh.now.xs.now mesh.now.ys.now mesh.now.counts.nodes steps.old }
@@ -117,7 +116,8 @@ fn store_steps(mesh: &Mesh<'_>, steps: &mut [i32])
 // ---- the entry
 
 // 23 of the mesh, 23 where a node hasn't two of the places, then 25.
-// Stays C's struct: the error of a `Result` would be this struct too, since 25 has a quad, and the entry would need a second clause, that its refusal isn't 0.
+// It answers C's struct: as the error of a `Result` it would be there too, since 25 has a quad, and the entry would
+// owe besides that its refusal isn't 0.
 fn steps_answer(lent: NumberedMesh<'_, '_>, places: usize) -> StepsAnswer
     requires { AllFit lent.mesh.xs.now × AllFit lent.mesh.ys.now }
     ensures { result ≡ steps_answer (lent_in lent.entry.mesh lent.entry.origins.now) places }
@@ -139,7 +139,6 @@ fn steps_answer(lent: NumberedMesh<'_, '_>, places: usize) -> StepsAnswer
 
 // The nodes of a lent mesh in whole steps of 1/64 degree, each coordinate at the nearest step, halves at the even one. The mesh is only read, and the buffer is
 // written once nothing is refused.
-// Stays a row of slices and numbers, made a mesh by literals: C calls it.
 #[unsafe(no_mangle)]
 pub extern "C" fn sitjorbe_steps(
     xs: &[f64],

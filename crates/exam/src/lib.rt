@@ -59,7 +59,8 @@ pub enum ResultRead {
     ReadEstimate(u32, u32, u32),
 }
 
-// Stays an enum with `Unknown`, and no `Option`: the entry's promise (`ExamGiven`) is over `request_numbered`, which makes a request of every number.
+// `Unknown` is a request too: the entry's promise (`ExamGiven`) is over `request_numbered`, which makes a request of
+// every number.
 #[derive(Clone, Copy)]
 pub enum ExamRequest {
     Changes(ResultChange),
@@ -93,7 +94,6 @@ impl Role {
     }
 }
 
-// Stays a number beside the values: the C interface needs it.
 // The reply as it crosses: `refusal` is 0 where nothing is refused; what isn't asked for is 0.
 #[repr(C)]
 #[derive(Clone, Copy, Default)]

@@ -16,7 +16,7 @@ use exam_results::LentResults;
 use outline::Refusal;
 
 // What is replied. It is refused before all else where the role lacks the operation.
-// Stays with the role's number: one that no role has is refused here as well, by `?`.
+// By the role's number: one that no role has is refused here as well, by `?`.
 #[tactic(auto, using(crate::proofs::CodeLaws::no_role, exam_results::specs::FigureLaws::refusal_answered), unfolding(exam::specs::Exam::exam_acts, exam::specs::Exam::reply_or))]
 fn ask(
     role: u32,
@@ -44,7 +44,6 @@ fn ask(
     }
 }
 
-// Stays a row of numbers and slices, and its answer a struct: C calls it.
 // One request of one role to an exam. 20 comes before all else; where anything is refused, nothing lent is written.
 #[unsafe(no_mangle)]
 pub extern "C" fn sitjorbe_exam(

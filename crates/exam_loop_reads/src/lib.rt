@@ -37,8 +37,8 @@ struct FoundLoop {
 // ---- links
 
 // The link of node u of n; off where the list has none.
-// Stays beside `front::link_of`, which asks for n places: a lent list may have fewer.
-// Stays a number, and no `Option`: OFF is above every id, which `loop_length` compares, and `write_ids` hands a link on before it is read.
+// Besides `front::link_of`, which asks for n places: a lent list may have fewer.
+// OFF is above every id, which `loop_length` compares, and `write_ids` hands a link on before it is read.
 #[tactic(auto, unfolding(topology::specs::Links::link_of))]
 fn link_in(n: u32, links: &[u32], u: u32) -> u32
     ensures { result ≡ link_of n links.now u }
@@ -80,7 +80,7 @@ impl LentLinks<'_> {
 
 impl LentLinks<'_> {
     // How many nodes the walk along `next` from `start` back to it takes; none where it comes to a node below `start`, or never back.
-    // Stays a loop: a turn has three ends, two of them with no length, and through `successors` and `position` each link would be read twice.
+    // A turn has three ends, two of them with no length, and reads each link once.
     fn walk_length(&self, start: u32) -> Option<u32>
         ensures { result ≡ some_length (walk_by (link_of self.now.nodes self.now.next.now) self.now.nodes start start) }
     {
@@ -165,7 +165,7 @@ impl LentLinks<'_> {
     }
 
     // Loop k of the links on the first places of the reply list, and how many ids it has; on a refusal nothing is written.
-    // Stays 0 where there is no such loop: it is read as the empty loop, and C gets a number.
+    // 0 where there is no such loop: it is read as the empty loop.
     pub fn read_loop(self, k: u32, reply: &mut [u32]) -> Result<usize, Refusal>
         ensures { loop_reading (numbered result) reply.new
             ≡ read_loop self.entry.nodes self.entry.next.now self.entry.prev.now k reply.old }

@@ -17,7 +17,7 @@ use front_lent_mesh::LentMesh;
 use outline::Refusal;
 
 // The mesh of an exam as it is lent.
-// Stays with x and y apart, and next and prev: C lends them so.
+// x and y are apart, and next and prev, as C lends them.
 #[derive(Clone, Copy)]
 pub struct LentExamMesh<'a> {
     pub nodes: u32,
@@ -32,7 +32,6 @@ pub struct LentExamMesh<'a> {
 
 // ---- requests
 
-// Stays a `match` on a number: C gives it, and the numbers beside it.
 // The request that an operation's number and the numbers beside it make.
 #[tactic(auto, unfolding(exam::specs::Exam::request_numbered))]
 pub fn request_numbered(operation: u32, item: u32, value: u32, u: u32, v: u32) -> ExamRequest
@@ -134,7 +133,7 @@ impl LentExamMesh<'_> {
 
 // ---- the results
 
-// Stays a function, and so does `read_results`: `LentResults` is of a crate below, which has no requests.
+// A function, and so is `read_results`: `LentResults` is of a crate below, which has no requests.
 #[tactic(auto, unfolding(exam::specs::Exam::change_answer))]
 pub fn change_results(
     change: ResultChange,

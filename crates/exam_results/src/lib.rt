@@ -20,7 +20,7 @@ use outline::Refusal;
 pub const MOST_THRESHOLD: u32 = 500;
 
 // None, as it is written.
-// Stays a number: lent lists hold it, and C gives them.
+// A number, as the lent lists hold it.
 pub const NO_THRESHOLD: u16 = 65535;
 
 // The greatest weight: all the way across the quad.
@@ -68,7 +68,7 @@ pub struct LentResults<'a> {
 
 impl Thresholds<'_> {
     // What the list has at id; past the list none.
-    // Stays a number, and no `Option`: its clause is over the numbers lent, of which all above 500 mean none.
+    // All numbers above 500 mean none, as in the lent list.
     pub fn at(&self, id: u32) -> u32
         ensures { (result ≡ threshold_at self.now.list.now id) × (result ≤ 65535) }
     {
@@ -133,7 +133,7 @@ impl Thresholds<'_> {
     }
 
     // What the quads have that name id.
-    // Stays a loop: one scan makes both sums, and that neither wraps is its invariant.
+    // One scan makes both sums; that neither wraps is its invariant.
     #[tactic(auto, using(crate::specs::FigureLaws::share_small))]
     fn node_share(&self, id: u32) -> Share
         ensures { let m = mesh_lent self.now.mesh in

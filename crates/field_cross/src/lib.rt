@@ -22,7 +22,8 @@ use outline::{Domain, Near, Point, Refusal, Settings};
 use outline_blocks::DrawnOutline;
 
 // `(xmin, xmax, ymin, ymax)`
-// Stays a type beside `outline_blocks::Extent`, which has the same fields: the definitions of the field are of this one, and what they say rests on no block.
+// The fields are those of `outline_blocks::Extent`; but the field's definitions are of this type, and rest on no
+// block.
 #[derive(Clone, Copy)]
 pub struct Bounds {
     pub xmin: f64,

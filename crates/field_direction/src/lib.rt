@@ -87,7 +87,8 @@ impl CrossField<'_> {
 }
 
 // Refusal 11.
-// Stays the marks beside the field, here and below: only how many there are is asked, and an attempt reads the field without them.
+// The marks stand beside the field, here and below: only how many there are is asked, and an attempt reads the field
+// without them.
 #[tactic(auto, unfolding(crate::specs::Direction::record_refusal))]
 pub fn check_record(field: CrossField<'_>, marks: &[u8]) -> Result<(), Refusal>
     ensures { refused result ≡ record_refusal (field_lent field.entry marks.now) }

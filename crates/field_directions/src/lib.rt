@@ -77,7 +77,7 @@ fn write_answer(answers: &mut [f64], k: usize, answer: Result<Point, Refusal>)
 }
 
 // The answers of all points, where none of 14 and 11 refuses.
-// Stays indexed: of what is written through `chunks_exact_mut` a proof learns the length alone.
+// LIMITS.md, 1: indexed.
 fn write_answers(field: CrossField<'_>, queries: DirectionQueries<'_>, answers: &mut [f64])
     requires { FieldLent field.grid field.values.now
         × Fit queries.points.now queries.targets.now answers.old }
@@ -95,7 +95,6 @@ fn write_answers(field: CrossField<'_>, queries: DirectionQueries<'_>, answers: 
 
 // Of the field's four directions at each point the one nearest to its target, which may be any two floats: three floats a point, 0 and the direction, or
 // the number of what refuses the point and two zeros. Nothing is written where the whole list is refused.
-// Stays a row of slices and numbers: C calls it.
 #[unsafe(no_mangle)]
 pub extern "C" fn sitjorbe_directions(
     xmin: f64,

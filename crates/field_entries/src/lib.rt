@@ -17,7 +17,6 @@ use outline::{Domain, Point};
 #[repr(C)]
 #[derive(Clone, Copy, Default)]
 pub struct FieldRecordAnswer {
-    // Stays a number beside the values: the C interface needs it.
     pub refusal: u32,
     pub xmin: f64,
     pub ymin: f64,
@@ -29,7 +28,6 @@ pub struct FieldRecordAnswer {
 #[repr(C)]
 #[derive(Clone, Copy, Default)]
 pub struct DirectionAnswer {
-    // Stays a number beside the values: the C interface needs it.
     pub refusal: u32,
     pub x: f64,
     pub y: f64,
@@ -37,7 +35,6 @@ pub struct DirectionAnswer {
 
 // The field of the outline, in the lists lent: two floats and a mark a node. Nothing is written on a refusal. The list of blocks is scratch of any
 // length, which searches go by as far as it has room; the answer doesn't depend on it.
-// Stays a row of slices and numbers, here and below: C calls it.
 #[unsafe(no_mangle)]
 pub extern "C" fn sitjorbe_field<'a>(
     outer: &'a [f64],

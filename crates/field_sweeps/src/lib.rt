@@ -38,7 +38,8 @@ pub fn set_value(values: &mut [f64], id: usize, v: Point)
 
 impl MarkedGrid<'_> {
     // A node that is not fixed takes its neighbours' average; the answer is whether the sweep is still quiet.
-    // Stays a flag handed on, here and below: a sweep goes on past a node that moves, so `ControlFlow` doesn't fit, and contracts hand on values and flag as one.
+    // A sweep goes on past a node that moves, so the flag is handed on, here and below; contracts hand on values and
+    // flag as one.
     #[tactic(auto, using(field_averages::specs::Places::here_in), unfolding(crate::specs::Sweeps::relaxed))]
     fn relax(self, values: &mut [f64], quiet: bool, node: GridNode) -> bool
         requires { NodeIn self.grid node values.old }
@@ -71,8 +72,7 @@ impl MarkedGrid<'_> {
 
     // ---- rows, and sweeps
 
-    // Stays a loop, as do the three below, whose bodies change the values too: this was tried as a `fold`, and what is ensured of the values can't be
-    // shown, since the contract of `fold` says nothing of what its closure leaves in what it borrows.
+    // LIMITS.md, 3: a loop, as are the three below, whose bodies change the values too.
     fn sweep_row(self, values: &mut [f64], quiet: bool, row: GridRow) -> bool
         requires row { RowIn self.grid row values.old }
         requires nx_in_bounds { row.first + self.grid.nx ≤ length self.marks.now }

@@ -69,7 +69,7 @@ fn list_outline(domain: Domain<'_>, settings: Settings, out: &mut [u8]) -> usize
     ensures { ListingGiven (outline_listing (outline_of domain.entry) settings)
         out.old out.new result }
 {
-    // Stays arrays: the program allocates nothing.
+    // The program allocates nothing.
     let mut values = [0.0; 2 * FIELD_NODES];
     let mut marks = [0u8; FIELD_NODES];
     let mut xs = [0.0; NODES];
@@ -138,7 +138,7 @@ fn list_request(points: &[f64], lens: &[usize], head: Head, out: &mut [u8]) -> u
 pub fn list_file(file: &[u8], out: &mut [u8]) -> usize
     ensures { ListingGiven (program_listing file.now) out.old out.new result }
 {
-    // Stays arrays: the program allocates nothing.
+    // The program allocates nothing.
     let mut points = [0.0; 2 * file_outline::MOST_FILE_POINTS];
     let mut lens = [0usize; file_outline::MOST_LOOPS];
     match file_outline::read_file(file, &mut points, &mut lens) {

@@ -61,7 +61,7 @@ fn float_at(b: &[u8], i: usize) -> f64
     requires { i + 8 ≤ length b.now }
     ensures { result ≡ float_at b.now i }
 {
-    // Stays an array that is copied: `as_array` of eight bytes is an `Option`, and here it is never none.
+    // `as_array` of eight bytes would be an `Option` that is never none.
     let mut bytes = [0; 8];
     bytes.copy_from_slice(&b[i..i + 8]);
     num::f64_from_bits_with_nan(u64::from_le_bytes(bytes))

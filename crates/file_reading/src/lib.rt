@@ -15,7 +15,7 @@ pub fn read_full<R: Read>(input: &mut R, bytes: &mut [u8]) -> io::Result<usize>
     ensures ends { IfOk result (λ n. n < length bytes.new → IsAtEnd (R.remaining input.new)) }
 {
     let mut done = 0;
-    // Stays a `while`: how far a turn goes is what the input gives.
+    // How far a turn goes is what the input gives.
     while done < bytes.len() {
         let n = input.read(&mut bytes[done..])?;
         if n == 0 {

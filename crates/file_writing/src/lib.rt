@@ -26,7 +26,7 @@ pub struct LentRequest<'a> {
     pub lens: &'a [usize],
 }
 
-// Stays with a place given: of what is written through `chunks_exact_mut` a proof learns the length alone. So do the loops below that call it.
+// LIMITS.md, 1: a place is given, and so it is in the loops below that call this.
 // Puts the `n` bytes of `x` from place `at` on, low byte first.
 #[tactic(auto, using(crate::proofs::Bytes::number_put))]
 fn put_number(n: usize, x: u64, b: &mut [u8], at: usize)
@@ -64,7 +64,7 @@ fn put_points(points: &[f64], b: &mut [u8; FILE_BLOCK])
     }
 }
 
-// Stays an array, and so does a block of points: nothing is allocated, and each block is copied to its place whole.
+// Each block is an array that is copied to its place whole: nothing is allocated.
 fn head_block(settings: Settings, lens: &[usize]) -> [u8; FILE_BLOCK]
     requires { length lens.now ≤ 8 }
     ensures { result ≡ block_of (head_bytes «settings» lens.now) }
@@ -101,7 +101,7 @@ fn write_blocks(points: &[f64], file: &mut [u8])
 }
 
 // The points of all loops, where a file can hold them.
-// Stays a loop: each length is compared before it is added, so that no sum overflows, and no lemma makes a sum of the calls of a `try_fold`.
+// LIMITS.md, 4: a loop. Each length is compared before it is added, so that no sum overflows.
 fn few_points(lens: &[usize]) -> Option<usize>
     ensures { MatchOption result (248 < total_points lens.now) (λ n. (n ≤ 248) × (n ≡ total_points lens.now)) }
 {

@@ -25,7 +25,7 @@ pub struct Counts {
 }
 
 // A far corner of a quad: a front node that is reused, or a new point with its two coordinates.
-// Stays two floats, and no `Point`: the definitions (`store_x`, `store_y`, ..) name them one by one.
+// Two floats, and no `Point`: the definitions (`store_x`, `store_y`, ..) name them one by one.
 #[derive(Clone, Copy)]
 pub enum Corner {
     Reused(u32),
@@ -40,7 +40,7 @@ pub struct FarCorners {
 }
 
 // A quad a, b, d, c on the edge a to b: its far corners, and the ids that they have or get.
-// Stays with c and d apart: the definitions of what is stored name a quad's corners and ids one by one.
+// c and d are apart: the definitions of what is stored name a quad's corners and ids one by one.
 #[derive(Clone, Copy)]
 pub struct NewQuad {
     pub a: u32,
@@ -53,7 +53,8 @@ pub struct NewQuad {
 
 // The nodes of a sampled loop in the order of the front. `count` nodes were sampled from `base` on; they run backwards where `turned`;
 // and where `split`, one node more stands after place `longest`.
-// Stays a flag beside a place: a ring that isn't split has a longest edge too, and the definitions (`RingFits`, `midpoint`) speak of that of each ring.
+// A ring that isn't split has a longest edge too, and the definitions (`RingFits`, `midpoint`) speak of that of each
+// ring.
 #[derive(Clone, Copy)]
 pub struct Ring {
     pub base: u32,
@@ -92,7 +93,7 @@ pub struct Paving<'a> {
 }
 
 // The link of a node off the front.
-// Stays a number: lent lists hold it, and C gives them.
+// A number, as the lent lists hold it.
 pub const OFF: u32 = 4294967295;
 
 impl Corner {
@@ -223,7 +224,7 @@ fn coordinate(s: &[f64], id: u32) -> f64
 }
 
 // A node's point; past the lists' ends NaNs.
-// Stays on both lists: an exam lends its coordinates and no `Mesh`.
+// Of both lists: an exam lends its coordinates and no `Mesh`.
 #[tactic(auto, unfolding(crate::specs::State::node_in))]
 pub fn node_at(xs: &[f64], ys: &[f64], id: u32) -> Point
     ensures { result ≡ node_in xs.now ys.now id }
@@ -259,7 +260,8 @@ pub fn link_at(links: &[u32], n: u32, u: u32) -> Option<u32>
 // ---- the new nodes
 
 // Writes a new corner's point as node n.
-// Stays on the lists that are written, and so do the edges, the quad and the front below: a method of `Paving` would have to promise too that the others stay.
+// Of the lists that are written alone, and so are the edges, the quad and the front below: a method of `Paving` would
+// owe that the others stay.
 fn put_corner(c: Corner, xs: &mut [f64], ys: &mut [f64], n: u32)
     requires { (n + added c ≤ length xs.old) × (n + added c ≤ length ys.old) }
     ensures { (xs.new ≡ store_x c n xs.old) × (ys.new ≡ store_y c n ys.old) }
@@ -340,7 +342,7 @@ pub fn put_quad(quads: &mut [u32], k: usize, a: u32, b: u32, d: u32, c: u32)
 // ---- the front
 
 // Makes u to v a front edge.
-// Stays on the links: as a method of `Paving` it, and what follows, would have to say of the other lists that they stay.
+// Of the links alone, and so is what follows: a method of `Paving` would owe that the other lists stay.
 pub fn link(next: &mut [u32], prev: &mut [u32], u: u32, v: u32)
     requires { (u < length next.old) × (v < length prev.old) }
     ensures { (next.new ≡ set next.old u v) × (prev.new ≡ set prev.old v u) }
@@ -384,7 +386,7 @@ fn move_front(next: &mut [u32], prev: &mut [u32], q: NewQuad)
 // ---- the placing
 
 // How many nodes the lists have places for; `others` is the length of one more list that holds a number a node.
-// Stays beside the method: `run` asks it of the lists that a host lends.
+// Besides the method, since `run` asks it of the lists that a host lends.
 pub fn node_places(xs: &[f64], ys: &[f64], next: &[u32], prev: &[u32], others: usize) -> usize
     ensures { result ≡ min (fewest (length xs.now) (length ys.now) (length next.now) (length prev.now) others) most_nodes }
 {

@@ -31,7 +31,7 @@ pub fn parts_of(size: f64, length: f64) -> u64
 }
 
 // The parts of segment i of a loop.
-// Stays by number, here and below, for the reason given at `outline_blocks::crossings`.
+// By number, here and below, as in `outline_blocks::crossings`.
 #[tactic(auto, unfolding(front::specs::Sampling::parts))]
 fn parts_at(s: &[f64], size: f64, i: usize) -> u64
     requires { i < length s.now / 2 }

@@ -52,7 +52,7 @@ impl LentMesh<'_> {
 }
 
 // The count of nodes: it stops where a coordinate isn't lent.
-// Stays on both lists: C lends the coordinates as two, and either may be the shorter.
+// The coordinates are two lists, as C lends them, and either may be the shorter.
 #[tactic(auto, unfolding(crate::specs::Mesh::node_count_of))]
 pub fn node_count(nodes: u32, xs: &[f64], ys: &[f64]) -> u32
     ensures { result ≡ node_count_of nodes xs.now ys.now }
@@ -61,7 +61,7 @@ pub fn node_count(nodes: u32, xs: &[f64], ys: &[f64]) -> u32
 }
 
 // The count of quads: it stops at the last whole quad, and at 250,000.
-// Stays a count beside the list: C lends both.
+// The count stands beside the list, as C lends both.
 #[tactic(auto, unfolding(crate::specs::Mesh::quad_count_of))]
 pub fn quad_count(count: usize, quads: &[u32]) -> usize
     ensures { result ≡ quad_count_of count quads.now }
@@ -70,8 +70,8 @@ pub fn quad_count(count: usize, quads: &[u32]) -> usize
 }
 
 // An entry of a list; past its end 0.
-// Stays written out, here and where another value takes its place (front, exam_requests, exam_results, loop_reads): a generic function that is given the
-// value was tried, and a call of it is no shorter than the library's three methods.
+// Three methods of the library, here and where another value takes the place (`front`, `exam_requests`,
+// `exam_results`, `exam_loop_reads`).
 pub fn entry_at(list: &[u32], i: usize) -> u32
     ensures { result ≡ get_or list.now i 0 }
 {

@@ -43,7 +43,7 @@ impl<'a> LoopLists<'a> {
     {
         let mut u = start;
         let mut i = self.listed.ids;
-        // Stays a `loop`: a node's link says after its turn whether there is another. A `for` over the places left would have an end that is never reached.
+        // A node's link says after its turn whether there is another.
         loop {
             let node = u as usize;
             self.marks[node] = 1;

@@ -96,7 +96,7 @@ pub fn area_term(a: Point, b: Point) -> f64
 }
 
 // Twice the signed area of the triangle a, b, c.
-// Stays three points, here and below: the definitions name them one by one.
+// Three points, here and below, as the definitions name them one by one.
 #[tactic(auto, unfolding(crate::specs::Plane::cross2))]
 pub fn cross2(a: Point, b: Point, c: Point) -> f64
     ensures { result ≡ cross2 a b c }
@@ -279,7 +279,7 @@ pub fn ranges_meet(k: i64, l: i64, m: i64, n: i64) -> bool
 }
 
 // Whether k lies from l to m.
-// Stays a function: where `has_node` calls `contains` twice itself, the search finds no proof of it, with `at_most_lem` or without.
+// `has_node` calls `contains` through this: of two calls of its own the search finds no proof.
 fn between(k: i64, l: i64, m: i64) -> bool
     ensures { result ≡ between k l m }
 {

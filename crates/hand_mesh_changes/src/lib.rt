@@ -24,7 +24,7 @@ fn has_edge(mesh: &Mesh<'_>, u: u32, v: u32) -> bool
 }
 
 // Adds the mesh edge u to v, unless there is one.
-// Stays an edge as two ids, here and below, for the reason given at `hand_stepping::attempt_on`.
+// An edge is two ids, here and below, as hosts give it and definitions name it.
 #[tactic(auto, unfolding(front::specs::State::add_edge, front::specs::State::has_edge, front::specs::State::push_edge))]
 pub fn add_edge(paving: &mut Paving<'_>, u: u32, v: u32)
     requires { EdgeFits paving.old u v }

@@ -43,7 +43,7 @@ fn ids_beyond(mesh: &Mesh<'_>) -> bool
 // ---- the front's links
 
 // Whether the link of node u is out of range, or isn't answered by the link back.
-// Stays on two lists, and not on the mesh: it is asked of the links forward and of the links back.
+// Of two lists: it is asked of the links forward and of the links back.
 #[tactic(auto, unfolding(crate::specs::Check::link_unsound, topology::specs::Links::link_of))]
 fn link_unsound(n: u32, links: &[u32], back: &[u32], u: u32) -> bool
     requires { (u < n) × (n ≤ length links.now) × (n ≤ length back.now) }
@@ -134,7 +134,7 @@ impl NumberedMesh<'_, '_> {
 }
 
 // Refusal 24.
-// Stays on the mesh: of the nodes' origins it reads none. And with OFF named, where `Mesh::next_at` has an `Option`: a must-fail edit stands on that test.
+// Of the mesh alone: of the nodes' origins it reads none.
 #[tactic(auto, unfolding(crate::specs::Check::edge_refusal, topology::specs::Links::link_of))]
 pub fn check_edge(mesh: &Mesh<'_>, a: u32, b: u32) -> Result<(), Refusal>
     requires { mesh.now.counts.nodes ≤ length mesh.now.next.now }

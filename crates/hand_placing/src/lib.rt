@@ -18,7 +18,7 @@ use outline::Point;
 // ---- the mesh edges
 
 // Two edges of a quad, u to v and v to w.
-// Stays edges as ids, for the reason given at `hand_stepping::attempt_on`.
+// An edge is two ids, as hosts give it and definitions name it.
 #[tactic(auto, using(front::proofs::Lent::lists_trans))]
 fn add_two(paving: &mut Paving<'_>, u: u32, v: u32, w: u32)
     requires { TwoFit paving.old u v w }
@@ -154,7 +154,7 @@ pub fn place_quad(paving: &mut Paving<'_>, a: u32, b: u32, far: FarCorners)
 }
 
 // Whether the quad would need a node, quad or distinct edge beyond those lent.
-// Stays two counts: the law `full_is` adds them one by one.
+// Two counts, which the law `full_is` adds one by one.
 pub fn is_full(lent: NumberedMesh<'_, '_>, a: u32, b: u32, far: FarCorners) -> bool
     requires { CountsFit lent.mesh lent.origins.now }
     ensures { result ≡ is_full (lent_in lent.entry.mesh lent.entry.origins.now) a b far.c far.d }

@@ -21,7 +21,7 @@ use hand_steps::{Given, StepOutcome};
 use outline::Refusal;
 
 // What a placing would do, with the quad that it would place.
-// Stays an outcome beside an option, here and in `View`: the preview's promise (`PreviewTaken`) answers these two.
+// An outcome beside an option, here and in `View`, as the preview's promise (`PreviewTaken`) has the two.
 #[derive(Clone, Copy)]
 pub struct Foreseen {
     pub outcome: StepOutcome,
@@ -39,7 +39,7 @@ pub struct View {
 // ---- the front after a quad, from the links before it
 
 // The link of u without the front edge x to y; `was` is the link of x, and `link` that of u.
-// Stays an edge as two ids, here and below, for the reason given at `hand_stepping::attempt_on`.
+// An edge is two ids, here and below, as hosts give it and definitions name it.
 fn link_removed(was: Option<u32>, link: Option<u32>, x: u32, y: u32, u: u32) -> Option<u32>
     ensures { result ≡ cond (is_at was y) (cond (eqb x u) None link) link }
 {
@@ -157,7 +157,7 @@ impl LinksAfter<'_> {
     }
 
     // Writes the front edges by their first node: how many there are.
-    // Stays a loop with a count: the places are filled only by nodes with a link, so a `zip` of both would need the count besides.
+    // The places are filled only by nodes with a link, so that a count is kept besides.
     #[tactic(auto, using(crate::proofs::Neighbours::room_here, crate::proofs::ListLaws::written_end))]
     fn list_front(&self, list: &mut [u32]) -> usize
         requires { 2 * sum_up (shown_nodes self.now.quad self.now.nodes)
@@ -180,7 +180,8 @@ impl LinksAfter<'_> {
 // ---- what would become of the edge
 
 // What a placing on the front edge a to b would do.
-// Stays a `match` like that of `hand_stepping::place_on`: `quad_on`, which both call, has the tree of outcomes, and one shows the quad that the other places.
+// `quad_on`, which `hand_stepping::place_on` calls too, has the tree of outcomes: one shows the quad that the other
+// places.
 fn foresee_on(around: &Given<'_>, lent: NumberedMesh<'_, '_>, a: u32, b: u32) -> Foreseen
     requires { Around (outline_of around.now.domain) around.now.field.grid around.now.field.values.now
         × OnFront (lent_in lent.mesh lent.origins.now) a b }

@@ -15,7 +15,6 @@ use outline::Refusal;
 #[repr(C)]
 #[derive(Clone, Copy, Default)]
 pub struct StepAnswer {
-    // Stays a number beside the values: the C interface needs it.
     pub refusal: u32,
     pub outcome: u32,
     pub nodes: u32,
@@ -29,7 +28,6 @@ pub struct StepAnswer {
 #[repr(C)]
 #[derive(Clone, Copy, Default)]
 pub struct PreviewAnswer {
-    // Stays a number beside the values: the C interface needs it.
     pub refusal: u32,
     pub outcome: u32,
     pub a: u32,

@@ -28,8 +28,8 @@ fn check_given(given: &Given<'_>, marks: &[u8]) -> Result<(), Refusal>
 }
 
 // ---- a step and a preview in what is lent
-// Stays with the outline, the size and the field one by one: `Given` made in an entry would hold at one lifetime loans at two lifetimes of C's head, and the borrow
-// checker doesn't cover it (tried).
+// LIMITS.md, 2: the outline, the size and the field one by one, and no `Given`, whose loans would have two lifetimes
+// of C's head as one.
 
 fn step_in<'a>(
     domain: Domain<'a>,
@@ -52,7 +52,7 @@ fn step_in<'a>(
         size,
         field,
     };
-    // Stays a test and a return, here and in `preview_in`: the answer is C's struct, of which `?` makes nothing.
+    // A test and a return, here and in `preview_in`: the answer is C's struct, of which `?` makes nothing.
     if let Err(refusal) = check_given(&given, marks) {
         return StepAnswer::from(refusal);
     }
@@ -86,8 +86,8 @@ fn preview_in<'a>(
 }
 
 // ---- the entries
-// Stays with what C gives made a field, a mesh and counts by literals, here and in `bowl`: the C interface gives the numbers one by one, and a constructor would
-// take the same ones in a row, without their names.
+// What C gives one by one is made a field, a mesh and counts by literals, here and in `bowl`, so that each number
+// keeps its name.
 
 // A step on the front edge a to b, in the mesh lent: one quad placed or none. Refusals are 1 to 7, 11, 23 and 24, in that order. New nodes take what stands in
 // `origins` at node a.

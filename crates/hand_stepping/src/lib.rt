@@ -29,7 +29,8 @@ pub fn check_hand(lent: NumberedMesh<'_, '_>, a: u32, b: u32) -> Result<(), Refu
 }
 
 // The two attempts on the edge a to b. Nothing is filed, since a step reads the whole mesh in any case.
-// Stays an edge as two ids, here and below: hosts give two, and each definition that a contract names takes a and b one by one.
+// An edge is two ids, here and below: hosts give two, and each definition that a contract names takes a and b one by
+// one.
 pub fn attempt_on(around: &Given<'_>, mesh: &Mesh<'_>, a: u32, b: u32) -> Option<FarCorners>
     requires taken { outline_refusal (outline_of around.now.domain) ≡ 0 }
     requires lent { TryLent around.now.field.grid around.now.field.values.now around.now.size mesh.now.xs.now mesh.now.ys.now
@@ -57,7 +58,8 @@ pub fn is_capped(k: Counts) -> bool
 }
 
 // The quad that a placing on the front edge a to b places, or why it places none. None at all is placed where 250,000 quads stand.
-// Stays with `Around` in its `requires`, here, below and in `hand_previews`: refusals 1 to 7 and 11 are asked of a `Given` too, before it holds.
+// `Around` stands in the `requires`, here, below and in `hand_previews`: refusals 1 to 7 and 11 are asked of a
+// `Given` too, before it holds.
 pub fn quad_on(
     around: &Given<'_>,
     lent: NumberedMesh<'_, '_>,

@@ -34,7 +34,7 @@ fn any_in_chain<F: Fn(usize) -> bool>(pool: &[u32], t: u32, test: &F) -> bool
 {
     let mut limit = index_pools::capacity_of(pool.len());
     let mut t = t as usize;
-    // Stays a loop: `any` asks for an iterator that ends, of what `successors` makes the library doesn't say that, and an iterator of our own is longer.
+    // LIMITS.md, 5: a loop, and no `any` over `successors`.
     while t < limit {
         let (own, link) = place_at(pool, t);
         if test(own as usize) {
@@ -54,7 +54,7 @@ fn any_in_row<F: Fn(usize) -> bool>(pool: &[u32], left: u32, right: u32, j: usiz
 {
     let m = index_pools::cells_of(pool.len());
     let mut cell = index_pools::cell_of(m, left as usize, j);
-    // Stays a loop: each turn goes on to the next cell without a division, and a closure for `any` would have to write where it is.
+    // Each turn goes on to the next cell without a division.
     for k in left as usize..right as usize + 1 {
         if any_in_chain(pool, head_at(pool, cell), test) {
             return true;

@@ -60,7 +60,7 @@ pub fn rect_around(k: Key) -> Rect
 }
 
 // No key.
-// Stays a rectangle, and no `Option`: filing and walks go over its columns and rows, of which it has none, and needn't ask.
+// A rectangle with no columns and no rows, which filing and walks go over without a question.
 fn rect_empty() -> Rect
     ensures { result ≡ rect_empty }
 {

@@ -1,8 +1,8 @@
 // Items (nodes, edges) filed under cells of keys in one lent list, the pool. The list is scratch: all that a caller needs of its contents is that each of
 // the first items is in the chain of every cell of its rectangle, and that these are all items, unless the places have run out (`Indexed`); those that came
 // after that are left to a scan.
-// Stays functions of a list, here and in `index`: a struct round the one lent list would be needed twice, to read and to write, and no fact goes with
-// the list, since what is filed in it names the items' rectangles and their count (`Indexed`).
+// Functions of a list, here and in `index`: no fact goes with the list, since what is filed in it names the items'
+// rectangles and their count (`Indexed`).
 #![tactic(auto)]
 
 ghost use Rattle.std.specs.Prelude.{◌≡◌, ℕ, ◌+◌, ◌*◌, ◌%◌, ◌≤◌, ◌<◌, min, leb, length};
@@ -35,7 +35,7 @@ impl Rect {
 }
 
 // No place.
-// Stays a number: lent lists hold it.
+// A number, as the lent lists hold it.
 pub const NONE: u32 = u32::MAX;
 
 // As many places as 32 bits number beside `NONE`.
@@ -130,7 +130,7 @@ fn file_row(pool: &mut [u32], left: u32, right: u32, j: usize, own: u32)
     let m = cells_of(pool.len());
     let w = span(left, right);
     let mut cell = cell_of(m, left as usize, j);
-    // Stays a loop that hands the cell on: the next is got without a division.
+    // The cell is handed on, so that the next is got without a division.
     for k in 0..w {
         push(pool, cell, own);
         cell = next_cell(m, cell);

@@ -16,7 +16,7 @@ pub struct Heading {
     pub nodes: u32,
     pub quads: usize,
     pub front: usize,
-    // Stays a number, here and in `end_word`: each number has its word, from 3 on `full`, and the enum would take fewer.
+    // A number, here and in `end_word`: each has its word, from 3 on `full`, and the enum would take fewer.
     pub end: u32,
     pub whole: bool,
     pub loops: usize,
@@ -88,7 +88,7 @@ impl<'a> Output<'a> {
     fn put_hex(&mut self, bits: u64)
         ensures { Put (hex_of 16 bits) self.old self.new }
     {
-        // Stays an array: nothing is allocated, and `hex` writes into a slice.
+        // `hex` writes into a slice, and nothing is allocated.
         let mut digits = [0; 16];
         hex::encode_to_slice(bits.to_be_bytes(), &mut digits).unwrap();
         self.put_all(&digits);
@@ -115,7 +115,7 @@ impl<'a> Output<'a> {
     }
 
     // The first `n` nodes that both lists hold.
-    // Stays with two lists: a run's lists have x and y apart, as C lends them.
+    // x and y are two lists, as a run has them.
     fn put_nodes(&mut self, n: usize, xs: &[f64], ys: &[f64])
         ensures { Put (node_lines (take n xs.now) (take n ys.now)) self.old self.new }
     {
@@ -133,7 +133,8 @@ impl<'a> Output<'a> {
     }
 
     // The first `n` loops that the lists hold.
-    // Stays with two lists and a rest handed on: a run lists the ids of all loops one after the other, and their lengths beside them, as C lends them.
+    // A run lists the ids of all loops one after the other, and their lengths beside them: a loop takes its ids off
+    // the front, and the rest is handed on.
     fn put_loops(&mut self, n: usize, lengths: &[u32], loops: &[u32])
         ensures { Put (loop_lines (take n lengths.now) loops.now) self.old self.new }
     {
@@ -173,7 +174,7 @@ fn end_word(end: u32) -> &'static [u8]
 // ---- the listing
 
 // The listing of a refusal. The answer is how many bytes are written, as of the one below.
-// Stays a number: any number is listed, and the enum would take fewer.
+// Any number is listed, and the enum would take fewer.
 pub fn write_refused(out: &mut [u8], number: u32) -> usize
     ensures { buffer out.new result ≡ buffer_written (refused_listing number) out.old }
 {

@@ -120,7 +120,7 @@ fn root_of_normal(x: f64, b: u64) -> f64
 }
 
 // The root of x with no root instruction: a guess in floats, checked in whole numbers.
-// Stays, though `sqrt_f64` is what is called: must-fail edits stand on it, and a public function keeps its promise.
+// The square root in whole numbers alone, with its proof. `sqrt_f64` is what is called.
 pub fn root_in_whole_numbers(x: f64) -> f64
     ensures { result ≡ root x }
 {
@@ -148,7 +148,7 @@ pub fn root_in_whole_numbers(x: f64) -> f64
 }
 
 // `x.sqrt()`, as IEEE 754 has it.
-// Stays a function beside the method, and so do `is_finite_f64` and `abs_f64`: each clause is by our definition.
+// A function beside the method, and so are `is_finite_f64` and `abs_f64`: each clause is by our definition.
 #[tactic(auto, using(crate::proofs::LibraryRoot::root_library))]
 #[unsafe(no_mangle)]
 pub extern "C" fn sqrt_f64(x: f64) -> f64
@@ -223,7 +223,8 @@ pub fn parts_of(x: f64) -> Parts
 }
 
 // `n as f64`
-// Stays beside the library's `nearest_usize_to_f64`, which takes any n by two casts, a product and a sum: of an n so small one cast is the same.
+// The library's `nearest_usize_to_f64` takes any n by two casts, a product and a sum; of an n so small one cast is
+// the same.
 pub fn to_f64(n: usize) -> f64
     requires { n < 4294967296 }
     ensures { result ≡ to_float n }
@@ -232,7 +233,7 @@ pub fn to_f64(n: usize) -> f64
 }
 
 // `x.min(y)`; of equal zeros, which Rust leaves open, x.
-// Stays by hand: of two equal zeros the library's `min` may give either.
+// Of two equal zeros the library's `min` may give either.
 #[tactic(auto, unfolding(crate::specs::Float::min_f))]
 #[unsafe(no_mangle)]
 pub extern "C" fn min_f64(x: f64, y: f64) -> f64
@@ -242,7 +243,7 @@ pub extern "C" fn min_f64(x: f64, y: f64) -> f64
 }
 
 // `x.max(y)`; of equal zeros, which Rust leaves open, x.
-// Stays by hand, for the reason of `min_f64`.
+// Of two equal zeros the library's `max` may give either.
 #[tactic(auto, unfolding(crate::specs::Float::max_f))]
 #[unsafe(no_mangle)]
 pub extern "C" fn max_f64(x: f64, y: f64) -> f64
@@ -252,7 +253,7 @@ pub extern "C" fn max_f64(x: f64, y: f64) -> f64
 }
 
 // `x.clamp(lo, hi)`; where Rust panics, hi if lo > hi and x is a number, and a bound that is a NaN bounds nothing.
-// Stays by hand: the library's `clamp` requires lo <= hi.
+// The library's `clamp` requires lo <= hi.
 #[tactic(auto, unfolding(crate::specs::Float::clamp_f))]
 #[unsafe(no_mangle)]
 pub extern "C" fn clamp_f64(x: f64, lo: f64, hi: f64) -> f64

@@ -1,5 +1,5 @@
 // The number routines for a C caller, as the benchmark of them is: each export calls the function of its name, and states that function's clauses again.
-// Stays each written out: C links these names.
+// C links these names.
 #![tactic(auto)]
 
 ghost use Rattle.std.specs.Prelude.{◌≡◌};

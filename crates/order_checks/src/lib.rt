@@ -58,7 +58,7 @@ pub struct Presentation<'a> {
 }
 
 // The first place of i; the list's length where it has none.
-// Stays a number: lent scratch holds it, and who has no place comes after every place.
+// A number, as lent scratch holds it: who has no place comes after every place.
 fn first_place(order: &[u32], i: usize) -> usize
     ensures { result ≡ first_place order.now i }
 {
@@ -72,7 +72,7 @@ fn first_place(order: &[u32], i: usize) -> usize
 fn set_place(places: &mut [usize], i: usize, x: usize)
     ensures { places.new ≡ set places.old i x }
 {
-    // Stays a test and a write: a slice's `get_mut` tells a proof nothing of what is written.
+    // LIMITS.md, 1: a test and a write, and no `get_mut`.
     if i < places.len() {
         places[i] = x;
     }

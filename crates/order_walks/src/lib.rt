@@ -136,7 +136,6 @@ impl Tested<'_> {
 
 // Whether the quads may be tested in this order: each of them once, and after every quad that laid a front edge which it used up. `places` and `pool`
 // are scratch of any length: what they hold doesn't change the answer.
-// Stays a row of numbers and slices: C calls it.
 #[unsafe(no_mangle)]
 pub extern "C" fn sitjorbe_order(
     quad_count: usize,

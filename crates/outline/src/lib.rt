@@ -157,7 +157,6 @@ impl From<Refusal> for u32 {
 }
 
 // The number as an answer has it: 0 where nothing is refused.
-// Stays, though nothing calls it: a must-fail edit stands on it, and a public function keeps its promise.
 pub fn number_of(checked: Result<(), Refusal>) -> u32
     ensures { result ≡ refused checked }
 {

@@ -36,7 +36,8 @@ pub const BLOCK: usize = 16;
 // ---- how far segments reach
 
 // The coordinate that side d bounds.
-// Stays a number, here, below and in `outline_nearest`: a side is also its place among the four numbers of a block, and the lent list has these flat.
+// A side is a number, here, below and in `outline_nearest`: it is also its place among the four numbers of a block,
+// and the lent list has these flat.
 fn coordinate_of_side(d: usize, p: Point) -> f64
     ensures { result ≡ coordinate_of_side d p }
 {
@@ -168,8 +169,8 @@ fn ray_misses(p: Point, s: &[f64], blocks: &[u32], b: usize) -> bool
 }
 
 // Whether p's side, so far, changes with the segments `from` up to `to`.
-// Stays a fold over the segments' numbers, as `outline_nearest::search_part` and `farthest` are: an iterator of segments would have the same range, and proofs that it gives
-// `point_at` and `point_after`, which are one call each here; and the search and `farthest` answer the number.
+// A fold over the segments' numbers, as `outline_nearest::search_part` and `farthest` are: the search and `farthest`
+// answer the number.
 fn crossings(p: Point, s: &[f64], from: usize, to: usize, inside: bool) -> bool
     requires { (from ≤ to) × (to ≤ points s.now) }
     ensures { result ≡ for_between from to (polygon_turn p s.now) inside }
@@ -185,8 +186,7 @@ fn crossings(p: Point, s: &[f64], from: usize, to: usize, inside: bool) -> bool
     )
 }
 
-// Stays a loop, as `outline_nearest::search_loop` is: a fold was tried, and it wasn't proved that its closure may be called, since what `is_listed` and `ray_misses` ask
-// holds of the blocks of this loop alone. An iterator over the blocks for both would be a type with its proof in place of two lines that begin a `for`.
+// LIMITS.md, 3: a loop, as `outline_nearest::search_loop` is, and no fold.
 fn point_in_polygon(p: Point, s: &[f64], blocks: &[u32], first: usize) -> bool
     requires { LoopDrawn s.now blocks.now first × (first ≤ 2 * most_points) }
     ensures { result ≡ point_in_polygon p s.now }

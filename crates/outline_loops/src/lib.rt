@@ -29,7 +29,7 @@ fn is_beyond(x: f64) -> bool
 }
 
 // Whether the lengths add up to the total. They are taken off it one by one, so that no sum overflows.
-// Stays a loop: `try_fold` with `checked_sub` would say it in a line, but its contract tells only which calls it made, and no lemma makes a sum of these.
+// LIMITS.md, 4: a loop, and no `try_fold` with `checked_sub`.
 fn add_up(lens: &[usize], total: usize) -> bool
     ensures { result ≡ eqb (hole_start lens.now (length lens.now)) total }
 {
@@ -136,7 +136,8 @@ pub fn loop_points<'a>(domain: Domain<'a>, k: usize, start: usize) -> &'a [f64]
     &domain.holes[from..to]
 }
 
-// Stays beside `Hole`, which has the same fields: a hole's index is its place among the lengths, and the definitions (`hole_at`, `in_hole`) go by that.
+// A hole's index is its place among the lengths, and the definitions (`hole_at`, `in_hole`) go by that; so `Hole` has
+// these fields too.
 // A loop of an outline: 0 for the outer one and k + 1 for hole k, how many hole points stand before it, and its coordinates.
 #[derive(Clone, Copy)]
 pub struct Loop<'a> {
@@ -267,7 +268,7 @@ pub fn point_after(s: &[f64], i: usize) -> Point
     point_at(s, after(s.len() / 2, i))
 }
 
-// Stays two ends, here and below: the definitions name them one by one.
+// Two ends, here and below, as the definitions name them one by one.
 #[tactic(auto, unfolding(outline::specs::Queries::ray_crosses))]
 pub fn ray_crosses(p: Point, a: Point, b: Point) -> bool
     ensures { result ≡ ray_crosses p a b }
@@ -277,7 +278,8 @@ pub fn ray_crosses(p: Point, a: Point, b: Point) -> bool
 
 // ---- the lower and the higher of two numbers, neither of which is a NaN
 
-// Stays by hand, here and below: one instruction tells them apart; `min_f64` and `max_f64` ask for a NaN first (docs/DECISIONS.md, "Blocks of the outline").
+// One instruction tells them apart, here and below; `min_f64` and `max_f64` ask for a NaN first (docs/DECISIONS.md,
+// "Blocks of the outline").
 pub fn lower_of(x: f64, y: f64) -> f64
     ensures { result ≡ lower_of x y }
 {

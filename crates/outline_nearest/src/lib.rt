@@ -40,8 +40,8 @@ fn is_far(p: Point, e: Extent, squared: f64) -> bool
 }
 
 // Side d of the box of block b.
-// Stays on a loop, the blocks and a number, here and below: whether a block is listed is asked first, and a value of a block with its fact would be made
-// of each that is passed over.
+// Of a loop, the blocks and a number, here and below: whether a block is listed is asked first, and most blocks are
+// passed over.
 fn side(s: &[f64], blocks: &[u32], b: usize, d: usize) -> f64
     requires { BlockThere s.now blocks.now b × (d < 4) }
     ensures { result ≡ reach d s.now (side_at blocks.now b d) }
@@ -89,7 +89,7 @@ fn search_part(
     })
 }
 
-// Stays a loop: see `outline_blocks::point_in_polygon`.
+// LIMITS.md, 3: a loop.
 fn search_loop(
     p: Point,
     s: &[f64],
@@ -119,7 +119,7 @@ fn search_loop(
     found
 }
 
-// Stays a loop: a fold was tried, and it wasn't proved that its closure may be called (what `first_block` and `search_loop` ask holds of the outline's loops alone).
+// LIMITS.md, 3: a loop.
 fn search_all(outline: DrawnOutline<'_>, p: Point, best: Search) -> Search
     requires { 0 < length outline.blocks.now → ModeratePoint p }
     ensures { result ≡ search_from (outline_of outline.entry.domain) p best }

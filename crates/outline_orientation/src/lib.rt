@@ -77,7 +77,8 @@ fn add_at(acc: &mut [u64], i: usize, d: u64)
 }
 
 // The product of a digit and y's digits is added.
-// Stays three calls, here and in `add_product`: a loop over three digits is no plainer, and needs what each turn leaves of the bounds as an invariant.
+// Three calls, here and in `add_product`: a loop over three digits would need the bounds that each turn leaves as its
+// invariant.
 fn add_row(acc: &mut [u64], at: usize, d: u64, y: Digits)
     requires { (at + 2 < length acc.old) × (d < B) × Digital y × Small (60 * (B * B)) acc.old }
     ensures { Grown acc.old acc.new (d * three y * B ^ at) (3 * (B * B)) }

@@ -11,7 +11,6 @@ use outline::{Domain, Near, Point, Refusal};
 use outline_blocks::DrawnOutline;
 
 // `refusal` is the refusal's number, 0 where nothing is refused. The values of a refused query are false, 0.0 or 0.
-// Stays a number beside the values, here and below: the C interface needs it.
 #[repr(C)]
 #[derive(Clone, Copy, Default)]
 pub struct ContainsAnswer {
@@ -49,7 +48,7 @@ fn check_query(domain: Domain<'_>, p: Point) -> Result<(), Refusal>
     outline_loops::check_point(p)
 }
 
-// Stays two functions, this and the next: each is its check and its search; one that takes the search says besides when it may be called, and is no shorter.
+// Each of the two is its check and its search.
 #[tactic(auto, unfolding(crate::specs::Answers::contains_answer), using(outline::proofs::Refused::refused_answer))]
 pub fn query_contains(domain: Domain<'_>, p: Point) -> Result<bool, Refusal>
     ensures { numbered result ≡ contains_answer (outline_of domain.entry) p }
@@ -84,7 +83,6 @@ pub fn query_distance(domain: Domain<'_>, p: Point) -> Result<f64, Refusal>
 // ---- the entries
 
 // Whether the point is inside the outer loop and outside every hole.
-// Stays a row of slices and numbers, here and below: C calls it.
 #[unsafe(no_mangle)]
 #[tactic(auto, unfolding(crate::specs::Answers::contains_numbers))]
 pub extern "C" fn sitjorbe_contains<'a>(

@@ -7,7 +7,6 @@ ghost use Rattle.outline_sound_entry.specs.Answer.{sound_answer};
 
 use outline::Domain;
 
-// Stays a number beside a flag: the C interface needs it.
 #[repr(C)]
 #[derive(Clone, Copy)]
 pub struct SoundAnswer {
@@ -16,7 +15,6 @@ pub struct SoundAnswer {
 }
 
 // Whether the outline is sound; refusals 1 to 4 come first, with false.
-// Stays a row of slices and numbers: C calls it.
 #[unsafe(no_mangle)]
 pub extern "C" fn sitjorbe_sound<'a>(
     outer: &'a [f64],
@@ -27,7 +25,6 @@ pub extern "C" fn sitjorbe_sound<'a>(
 {
     let domain = Domain { outer, holes, lens };
     match outline_loops::check_outline(domain) {
-        // Stays written out: a default for the one value besides is no plainer.
         Err(refusal) => SoundAnswer {
             refusal: u32::from(refusal),
             sound: false,

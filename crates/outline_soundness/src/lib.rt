@@ -110,7 +110,7 @@ impl<'a> PointRing<'a> {
         self.points.len() / 2
     }
 
-    // Stays by number, here and below: whether a segment comes after another is told by their numbers (`folds_at`).
+    // By number, here and below: whether a segment comes after another is told by their numbers (`folds_at`).
     fn segment(self, i: usize) -> Segment
         requires { i < points self.points.now }
         ensures start { in_units result.a ≡ segment_start self.entry.points.now i }

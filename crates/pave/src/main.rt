@@ -13,7 +13,7 @@ use std::io::{Read, Write};
 fn print_listing<R: Read, W: Write>(input: &mut R, output: &mut W) -> io::Result<()>
     ensures { OnOk result (IfSome (R.remaining input.old) (λ file. Appends (W.contents output.old) (W.contents output.new) (program_listing file))) }
 {
-    // Stays arrays: the program allocates nothing.
+    // The program allocates nothing.
     let mut file = [0u8; file_listing::DECISIVE];
     let mut out = [0u8; file_listing::LONGEST_LISTING];
     let n = file_reading::read_full(input, &mut file)?;

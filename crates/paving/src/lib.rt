@@ -29,7 +29,8 @@ impl From<End> for u32 {
 }
 
 // What is only read round a paving: an outline that isn't refused with its blocks, the size, and the field.
-// Stays with the outline and its blocks, and no `DrawnOutline`: sampling reads the outline alone, and the contracts of a paving name outline and blocks.
+// Outline and blocks, and no `DrawnOutline`: sampling reads the outline alone, and the contracts of a paving name the
+// two.
 #[derive(Clone, Copy)]
 pub struct Surroundings<'a> {
     pub domain: Domain<'a>,

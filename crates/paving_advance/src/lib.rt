@@ -14,7 +14,7 @@ use std::ops::ControlFlow;
 
 // The scratch may have any length: nothing is said of what it holds, before or after.
 // Pass after pass, until one places nothing, the cap is reached, the places lent are full, or as many are done as asked for, at most 600: how it ended.
-// Stays four loans, for the reason given at `paving_settling::settle_edge`.
+// LIMITS.md, 2: four loans.
 pub fn advance(
     around: &Surroundings<'_>,
     paving: &mut Paving<'_>,

@@ -117,7 +117,7 @@ fn corner_at(size: f64, mesh: &Mesh<'_>, other: u32, neighbour: Option<u32>, p: 
 
 // The far corners of a quad on the front edge a to b with the directions da at a and db at b; none where they are one node, two new ones
 // too close together, or joined by the front already.
-// Stays an edge as two ids, here and below, for the reason given at `hand_stepping::attempt_on`.
+// An edge is two ids, as hosts give it and definitions name it.
 #[tactic(auto, using(crate::proofs::Chosen::far_chosen))]
 fn far_corners(
     size: f64,
@@ -264,7 +264,7 @@ pub fn try_edge(
         mesh,
         pools,
     };
-    // Stays a `match`: of a closure for `or_else` that calls `attempt.quad` nothing is inferred, with `move` or without, and with clauses of its own it is no plainer.
+    // A `match`, and no `or_else`: of a closure that calls `attempt.quad` nothing is inferred.
     match attempt.quad(a, b, da, db) {
         None => attempt.quad(a, b, normal, normal),
         quad => quad,

@@ -79,7 +79,7 @@ fn crosses_at(size: f64, mesh: &Mesh<'_>, new: NewEdge, c: u32, d: u32) -> bool
 
 // ---- searching
 
-// Stays with the size and the mesh beside the pools: `paving_attempts::Attempt` has the three as one, and here each search asks of its own pool alone.
+// `paving_attempts::Attempt` has pools, size and mesh as one; here each search asks of its own pool alone.
 impl Pools<'_> {
     // Whether some node is too close to p: a walk round its key.
     pub fn any_close(self, size: f64, mesh: &Mesh<'_>, p: Point) -> bool

@@ -14,7 +14,7 @@ use paving::{End, Scratch, Surroundings};
 use std::ops::ControlFlow;
 
 // A pass: the snapshot is taken, and its edges are tried in the order of their first nodes. It breaks with the end of the paving.
-// Stays four loans, for the reason given at `paving_settling::settle_edge`.
+// LIMITS.md, 2: four loans.
 pub fn pass(
     around: &Surroundings<'_>,
     paving: &mut Paving<'_>,
@@ -33,7 +33,7 @@ pub fn pass(
     paving_snapshots::copy_links(paving.next(), snapshot, scratch.tried, n);
     let mut some = false;
     let mut a: u32 = 0;
-    // Stays a `while`: the next node is where a stretch of those off the front ends, which the list of tries says.
+    // The next node is where a stretch of those off the front ends, which the list of tries says.
     while a < n {
         let i = a;
         a = paving_snapshots::node_after(scratch.tried(), i, n);

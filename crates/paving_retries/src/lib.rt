@@ -17,7 +17,7 @@ use paving_indexed::Pools;
 
 // ---- the list
 
-// Stays a list lent, for the reason given in `snapshots`.
+// Of a list lent, as in `paving_snapshots`.
 // Nothing was tried from the nodes `from`, .., `to` - 1, and no stretch begins at one.
 pub fn forget(tried: &mut [u32], from: u32, to: u32)
     ensures { tried.new ≡ forgotten from to tried.old }
@@ -28,7 +28,6 @@ pub fn forget(tried: &mut [u32], from: u32, to: u32)
 }
 
 // Whether the edge from a to b was last tried in vain, between the neighbours p and q.
-// Stays three comparisons: a must-fail edit (`successor_not_compared`) stands on the last one.
 #[tactic(auto, unfolding(crate::specs::Vain::is_vain))]
 pub fn is_vain(tried: &[u32], a: u32, b: u32, p: u32, q: u32) -> bool
     ensures { result ≡ is_vain tried.now a b p q }

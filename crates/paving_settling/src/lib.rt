@@ -29,8 +29,7 @@ fn file_added(size: f64, mesh: &Mesh<'_>, scratch: &mut Scratch<'_>, k: Counts)
 }
 
 // Tries the snapshot's edge from node a, and places and files the quad that is answered: whether there is one, or how the paving ends.
-// Stays four loans, here and where they are handed on: a method of a struct of them was tried, and can't lend the snapshot while it lends the paving, for
-// which the borrow checker has no rule; and of each loan in a struct it has to be said that it stays the same one.
+// LIMITS.md, 2: four loans, here and where they are handed on.
 pub fn settle_edge(
     around: &Surroundings<'_>,
     paving: &mut Paving<'_>,

@@ -8,9 +8,7 @@ ghost use Rattle.paving_snapshots.specs.Stretches.{stretched, node_after, stretc
 
 use front::OFF;
 
-// Stays a list lent, as in `retries`: `Scratch` has the list, so that a struct with these functions as methods is made anew of it for each call, and each
-// method says besides that its loan is the same afterwards, which needn't be said of a parameter. And by index: one of the three numbers is read where an
-// `Option` of all would be asked, and a slice's `get_mut` tells a proof nothing of what is written.
+// Of a list lent, as in `paving_retries`: a method would owe that its loan stays the same. By index: LIMITS.md, 1.
 // Node a has no try, and a stretch goes from it up to `end`, where the node has its places.
 #[tactic(auto, unfolding(crate::specs::Stretches::stretched))]
 pub fn set_stretch(tried: &mut [u32], a: u32, end: u32)
@@ -46,7 +44,7 @@ pub fn copy_links(next: &[u32], snapshot: &mut [u32], tried: &mut [u32], n: u32)
 {
     let mut from: u32 = 0;
     let mut i: u32 = 0;
-    // Stays a `while`: the next node is where a stretch ends, so no range has it.
+    // The next node is where a stretch ends, so no range has it.
     while i < n {
         let link = next[i as usize];
         snapshot[i as usize] = link;

@@ -13,7 +13,7 @@ use std::rt::Files;
 use std::{fs, io, str};
 
 // So much is read of the list and of an outline's file, of which 4,609 bytes decide.
-// Stays the length of arrays, and so is the next: `differs` and `main` read into them, since the program allocates nothing.
+// The length of arrays, and so is the next: `differs` and `main` read into them, since the program allocates nothing.
 const MOST_READ: usize = 65536;
 
 // So much is read of a stored listing: more than any has.
@@ -59,7 +59,7 @@ fn split_line(text: &[u8]) -> (&[u8], &[u8])
 fn check(file: &[u8], stored: &[u8]) -> Option<usize>
     ensures { result ≡ compared (program_listing file.now) stored.now }
 {
-    // Stays an array: the program allocates nothing.
+    // The program allocates nothing.
     let mut listing = [0u8; file_listing::LONGEST_LISTING];
     let n = list_file(file, &mut listing);
     compare(&listing[..n], stored)
@@ -141,7 +141,7 @@ fn replay_all(rt: &(impl Files + Print + Eprint), list: &[u8]) -> io::Result<()>
     let mut files = 0;
     let mut differences = 0;
     let mut rest = list;
-    // Stays a `while`: a turn takes two lines, of which the second may be missing.
+    // A turn takes two lines, of which the second may be missing.
     while !rest.is_empty() {
         let (outline, after) = split_line(rest);
         let (listing, others) = split_line(after);

@@ -84,8 +84,7 @@ impl<'a> RunLists<'a> {
 
 // ---- the stages
 
-// Stays a call: of a call's result it is known that it is a double, and of a field of `Settings` it isn't; a ghost field there that says so would ask more
-// of whoever has a size from a field.
+// A call, whose result is a double.
 fn run_size(settings: Settings) -> f64
     ensures { result ≡ settings.size }
 {
@@ -93,8 +92,7 @@ fn run_size(settings: Settings) -> f64
 }
 
 // The field, and the paving in it: the field's grid, and how the paving ended.
-// Stays lists side by side: tried; behind a `&mut RunLists` the values can't be lent for reading and other lists for a paving at once, which the borrow checker doesn't cover.
-// So do the outline, the settings and the scratch, here and below: of these the scratch alone is written.
+// LIMITS.md, 2: lists side by side, and so are the outline, the settings and the scratch, here and below.
 fn draw_and_pave(
     domain: Domain<'_>,
     settings: Settings,

@@ -11,7 +11,6 @@ use paving::Scratch;
 use run::RunLists;
 use run_pave_answer::PaveAnswer;
 
-// Stays a row of numbers and slices: C calls it.
 // The run whole, from the field to the loops of the front, in the lists lent. `origins` gets for each node the number of the outline's loop that it came from.
 // Nothing is written on a refusal. The pools, the list of blocks and `tried` are scratch of any length, which searches go by as far as they have room, and
 // which edges tried in vain are noted in, three numbers a node; the answer doesn't depend on them.

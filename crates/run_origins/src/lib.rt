@@ -12,7 +12,7 @@ ghost use Rattle.run_origins.specs.Writing.{push_count, push_at, Numberable, Sam
 
 use outline::Domain;
 
-// Stays with the count handed on, here and below: a struct with the list and the count would have to say besides that its loan stays the same.
+// The count is handed on, here and below: a struct of list and count would owe that its loan stays the same.
 // The number of a loop's samples, from node n on. The answer is how many nodes have a number then.
 fn number_loop(number: u16, s: &[f64], size: f64, origins: &mut [u16], n: usize) -> usize
     requires { (n + even_up (loop_parts size s.now) ≤ length origins.old) × (n + even_up (loop_parts size s.now) < 4294967296) }
@@ -50,7 +50,7 @@ fn push_origin(origins: &mut [u16], n: usize, a: u32, id: u32) -> usize
     n + 1
 }
 
-// Stays a counted loop: its clauses take any count, also past the list's end, where pieces of the list would stop; and a fold over the count would change `origins` beside what it hands on.
+// The clauses take any count, also past the list's end.
 // The numbers of a run's nodes, from the outline, the size and the first `count` of the quads answered. Places past the nodes aren't written.
 pub fn number_nodes(domain: Domain<'_>, size: f64, quads: &[u32], count: usize, origins: &mut [u16])
     requires { Numberable (outline_of domain) size quads.now count (length origins.old) }

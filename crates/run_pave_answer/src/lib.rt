@@ -14,7 +14,6 @@ use run::Paved;
 #[repr(C)]
 #[derive(Clone, Copy, Default)]
 pub struct PaveAnswer {
-    // Stays a number beside the values: the C interface needs it.
     pub refusal: u32,
     pub end: u32,
     pub whole: bool,

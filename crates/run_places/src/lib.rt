@@ -8,7 +8,6 @@ ghost use Rattle.run_places.specs.Needed.{places_answer, PlacesGiven};
 
 use outline::Domain;
 
-// Stays a number beside the values: the C interface needs it.
 // `refusal` is the refusal's number, 0 where nothing is refused; on a refusal both counts are 0.
 #[repr(C)]
 #[derive(Clone, Copy, Default)]
@@ -33,7 +32,6 @@ fn count_places(domain: Domain<'_>, size: f64) -> PlacesAnswer
 }
 
 // The places that a run of this outline and size can't do without. Quads, and the nodes and edges that they add, need more.
-// Stays a row of numbers and slices: C calls it.
 #[unsafe(no_mangle)]
 pub extern "C" fn sitjorbe_places<'a>(
     outer: &'a [f64],

@@ -12,7 +12,7 @@ use front::Paving;
 use paving::{End, Scratch, Surroundings};
 
 // Sampling and paving, where 10 doesn't refuse them: how it ended.
-// Stays four loans, for the reason given at `paving_settling::settle_edge`.
+// LIMITS.md, 2: four loans.
 pub fn sample_and_advance(
     around: &Surroundings<'_>,
     paving: &mut Paving<'_>,

@@ -1,6 +1,6 @@
 // The library that a host links, libsitjorbe.a: each entry calls the function of its name in the proved crate that it comes from, and states that
 // function's clauses again.
-// Stays each written out, a row of numbers and slices: C links these names.
+// C links these names.
 #![tactic(auto)]
 
 pub mod bowl_steps;

@@ -9,7 +9,6 @@ ghost use Rattle.small_quads.specs.ListLaws.{FourFits};
 
 use outline::Refusal;
 
-// Stays a number beside the value: the C interface needs it.
 // `refusal` is 26 where the lent list is too short, 0 otherwise; `count` is how many fours are listed.
 #[repr(C)]
 #[derive(Clone, Copy, Default)]
@@ -105,7 +104,7 @@ fn count_quads() -> usize
 }
 
 // The four k at the places from n on.
-// Stays a place handed on, here and below: of what is written through `chunks_exact_mut` a proof learns the length alone.
+// LIMITS.md, 1: a place is handed on, here and below.
 fn write_four(list: &mut [u32], n: usize, k: u32)
     requires { n + 4 ≤ length list.old }
     ensures { list.new ≡ sets list.old n (points_of k) }

@@ -57,6 +57,7 @@ CONTROL = re.compile("[\x00-\x1f\x7f-\x9f]")
 LONGEST_NAME = 40  # longer ones aren't taken from comments
 LONGEST_SHOWN = 60  # of a line that can't be read
 IN_A_LOOP = "put a blank line before it if a new loop begins there, or take the comment out if the loop goes on"
+BESIDE = ' \t"'  # what may stand beside a word
 CLOSES = "so it is left out: a loop closes by itself"
 
 
@@ -68,17 +69,23 @@ class Field(NamedTuple):
 
 
 def number(word, separator=","):
-    """The float that a word says, or None; with semicolons between x and y it may have a decimal comma."""
+    """The float that a word says, or None; with semicolons or tabs between x and y it may have a decimal comma."""
     word = word.replace("\u2212", "-")
-    if separator == ";" and word.count(",") == 1 and "." not in word:
+    if separator != "," and word.count(",") == 1 and "." not in word:
         word = word.replace(",", ".")
     return float(word) if NUMBER.fullmatch(word) else None
 
 
 def shown(row, separator):
     """A row as it is shown on a terminal: no more than fits, and nothing that a terminal would obey."""
-    whole = separator.join(row)
+    whole = separator.replace("\t", " ").join(row)
     return CONTROL.sub("?", whole[:LONGEST_SHOWN]) + (".." if len(whole) > LONGEST_SHOWN else "")
+
+
+def is_tabbed(told):
+    """Whether a line has words with a tab between, and no comma beside it."""
+    words = [word.strip(BESIDE) for word in told.strip(BESIDE).split("\t")]
+    return len(words) > 1 and not any(word.startswith(",") or word.endswith(",") for word in words)
 
 
 def is_heading(row, separator):
@@ -93,7 +100,7 @@ def read_point(row, line, separator):
     """The point of a row, or Unusable with what is wrong."""
     if len(row) != 2:
         values = "one value" if len(row) == 1 else f"{len(row)} values"
-        between = "semicolon" if separator == ";" else "comma"
+        between = {";": "semicolon", "\t": "tab", ",": "comma"}[separator]
         hint = "; if the decimals have commas, put ; between x and y" if len(row) == 4 and separator == "," else ""
         raise Unusable(f"{values}, where x and y are wanted with a {between} between: {shown(row, separator)}{hint}")
     for name, word in zip("xy", row):
@@ -137,7 +144,7 @@ class Reader:
 
     def read(self, line, whole):
         told, mark, comment = whole.partition("#")
-        row = [word.strip(' \t"') for word in told.split(self.separator)]
+        row = [word.strip(BESIDE) for word in told.split(self.separator)]
         while len(row) > 2 and not row[-1]:  # columns that a table has and a point hasn't
             row.pop()
         if any(row):
@@ -182,7 +189,9 @@ class Reader:
 def read_field(text):
     """The field that a text says."""
     lines = text.split("\n")
-    reader = Reader(";" if any(";" in line.partition("#")[0] for line in lines) else ",")
+    told = [line.partition("#")[0] for line in lines]
+    separator = ";" if any(";" in line for line in told) else "\t" if any(map(is_tabbed, told)) else ","
+    reader = Reader(separator)
     for line, whole in enumerate(lines, start=1):
         reader.read(line, whole)
     return reader.close()

@@ -39,41 +39,61 @@ def folds_back(a, b, c):
 def is_inside(p, ring):
     """Whether the ray from p to the right meets an odd number of the loop's segments."""
     inside = False
-    for a, b in ring.segments:
+    for _, (a, b) in ring.segments:
         if (a[1] > p[1]) != (b[1] > p[1]):
             inside ^= (turn(a, b, p) > 0) == (b[1] > a[1])
     return inside
 
 
 class Ring:
-    """A loop: its places, its segments, and the lines of its points."""
+    """A loop: its places, its segments but those of no length, each with its number, and the lines of its points."""
 
     def __init__(self, points):
         self.lines = [point.line for point in points]
         self.places = [units(point) for point in points]
-        self.segments = list(zip(self.places, self.places[1:] + self.places[:1]))
+        ends = list(enumerate(zip(self.places, self.places[1:] + self.places[:1])))
+        self.doubled = [k for k, (a, b) in ends if a == b]
+        self.segments = [segment for segment in ends if segment[0] not in self.doubled]
+        if not self.segments:
+            # Three times one point is sound: each of its segments is the others' neighbour.
+            self.segments, self.doubled = ends[:1], self.doubled if len(points) > 3 else []
 
     def segment(self, k):
         """Segment k in words, by the lines of its ends."""
-        return f"from line {self.lines[k]} to line {self.lines[(k + 1) % len(self.lines)]}"
+        return f"from line {self.lines[k]} to line {self.after(k)}"
+
+    def after(self, k):
+        """The line of the point after point k."""
+        return self.lines[(k + 1) % len(self.lines)]
+
+
+def touched(one, other):
+    """The ends of two segments at which they meet: none where they cross between their ends."""
+    return {end for end in one if meet(end, end, *other)} | {end for end in other if meet(end, end, *one)}
 
 
 def faults_within(ring):
-    n = len(ring.segments)
+    """A place at which segments meet is said once, however many of them end there."""
+    for k in ring.doubled:
+        yield f"line {ring.after(k)} repeats the point of line {ring.lines[k]}"
+    n, seen = len(ring.segments), set()
     for j in range(n):
         for i in range(j):
-            which = f"the segments {ring.segment(i)} and {ring.segment(j)}"
-            (a, b), (c, d) = ring.segments[i], ring.segments[j]
+            (first, (a, b)), (second, (c, d)) = ring.segments[i], ring.segments[j]
+            which = f"the segments {ring.segment(first)} and {ring.segment(second)}"
             if (j == i + 1 and folds_back(a, b, d)) or ((j + 1) % n == i and folds_back(c, d, b)):
                 yield f"{which} lie on each other"
             elif j != i + 1 and (j + 1) % n != i and meet(a, b, c, d):
-                yield f"{which} meet"
+                places = touched((a, b), (c, d))
+                if not places & seen:
+                    yield f"{which} meet"
+                seen |= places
 
 
 def touching(ring, other):
     """Segments of the two loops that meet, in words, or None."""
-    for i, (a, b) in enumerate(ring.segments):
-        for j, (c, d) in enumerate(other.segments):
+    for i, (a, b) in ring.segments:
+        for j, (c, d) in other.segments:
             if meet(a, b, c, d):
                 return f"the segments {ring.segment(i)} and {other.segment(j)}, of two loops, meet"
     return None

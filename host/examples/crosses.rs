@@ -13,7 +13,7 @@ use sitjorbe::Refusal;
 
 /// The field's width and the margin round it, in pixels.
 const WIDTH: f64 = 640.0;
-const MARGIN: f64 = 24.0;
+const MARGIN: f64 = 48.0;
 /// The most nodes of a field, so that none is refused for want of places.
 const FIELD_NODES: usize = 250_000;
 
@@ -94,27 +94,85 @@ fn crosses(outline: &Outline<'_>, size: f64) -> Result<(Vec<[Point; 2]>, f64), R
     Ok((crosses?, 2.0 * record.h))
 }
 
+/// Where degrees fall on the sheet.
+struct Sheet {
+    left: f64,
+    right: f64,
+    low: f64,
+    high: f64,
+    /// Pixels to a degree.
+    scale: f64,
+}
+
+impl Sheet {
+    fn of(points: &[Point]) -> Sheet {
+        let range = |axis: usize| {
+            let all = points.iter().map(|point| point[axis]);
+            all.fold([f64::INFINITY, f64::NEG_INFINITY], |[low, high], x| [low.min(x), high.max(x)])
+        };
+        let ([left, right], [low, high]) = (range(0), range(1));
+        Sheet { left, right, low, high, scale: WIDTH / (right - left) }
+    }
+
+    fn at(&self, [x, y]: Point) -> String {
+        format!("{:.1},{:.1}", MARGIN + self.scale * (x - self.left), MARGIN + self.scale * (self.high - y))
+    }
+
+    fn bottom(&self) -> f64 {
+        MARGIN + self.scale * (self.high - self.low)
+    }
+
+    /// The multiples, from low to high, of the least of 1, 2, 5, 10, .. degrees of which eight or fewer steps go along the wider side.
+    fn ticks(&self, low: f64, high: f64) -> Vec<f64> {
+        let span = (self.right - self.left).max(self.high - self.low);
+        let steps = (-4..4).flat_map(|power| [1.0, 2.0, 5.0].map(|base| base * 10f64.powi(power)));
+        let step = steps.into_iter().find(|step| span <= 8.0 * step).unwrap_or(1_000.0);
+        let (first, last) = ((low / step).ceil() as i64, (high / step).floor() as i64);
+        (first..=last).map(|k| k as f64 * step).collect()
+    }
+}
+
+/// Lines at whole degrees with their numbers, x below and y on the left.
+fn axes(sheet: &Sheet) -> String {
+    let (across, up) = (sheet.ticks(sheet.left, sheet.right), sheet.ticks(sheet.low, sheet.high));
+    let degrees = |value: f64| format!("{value}°").replace('-', "−");
+    let mut lines = String::new();
+    let mut words = String::new();
+    for x in across {
+        lines += &format!("M{}L{}", sheet.at([x, sheet.low]), sheet.at([x, sheet.high]));
+        let left = MARGIN + sheet.scale * (x - sheet.left);
+        words += &format!(
+            "<text x=\"{left:.1}\" y=\"{:.1}\" text-anchor=\"middle\">{}</text>\n",
+            sheet.bottom() + 18.0,
+            degrees(x)
+        );
+    }
+    for y in up {
+        lines += &format!("M{}L{}", sheet.at([sheet.left, y]), sheet.at([sheet.right, y]));
+        let top = MARGIN + sheet.scale * (sheet.high - y) + 4.0;
+        words += &format!("<text x=\"{:.1}\" y=\"{top:.1}\" text-anchor=\"end\">{}</text>\n", MARGIN - 6.0, degrees(y));
+    }
+    format!("<path d=\"{lines}\" fill=\"none\" stroke=\"#bbb\" stroke-width=\"1\"/>\n{words}")
+}
+
 fn draw(loops: &[Vec<Point>], crosses: &[[Point; 2]], apart: f64) -> String {
-    let range = |axis: usize| {
-        let all = loops[0].iter().map(|point| point[axis]);
-        all.fold([f64::INFINITY, f64::NEG_INFINITY], |[low, high], x| [low.min(x), high.max(x)])
-    };
-    let ([left, right], [low, high]) = (range(0), range(1));
-    let scale = WIDTH / (right - left);
-    let at = |[x, y]: Point| format!("{:.1},{:.1}", MARGIN + scale * (x - left), MARGIN + scale * (high - y));
+    let sheet = Sheet::of(&loops[0]);
     let mut svg = String::new();
     let mut line = |text: String| writeln!(svg, "{text}").expect("a string takes every line");
-    let (width, bottom) = (WIDTH + 2.0 * MARGIN, MARGIN + scale * (high - low));
+    let (width, bottom) = (WIDTH + 2.0 * MARGIN, sheet.bottom());
     line(format!(
         r#"<svg xmlns="http://www.w3.org/2000/svg" width="{width:.0}" height="{:.0}" font-family="sans-serif" font-size="13">"#,
-        bottom + 46.0
+        bottom + 62.0
     ));
+    line("<style>svg{forced-color-adjust:none}</style>".to_string());
     line(r##"<rect width="100%" height="100%" fill="#ffffff"/>"##.to_string());
     let rings: Vec<String> = (loops.iter())
-        .map(|points| format!("M{}Z", points.iter().map(|point| at(*point)).collect::<Vec<_>>().join(" ")))
+        .map(|points| format!("M{}Z", points.iter().map(|point| sheet.at(*point)).collect::<Vec<_>>().join(" ")))
         .collect();
+    line(format!(r##"<path d="{}" fill="#eef4fb" fill-rule="evenodd"/>"##, rings.join("")));
+    line(axes(&sheet).trim_end().to_string());
     line(format!(
-        r##"<path d="{}" fill="#eef4fb" fill-rule="evenodd" stroke="#1d1d1d" stroke-width="1.8" stroke-linejoin="round"/>"##,
+        r##"<path d="{}" fill="none" stroke="#1d1d1d" stroke-width="1.8" stroke-linejoin="round"/>"##,
         rings.join("")
     ));
     let arm = 0.36 * apart;
@@ -122,11 +180,11 @@ fn draw(loops: &[Vec<Point>], crosses: &[[Point; 2]], apart: f64) -> String {
         .flat_map(|&[[x, y], [c, s]]| {
             [[c, s], [-s, c]].map(|[u, v]| [[x - arm * u, y - arm * v], [x + arm * u, y + arm * v]])
         })
-        .map(|[from, to]| format!("M{} {}", at(from), at(to)))
+        .map(|[from, to]| format!("M{} {}", sheet.at(from), sheet.at(to)))
         .collect();
     line(format!(r##"<path d="{}" fill="none" stroke="#3f6ea8" stroke-width="1.2"/>"##, arms.join("")));
-    let words = format!("The field's directions at {} points, {apart} apart.", crosses.len());
-    line(format!(r#"<text x="{MARGIN}" y="{:.1}">{words}</text>"#, bottom + 28.0));
+    let words = format!("The field's directions at {} points, {apart}° apart.", crosses.len());
+    line(format!(r#"<text x="{MARGIN}" y="{:.1}">{words}</text>"#, bottom + 46.0));
     line("</svg>".to_string());
     svg
 }

@@ -1,67 +1,15 @@
 //! The command `sitjorbe`, called as people and scripts call it: every call that the documents show, exit statuses, every format read back, hostile files.
 
+#[path = "common/called.rs"]
+mod called;
+
 use std::collections::HashMap;
 use std::fs;
-use std::io::{BufRead, BufReader, Write};
-use std::path::{Path, PathBuf};
+use std::io::{BufRead, BufReader};
+use std::path::Path;
 use std::process::{Command, Stdio};
 
-const SQUARE: &str = "# A field\n-10,-10\n10,-10\n10,10\n-10,10\n\n# its blind spot\n2,-2\n2,2\n6,2\n6,-2\n";
-
-struct Said {
-    status: i32,
-    out: String,
-    err: String,
-}
-
-/// Calls the command in the repository's root.
-fn call(words: &[&str], input: &[u8]) -> Said {
-    let mut child = Command::new(env!("CARGO_BIN_EXE_sitjorbe"))
-        .args(words)
-        .current_dir(root())
-        .stdin(Stdio::piped())
-        .stdout(Stdio::piped())
-        .stderr(Stdio::piped())
-        .spawn()
-        .expect("the command is built");
-    let (mut stdin, input) = (child.stdin.take().expect("it is piped"), input.to_vec());
-    // A command that refuses its words reads nothing, and the pipe breaks.
-    let writer = std::thread::spawn(move || drop(stdin.write_all(&input)));
-    let output = child.wait_with_output().expect("it ends");
-    writer.join().expect("it wrote");
-    let text = |bytes| String::from_utf8(bytes).expect("it says text");
-    Said {
-        status: output.status.code().expect("no signal ended it"),
-        out: text(output.stdout),
-        err: text(output.stderr),
-    }
-}
-
-fn root() -> PathBuf {
-    Path::new(env!("CARGO_MANIFEST_DIR")).join("..")
-}
-
-/// A folder of a test's own.
-fn folder(name: &str) -> PathBuf {
-    let folder = Path::new(env!("CARGO_TARGET_TMPDIR")).join("command").join(name);
-    let _ = fs::remove_dir_all(&folder);
-    fs::create_dir_all(&folder).expect("a folder");
-    folder
-}
-
-fn written(folder: &Path, name: &str, text: &[u8]) -> String {
-    let path = folder.join(name);
-    fs::write(&path, text).expect("a file");
-    path.to_str().expect("a plain name").to_string()
-}
-
-fn inside(folder: &Path, name: &str) -> String {
-    folder.join(name).to_str().expect("a plain name").to_string()
-}
-
-fn read(path: &str) -> String {
-    fs::read_to_string(path).unwrap_or_else(|error| panic!("{path}: {error}"))
-}
+use called::{call, check_xml, folder, inside, read, root, written, SQUARE};
 
 /// Nodes by their bits, and quads.
 type Mesh = (Vec<[u64; 2]>, Vec<[usize; 4]>);
@@ -173,39 +121,14 @@ fn of_json(text: &str) -> Mesh {
     (nodes, quads)
 }
 
-/// Whether a document's tags are balanced, its attributes quoted and its text escaped.
-fn check_xml(text: &str) {
-    let mut open: Vec<&str> = vec![];
-    let mut rest = text;
-    while let Some(from) = rest.find('<') {
-        assert!(
-            !rest[..from].contains('>')
-                && !rest[..from]
-                    .replace("&amp;", "")
-                    .replace("&lt;", "")
-                    .replace("&gt;", "")
-                    .replace("&quot;", "")
-                    .contains('&')
-        );
-        let to = from + rest[from..].find('>').expect("a tag ends");
-        let tag = &rest[from + 1..to];
-        let name = tag.trim_start_matches('/').split([' ', '/']).next().expect("a name");
-        match () {
-            () if tag.starts_with('/') => assert_eq!(open.pop(), Some(name)),
-            () if tag.ends_with('/') => {}
-            () => open.push(name),
-        }
-        assert_eq!(tag.matches('"').count() % 2, 0, "{tag}");
-        rest = &rest[to + 1..];
-    }
-    assert!(open.is_empty() && !text.chars().any(|c| c.is_control() && c != '\n'));
-}
-
 // ---- help, versions, calls that aren't any
 
 #[test]
 fn help_and_version() {
-    for words in [&["--help"][..], &["-h"], &["help"], &["pave", "--help"], &["check", "-h"], &["quality", "--help"]] {
+    let commands = ["pave", "check", "quality", "picture", "exam", "order", "nearest", "contains", "small-quads"]
+        .map(|c| [c, "--help"]);
+    let calls = [&["--help"][..], &["-h"], &["help"], &["check", "-h"]];
+    for words in calls.into_iter().chain(commands.iter().map(<[&str; 2]>::as_slice)) {
         let said = call(words, b"");
         assert_eq!((said.status, said.err.as_str()), (0, ""));
         assert!(said.out.starts_with("sitjorbe") && said.out.contains("exit status"), "{}", said.out);
@@ -218,14 +141,20 @@ fn help_and_version() {
 #[test]
 fn calls_that_are_none() {
     let square = written(&folder("none"), "square.csv", SQUARE.as_bytes());
-    let calls: [(&[&str], &str); 16] = [
+    let calls: [(&[&str], &str); 22] = [
         (&[], "no command is given"),
         (&["pawe"], "there is no command pawe"),
         (&["pave"], "--size is wanted"),
         (&["pave", "--size", "1"], "no field is named"),
         (&["pave", &square, "--size"], "--size wants a value"),
         (&["pave", &square, "--size", "one"], "--size wants a number: one"),
-        (&["pave", &square, "--size", "1", "--sweeps", "-1"], "--sweeps wants a number: -1"),
+        (&["pave", &square, "--size", "1", "--sweeps", "-1"], "--sweeps wants a whole number from 0 to 1,000: -1"),
+        (&["pave", &square, "--size", "1", "--passes", "x"], "--passes wants a whole number from 0 to 600: x"),
+        (&["pave", &square, "--size", "1", "--size", "2"], "--size is given twice"),
+        (&["pave", &square, "--size", "1", "--thin", "-2"], "--thin wants degrees above 0"),
+        (&["pave", &square, "--size", "1", "--thin=x"], "--thin wants a number: x"),
+        (&["pave", &square, "--size", "1", "--edge", "2,0"], "there is no loop 2: the outline has 2 loops"),
+        (&["pave", &square, "--size", "1", "--best", "--thresholds", &square], "--best tries other sizes"),
         (&["pave", &square, "--size", "1", "--numbers=yes"], "--numbers takes no value"),
         (&["pave", &square, "--size", "1", "--colour"], "there is no option --colour"),
         (&["pave", &square, "--size", "1", "--eye", "middle"], "--eye is right or left, not middle"),
@@ -277,12 +206,12 @@ fn meshes_are_the_proved_programs_in_every_format() {
             names.values().any(|name| name == "blind spot" || name == "arcuate scotoma"),
             ["right-eye", "left-eye", "hand-drawn"].contains(&name)
         );
-        assert_eq!(file("csv").lines().count(), 1 + wanted.0.len());
+        assert_eq!(file("csv").lines().count(), 2 + wanted.0.len());
         let quads = file("quads.csv");
         let ids =
             |line: &str| line.split(',').skip(1).take(4).map(|id| id.parse().expect("an id")).collect::<Vec<usize>>();
         assert_eq!(
-            quads.lines().skip(1).map(ids).collect::<Vec<_>>(),
+            quads.lines().skip(2).map(ids).collect::<Vec<_>>(),
             wanted.1.iter().map(|quad| quad.to_vec()).collect::<Vec<_>>()
         );
         check_xml(&file("svg"));
@@ -346,7 +275,7 @@ fn a_share_worked_out_by_hand() {
 fn standard_input_and_output() {
     let said = call(&["pave", "-", "--size", "2", "-o", "-", "--as", "json"], SQUARE.as_bytes());
     assert_eq!(said.status, 0);
-    assert!(said.out.starts_with("{\"format\":\"sitjorbe-mesh-1\",\n") && said.out.ends_with("}\n"));
+    assert!(said.out.starts_with("{\"format\":\"sitjorbe-mesh-1\",\n\"version\":") && said.out.ends_with("}\n"));
     assert!(said.err.starts_with("sitjorbe: standard input: "), "{}", said.err);
     let figures = call(&["quality", "-"], said.out.as_bytes());
     assert_eq!(figures.status, 0, "{}", figures.err);
@@ -490,42 +419,6 @@ fn a_blind_spot_on_the_wrong_side_is_noted() {
 }
 
 #[test]
-fn numbers_and_hills() {
-    let folder = folder("hills");
-    let out = inside(&folder, "hill.svg");
-    let words = [
-        "pave",
-        "examples/24-2.csv",
-        "--size",
-        "3",
-        "--thresholds",
-        "examples/hill-of-vision/24-2.csv",
-        "--numbers",
-        "-o",
-        &out,
-    ];
-    let said = call(&words, b"");
-    assert_eq!(said.status, 0, "{}", said.err);
-    let svg = read(&out);
-    check_xml(&svg);
-    assert!(
-        svg.contains(">250</text>")
-            && svg.contains("196 of 216 quads have all four")
-            && svg.contains("no estimate: a threshold is missing")
-    );
-    for (thresholds, status, part) in [
-        ("0,501\n", 1, "line 1: refused (16)"),
-        ("1,2\n9999,1\n", 1, "line 2: refused (15)"),
-        ("0,1,2\n", 2, "line 1: a node's number"),
-    ] {
-        let file = written(&folder, "thresholds.csv", thresholds.as_bytes());
-        let said = call(&["pave", "examples/24-2.csv", "--size", "3", "--thresholds", &file], b"");
-        assert_eq!(said.status, status);
-        assert!(said.err.contains(part), "{}", said.err);
-    }
-}
-
-#[test]
 fn many_fields_in_one_call() {
     let folder = folder("many");
     let good = written(&folder, "good.csv", SQUARE.as_bytes());
@@ -579,7 +472,11 @@ fn beyond_the_programs_limits() {
     assert_eq!(said.status, 0, "{}", said.err);
     let refused = call(&["pave", "-", "--size", "0.5"], (circle + "60,0\n").as_bytes());
     assert_eq!(refused.status, 1);
-    assert!(refused.err.contains("refused (1)") && refused.err.contains("(4,097 points)"), "{}", refused.err);
+    assert!(
+        refused.err.contains("refused (1): the outline has too many points") && refused.err.contains("(4,097 points)"),
+        "{}",
+        refused.err
+    );
     let mut many = "-50,-50\n50,-50\n50,50\n-50,50\n".to_string();
     for k in 0..20 {
         let (x, y) = (-40 + 20 * (k % 5), -30 + 20 * (k / 5));
@@ -609,7 +506,7 @@ fn sound_fields() {
 
 #[test]
 fn unsound_and_refused_fields_by_line() {
-    let cases: [(&str, i32, &str); 15] = [
+    let cases: [(&str, i32, &str); 18] = [
         ("0,0\n4,4\n4,0\n0,4\n", 1, "unsound: the segments from line 1 to line 2 and from line 3 to line 4 meet\n"),
         (
             "0,0\n4,0\n2,0\n2,3\n",
@@ -636,6 +533,9 @@ fn unsound_and_refused_fields_by_line() {
             1,
             "unsound: the blind spot at line 6 lies in that at line 10\n",
         ),
+        ("0,0\n4,0\n4,0\n4,4\n0,4\n", 1, "standard input: unsound: line 3 repeats the point of line 2\n"),
+        ("0,0\n9,0\n9,9\n0,9\n\n2,2\n3,2\n3,2\n3,3\n", 1, "unsound: line 8 repeats the point of line 7\n"),
+        ("0\t0\n4,5\t0\n4,5\t4\n", 0, "sound: outline (3 points)\n"),
         ("0,0\n1,0\n\n2,2\n", 1, "refused (2)"),
         ("0,0\n1,0\n1,nan\n", 1, "(line 3: 1.0,NaN)"),
         ("0,0\n1,0\n1,-1000.5\n", 1, "(line 3: 1.0,-1000.5)"),
@@ -660,8 +560,13 @@ fn unsound_and_refused_fields_by_line() {
         assert_eq!(said.status, 1);
         assert!(said.err.contains(&format!("refused ({number})")), "{}", said.err);
     }
+    // A crossing at two points that lie on each other is one fault, though four pairs of segments meet there.
+    let crossed = call(&["check", "-"], b"0,0\n2,2\n4,0\n4,4\n2,2\n0,4\n");
+    assert_eq!((crossed.status, crossed.out.lines().count()), (1, 1), "{}", crossed.out);
     let unsound = call(&["pave", "-", "--size", "1"], b"0,0\n4,4\n4,0\n0,4\n");
     assert_eq!(unsound.status, 0);
+    assert_eq!(call(&["pave", "-", "--size", "1", "--strict"], b"0,0\n4,4\n4,0\n0,4\n").status, 1);
+    assert_eq!(call(&["pave", "-", "--size", "2", "--strict"], SQUARE.as_bytes()).status, 0, "open isn't unsound");
     assert!(
         unsound.err.contains("unsound: the segments")
             && unsound.out.contains("isn't sound, so how much of the field is paved can't be said")
@@ -746,6 +651,8 @@ fn hostile_meshes() {
         (mesh.replace(&quads, "\"quads\":[[0,1,2,99999]],"), "quads: number 0"),
         (mesh.replace(&quads, "\"quads\":[[0,1,2]],"), "quads: number 0"),
         (mesh.replace(&quads, "\"quads\":[[0,1,2,-1]],"), "quads: number 0"),
+        (mesh.replace("\"quads\":[", "\"quads\":[[0,0,0,0],"), "quads: number 0, counted from 0, isn't one: [0,0,0,0]"),
+        (mesh.replace("\"quads\":[", "\"quads\":[[3,2,1,0],"), "quads: number 0"),
         (mesh.replace(&quads, "\"quads\":[],"), "don't make up its outline"),
         (mesh.replace("[[-10,-10],[-8,-10]", "[[-10,-10.5],[-8,-10]"), "don't make up its outline"),
         (mesh.replace("\"end\":\"still\"", "\"end\":\"\\ud800\""), "half a character"),

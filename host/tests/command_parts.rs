@@ -87,6 +87,15 @@ fn names_its_segments(field: &Field, fault: &Fault) {
     let spots = fault.segments(field);
     let line = |[k, place]: [usize; 2]| field.loops[k][place].line;
     match fault {
+        Fault::Doubled([k, place]) => {
+            let after = (place + 1) % field.loops[*k].len();
+            assert_eq!((spots.as_slice(), field.loops[*k][*place].x), (&[[*k, *place]][..], field.loops[*k][after].x));
+            assert!(by_line.starts_with(&format!("line {} repeats ", line([*k, after]))), "{by_line}");
+            assert!(
+                by_point.starts_with(&format!("point {} of “{}” repeats ", after + 1, field.names[*k])),
+                "{by_point}"
+            );
+        }
         Fault::Folded(_) | Fault::Meet(_) => {
             let [one, other] = spots[..] else { panic!("two segments: {spots:?}") };
             for spot in [one, other] {

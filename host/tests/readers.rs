@@ -77,7 +77,7 @@ fn hold_equal(texts: &[String]) {
 }
 
 /// Texts as people have them, each with a part of what is read.
-const KEPT: [(&str, &str); 24] = [
+const KEPT: [(&str, &str); 28] = [
     ("0,0\n1,0\n1,1\n", "field\nloop outline\n1 0"),
     ("x,y\n0,0\n1,0\n1,1", "note line 1: taken for a heading: x,y\n"),
     ("\"x (deg)\";\"y (deg)\"\n-1,5;2\n1;0\n1;1,25\n", "2 bff8000000000000 4000000000000000\n"),
@@ -101,6 +101,10 @@ const KEPT: [(&str, &str); 24] = [
     ("0,\n,0\n", "wrong\nline 1: y is missing; if it is a heading, put # before it\nline 2: x is missing\n"),
     ("\u{2212}1,\u{2212}2\n", "1 bff0000000000000 c000000000000000\n"),
     ("0,0\u{1b}[31m\n", "wrong\nline 1: y isn't a number: 0?[31m"),
+    ("x\ty\n-12,5\t30\n1.5\t 2\n3\t-4\t\n", "2 c029000000000000 403e000000000000\n3 3ff8000000000000 4000000000000000\n4 "),
+    ("1,\t2\n3\t,4\n", "1 3ff0000000000000 4000000000000000\n2 4008000000000000 4010000000000000\n"),
+    ("1\t2\n3,4\n", "wrong\nline 2: one value, where x and y are wanted with a tab between: 3,4\n"),
+    ("1\t2\n3\t4\t5\n", "wrong\nline 2: 3 values, where x and y are wanted with a tab between: 3 4 5\n"),
     ("", "field\n"),
 ];
 

@@ -6,6 +6,7 @@ import re
 import shutil
 import tempfile
 import unittest
+import unittest.mock
 
 import common
 from common import ORACLE, ROOT, run
@@ -13,6 +14,9 @@ import listings
 
 EXAMPLES = ROOT / "examples"
 PROGRAM = ROOT / "target/bin/pave"
+COMMAND = ROOT / "host/target/release/sitjorbe"
+# Pictures are drawn by the command.
+drawing = unittest.skipUnless(os.access(COMMAND, os.X_OK), "the command isn't built")
 
 
 def names(suffix):
@@ -38,19 +42,24 @@ class Examples(unittest.TestCase):
         verdicts = {listings.read(path.read_text()).whole for path in EXAMPLES.glob("*.listing")}
         self.assertEqual(verdicts, {True, False})
 
+    @drawing
     @unittest.skipUnless(os.access(PROGRAM, os.X_OK), "the program isn't built")
     def test_the_programs(self):
         self.same("--program", str(PROGRAM))
 
+    @drawing
     @unittest.skipUnless(common.oracle_there(), "the reference isn't here")
     def test_the_oracles(self):
         self.same("--program", f"{ORACLE} pave")
 
+    @drawing
     def test_the_pictures_are_of_the_listings_kept(self):
         for name in names(".csv"):
             status, said, _ = run(EXAMPLES / "make", "--check", name, "--program", f"cat {EXAMPLES / name}.listing")
             self.assertEqual((status, said.decode().count("  same ")), (0, 2), name)
 
+    @drawing
+    @unittest.mock.patch.dict(os.environ, SITJORBE_COMMAND=str(COMMAND))
     def test_a_change_is_noticed(self):
         with tempfile.TemporaryDirectory() as folder:
             for name in ("examples", "tools"):

@@ -1,25 +1,22 @@
 """A listing to a picture: what is read, what is drawn, and what is said where nothing can be."""
 
+import hashlib
 import math
+import os
 import pathlib
 import re
-import struct
 import tempfile
 import unittest
 import xml.etree.ElementTree
 
-from common import ROOT, SQUARE, SQUARE_LISTING, TOOLS, run
+from common import ROOT, SQUARE, SQUARE_LISTING, TOOLS, run, slit
+import commands
 import listings
 import outlines
 from outlines import Settings, Unusable
 from refusals import Refused, in_words
 
 OPEN = SQUARE_LISTING.replace("mesh 9 4 2 still whole", "mesh 9 3 4 full open").replace("q 5 6 7 8\n", "l 5 6 7 8\n")
-# a blind spot in the square, and the listing with its points
-HOLE = "\n0.5,0.5\n0.5,1.5\n1.5,1.5\n"
-HOLED = SQUARE_LISTING.replace("mesh 9", "mesh 12").replace(
-    "q 0 1 8 7", "n 3fe0000000000000 3fe0000000000000\nn 3fe0000000000000 3ff8000000000000\nn 3ff8000000000000 3ff8000000000000\nq 0 1 8 7")
-
 # the outline is unsound, and no loop is left
 UNSOUND = SQUARE_LISTING.replace("still whole", "still open")
 
@@ -127,23 +124,29 @@ class Origins(unittest.TestCase):
         self.assertGreater(spots, 50)
 
 
+COMMAND = ROOT / "host/target/release/sitjorbe"
+RIGHT_EYE = ROOT / "examples/right-eye"
+
+
+@unittest.skipUnless(os.access(COMMAND, os.X_OK), "the command isn't built")
 class Drawing(unittest.TestCase):
     def setUp(self):
         holder = tempfile.TemporaryDirectory()
         self.addCleanup(holder.cleanup)
         self.folder = pathlib.Path(holder.name)
+        self.square = self.file("it.csv", SQUARE)
 
     def file(self, name, data):
         path = self.folder / name
         path.write_bytes(data if isinstance(data, bytes) else data.encode())
         return path
 
-    def draw(self, listing, *words):
-        return run(TOOLS / "picture", self.file("field.listing", listing), *words)
+    def draw(self, listing, *words, outline=None):
+        return run(TOOLS / "picture", self.file("field.listing", listing), "--outline", outline or self.square, *words)
 
-    def drawn(self, listing, *words):
+    def drawn(self, listing, *words, outline=None):
         """The picture's paths by class, and its texts."""
-        status, data, said = self.draw(listing, *words)
+        status, data, said = self.draw(listing, *words, outline=outline)
         self.assertEqual((status, said), (0, ""))
         root = xml.etree.ElementTree.fromstring(data)
         name = "{http://www.w3.org/2000/svg}"
@@ -152,105 +155,101 @@ class Drawing(unittest.TestCase):
             paths.setdefault(element.get("class"), []).append(element.get("d"))
         return paths, ["".join(element.itertext()) for element in root.iter(f"{name}text")]
 
-    def test_the_square_alone(self):
-        paths, texts = self.drawn(SQUARE_LISTING)
-        self.assertEqual(paths["quads"][0].count("Z"), 4)
+    def test_the_square(self):
+        paths, texts = self.drawn(SQUARE_LISTING, "--date", "2026-11-27")
+        self.assertEqual(paths["patch0"][0].count("Z"), 4)
         self.assertEqual(paths["nodes"][0].count("M"), 9)
         self.assertNotIn("open", paths)
-        self.assertNotIn("outline", paths)
-        for words in ("field", "All of the field is paved.", "9 nodes, 4 quads.", "0°", "2°", "quad", "fixation"):
+        digest = hashlib.sha256("".join(line + "\n" for line in SQUARE_LISTING.split("\n") if line[:2] in ("n ", "q ")).encode()).hexdigest()[:16]
+        for words in ("field", "All of the field is paved.", "9 nodes, 4 quads.", "2°", "fixation", f"Mesh {digest}, sitjorbe {commands.version()}, 2026-11-27."):
             self.assertIn(words, texts)
         self.assertNotIn("measured nowhere", texts)
+        self.assertIn("9 nodes, 4 quads; size 1°.", self.drawn(SQUARE_LISTING, "--size", "1")[1])
+
+    def test_one_look_for_both_tools(self):
+        """What the command draws of a field is what is drawn of its listing, byte by byte."""
+        for name, size, eye in (("right-eye", "3.6", "right"), ("hand-drawn", "3.5", "left"), ("24-2", "3", "right")):
+            points, look = ROOT / f"examples/{name}.csv", ("--size", size, "--eye", eye, "--title", name, "--date", "2026-11-27")
+            drawn = run(TOOLS / "picture", points.with_suffix(".listing"), "--outline", points, *look)
+            self.assertEqual(drawn[1], run(COMMAND, "pave", points, *look, "-o", "-")[1], name)
 
     def test_an_open_one(self):
         paths, texts = self.drawn(OPEN)
-        self.assertEqual((paths["quads"][0].count("Z"), paths["open"][0].count("Z")), (3, 1))
-        for words in ("Part of the field is paved; the red part is measured nowhere.", "9 nodes, 3 quads.",
-                      "The paving stopped early: no space was lent for another quad.", "measured nowhere"):
+        self.assertEqual((paths["patch0"][0].count("Z"), paths["open"][0].count("Z")), (3, 1))
+        for words in ("75 % of the field is paved; the red part, 25 %, is measured nowhere.", "9 nodes, 3 quads.",
+                      "The paving stopped early: there was no place left for another quad.", "measured nowhere"):
             self.assertIn(words, texts)
-        _, texts = self.drawn(OPEN, "--outline", self.file("it.csv", SQUARE))
-        self.assertIn("75 % of the field is paved; the red part, 25 %, is measured nowhere.", texts)
 
-    def test_the_patch_round_a_blind_spot(self):
-        example = ROOT / "examples/right-eye"
-        paths, texts = self.drawn(example.with_suffix(".listing").read_text(), "--outline", example.with_suffix(".csv"))
-        self.assertEqual((paths["quads"][0].count("Z"), paths["patch1"][0].count("Z")), (194, 48))
+    def test_holes_have_their_names(self):
+        listing = RIGHT_EYE.with_suffix(".listing").read_text()
+        paths, texts = self.drawn(listing, outline=RIGHT_EYE.with_suffix(".csv"))
+        self.assertEqual((paths["patch0"][0].count("Z"), paths["patch1"][0].count("Z")), (194, 48))
         self.assertNotIn("patch2", paths)
-        self.assertIn("quad round a blind spot", texts)
-        self.assertNotIn("quad round a blind spot", self.drawn(SQUARE_LISTING)[1])
-
-    def test_patches_have_different_colours(self):
-        rows = [f"n {struct.pack('>dd', node.x, node.y).hex(' ', 8)}" for node in SPOTS.nodes]
-        rows += [f"{kind} {' '.join(map(str, ids))}" for kind, lists in (("q", SPOTS.quads), ("l", SPOTS.loops)) for ids in lists]
-        listing = "\n".join(["mesh 18 3 18 passes open", *rows, ""])
-        self.assertEqual(listings.read(listing), SPOTS)
-        paths, texts = self.drawn(listing)
-        self.assertEqual([paths[kind][0].count("Z") for kind in ("quads", "patch1", "patch2")], [1, 1, 1])
-        self.assertEqual(texts.count("quad round a blind spot"), 1)
-        self.assertEqual([len(paths[kind]) for kind in ("quads", "patch1", "patch2")], [2, 2, 2], "each is in the legend too")
+        self.assertIn("paved round “blind spot”", texts)
+        hand = ROOT / "examples/hand-drawn"
+        _, texts = self.drawn(hand.with_suffix(".listing").read_text(), outline=hand.with_suffix(".csv"))
+        self.assertIn("paved round “arcuate scotoma”", texts)
+        self.assertIn("arcuate scotoma", texts)
+        self.assertFalse([words for words in texts if "blind spot" in words], "a scotoma isn't a blind spot")
 
     def test_an_unsound_one(self):
-        paths, texts = self.drawn(UNSOUND)
-        self.assertNotIn("open", paths)
-        self.assertIn("The outline isn't sound, so how much of the field is paved can't be said.", texts)
+        points = self.file("slit.csv", slit(0.0, 0.0))
+        status, said, wrong = run(TOOLS / "picture", self.file("slit.listing", UNSOUND), "--outline", points)
+        self.assertEqual((status, said), (2, b""), "it is no listing of this outline")
+        self.assertIn("the listing is of another outline", wrong)
 
     def test_where_points_fall(self):
         paths, _ = self.drawn(SQUARE_LISTING)
-        quad = re.match("M(.*?)Z", paths["quads"][0]).group(1)
+        quad = re.match("M(.*?)Z", paths["patch0"][0]).group(1)
         corners = [tuple(map(float, corner.split(","))) for corner in quad.split(" ")]
         (ax, ay), (bx, by), (dx, dy), (cx, cy) = corners
         self.assertTrue(ax == cx < bx == dx and ay == by > cy == dy, "x goes to the right and y upwards")
         self.assertAlmostEqual(bx - ax, ay - cy, delta=0.02)
 
     def test_the_outline_as_the_program_read_it(self):
-        blocks = outlines.to_blocks(outlines.read_points(SQUARE + HOLE), Settings(1.0, 400, 1))
-        for outline in (self.file("it.outline", blocks), self.file("it.csv", SQUARE + HOLE)):
-            paths, texts = self.drawn(HOLED, "--outline", outline)
-            self.assertEqual((paths["outline"][0].count("Z"), paths["blind"][0].count("Z")), (2, 1))
-            self.assertIn("blind spot", texts)
+        points = RIGHT_EYE.with_suffix(".csv").read_text()
+        blocks = self.file("it.outline", outlines.to_blocks(outlines.read_points(points), Settings(3.6)))
+        paths, texts = self.drawn(RIGHT_EYE.with_suffix(".listing").read_text(), outline=blocks)
+        self.assertEqual((paths["outline"][0].count("Z"), paths["blind"][0].count("Z")), (2, 1))
+        self.assertIn("blind spot", texts)
 
     def test_no_size_is_said_of_a_listing_of_another(self):
         sizes = [self.file(f"{size}.outline", outlines.to_blocks(outlines.read_points(SQUARE), Settings(size))) for size in (1.0, 1.5)]
-        one, other = (self.draw(SQUARE_LISTING, "--outline", outline) for outline in sizes)
+        one, other = (self.draw(SQUARE_LISTING, outline=outline) for outline in sizes)
         self.assertEqual(one, other, "both files have the listing's outline, and only one its size")
 
     def test_an_edge_is_lit(self):
-        blocks = outlines.to_blocks(outlines.read_points(SQUARE + HOLE), Settings(1.0, 400, 1))
-        for outline in (self.file("it.outline", blocks), self.file("it.csv", SQUARE + HOLE)):
-            rings = self.drawn(HOLED, "--outline", outline)[0]["outline"][0].split("Z")
-            corners = [ring.strip().removeprefix("M").split(" ") for ring in rings[:2]]
-            for loop, segment, words in ((0, 0, "Edge 0 of the outline is lit, from (0, 0) to (2, 0)."),
-                                         (0, 3, "Edge 3 of the outline is lit, from (0, 2) to (0, 0)."),
-                                         (1, 1, "Edge 1 of blind spot 1 is lit, from (0.5, 1.5) to (1.5, 1.5)."),
-                                         (1, 2, "Edge 2 of blind spot 1 is lit, from (1.5, 1.5) to (0.5, 0.5).")):
-                paths, texts = self.drawn(HOLED, "--outline", outline, "--edge", f"{loop},{segment}")
-                ends = corners[loop][segment], corners[loop][(segment + 1) % len(corners[loop])]
-                self.assertEqual((len(paths["edge"]), paths["edge"][0]), (2, "M{}L{}".format(*ends)), "and one in the legend")
-                self.assertTrue({words, "edge"} <= set(texts))
-        paths, texts = self.drawn(HOLED, "--outline", outline)
-        self.assertFalse("edge" in paths or "edge" in texts)
+        listing, outline = RIGHT_EYE.with_suffix(".listing").read_text(), RIGHT_EYE.with_suffix(".csv")
+        rings = self.drawn(listing, outline=outline)[0]["outline"][0].split("Z")
+        corners = [ring.strip().removeprefix("M").split(" ") for ring in rings[:2]]
+        for loop, segment in ((0, 0), (0, 23), (1, 1), (1, 7)):
+            paths, texts = self.drawn(listing, "--edge", f"{loop},{segment}", outline=outline)
+            ends = corners[loop][segment], corners[loop][(segment + 1) % len(corners[loop])]
+            self.assertEqual((len(paths["lit"]), paths["lit"][0]), (2, "M{}L{}".format(*ends)), "and one in the legend")
+            self.assertTrue([words for words in texts if words.startswith(f"Edge {loop},{segment} of ")])
+        paths, texts = self.drawn(listing, outline=outline)
+        self.assertNotIn("lit", paths)
 
     def test_an_edge_that_isnt_there(self):
-        outline = self.file("it.csv", SQUARE + HOLE)
+        listing, outline = RIGHT_EYE.with_suffix(".listing").read_text(), RIGHT_EYE.with_suffix(".csv")
         for words, message in (("2,0", "there is no loop 2: the outline has 2 loops, counted from 0"),
-                               ("0,4", "loop 0 has no segment 4: it has 4 segments, counted from 0"),
-                               ("1,3", "loop 1 has no segment 3: it has 3 segments, counted from 0"),
+                               ("0,24", "loop 0 has no segment 24: it has 24 segments, counted from 0"),
                                *((words, f"an edge is LOOP,SEGMENT, two whole numbers that count from 0: {words}")
                                  for words in ("", "1", "1,", "1,2,3", "1, 2", "0x1,2", "٠,1", "1" * 5_000 + ",1"))):
-            self.assertEqual(self.draw(HOLED, "--outline", outline, "--edge", words), (2, b"", f"picture: {message}\n"))
-        status, data, said = self.draw(HOLED, "--edge", "0,0")
-        self.assertEqual((status, data), (2, b""))
-        self.assertIn("--edge needs --outline: a listing has no outline", said)
+            self.assertEqual(self.draw(listing, "--edge", words, outline=outline), (2, b"", f"picture: {message}\n"))
 
     def test_another_outline_is_not_drawn(self):
         other = self.file("other.csv", SQUARE.replace("2,2", "2,2.5"))
-        self.assertEqual(self.draw(SQUARE_LISTING, "--outline", other),
+        self.assertEqual(self.draw(SQUARE_LISTING, outline=other),
                          (2, b"", f"picture: {other}: the listing is of another outline: it has no node at line 3: 2.0,2.5\n"))
+        status, data, said = run(TOOLS / "picture", self.file("field.listing", SQUARE_LISTING))
+        self.assertEqual((status, data), (2, b""))
+        self.assertIn("--outline", said)
 
     def test_a_damaged_outline_file(self):
         blocks = outlines.to_blocks(outlines.read_points(SQUARE), Settings(1.0))
         damaged = self.file("it.outline", blocks[:600] + b"\1" + blocks[601:])
-        self.assertEqual(self.draw(SQUARE_LISTING, "--outline", damaged), (1, b"", f"picture: {in_words(12)} (block 2)\n"))
+        self.assertEqual(self.draw(SQUARE_LISTING, outline=damaged), (1, b"", f"picture: {in_words(12)} (block 2)\n"))
 
     def test_a_refusal_is_said_in_words(self):
         for number in listings.PRINTED:
@@ -261,7 +260,9 @@ class Drawing(unittest.TestCase):
         self.assertEqual(self.draw(SQUARE_LISTING.replace("q 0 1 8 7", "q 0 1 8 99"))[::2],
                          (2, f"picture: {path}: line 11: there is no node 99\n"))
         self.assertEqual(self.draw(b"\xff")[::2], (2, f"picture: {path}: this isn't text\n"))
-        self.assertEqual(run(TOOLS / "picture", "/no/such")[::2], (2, "picture: /no/such: No such file or directory\n"))
+        self.assertEqual(run(TOOLS / "picture", "/no/such", "--outline", self.square)[::2], (2, "picture: /no/such: No such file or directory\n"))
+        self.assertEqual(self.draw(SQUARE_LISTING.replace("q 0 1 8 7", "q 0 1 8 8"))[::2],
+                         (2, "picture: quads: number 0, counted from 0, isn't one: [0,1,8,8]\n"))
 
     def test_numbers_title_and_output(self):
         target = self.folder / "made.svg"
@@ -273,13 +274,8 @@ class Drawing(unittest.TestCase):
         self.assertFalse({str(k) for k in range(9)} & set(self.drawn(SQUARE_LISTING)[1]))
 
     def test_standard_input(self):
-        status, data, _ = run(TOOLS / "picture", "-", data=SQUARE_LISTING.encode())
+        status, data, _ = run(TOOLS / "picture", "-", "--outline", self.square, data=SQUARE_LISTING.encode())
         self.assertEqual((status, b">Paved field</title>" in data), (0, True))
-
-    def test_very_small_and_very_large(self):
-        for bits in ("0000000000000001", "408f400000000000"):
-            paths, _ = self.drawn(SQUARE_LISTING.replace("4000000000000000", bits))
-            self.assertNotRegex(paths["quads"][0], "inf|nan")
 
 
 if __name__ == "__main__":

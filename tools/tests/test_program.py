@@ -102,6 +102,10 @@ mkdir -p out && printf '#!/bin/sh\\ncat %s/listing\\n' "$(cd ../.. && pwd)" > "o
 """
 
 
+# It draws the pictures.
+COMMAND = ROOT / "host/target/release/sitjorbe"
+
+
 class FirstBuild(unittest.TestCase):
     def setUp(self):
         folder = tempfile.TemporaryDirectory()
@@ -125,9 +129,10 @@ class FirstBuild(unittest.TestCase):
         rt.write_text(RT.format(end=end))
         rt.chmod(0o755)
         path = f"{rt.parent}:{os.environ['PATH']}"
-        result = subprocess.run([self.root / "tools/pave", *words], cwd=self.root, env={**os.environ, "PATH": path}, capture_output=True, text=True)
+        result = subprocess.run([self.root / "tools/pave", *words], cwd=self.root, env={**os.environ, "PATH": path, "SITJORBE_COMMAND": COMMAND}, capture_output=True, text=True)
         return result.returncode, result.stdout, result.stderr.splitlines()
 
+    @unittest.skipUnless(os.access(COMMAND, os.X_OK), "the command isn't built, which draws")
     def test_how_far_it_is(self):
         status, said, told = self.pave("square.csv", "square.svg", "--size", "1")
         self.assertEqual((status, said), (0, "mesh 9 4 2 still whole\n"), told)

@@ -30,7 +30,16 @@ class Faults(unittest.TestCase):
         self.assertEqual(found("0,0\n4,0\n2,0\n2,3\n")[0], "the segments from line 1 to line 2 and from line 2 to line 3 lie on each other")
         self.assertEqual(found("# in line\n0,0\n1,1\n2,2\n"), ["the segments from line 2 to line 3 and from line 4 to line 2 lie on each other",
                                                               "the segments from line 3 to line 4 and from line 4 to line 2 lie on each other"])
-        self.assertEqual(found("4,0\n4,0\n4,4\n0,4\n0,0\n"), ["the segments from line 2 to line 3 and from line 5 to line 1 meet"])
+
+    def test_doubled_points_are_named_as_that(self):
+        self.assertEqual(found("4,0\n4,0\n4,4\n0,4\n0,0\n"), ["line 2 repeats the point of line 1"])
+        self.assertEqual(found(SQUARE + "\n0.5,0.5\n1,0.5\n1,0.5\n1,1\n1,1\n1,1\n"),
+                         ["line 8 repeats the point of line 7", "line 10 repeats the point of line 9", "line 11 repeats the point of line 10"])
+        self.assertEqual(found(SQUARE + "\n1,1\n1,1\n1,1\n1,1\n1,1\n")[:1], ["line 7 repeats the point of line 6"])
+
+    def test_one_crossing_is_one_fault(self):
+        # Four pairs of segments meet at (2, 2).
+        self.assertEqual(found("0,0\n2,2\n4,0\n4,4\n2,2\n0,4\n"), ["the segments from line 1 to line 2 and from line 4 to line 5 meet"])
 
     def test_slits(self):
         across = "the segments from line 3 to line 4 and from line 6 to line 7 meet"

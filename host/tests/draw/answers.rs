@@ -213,7 +213,11 @@ fn refusal(answer: &Value) -> Refused<String> {
     let refusal = part(answer, "refusal");
     let number = part(refusal, "number").as_count(99).expect("a number") as u32;
     let place = |name: &str| part(refusal, name).as_count(9_999);
-    let words = Refusal::of_number(number).expect("a refusal's number").to_string();
+    // Of 1 an operator's: lists are nothing to whoever draws.
+    let words = match number {
+        1 => "refused (1): the outline has too many points: at most 4,096 are taken in all loops together, so draw fewer, or thin it".to_string(),
+        _ => Refusal::of_number(number).expect("a refusal's number").to_string(),
+    };
     let rest = text(refusal, "words").strip_prefix(&words).expect("the library's words").to_string();
     (number, place("loop"), place("point"), rest)
 }

@@ -1,6 +1,6 @@
 //! The points of a field as people have them, one reader for all commands. tools/outlines.py has the same in Python, and tests/readers.rs holds the two equal.
 //!
-//! One point a line: x and y with a comma between, or a semicolon, and then the decimals may have commas. A blank line ends a loop. `#` begins a comment, and the
+//! One point a line: x and y with a comma between, or a semicolon or a tab, and then the decimals may have commas. A blank line ends a loop. `#` begins a comment, and the
 //! one right before a loop names it. The first row may be a heading. A last point that repeats its loop's first is left out, since a loop closes by itself.
 
 use std::collections::HashMap;
@@ -29,7 +29,14 @@ const LONGEST_SHOWN: usize = 60;
 /// The field that a text says, or every line that can't be read, in words.
 pub fn parse(text: &str) -> Result<Field, Vec<String>> {
     let rows: Vec<(&str, Option<&str>)> = text.split('\n').map(halves).collect();
-    let separator = if rows.iter().any(|(told, _)| told.contains(';')) { ';' } else { ',' };
+    let any = |is: &dyn Fn(&str) -> bool| rows.iter().any(|(told, _)| is(told));
+    let separator = if any(&|told| told.contains(';')) {
+        ';'
+    } else if any(&is_tabbed) {
+        '\t'
+    } else {
+        ','
+    };
     let mut reader = Reader { between: true, ..Reader::default() };
     for (line, (told, comment)) in (1..).zip(&rows) {
         let words = words_of(told, separator);
@@ -57,6 +64,12 @@ pub fn write(field: &Field) -> String {
         loops.extend((!points.is_empty()).then_some(text));
     }
     loops.join("\n")
+}
+
+/// Whether a line has words with a tab between, and no comma beside it.
+fn is_tabbed(told: &str) -> bool {
+    let words: Vec<&str> = trimmed(told).split('\t').map(trimmed).collect();
+    words.len() > 1 && !words.iter().any(|word| word.starts_with(',') || word.ends_with(','))
 }
 
 /// What a line tells, and the comment after it.
@@ -159,7 +172,11 @@ fn is_heading(words: &[&str], separator: char) -> bool {
 fn point_of(words: &[&str], separator: char) -> Result<[f64; 2], String> {
     let [x, y] = words else {
         let count = if words.len() == 1 { "one value".to_string() } else { format!("{} values", words.len()) };
-        let between = if separator == ';' { "semicolon" } else { "comma" };
+        let between = match separator {
+            ';' => "semicolon",
+            '\t' => "tab",
+            _ => "comma",
+        };
         let hint = if words.len() == 4 && separator == ',' {
             "; if the decimals have commas, put ; between x and y"
         } else {
@@ -178,10 +195,10 @@ fn point_of(words: &[&str], separator: char) -> Result<[f64; 2], String> {
     Ok([read("x", x)?, read("y", y)?])
 }
 
-/// The float that a word says; with semicolons between x and y it may have a decimal comma.
+/// The float that a word says; with semicolons or tabs between x and y it may have a decimal comma.
 fn number(word: &str, separator: char) -> Option<f64> {
     let mut word = word.replace('\u{2212}', "-");
-    if separator == ';' && word.matches(',').count() == 1 && !word.contains('.') {
+    if separator != ',' && word.matches(',').count() == 1 && !word.contains('.') {
         word = word.replace(',', ".");
     }
     let bare = word.strip_prefix(['-', '+']).unwrap_or(&word);
@@ -203,7 +220,7 @@ fn is_decimal(bare: &str) -> bool {
 
 /// A row as it is shown on a terminal: no more than fits, and nothing that a terminal would obey.
 fn shown(words: &[&str], separator: char) -> String {
-    let row = words.join(&separator.to_string());
+    let row = words.join(&if separator == '\t' { ' ' } else { separator }.to_string());
     let mut plain: String = row.chars().take(LONGEST_SHOWN).map(|c| if c.is_control() { '?' } else { c }).collect();
     if row.chars().count() > LONGEST_SHOWN {
         plain += "..";

@@ -72,6 +72,12 @@ fn area_of<'a>(paved: &Paved, quads: impl Iterator<Item = &'a [u32; 4]>) -> Exac
     areas.fold(Exact::ZERO, |sum, area| sum.plus(&area))
 }
 
+/// The share of a sound field's area that quads have.
+pub fn share_of<'a>(field: &Field, paved: &Paved, quads: impl Iterator<Item = &'a [u32; 4]>) -> Option<f64> {
+    let total = field_area(field);
+    (total.sign() == Ordering::Greater).then(|| area_of(paved, quads).over(&total))
+}
+
 /// Whether quads lie on each other, which shows in what is left open: then its rings aren't those of an outline, outer and inner ones. Not known where they
 /// have more points than an outline may.
 fn overlaps(paved: &Paved) -> Option<bool> {
@@ -166,7 +172,7 @@ pub fn percent(share: f64) -> String {
 const ROUNDING: f64 = 1e-9;
 
 /// What is left of a share, so that the two make up 100 %.
-fn rest(share: f64) -> String {
+pub fn rest(share: f64) -> String {
     match percent(share).as_str() {
         "more than 99 %" => "less than 1 %".to_string(),
         "less than 1 %" => "more than 99 %".to_string(),
@@ -216,7 +222,9 @@ pub fn stopped(paved: &Paved) -> Option<String> {
 /// The counts and how good the quads are, a sentence a line.
 pub fn sentences(figures: &Figures, settings: &Settings) -> Vec<String> {
     let counts = [counted(figures.nodes, "node"), counted(figures.quads, "quad")].join(", ");
-    let mut lines = vec![format!("{counts}; size {}°.", short(settings.size))];
+    // A listing doesn't have its size.
+    let size = if settings.size.is_finite() { format!("; size {}°", short(settings.size)) } else { String::new() };
+    let mut lines = vec![format!("{counts}{size}.")];
     if let Some(quality) = figures.quality {
         lines.push(quality_in_words(&quality));
     }

@@ -2,9 +2,14 @@
 
 use std::fmt::Write;
 
+use crate::bowl;
 use crate::csv::Field;
 use crate::figures::Figures;
+use crate::files::Failure;
+use crate::hill::{decibels, Hill};
+use crate::identity;
 use crate::mesh_json;
+use crate::report;
 use crate::run::Paved;
 use crate::svg::{self, Look};
 
@@ -19,6 +24,10 @@ pub enum Format {
     Nodes,
     /// A row a quad.
     Quads,
+    /// A row a node, in steps of the bowl.
+    Steps,
+    /// A report of one page.
+    Report,
 }
 
 impl Format {
@@ -27,25 +36,29 @@ impl Format {
         let name = name.to_ascii_lowercase();
         let endings = [
             (".quads.csv", Format::Quads),
+            (".steps.csv", Format::Steps),
             (".csv", Format::Nodes),
             (".svg", Format::Svg),
             (".vtk", Format::Vtk),
             (".msh", Format::Msh),
             (".json", Format::Json),
+            (".html", Format::Report),
         ];
         endings.into_iter().find(|(ending, _)| name.ends_with(ending)).map(|(_, format)| format)
     }
 
-    /// The file's text.
-    pub fn text(self, field: &Field, paved: &Paved, figures: &Figures, look: &Look) -> String {
-        match self {
+    /// The file's text. Steps are refused where the bowl can't show a quad.
+    pub fn text(self, field: &Field, paved: &Paved, figures: &Figures, look: &Look) -> Result<String, Failure> {
+        Ok(match self {
             Format::Svg => svg::draw(field, paved, figures, look),
             Format::Vtk => vtk(paved, look),
             Format::Msh => msh(field, paved),
             Format::Json => mesh_json::write(field, paved, figures, look),
-            Format::Nodes => node_table(field, paved),
+            Format::Nodes => node_table(field, paved, look.hill.as_ref()),
             Format::Quads => quad_table(field, paved),
-        }
+            Format::Steps => bowl::table(paved)?,
+            Format::Report => report::page(field, paved, figures, look),
+        })
     }
 }
 
@@ -61,8 +74,9 @@ fn origin(paved: &Paved, quad: &[u32; 4]) -> u16 {
 /// A legacy VTK file, as ParaView and meshio open it: cells and points have the number of their loop.
 pub fn vtk(paved: &Paved, look: &Look) -> String {
     let mut text = format!(
-        "# vtk DataFile Version 3.0\nSitjorbe: {}\nASCII\nDATASET UNSTRUCTURED_GRID\n",
-        one_line(&look.title, 200)
+        "# vtk DataFile Version 3.0\n{}: {}\nASCII\nDATASET UNSTRUCTURED_GRID\n",
+        identity::line(paved),
+        one_line(&look.title, 150)
     );
     let (nodes, quads) = (paved.nodes.len(), paved.quads.len());
     let mut line = |words: String| writeln!(text, "{words}").expect("a string takes every line");
@@ -82,6 +96,7 @@ pub fn vtk(paved: &Paved, look: &Look) -> String {
 /// Gmsh's format 2.2, which Gmsh and meshio open: the quads of each loop are a physical group that has the loop's name.
 pub fn msh(field: &Field, paved: &Paved) -> String {
     let mut text = String::from("$MeshFormat\n2.2 0 8\n$EndMeshFormat\n");
+    text += &format!("$Comments\n{}\n$EndComments\n", identity::line(paved));
     let mut line = |words: String| writeln!(text, "{words}").expect("a string takes every line");
     let used: Vec<usize> = (0..field.names.len())
         .filter(|k| paved.quads.iter().any(|quad| usize::from(origin(paved, quad)) == *k))
@@ -112,21 +127,23 @@ fn cell(words: &str) -> String {
     }
 }
 
-/// Where each node is: as a point, and by eccentricity and meridian.
-pub fn node_table(field: &Field, paved: &Paved) -> String {
-    let mut text = String::from("node,x,y,eccentricity,meridian,loop\n");
+/// Where each node is, as a point and by eccentricity and meridian, and its threshold: empty where none stands, to be filled in.
+pub fn node_table(field: &Field, paved: &Paved, hill: Option<&Hill>) -> String {
+    let mut text = format!("# {}\nnode,x,y,threshold_dB,eccentricity,meridian,loop\n", identity::line(paved));
     let names: Vec<String> = field.names.iter().map(|name| cell(name)).collect();
     for (id, ([x, y], origin)) in paved.nodes.iter().zip(&paved.origins).enumerate() {
         let meridian = y.atan2(*x).to_degrees().rem_euclid(360.0);
         let name = &names[usize::from(*origin)];
-        writeln!(text, "{id},{x:?},{y:?},{:.3},{meridian:.2},{name}", x.hypot(*y)).expect("a string takes every line");
+        let threshold = hill.and_then(|hill| hill.thresholds[id]).map_or(String::new(), decibels);
+        writeln!(text, "{id},{x:?},{y:?},{threshold},{:.3},{meridian:.2},{name}", x.hypot(*y))
+            .expect("a string takes every line");
     }
     text
 }
 
 /// Each quad's nodes, in the order that runs round it.
 pub fn quad_table(field: &Field, paved: &Paved) -> String {
-    let mut text = String::from("quad,node1,node2,node3,node4,loop\n");
+    let mut text = format!("# {}\nquad,node1,node2,node3,node4,loop\n", identity::line(paved));
     let names: Vec<String> = field.names.iter().map(|name| cell(name)).collect();
     for (place, quad) in paved.quads.iter().enumerate() {
         let [a, b, c, d] = quad;

@@ -1,11 +1,12 @@
 //! The hill of vision: quads shaded by the library's estimates between thresholds at the nodes, dark where little is seen.
 
 use sitjorbe::raw::LentMesh;
-use sitjorbe::{Desk, Exam, Reader, Refusal, MOST_WEIGHT};
+use sitjorbe::{Exam, Reader, Refusal, MOST_WEIGHT};
 
 use crate::files::Failure;
 use crate::run::Paved;
 use crate::sheet::{path, text, Anchor, Sheet};
+use crate::thresholds;
 use crate::words::counted;
 
 /// Patches along a side of a quad.
@@ -14,57 +15,71 @@ const PATCHES: usize = 4;
 const SIDE: u32 = MOST_WEIGHT / PATCHES as u32;
 /// Tenths of a decibel to a shade, and the shades: from 0 dB to 40, which is white.
 const STEP: u32 = 20;
-const SHADES: usize = 21;
+pub const SHADES: usize = 21;
 
-/// Each quad's shades, patch by patch; none where it lacks a threshold.
+/// Each quad's shades, patch by patch, none where it lacks a threshold; and the thresholds.
 #[derive(Clone, Debug)]
 pub struct Hill {
     shades: Vec<Option<[[usize; PATCHES]; PATCHES]>>,
+    /// For each node its threshold in tenths of a decibel, if one stands.
+    pub thresholds: Vec<Option<u32>>,
     /// The quads that lack a threshold.
     pub lacking: usize,
+    /// The quads that have all four, and the sum of all thresholds of those quads.
+    pub figures: (u32, u32),
     pub words: String,
 }
 
-/// The hill of a mesh, from thresholds as text: a node and tenths of a decibel a line.
-pub fn of(paved: &Paved, thresholds: &str, name: &str) -> Result<Hill, Failure> {
-    let (xs, ys): (Vec<f64>, Vec<f64>) = paved.nodes.iter().map(|[x, y]| (*x, *y)).unzip();
-    let (quad_count, quads) = (paved.quads.len(), paved.quads.as_flattened());
-    // The links of the front aren't read.
-    let nodes = xs.len() as u32;
-    let mesh = LentMesh { nodes, xs: &xs, ys: &ys, quad_count, quads, origins: &paved.origins, ..LentMesh::default() };
-    let mut exam = Exam::begin(mesh);
-    for (line, row) in (1..).zip(thresholds.lines()) {
-        enter(&mut exam.desk(), row).map_err(|failure| failure.of(&format!("{name}: line {line}")))?;
-    }
-    let mut shades = vec![];
-    for quad in 0..quad_count as u32 {
-        match shades_of(&exam.reader(), quad) {
-            Ok(rows) => shades.push(Some(rows)),
-            Err(Refusal::NoQuad) => shades.push(None),
-            Err(refusal) => return Err(Failure::Refused(refusal.to_string())),
-        }
-    }
-    let lacking = shades.iter().filter(|rows| rows.is_none()).count();
-    let words = format!(
-        "Shaded by estimates between thresholds: {} of {} have all four.",
-        exam.reader().figures().0,
-        counted(shades.len(), "quad")
-    );
-    Ok(Hill { shades, lacking, words })
+/// A mesh's coordinates, each in a list of its own, as an exam takes them.
+pub struct Places {
+    pub xs: Vec<f64>,
+    pub ys: Vec<f64>,
 }
 
-/// Enters the threshold that a line has. A `#` begins a comment; node and threshold have a comma or a semicolon between.
-fn enter(desk: &mut Desk<'_>, row: &str) -> Result<(), Failure> {
-    let told = row.split('#').next().unwrap_or("").trim();
-    if told.is_empty() {
-        return Ok(());
+impl Places {
+    pub fn of(paved: &Paved) -> Places {
+        let (xs, ys) = paved.nodes.iter().map(|[x, y]| (*x, *y)).unzip();
+        Places { xs, ys }
     }
-    let numbers: Option<Vec<u32>> = told.split([',', ';']).map(|word| word.trim().parse().ok()).collect();
-    match numbers.as_deref() {
-        Some(&[node, threshold]) => {
-            desk.enter(node, threshold).map_err(|refusal| Failure::Refused(refusal.to_string()))
+
+    /// The mesh as it is lent to an exam. The links of the front aren't read.
+    pub fn lent<'a>(&'a self, paved: &'a Paved) -> LentMesh<'a> {
+        let (quad_count, quads) = (paved.quads.len(), paved.quads.as_flattened());
+        LentMesh {
+            nodes: self.xs.len() as u32,
+            xs: &self.xs,
+            ys: &self.ys,
+            quad_count,
+            quads,
+            origins: &paved.origins,
+            ..LentMesh::default()
         }
-        _ => Err(Failure::Cant("a node's number and its threshold in tenths of a decibel are wanted".to_string())),
+    }
+}
+
+/// The hill of a mesh, from a file of thresholds.
+pub fn of(paved: &Paved, text: &str, name: &str) -> Result<Hill, Failure> {
+    let places = Places::of(paved);
+    let mut exam = Exam::begin(places.lent(paved));
+    thresholds::enter(text, paved, &mut exam).map_err(|failure| failure.of(name))?;
+    Hill::of(paved, &exam.reader()).map_err(|refusal| Failure::Refused(refusal.to_string()))
+}
+
+/// The hill of a mesh, from a threshold a node.
+pub fn from(paved: &Paved, thresholds: &[Option<u32>]) -> Result<Hill, Refusal> {
+    let places = Places::of(paved);
+    let mut exam = Exam::begin(places.lent(paved));
+    for (node, tenths) in (0..).zip(thresholds) {
+        tenths.map_or(Ok(()), |tenths| exam.desk().enter(node, tenths))?;
+    }
+    Hill::of(paved, &exam.reader())
+}
+
+/// A threshold as reports print it: with no more decimals than it has.
+pub fn decibels(tenths: u32) -> String {
+    match tenths % 10 {
+        0 => (tenths / 10).to_string(),
+        part => format!("{}.{part}", tenths / 10),
     }
 }
 
@@ -79,7 +94,8 @@ fn shades_of(exam: &Reader<'_>, quad: u32) -> Result<[[usize; PATCHES]; PATCHES]
     Ok(rows)
 }
 
-fn grey(shade: usize) -> String {
+/// A shade's colour.
+pub fn grey(shade: usize) -> String {
     format!("#{:02x}{0:02x}{0:02x}", 24 + 231 * shade / (SHADES - 1))
 }
 
@@ -92,6 +108,47 @@ fn between(corners: &[[f64; 2]; 4], u: u32, v: u32) -> [f64; 2] {
 }
 
 impl Hill {
+    /// What a reader of an exam on the mesh gets.
+    pub fn of(paved: &Paved, reader: &Reader<'_>) -> Result<Hill, Refusal> {
+        let mut shades = vec![];
+        for quad in 0..paved.quads.len() as u32 {
+            match shades_of(reader, quad) {
+                Ok(rows) => shades.push(Some(rows)),
+                Err(Refusal::NoQuad) => shades.push(None),
+                Err(refusal) => return Err(refusal),
+            }
+        }
+        let thresholds = (0..paved.nodes.len() as u32).map(|node| reader.threshold(node).ok()).collect();
+        let lacking = shades.iter().filter(|rows| rows.is_none()).count();
+        let figures = reader.figures();
+        let quads = counted(shades.len(), "quad");
+        let words = format!("Shaded by estimates between thresholds: {} of {quads} have all four.", figures.0);
+        Ok(Hill { shades, thresholds, lacking, figures, words })
+    }
+
+    /// How many quads there are.
+    pub fn quads(&self) -> usize {
+        self.shades.len()
+    }
+
+    /// Whether a quad has all four thresholds.
+    pub fn is_measured(&self, quad: usize) -> bool {
+        self.shades[quad].is_some()
+    }
+
+    /// The thresholds at their nodes, in text so small that they stand clear of each other where nodes are so many pixels apart.
+    pub fn decibels(&self, sheet: &Sheet, paved: &Paved, apart: f64) -> String {
+        let longest = self.thresholds.iter().flatten().map(|tenths| decibels(*tenths).len()).max().unwrap_or(1);
+        let size = (1.35 * apart / longest as f64).min(0.4 * apart).clamp(5.0, 12.0);
+        let sized = format!(r#"<text style="font-size:{size:.1}px""#);
+        let words = |(threshold, node): (&Option<u32>, &[f64; 2])| {
+            let [x, y] = sheet.at(*node);
+            let said = |tenths| text([x, y + 0.35 * size], Anchor::Middle, "decibels", &decibels(tenths));
+            threshold.map(|tenths| said(tenths).replace("<text", &sized))
+        };
+        self.thresholds.iter().zip(&paved.nodes).filter_map(words).collect()
+    }
+
     /// The shaded patches; those alike beside each other are one.
     pub fn shades(&self, sheet: &Sheet, paved: &Paved) -> String {
         let mut parts = vec![String::new(); SHADES];

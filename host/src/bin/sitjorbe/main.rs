@@ -4,28 +4,44 @@
 
 #![forbid(unsafe_code)]
 
+mod advice;
 mod args;
 mod best;
+mod bowl;
+mod caption;
 mod check;
 mod csv;
 mod draw;
 mod exact;
+mod exam;
+mod eye;
 mod figures;
 mod files;
 mod formats;
 mod hill;
+mod identity;
 mod json;
 mod mesh_json;
+mod mesh_reading;
 mod naming;
+mod order;
+mod outputs;
 mod pave;
+mod picture;
+mod place;
 mod polar;
 mod progress;
 mod quality;
 mod refused;
+mod report;
 mod run;
+mod sha256;
 mod sheet;
+mod small;
 mod sound;
 mod svg;
+mod thin;
+mod thresholds;
 mod words;
 
 use std::env;
@@ -46,10 +62,16 @@ const CANT: Status = 2;
 const HELP: &str = "\
 sitjorbe: paves the outline of a visual field with quads
 
+    sitjorbe draw                                            serve a page to draw on, to this machine alone
     sitjorbe pave FIELD.csv .. --size DEGREES [-o FILE ..]   pave, say the figures, write meshes and pictures
     sitjorbe check FIELD.csv ..                              say what would be refused or is unsound, by line
+    sitjorbe exam MESH.json --thresholds FILE -o FILE ..     say what an examination has measured, write its report
+    sitjorbe order MESH.json ORDER.txt [--nearest]           say whether quads may be tested in an order
     sitjorbe quality MESH.json ..                            say the figures of meshes that pave wrote
-    sitjorbe draw                                            serve a page to draw on, to this machine alone
+    sitjorbe picture MESH.json .. -o FILE ..                 write pictures and files of them
+    sitjorbe nearest FIELD.csv X,Y ..                        say which edge of the outline is nearest to a place
+    sitjorbe contains FIELD.csv X,Y ..                       say whether places are in the field
+    sitjorbe small-quads -o FILE ..                          write every quad that technicians calibrate with
     sitjorbe COMMAND --help                                  say more about a command
     sitjorbe --version
 
@@ -79,6 +101,12 @@ fn dispatch(words: &[String]) -> Status {
         "pave" => pave::command(rest),
         "check" => check::command(rest),
         "quality" => quality::command(rest),
+        "picture" => picture::command(rest),
+        "exam" => exam::command(rest),
+        "order" => order::command(rest),
+        "nearest" => place::nearest(rest),
+        "contains" => place::contain(rest),
+        "small-quads" => small::command(rest),
         "draw" => draw::command(rest),
         _ => Err(Failure::Cant(format!("there is no command {command}; sitjorbe --help names them"))),
     };

@@ -25,6 +25,16 @@ impl Naming {
         }
     }
 
+    /// A point that repeats the one before it: the one that the segment between them ends at.
+    pub fn doubled(self, field: &Field, [k, place]: Spot) -> String {
+        let points = &field.loops[k];
+        let after = (place + 1) % points.len();
+        match self {
+            Naming::Line => format!("line {} repeats the point of line {}", points[after].line, points[place].line),
+            Naming::Point => format!("point {} of “{}” repeats point {}", after + 1, field.names[k], place + 1),
+        }
+    }
+
     /// A point with its coordinates.
     pub fn point(self, field: &Field, [k, place]: Spot) -> String {
         let Point { x, y, line } = field.loops[k][place];

@@ -1,35 +1,30 @@
 //! `sitjorbe pave`: fields paved, their figures said, meshes and pictures written.
 
-use std::collections::HashMap;
-use std::fs;
-use std::path::Path;
-
 use sitjorbe::raw::Settings;
 
+use crate::advice::Advice;
 use crate::args::{Args, Known};
 use crate::best;
 use crate::csv::{self, Field};
 use crate::figures::{self, Figures};
 use crate::files::{self, named, Failure};
-use crate::formats::Format;
 use crate::naming::Naming;
+use crate::outputs::{self, Brought, Outputs};
 use crate::progress::Progress;
 use crate::run::{self, Paved};
-use crate::svg::{Eye, Look};
-use crate::{hill, mesh_json, refused, sound, Status, DONE};
+use crate::thin::Thinned;
+use crate::{mesh_json, refused, sound, Status, DONE, REFUSED};
 
-pub const HELP: &str = "\
+const ABOUT: &str = "\
 sitjorbe pave FIELD.csv .. --size DEGREES [OPTIONS]: paves fields, says their figures, writes meshes and pictures
 
     --size DEGREES       the length wanted of a quad's side, 0.01 to 100
     --best               try sizes around that one, and keep the one that paves the largest share
-    -o, --output FILE    write FILE, as often as you like; its ending says what: .svg a picture, .vtk for ParaView, .msh for Gmsh,
-                         .json all there is, .csv a row a node, .quads.csv a row a quad. {} in FILE stands for the field's name
-    --as ENDING          what -o - writes to standard output (default: svg)
-    --eye right|left     which eye it is: names the sides in the picture
-    --title WORDS        words above the picture (default: the field's name)
-    --numbers            write each node's number beside it
-    --thresholds FILE    shade the picture by estimates between thresholds: a node and tenths of a decibel a line
+    --thin [DEGREES]     pave fewer points, about so far apart (default: the size), and say how far the outline moves
+    --strict             answer status 1 where an outline isn't sound
+";
+
+const MORE: &str = "\
     --sweeps N           sweeps of the field of directions, at most 1,000 (default: 400)
     --passes N           passes of the paving, at most 600 are made (default: 600)
     --json               say the figures as JSON, a line a field
@@ -39,16 +34,11 @@ outline, the others are blind spots. - is standard input. What is said goes to s
 The exit status is 0 if all went well, 1 if something is refused, 2 if something can't be read or written.
 ";
 
-const OPTIONS: [Known; 14] = [
+const OPTIONS: [Known; 9] = [
     ("--size", true),
     ("--best", false),
-    ("-o", true),
-    ("--output", true),
-    ("--as", true),
-    ("--eye", true),
-    ("--title", true),
-    ("--numbers", false),
-    ("--thresholds", true),
+    ("--thin", true),
+    ("--strict", false),
     ("--sweeps", true),
     ("--passes", true),
     ("--json", false),
@@ -60,24 +50,22 @@ const OPTIONS: [Known; 14] = [
 struct Call {
     settings: Settings,
     best: bool,
-    outputs: Vec<(String, Format)>,
-    eye: Option<Eye>,
-    title: Option<String>,
-    numbers: bool,
-    thresholds: Option<(String, String)>,
+    /// The spacing, in degrees, that points are thinned to.
+    thin: Option<f64>,
+    strict: bool,
+    outputs: Outputs,
     json: bool,
 }
 
 pub fn command(words: &[String]) -> Result<Status, Failure> {
-    let args = Args::parse(words, &OPTIONS)?;
+    let args = Args::parse(words, &[&OPTIONS[..], &outputs::OPTIONS].concat())?;
     if args.has("--help") || args.has("-h") {
-        return files::print(HELP).map(|()| DONE);
+        return files::print(&[ABOUT, outputs::HELP, MORE].concat()).map(|()| DONE);
     }
     let call = Call::of(&args)?;
     let mut status = DONE;
     for file in &args.files {
-        let failed = call.pave(file).err();
-        status = status.max(failed.map_or(DONE, |failure| failure.of(named(file)).said()));
+        status = status.max(call.pave(file).unwrap_or_else(|failure| failure.of(named(file)).said()));
     }
     Ok(status)
 }
@@ -88,82 +76,51 @@ impl Call {
         let Some(size) = args.number("--size")? else {
             return wrong("--size is wanted: the length of a quad's side, in degrees");
         };
-        let eye = match args.value("--eye") {
-            Some(word) => Some(Eye::of_name(word).ok_or(Failure::Cant(format!("--eye is right or left, not {word}")))?),
-            None => None,
-        };
-        let read = |name: &str| files::read_text(name).map(|text| (named(name).to_string(), text));
+        if args.files.is_empty() {
+            return wrong("no field is named; sitjorbe pave --help says how");
+        }
         let call = Call {
             settings: Settings {
                 size,
-                sweeps: args.number("--sweeps")?.unwrap_or(run::SWEEPS),
-                passes: args.number("--passes")?.unwrap_or(run::MOST_PASSES),
+                sweeps: args.count("--sweeps", "0 to 1,000")?.unwrap_or(run::SWEEPS),
+                passes: args.count("--passes", "0 to 600")?.unwrap_or(run::MOST_PASSES),
             },
             best: args.has("--best"),
-            outputs: outputs(args)?,
-            eye,
-            title: args.value("--title").map(str::to_string),
-            numbers: args.has("--numbers"),
-            thresholds: args.value("--thresholds").map(read).transpose()?,
+            thin: spacing(args, size)?,
+            strict: args.has("--strict"),
+            outputs: Outputs::of(args, &args.files)?,
             json: args.has("--json"),
         };
-        match &args.files[..] {
-            [] => wrong("no field is named; sitjorbe pave --help says how"),
-            files if files.iter().filter(|file| *file == "-").count() > 1 => {
-                wrong("standard input can't be read twice")
-            }
-            files => call.check_targets(files).map(|()| call),
+        if call.best && call.outputs.has_thresholds() {
+            return wrong(
+                "--best tries other sizes, and thresholds belong to the mesh of one: leave one of the two out",
+            );
         }
+        Ok(call)
     }
 
-    /// Nothing is written twice, nor over a field.
-    fn check_targets(&self, fields: &[String]) -> Result<(), Failure> {
-        let same = |path: &str| fs::canonicalize(path).unwrap_or_else(|_| path.into());
-        let mut taken: HashMap<std::path::PathBuf, &str> =
-            fields.iter().filter(|field| *field != "-").map(|field| (same(field), field.as_str())).collect();
-        for field in fields {
-            for target in self.outputs.iter().map(|(output, _)| target(output, field)) {
-                if let Some(other) = taken.insert(same(&target), field) {
-                    let hint = if fields.len() > 1 { ": with {} in its name each field has its own" } else { "" };
-                    return Err(Failure::Cant(format!("{target} would be written over: {other}{hint}")));
-                }
-            }
-        }
-        Ok(())
-    }
-
-    fn to_standard_output(&self) -> bool {
-        self.outputs.iter().any(|(output, _)| output == "-")
-    }
-
-    /// Says words where they go: beside a mesh that goes to standard output, on standard error.
-    fn say(&self, words: &str) -> Result<(), Failure> {
-        if self.to_standard_output() {
-            files::say(words);
-            Ok(())
-        } else {
-            files::print(&(words.to_string() + "\n"))
-        }
-    }
-
-    fn pave(&self, file: &str) -> Result<(), Failure> {
+    fn pave(&self, file: &str) -> Result<Status, Failure> {
         let progress = Progress::begin(&format!("{}: reading", named(file)));
-        let field = read_field(file)?;
-        refused::check(&field, Some(self.settings.size))?;
+        let drawn = read_field(file)?;
+        let thinned = self.thin.map(|spacing| Thinned::of(&drawn, spacing));
+        let field = thinned.as_ref().map_or(&drawn, |thinned| &thinned.field);
+        refused::check(field, Some(self.settings.size))?;
         let stage = |words: &str| progress.stage(&format!("{}: {words}", named(file)));
-        let (paved, tried) = self.paved(&field, &stage)?;
+        let (paved, tried) = self.paved(field, &stage)?;
         stage("counting");
-        let figures = figures::of(&field, &paved);
-        let look = self.look(file, &paved)?;
-        for (output, format) in &self.outputs {
-            stage(&format!("writing {output}"));
-            files::write(&target(output, file), &format.text(&field, &paved, &figures, &look))?;
+        let figures = figures::of(field, &paved);
+        let mut look = self.outputs.look(file, field, &paved, Brought::default())?;
+        if let Some(thinned) = thinned.as_ref().filter(|thinned| thinned.kept[0] < thinned.kept[1]) {
+            (look.drawn, look.notes) = (Some(drawn.clone()), vec![thinned.in_words()]);
         }
+        self.outputs.write(file, (field, &paved), &figures, &look, &stage)?;
         drop(progress);
-        if let Some(doubt) = self.eye.and_then(|eye| eye.doubt(&field)) {
+        if let Some(doubt) = self.outputs.eye().and_then(|eye| eye.doubt(field)) {
             files::say(&format!("{}: {doubt}", named(file)));
         }
-        self.report(file, &field, &paved, &figures, &tried)
+        let said: Vec<String> = tried.into_iter().chain(thinned.iter().map(Thinned::in_words)).collect();
+        self.report(file, field, &paved, &figures, &said)?;
+        Ok(if self.strict && !paved.sound { REFUSED } else { DONE })
     }
 
     fn paved(&self, field: &Field, stage: &dyn Fn(&str)) -> Result<(Paved, Vec<String>), Failure> {
@@ -175,65 +132,53 @@ impl Call {
         Ok((paved, vec![]))
     }
 
-    fn look(&self, file: &str, paved: &Paved) -> Result<Look, Failure> {
-        let hill = self.thresholds.as_ref().map(|(name, text)| hill::of(paved, text, name)).transpose()?;
-        let title = self.title.clone().unwrap_or_else(|| stem(file));
-        Ok(Look { title, eye: self.eye, numbers: self.numbers, hill })
-    }
-
     fn report(
         &self,
         file: &str,
         field: &Field,
         paved: &Paved,
         figures: &Figures,
-        tried: &[String],
+        said: &[String],
     ) -> Result<(), Failure> {
         if self.json {
-            return self.say(&mesh_json::report(file, paved, figures).to_string());
+            return self.outputs.say(&mesh_json::report(file, paved, figures).to_string());
         }
         for fault in if paved.sound { vec![] } else { sound::faults(field) } {
             files::say(&format!("{}: unsound: {}", named(file), fault.in_words(field, Naming::Line)));
         }
         let mut lines = vec![format!("{}: {}", named(file), figures::verdict(figures, false))];
-        lines.extend(tried.iter().cloned());
+        lines.extend(said.iter().cloned());
         lines.extend(figures::stopped(paved));
         lines.extend(figures::sentences(figures, &paved.settings));
-        self.say(&lines.join("\n  "))
+        lines.extend(Advice::said(field, paved, figures));
+        self.outputs.say(&lines.join("\n  "))
     }
 }
 
+/// The spacing that points are to be thinned to, if they are.
+fn spacing(args: &Args, size: f64) -> Result<Option<f64>, Failure> {
+    match args.value("--thin") {
+        None => Ok(None),
+        Some("") => Ok(Some(size)),
+        Some(_) => match args.number("--thin")? {
+            Some(spacing) if spacing > 0.0 && f64::is_finite(spacing) => Ok(Some(spacing)),
+            _ => Err(Failure::Cant("--thin wants degrees above 0, or nothing for the size".to_string())),
+        },
+    }
+}
+
+const NODES: &str = "this is a table of a mesh's nodes, not of an outline's points: --thresholds takes it";
+
 /// A field read from a file, with what is to be known of how it was read said.
 pub fn read_field(file: &str) -> Result<Field, Failure> {
-    let field = csv::parse(&files::read_text(file)?).map_err(|lines| Failure::Cant(lines.join("\n")))?;
+    let text = files::read_text(file)?;
+    let first = text.lines().find(|line| !line.trim().is_empty() && !line.starts_with('#'));
+    if first.is_some_and(|line| line.starts_with("node,x,y,")) {
+        return Err(Failure::Cant(NODES.to_string()));
+    }
+    let field = csv::parse(&text).map_err(|lines| Failure::Cant(lines.join("\n")))?;
     for note in &field.notes {
         files::say(&format!("{}: {note}", named(file)));
     }
     Ok(field)
-}
-
-/// A file's name without its folder and ending.
-fn stem(file: &str) -> String {
-    match file {
-        "-" => "field".to_string(),
-        _ => Path::new(file).file_stem().map_or(file.to_string(), |stem| stem.to_string_lossy().into_owned()),
-    }
-}
-
-/// Where a field's output goes.
-fn target(output: &str, file: &str) -> String {
-    output.replace("{}", &stem(file))
-}
-
-/// The outputs asked for, each with its format.
-fn outputs(args: &Args) -> Result<Vec<(String, Format)>, Failure> {
-    let wanted = args.value("--as").unwrap_or("svg");
-    let format = |name: &str| {
-        let ending = if name == "-" { format!(".{wanted}") } else { name.to_string() };
-        let known = "it ends in none of .svg, .vtk, .msh, .json, .csv and .quads.csv";
-        Format::of_name(&ending)
-            .map(|format| (name.to_string(), format))
-            .ok_or(Failure::Cant(format!("{ending}: {known}")))
-    };
-    args.values("-o").chain(args.values("--output")).map(format).collect()
 }

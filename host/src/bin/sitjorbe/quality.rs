@@ -2,11 +2,14 @@
 
 use std::cmp::Ordering;
 
+use crate::advice::Advice;
 use crate::args::{Args, Known};
 use crate::exact::Exact;
 use crate::figures;
 use crate::files::{self, named, Failure};
-use crate::mesh_json::{self, Read};
+use crate::identity;
+use crate::mesh_json;
+use crate::mesh_reading::{self, Read};
 use crate::{Status, DONE};
 
 pub const HELP: &str = "\
@@ -39,9 +42,7 @@ pub fn command(words: &[String]) -> Result<Status, Failure> {
 }
 
 fn say(file: &str, json: bool) -> Result<(), Failure> {
-    let mesh = mesh_json::read(&files::read_text(file)?).map_err(Failure::Cant)?;
-    check_balance(&mesh)?;
-    let Read { field, paved } = mesh;
+    let Read { field, paved, .. } = read(file)?;
     let figures = figures::of(&field, &paved);
     if json {
         return files::print(&format!("{}\n", mesh_json::report(file, &paved, &figures)));
@@ -49,12 +50,26 @@ fn say(file: &str, json: bool) -> Result<(), Failure> {
     let mut lines = vec![format!("{}: {}", named(file), figures::verdict(&figures, false))];
     lines.extend(figures::stopped(&paved));
     lines.extend(figures::sentences(&figures, &paved.settings));
+    lines.extend(Advice::said(&field, &paved, &figures));
     files::print(&(lines.join("\n  ") + "\n"))
+}
+
+/// A mesh that pave wrote, as it wrote it.
+pub fn read(file: &str) -> Result<Read, Failure> {
+    let mesh = mesh_reading::read(&files::read_text(file)?).map_err(Failure::Cant)?;
+    check_balance(&mesh)?;
+    let digest = identity::digest(&mesh.paved);
+    match &mesh.digest {
+        Some(said) if *said != digest => Err(Failure::Cant(format!(
+            "its nodes or quads were changed: it says that it is mesh {said}, and they are mesh {digest}"
+        ))),
+        _ => Ok(mesh),
+    }
 }
 
 /// Quads and what is left open make up a sound outline's area.
 fn check_balance(mesh: &Read) -> Result<(), Failure> {
-    let Read { field, paved } = mesh;
+    let Read { field, paved, .. } = mesh;
     let total = figures::field_area(field);
     if !paved.sound || total.sign() != Ordering::Greater {
         return Ok(());

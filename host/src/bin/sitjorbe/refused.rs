@@ -49,8 +49,16 @@ impl Place {
 /// A refusal in words, with its place.
 pub fn in_words(field: &Field, refusal: Refusal, naming: Naming) -> String {
     let place = Place::of(field, refusal).map(|place| format!(" ({})", place.in_words(field, naming)));
-    refusal.to_string() + &place.unwrap_or_default()
+    let words = match refusal {
+        // The lists fit together wherever a field is handed over: it has too many points.
+        Refusal::Lists => format!("refused (1): {TOO_MANY}"),
+        _ => refusal.to_string(),
+    };
+    words + &place.unwrap_or_default()
 }
+
+const TOO_MANY: &str =
+    "the outline has too many points: at most 4,096 are taken in all loops together, so draw fewer, or thin it";
 
 pub const NO_MEMORY: &str = "there isn't memory for so many quads: set a larger size";
 

@@ -1,84 +1,57 @@
 //! The picture of a mesh.
 
+use crate::caption;
 use crate::csv::{Field, Point};
-use crate::figures::{sentences, verdict, Figures};
+pub use crate::eye::Eye;
+use crate::figures::Figures;
+use crate::hill::Hill;
+use crate::identity;
 use crate::polar;
 use crate::run::Paved;
-use crate::sheet::{escaped, path, text, text_width, wrapped, Anchor, Labels, Sheet, SIDE};
-
-/// Which eye a field is of.
-#[derive(Clone, Copy, Debug, PartialEq, Eq)]
-pub enum Eye {
-    Right,
-    Left,
-}
-
-impl Eye {
-    /// `right` or `left`.
-    pub fn name(self) -> &'static str {
-        match self {
-            Eye::Right => "right",
-            Eye::Left => "left",
-        }
-    }
-
-    /// The eye with a name, or with the letters that clinics write.
-    pub fn of_name(name: &str) -> Option<Eye> {
-        match name.to_ascii_lowercase().as_str() {
-            "right" | "od" => Some(Eye::Right),
-            "left" | "os" => Some(Eye::Left),
-            _ => None,
-        }
-    }
-
-    /// What is to be asked of a field that has a loop where this eye has no blind spot and the other has: 10 to 20 degrees to the nose, about the horizontal.
-    pub fn doubt(self, field: &Field) -> Option<String> {
-        let words = "its blind spot lies to the nose, where no eye has one: is it the other eye, or is x turned?";
-        self.blind_spot_is_nasal(field).then(|| words.to_string())
-    }
-
-    fn blind_spot_is_nasal(self, field: &Field) -> bool {
-        let nasal = |points: &Vec<Point>| {
-            let mean = |sum: f64| sum / points.len() as f64;
-            let (x, y) =
-                (mean(points.iter().map(|point| point.x).sum()), mean(points.iter().map(|point| point.y).sum()));
-            let to_the_nose = if self == Eye::Right { -x } else { x };
-            (10.0..20.0).contains(&to_the_nose) && y.abs() < 6.0
-        };
-        field.loops.iter().skip(1).any(nasal)
-    }
-
-    /// As it stands above a picture.
-    fn words(self) -> &'static str {
-        match self {
-            Eye::Right => "Right eye (OD), as the patient sees it",
-            Eye::Left => "Left eye (OS), as the patient sees it",
-        }
-    }
-
-    /// What lies to the left, and what to the right.
-    fn sides(self) -> [&'static str; 2] {
-        match self {
-            Eye::Right => ["nasal", "temporal"],
-            Eye::Left => ["temporal", "nasal"],
-        }
-    }
-}
+use crate::sheet::{escaped, path, text, wrapped, Anchor, Labels, Sheet, SIDE};
 
 /// What a picture is to show besides the mesh.
-#[derive(Clone, Debug, Default)]
+#[derive(Clone, Debug)]
 pub struct Look {
     pub title: String,
     pub eye: Option<Eye>,
     /// Whether each node's number stands beside it.
     pub numbers: bool,
     /// The hill of vision, if there are thresholds: it takes the place of the quads' colours.
-    pub hill: Option<crate::hill::Hill>,
+    pub hill: Option<Hill>,
+    /// What is said of the day.
+    pub date: Option<String>,
+    /// The field as it was drawn, where another one is paved.
+    pub drawn: Option<Field>,
+    /// An edge to light up: its loop and its place there.
+    pub edge: Option<[usize; 2]>,
+    /// The order in which the quads are to be tested: its places are written in them.
+    pub order: Option<Vec<u32>>,
+    /// More to be said below the picture.
+    pub notes: Vec<String>,
+}
+
+/// Nothing but the mesh, and today's date.
+impl Default for Look {
+    fn default() -> Look {
+        let date = Some(identity::today());
+        Look {
+            title: String::new(),
+            eye: None,
+            numbers: false,
+            hill: None,
+            date,
+            drawn: None,
+            edge: None,
+            order: None,
+            notes: vec![],
+        }
+    }
 }
 
 /// The colours of patches, fill and line: the outline's, then those of blind spots. Readers who lack a kind of cone tell the fills apart too, and all of
 /// them from what is open, blind or blank; tests/command.rs works that out.
-const PATCHES: [[&str; 2]; 6] = [
+pub const PATCHES: [[&str; 2]; 6] = [
     ["#d3e5f5", "#2b659e"],
     ["#fbe084", "#7a5c00"],
     ["#9191fa", "#24248c"],
@@ -90,14 +63,21 @@ const LINE: f64 = 19.0;
 /// A quad's lines, and its corners' dots, are drawn where its sides have so many pixels.
 const SIDES_SEEN: f64 = 2.5;
 const NODES_SEEN: f64 = 9.0;
-/// Sides have so many where nodes have their numbers, unless the sheet would be too large.
+/// Sides have so many where nodes have their numbers, or their decibels, unless the sheet would be too large.
 const NUMBERS_SEEN: f64 = 26.0;
 const MOST_ZOOM: f64 = 8.0;
+const DECIBELS_SEEN: f64 = 15.0;
+const PLACES_SEEN: f64 = 13.0;
+/// A figure has so many pixels beside its frame.
+const BESIDE: f64 = 58.0;
+const MOST_DECIBEL_ZOOM: f64 = 2.0;
 
 const RULES: &str = "\
-text{font:13px sans-serif;fill:#1a1a1a}.title{font-size:17px;font-weight:bold}.verdict{font-weight:bold;font-size:14px}\
+svg{forced-color-adjust:none}text{font:13px sans-serif;fill:#1a1a1a}.title{font-size:17px;font-weight:bold}.verdict{font-weight:bold;font-size:14px}\
 .degrees{font-size:11px;fill:#222;stroke:#fff;stroke-width:3px;stroke-linejoin:round;paint-order:stroke}\
 .side{font-size:13px;font-weight:bold;fill:#444;letter-spacing:1px}.number{font-size:7px;fill:#5a1a78}\
+.decibels,.place{font-size:9px;fill:#111;stroke:#fff;stroke-width:1.6px;stroke-linejoin:round;paint-order:stroke}\
+.drawn{fill:none;stroke:#111;stroke-width:1;stroke-dasharray:4 3}.lit{fill:none;stroke:#00a651;stroke-width:6;stroke-linecap:round}\
 .open{fill:url(#hatch);stroke:#b3261e;stroke-width:2.2;stroke-linejoin:round;fill-rule:evenodd}.blind{fill:#3a3a3a}\
 .outline{fill:none;stroke:#111;stroke-width:1.8;stroke-linejoin:round}.nodes{fill:#1c2f45}\
 .halo{fill:none;stroke:#fff;stroke-width:2;stroke-opacity:.45}.polar{fill:none;stroke:#333;stroke-width:.7;stroke-opacity:.75}\
@@ -110,51 +90,75 @@ const PATTERNS: &str = r##"<pattern id="dots" width="7" height="7" patternUnits=
 pub fn draw(field: &Field, paved: &Paved, figures: &Figures, look: &Look) -> String {
     let points = || field.loops.iter().flatten().map(|point| [point.x, point.y]).chain(paved.nodes.iter().copied());
     let usual = Sheet::of(points(), 0.0, 1.0);
-    let zoom = if look.numbers { (NUMBERS_SEEN / side_in_pixels(&usual, paved)).clamp(1.0, MOST_ZOOM) } else { 1.0 };
+    let zoom = zoom(side_in_pixels(&usual, paved), look);
     let within = Sheet::of(points(), 0.0, zoom).width() - 2.0 * 24.0;
     let (head, top) = heading(look, within);
     let sheet = Sheet::of(points(), top, zoom);
     let mut body = head + &mesh(&sheet, field, paved, look) + &scale(&sheet, look);
-    if look.numbers {
-        body += &numbers(&sheet, paved);
-    }
-    let lines = captions(figures, paved, look);
-    let (words, mut y) = below(&lines, sheet.bottom() + 62.0, within);
+    body += &beside_nodes(&sheet, paved, look);
+    let lines = caption::lines(field, figures, paved, look);
+    let (words, mut y) = caption::below(&lines, sheet.bottom() + 62.0, within);
     body += &words;
     if let Some(hill) = &look.hill {
         body += &hill.scale([24.0, y + 4.0], within);
         y += 48.0;
     }
-    let (rows, y) = legend(&sheet, field, paved, look, y);
+    let (rows, y) = caption::legend(&sheet, field, paved, look, y);
     document(&sheet, y + 4.0, look, &lines, &(body + &rows))
 }
 
-fn document(sheet: &Sheet, height: f64, look: &Look, lines: &[String], body: &str) -> String {
-    let (width, [across, down]) = (sheet.width(), sheet.frame());
-    let title = if look.title.is_empty() { "Visual field" } else { &look.title };
-    let colours: String = PATCHES
-        .iter()
-        .enumerate()
-        .map(|(k, [fill, line])| format!(".patch{k}{{fill:{fill};stroke:{line};stroke-linejoin:round}}"))
-        .collect();
+/// The field alone, to stand in a page that has [`styles`]: without title, words and legend, and so small that its text can be read on paper.
+pub fn figure(field: &Field, paved: &Paved, look: &Look, zoom: f64) -> String {
+    let points = || field.loops.iter().flatten().map(|point| [point.x, point.y]).chain(paved.nodes.iter().copied());
+    let sheet = Sheet::of(points(), 44.0, zoom);
+    let body = mesh(&sheet, field, paved, look) + &scale(&sheet, look) + &beside_nodes(&sheet, paved, look);
+    let (left, width, height) = (sheet.x - BESIDE, sheet.frame()[0] + 2.0 * BESIDE, sheet.bottom() + 46.0);
+    format!(
+        r#"<svg xmlns="http://www.w3.org/2000/svg" role="img" aria-label="{}" viewBox="{left:.1} 0 {width:.1} {height:.1}">{}{body}</svg>"#,
+        escaped(&look.title),
+        clip(&sheet)
+    )
+}
+
+/// The rules of style of every picture.
+pub fn styles() -> String {
+    let colour = |(k, [fill, line]): (usize, &[&str; 2])| {
+        format!(".patch{k}{{fill:{fill};stroke:{line};stroke-linejoin:round}}")
+    };
+    RULES.to_string() + &PATCHES.iter().enumerate().map(colour).collect::<String>()
+}
+
+/// The patterns of what isn't measured, and the frame that circles and meridians end at.
+fn clip(sheet: &Sheet) -> String {
+    let [across, down] = sheet.frame();
     let frame = format!(r#"x="{:.1}" y="{:.1}" width="{across:.1}" height="{down:.1}""#, sheet.x, sheet.y);
+    format!(r#"<defs>{PATTERNS}<clipPath id="frame"><rect {frame}/></clipPath></defs>"#)
+}
+
+/// How many times as large as usual the sheet is, where a quad's side usually has so many pixels.
+fn zoom(side: f64, look: &Look) -> f64 {
+    match (look.numbers, &look.hill) {
+        (true, _) => (NUMBERS_SEEN / side).clamp(1.0, MOST_ZOOM),
+        (false, Some(_)) => (NUMBERS_SEEN / side).clamp(1.0, MOST_DECIBEL_ZOOM),
+        (false, None) => 1.0,
+    }
+}
+
+fn document(sheet: &Sheet, height: f64, look: &Look, lines: &[String], body: &str) -> String {
+    let title = if look.title.is_empty() { "Visual field" } else { &look.title };
     format!(
         concat!(
             r#"<svg xmlns="http://www.w3.org/2000/svg" role="img" width="{width:.0}" height="{height:.0}" viewBox="0 0 {width:.1} {height:.1}">"#,
-            "\n<title>{title}</title>\n<desc>{about}</desc>\n<style>{rules}{colours}</style>\n",
-            r#"<defs>{patterns}<clipPath id="frame"><rect {frame}/></clipPath></defs>"#,
-            "\n",
+            "\n<title>{title}</title>\n<desc>{about}</desc>\n<style>{styles}</style>\n{clip}\n",
             r##"<rect width="100%" height="100%" fill="#fff"/>"##,
             "\n{body}</svg>\n"
         ),
-        width = width,
+        width = sheet.width(),
         height = height,
         title = escaped(title),
         about = escaped(&lines.join(" ")),
-        rules = RULES,
-        colours = colours,
-        patterns = PATTERNS,
-        frame = frame,
+        styles = styles(),
+        clip = clip(sheet),
         body = body
     )
 }
@@ -194,7 +198,9 @@ fn mesh(sheet: &Sheet, field: &Field, paved: &Paved, look: &Look) -> String {
         .replace("<path", &format!(r#"<path style="stroke-width:{:.2}""#, (side / 5.0).clamp(0.3, 2.2)));
     drawn += &path("blind", &field.loops.iter().skip(1).map(ring).collect::<String>());
     drawn += &path("outline", &field.loops.iter().map(ring).collect::<String>());
-    if side >= NODES_SEEN {
+    drawn += &path("drawn", &look.drawn.iter().flat_map(|field| &field.loops).map(ring).collect::<String>());
+    drawn += &path("lit", &look.edge.map_or(String::new(), |edge| lit(sheet, field, edge)));
+    if side >= NODES_SEEN && look.hill.is_none() {
         let dot = |node: &[f64; 2]| {
             let [x, y] = sheet.at(*node);
             format!("M{:.2},{y:.2}a1.5,1.5 0 1,0 3,0a1.5,1.5 0 1,0 -3,0", x - 1.5)
@@ -204,7 +210,16 @@ fn mesh(sheet: &Sheet, field: &Field, paved: &Paved, look: &Look) -> String {
     drawn
 }
 
-fn colour_of(origin: usize) -> usize {
+/// A segment of the outline.
+fn lit(sheet: &Sheet, field: &Field, [k, place]: [usize; 2]) -> String {
+    let points = &field.loops[k];
+    let [[ax, ay], [bx, by]] =
+        [place, (place + 1) % points.len()].map(|place| sheet.at([points[place].x, points[place].y]));
+    format!("M{ax:.2},{ay:.2}L{bx:.2},{by:.2}")
+}
+
+/// The colour of the patch of a loop.
+pub fn colour_of(origin: usize) -> usize {
     if origin == 0 {
         0
     } else {
@@ -247,68 +262,30 @@ fn scale(sheet: &Sheet, look: &Look) -> String {
     drawn
 }
 
-fn numbers(sheet: &Sheet, paved: &Paved) -> String {
+/// Each node's number, or its threshold where there is one to be read.
+fn beside_nodes(sheet: &Sheet, paved: &Paved, look: &Look) -> String {
     let number = |(id, node): (usize, &[f64; 2])| {
         let [x, y] = sheet.at(*node);
         text([x + 2.0, y - 2.0], Anchor::Start, "number", &id.to_string())
     };
-    paved.nodes.iter().enumerate().map(number).collect()
+    let numbers = || paved.nodes.iter().enumerate().map(number).collect();
+    let side = side_in_pixels(sheet, paved);
+    match (&look.hill, &look.order) {
+        _ if look.numbers => numbers(),
+        (Some(hill), _) if side >= DECIBELS_SEEN => hill.decibels(sheet, paved, side),
+        (_, Some(order)) if side >= PLACES_SEEN => places(sheet, paved, order, (0.3 * side).clamp(5.0, 11.0)),
+        _ => String::new(),
+    }
 }
 
-/// What stands below the picture. All of it is worked out from the mesh that is drawn.
-fn captions(figures: &Figures, paved: &Paved, look: &Look) -> Vec<String> {
-    let mut lines = vec![verdict(figures, true)];
-    lines.extend(crate::figures::stopped(paved));
-    lines.extend(look.hill.iter().map(|hill| hill.words.clone()));
-    lines.extend(sentences(figures, &paved.settings));
-    lines
-}
-
-/// Lines of text from a height on, and where they end.
-fn below(lines: &[String], mut y: f64, within: f64) -> (String, f64) {
-    let mut drawn = String::new();
-    for (place, words) in lines.iter().enumerate() {
-        let (class, size) = if place == 0 { ("verdict", 14.0) } else { ("", 13.0) };
-        for line in wrapped(words, size, within) {
-            drawn += &text([24.0, y], Anchor::Start, class, &line);
-            y += LINE;
-        }
-    }
-    (drawn, y)
-}
-
-/// What the colours are, and where that ends.
-fn legend(sheet: &Sheet, field: &Field, paved: &Paved, look: &Look, top: f64) -> (String, f64) {
-    let used = |k: usize| paved.quads.iter().any(|quad| usize::from(paved.origins[quad[0] as usize]) == k);
-    let mut shown: Vec<(String, String)> = vec![];
-    for (k, name) in field.names.iter().enumerate().take(PATCHES.len()).filter(|(k, _)| look.hill.is_none() && used(*k))
-    {
-        let words = if k == 0 { "paved from the outline".to_string() } else { format!("paved round “{name}”") };
-        shown.push((format!("patch{}", colour_of(k)), words));
-    }
-    let blind = if field.names.len() == 2 { &field.names[1] } else { "blind spots" };
-    let more = [
-        ("open", "measured nowhere", !paved.left.is_empty()),
-        ("lacking", "no estimate: a threshold is missing", look.hill.as_ref().is_some_and(|hill| hill.lacking > 0)),
-        ("blind", blind, field.loops.len() > 1),
-        ("fixation", "fixation", sheet.holds([0.0, 0.0])),
-    ];
-    shown.extend(
-        more.iter().filter(|(.., there)| *there).map(|(class, words, _)| (class.to_string(), words.to_string())),
-    );
-    let (mut drawn, mut x, mut y) = (String::new(), 24.0, top + 12.0);
-    for (class, words) in shown {
-        let width = 30.0 + text_width(&words, 13.0) + 18.0;
-        if x > 24.0 && x + width > sheet.width() - 12.0 {
-            (x, y) = (24.0, y + 22.0);
-        }
-        let shape = if class == "fixation" {
-            format!("M{x:.1},{:.1}h14m-7,-7v14", y - 5.0)
-        } else {
-            format!("M{x:.1},{:.1}h20v12h-20Z", y - 11.0)
-        };
-        drawn += &(path(&class, &shape) + &text([x + 27.0, y], Anchor::Start, "", &words));
-        x += width;
-    }
-    (drawn, y + 14.0)
+/// In each quad its place in the order, counted from 1.
+fn places(sheet: &Sheet, paved: &Paved, order: &[u32], size: f64) -> String {
+    let place = |(place, quad): (usize, &u32)| {
+        let corners = paved.quads[*quad as usize].map(|id| paved.nodes[id as usize]);
+        let middle = [0, 1].map(|axis| corners.iter().map(|corner| corner[axis]).sum::<f64>() / 4.0);
+        let [x, y] = sheet.at(middle);
+        text([x, y + 0.35 * size], Anchor::Middle, "place", &(place + 1).to_string())
+            .replace("<text", &format!(r#"<text style="font-size:{size:.1}px""#))
+    };
+    order.iter().enumerate().map(place).collect()
 }

@@ -5,7 +5,7 @@ import subprocess
 from typing import NamedTuple
 
 COMMAND = re.compile(r"    sitjorbe ([a-z][\w-]*)\b(.*?)(?:  +(\S.*))?")
-OPTION = re.compile(r"    ((?:-\w, )?--[\w-]+)(?: (\S+))?(?:  +(\S.*))?")
+OPTION = re.compile(r" {0,4}((?:-\w, )?--[\w-]+)(?: (\S+))?(?:  +(\S.*))?")
 IN_USAGE = re.compile(r"(--[a-z][\w-]*)(?: ([A-Z]+|[a-z]+\|[a-z|]+))?")
 
 

@@ -34,7 +34,7 @@ pub enum Advice {
 impl Advice {
     /// The advice for a field, if there is any: none where it is whole or unsound, or where the mesh ended for want of passes or places.
     pub fn of(field: &Field, paved: &Paved, figures: &Figures) -> Option<Advice> {
-        if paved.whole || !paved.sound || paved.end != End::Still {
+        if paved.whole || paved.is_closed() || !paved.sound || paved.end != End::Still {
             return None;
         }
         let size = paved.settings.size;

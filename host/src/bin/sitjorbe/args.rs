@@ -5,8 +5,8 @@ use crate::files::Failure;
 /// An option of a command: its name, and whether a value follows it.
 pub type Known = (&'static str, bool);
 
-/// The options whose value may be left out: a word that isn't a number doesn't belong to them.
-const MAYBE: [&str; 1] = ["--thin"];
+/// The options whose value may be left out. A number after the first is its own; that of the second stands behind an equals sign.
+const MAYBE: [&str; 2] = ["--thin", "--close"];
 /// The options that may stand more than once.
 const MANY: [&str; 2] = ["-o", "--output"];
 
@@ -87,7 +87,7 @@ fn is_number_like(word: &str) -> bool {
 fn following(name: &str, rest: &mut std::slice::Iter<'_, String>) -> Result<Option<String>, Failure> {
     let may_lack = MAYBE.contains(&name);
     match rest.as_slice().first() {
-        Some(word) if !may_lack || word.parse::<f64>().is_ok() => Ok(rest.next().cloned()),
+        Some(word) if !may_lack || (name == MAYBE[0] && word.parse::<f64>().is_ok()) => Ok(rest.next().cloned()),
         _ if may_lack => Ok(None),
         _ => Err(Failure::Cant(format!("{name} wants a value"))),
     }

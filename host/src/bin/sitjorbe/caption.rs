@@ -1,6 +1,7 @@
 //! What stands below a picture: what it shows in words, and what its colours are.
 
 use crate::advice::Advice;
+use crate::closed;
 use crate::csv::Field;
 use crate::figures::{sentences, stopped, verdict, Figures};
 use crate::identity;
@@ -21,6 +22,7 @@ pub fn lines(field: &Field, figures: &Figures, paved: &Paved, look: &Look) -> Ve
     let dense = Advice::of(field, paved, figures).filter(|advice| matches!(advice, Advice::TooDense { .. }));
     lines.extend(dense.map(|advice| advice.in_words(paved.settings.size, thin, "")));
     lines.extend(look.hill.iter().map(|hill| hill.words.clone()));
+    lines.extend(closed::sentences(paved));
     lines.extend(sentences(figures, &paved.settings));
     lines.extend(look.edge.map(|edge| lit(field, edge)));
     lines.extend(look.notes.iter().cloned());
@@ -60,12 +62,15 @@ fn holes(field: &Field) -> String {
 
 /// The rows of a legend: class and words.
 fn rows(sheet: &Sheet, field: &Field, paved: &Paved, look: &Look) -> Vec<(String, String)> {
-    let used = |k: usize| paved.quads.iter().any(|quad| usize::from(paved.origins[quad[0] as usize]) == k);
+    let used = |k: usize| paved.quads_of(Some(k)).next().is_some();
     let mut shown: Vec<(String, String)> = vec![];
     let patches = field.names.iter().enumerate().take(PATCHES.len());
     for (k, name) in patches.filter(|(k, _)| look.hill.is_none() && used(*k)) {
         let words = if k == 0 { "paved from the outline".to_string() } else { format!("paved round “{name}”") };
         shown.push((format!("patch{}", colour_of(k)), words));
+    }
+    if look.hill.is_none() && paved.quads_of(None).next().is_some() {
+        shown.push(("closing".to_string(), "closed".to_string()));
     }
     let lacking = look.hill.as_ref().is_some_and(|hill| hill.lacking > 0);
     let more = [

@@ -2,6 +2,7 @@
 
 use std::cmp::Ordering;
 
+use sitjorbe::closing::Kind;
 use sitjorbe::raw::{is_sound, Outline, Settings};
 use sitjorbe::End;
 
@@ -35,9 +36,13 @@ pub struct Patch {
 pub struct Figures {
     pub nodes: usize,
     pub quads: usize,
-    /// The share of the field's area that is paved; none where the outline is unsound, and so has no area to speak of.
+    /// The share of the field's area that the paving's quads have; none where the outline is unsound, and so has no area to speak of.
     pub share: Option<f64>,
+    /// Where it is closed, the share that the closing's quads have.
+    pub closing: Option<f64>,
     pub whole: bool,
+    /// Whether what the paving left open is closed.
+    pub closed: bool,
     pub sound: bool,
     /// Whether some quads lie on each other, so that less is covered than the share says; none where that isn't known.
     pub overlaps: Option<bool>,
@@ -98,7 +103,7 @@ pub fn of(field: &Field, paved: &Paved) -> Figures {
     let total = field_area(field);
     let share = |area: &Exact| (paved.sound && total.sign() == Ordering::Greater).then(|| area.over(&total));
     let patch = |(k, name): (usize, &String)| {
-        let quads = || paved.quads.iter().filter(|quad| usize::from(paved.origins[quad[0] as usize]) == k);
+        let quads = || paved.quads_of(Some(k));
         Patch {
             name: name.clone(),
             nodes: paved.origins.iter().filter(|origin| usize::from(**origin) == k).count(),
@@ -107,11 +112,14 @@ pub fn of(field: &Field, paved: &Paved) -> Figures {
             quality: quality(quads().map(|quad| corners(paved, quad))),
         }
     };
+    let by_the_paving = |quad: &usize| paved.kind(*quad) != Kind::New;
     Figures {
         nodes: paved.nodes.len(),
         quads: paved.quads.len(),
-        share: share(&paved_area(paved)),
+        share: share(&(area_of(paved, (0..paved.quads.len()).filter(by_the_paving).map(|quad| &paved.quads[quad])))),
+        closing: share(&area_of(paved, paved.quads_of(None))).filter(|_| paved.is_closed()),
         whole: paved.whole,
+        closed: paved.is_closed(),
         sound: paved.sound,
         overlaps: if paved.sound { overlaps(paved) } else { None },
         quality: quality(paved.quads.iter().map(|quad| corners(paved, quad))),
@@ -189,6 +197,10 @@ pub fn verdict(figures: &Figures, is_picture: bool) -> String {
     let comma = if is_picture { "," } else { "" };
     let words = match () {
         () if figures.whole => "All of the field is paved.".to_string(),
+        () if figures.closed => {
+            let [paved, closed] = [percent(share), rest(share)];
+            format!("All of the field is covered: {paved} by the paving, {closed} by the closing.")
+        }
         () if figures.quads == 0 => "None of the field is paved: it is measured nowhere.".to_string(),
         () => format!(
             "{} of the field is paved; {red}{}{comma} is measured nowhere.",

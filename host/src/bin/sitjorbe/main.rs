@@ -10,6 +10,7 @@ mod best;
 mod bowl;
 mod caption;
 mod check;
+mod closed;
 mod csv;
 mod draw;
 mod exact;

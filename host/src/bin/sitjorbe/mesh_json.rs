@@ -1,5 +1,6 @@
 //! A mesh as JSON, with the field that it paves and its figures. `mesh_reading.rs` reads it back.
 
+use crate::closed::{kind_word, Seam, NO_LOOP};
 use crate::csv::{Field, Point};
 use crate::figures::{Figures, Quality};
 use crate::identity;
@@ -40,6 +41,7 @@ pub fn write(field: &Field, paved: &Paved, figures: &Figures, look: &Look) -> St
         .chain(drawn)
         .chain(mesh)
         .chain([("left", left_value(paved))])
+        .chain(seam_values(&paved.seam))
         .chain(thresholds)
         .chain(exam)
         .chain(order);
@@ -69,11 +71,34 @@ pub fn id_lists<'a>(lists: impl Iterator<Item = &'a [u32]>) -> Value {
     Value::list(lists.map(|ids| Value::list(ids.iter().map(|id| Value::count(*id as usize)))))
 }
 
+/// A node's loop; null where it came with the closing.
+fn origin(origin: &u16) -> Value {
+    if *origin == NO_LOOP {
+        Value::Null
+    } else {
+        Value::count((*origin).into())
+    }
+}
+
+/// What became of what the paving left open, and each quad's kind where it is closed.
+fn seam_values(seam: &Seam) -> Vec<(&'static str, Value)> {
+    let place =
+        |([x, y], why): &([f64; 2], String)| Value::map([("at", Value::point([*x, *y])), ("why", Value::text(why))]);
+    match seam {
+        Seam::AsPaved => vec![],
+        Seam::Closed { kinds, given_back } => vec![
+            ("given_back", Value::count(*given_back)),
+            ("kinds", Value::list(kinds.iter().map(|kind| Value::text(kind_word(*kind))))),
+        ],
+        Seam::Open(places) => vec![("stays_open", Value::list(places.iter().map(place)))],
+    }
+}
+
 /// The nodes, the loop of each, and the quads.
 pub fn mesh_values(nodes: &[[f64; 2]], origins: &[u16], quads: &[[u32; 4]]) -> [(&'static str, Value); 3] {
     [
         ("nodes", Value::list(nodes.iter().map(|node| Value::point(*node)))),
-        ("origins", Value::list(origins.iter().map(|origin| Value::count((*origin).into())))),
+        ("origins", Value::list(origins.iter().map(origin))),
         ("quads", id_lists(quads.iter().map(<[u32; 4]>::as_slice))),
     ]
 }
@@ -110,7 +135,9 @@ pub fn figures_value(figures: &Figures) -> Value {
         ("nodes", Value::count(figures.nodes)),
         ("quads", Value::count(figures.quads)),
         ("share", Value::maybe(figures.share)),
+        ("closing", Value::maybe(figures.closing)),
         ("whole", Value::Bool(figures.whole)),
+        ("closed", Value::Bool(figures.closed)),
         ("sound", Value::Bool(figures.sound)),
         ("overlaps", figures.overlaps.map_or(Value::Null, Value::Bool)),
         ("quality", quality_value(figures.quality)),

@@ -1,8 +1,10 @@
 //! A mesh that pave wrote as JSON, read back.
 
+use sitjorbe::closing::Kind;
 use sitjorbe::raw::{is_sound, Settings};
 use sitjorbe::{End, MOST_THRESHOLD};
 
+use crate::closed::{kind_word, Seam, KINDS, NO_LOOP};
 use crate::csv::{Field, Point};
 use crate::exact::Exact;
 use crate::json::{self, Value};
@@ -11,6 +13,8 @@ use crate::outputs::Brought;
 use crate::run::{Drawing, Paved};
 use crate::svg::Eye;
 
+/// No paving has more quads.
+const MOST_QUADS: usize = 250_000;
 /// No node of a run is beyond this either way.
 const FARTHEST: f64 = 1_001.0;
 
@@ -35,8 +39,10 @@ pub fn read(text: &str) -> Result<Read, String> {
     let nodes =
         all(list("nodes")?, "nodes", |node| node.as_point().filter(|at| at.iter().all(|x| x.abs() <= FARTHEST)))?;
     let loops = field.loops.len();
-    let origins =
-        all(list("origins")?, "origins", |origin| origin.as_count(loops.saturating_sub(1)).map(|k| k as u16))?;
+    let origins = all(list("origins")?, "origins", |origin| match origin {
+        Value::Null => Some(NO_LOOP),
+        origin => origin.as_count(loops.saturating_sub(1)).map(|k| k as u16),
+    })?;
     if origins.len() != nodes.len() {
         return Err(format!("it has {} nodes and {} origins", nodes.len(), origins.len()));
     }
@@ -48,19 +54,42 @@ pub fn read(text: &str) -> Result<Read, String> {
     let quads = all(list("quads")?, "quads", four)?;
     let left = all(list("left")?, "left", |ring| ids(ring).filter(|ids| ids.len() > 2))?;
     let sound = is_sound(&Drawing::of(&field).outline()).map_err(|refusal| format!("its outline is {refusal}"))?;
+    let seam = seam_of(&value, &quads, &origins)?;
     let paved = Paved {
         settings: settings_of(&value)?,
         end: end_of(part("end")?)?,
-        whole: sound && left.is_empty(),
+        whole: sound && left.is_empty() && !matches!(seam, Seam::Closed { .. }),
         sound,
         nodes,
         origins,
         quads,
         left,
+        seam,
     };
     let brought = brought(&value, paved.nodes.len())?;
     let digest = value.get("digest").and_then(Value::as_text).map(str::to_string);
     Ok(Read { field, paved, brought, digest })
+}
+
+/// What became of what the paving left open. A quad that was paved has nodes of the paving alone.
+fn seam_of(value: &Value, quads: &[[u32; 4]], origins: &[u16]) -> Result<Seam, String> {
+    let Some(kinds) = value.get("kinds") else {
+        return match origins.contains(&NO_LOOP) {
+            true => Err("a node has no loop, and the mesh isn't closed".to_string()),
+            false => Ok(Seam::AsPaved),
+        };
+    };
+    let kind = |value: &Value| KINDS.into_iter().find(|kind| value.as_text() == Some(kind_word(*kind)));
+    let kinds = all(kinds.as_list().ok_or("kinds isn't a list")?, "kinds", kind)?;
+    if kinds.len() != quads.len() {
+        return Err(format!("it has {} quads and {} kinds", quads.len(), kinds.len()));
+    }
+    let paved = |quad: &[u32; 4]| quad.iter().all(|node| origins[*node as usize] != NO_LOOP);
+    if let Some(place) = (0..quads.len()).find(|k| kinds[*k] != Kind::New && !paved(&quads[*k])) {
+        return Err(format!("quad {place} was paved, and a node of it wasn't"));
+    }
+    let given_back = value.get("given_back").and_then(|count| count.as_count(MOST_QUADS));
+    Ok(Seam::Closed { kinds, given_back: given_back.ok_or("it has no given_back")? })
 }
 
 /// What a mesh brings along: title, eye, thresholds, order.

@@ -21,18 +21,21 @@ header{display:flex;justify-content:space-between;gap:4mm;border-bottom:.5mm sol
 h1{font-size:15pt;margin:0;overflow-wrap:anywhere}h2{font-size:10.5pt;margin:0 0 1mm}p{margin:0}header>p{text-align:right;white-space:nowrap}\
 .verdict{font-weight:bold;font-size:11pt}.verdict b{color:#b3261e}\
 .row{display:flex;gap:4mm;min-height:0}.row>section{min-width:0}figure{margin:0}figure svg{display:block;width:100%}\
-.hill{flex:0 0 128mm}.hill svg{height:110mm}.beside{flex:1}.mesh{flex:0 0 104mm}.mesh svg{height:80mm}\
+.hill{flex:0 0 128mm}.hill svg{height:110mm}.beside{flex:1}.mesh{flex:0 0 104mm}.mesh svg{height:76mm}.beside table{font-size:8.5pt}\
 .lower{flex:1;overflow:hidden}.lower>section:last-child{flex:1}\
 table{border-collapse:collapse;width:100%}td{padding:.35mm 0;vertical-align:top;border-bottom:.1mm solid #bbb}td:last-child{text-align:right;padding-left:2mm}\
 .key{display:inline-block;width:5mm;height:3mm;border:.2mm solid #777;vertical-align:-.3mm;margin:0 1mm 0 2.5mm;forced-color-adjust:none}.key:first-child{margin-left:0}\
 .keys{margin:2mm 0 3mm}.key.red{background:repeating-linear-gradient(135deg,#f6b5a6 0 .8mm,#b3261e .8mm 1.1mm)}.key.dots{background:radial-gradient(#8a6a00 .35mm,#fdf0bd .4mm) 0 0/1.5mm 1.5mm}.key.dark{background:#3a3a3a}\
-.key.blue{background:#d3e5f5}.scale{display:flex;font-size:7.5pt}.scale i{flex:1;height:3.5mm;border:.1mm solid #777;forced-color-adjust:none}\
+.key.grey{background:#c6c0c6}.scale{display:flex;font-size:7.5pt}.scale i{flex:1;height:3.5mm;border:.1mm solid #777;forced-color-adjust:none}\
 .order{font-size:8pt;overflow-wrap:anywhere}footer{border-top:.2mm solid #777;padding-top:1.2mm;font-size:8pt}\
 @media screen{body{padding:6mm 0}}@media screen and (max-width:188mm){body{width:auto;padding:3mm}main{height:auto;overflow:visible}.row{flex-wrap:wrap}.hill,.beside,.mesh,.lower>section{flex:1 1 80mm}}";
 
 /// What is proved of a report, and what isn't.
 const PROVED: &str = "Proved: the mesh, the counts and sum of thresholds, every estimate, and that the order is accepted are the library's, which equals its definitions on every \
 input. Tested, not proved: reading files, shares, drawing. What is red or dotted was not measured.";
+/// The same of a closed mesh.
+const PROVED_OF_CLOSED: &str = "Proved: the paving, the counts and sum of thresholds, every estimate, and that the order is accepted are the library's, which equals its definitions on every \
+input. The closing isn't proved: its mesh was judged, quad by quad and side by side, before it was taken. Tested, not proved: reading files, shares, drawing. What is dotted was not measured.";
 /// Of an order no more numbers are written.
 const MOST_LISTED: usize = 120;
 
@@ -42,9 +45,10 @@ pub fn page(field: &Field, paved: &Paved, figures: &Figures, look: &Look) -> Str
     let body = [header(paved, look), verdict(field, paved, figures, look), pictures(field, paved, figures, look)];
     format!(
         "<!DOCTYPE html>\n<html lang=\"en\"><head><meta charset=\"utf-8\"><title>{title}</title>\n<meta name=\"viewport\" content=\"width=device-width\">\n\
-         <style>{RULES}{}</style></head>\n<body><main>\n{}\n<footer>{PROVED}</footer>\n</main></body></html>\n",
+         <style>{RULES}{}</style></head>\n<body><main>\n{}\n<footer>{}</footer>\n</main></body></html>\n",
         svg::styles(),
-        body.join("\n")
+        body.join("\n"),
+        if paved.is_closed() { PROVED_OF_CLOSED } else { PROVED }
     )
 }
 
@@ -116,6 +120,7 @@ fn keys(field: &Field, paved: &Paved, look: &Look) -> String {
         ("red", "measured nowhere", !paved.left.is_empty()),
         ("dots", "no estimate: a threshold is missing", look.hill.as_ref().is_some_and(|hill| hill.lacking > 0)),
         ("dark", names.as_str(), field.loops.len() > 1),
+        ("grey", "a quad of the closing", paved.is_closed()),
     ];
     let shown = keys.iter().filter(|(.., there)| *there);
     let shown: String = shown.map(|(class, words, _)| format!("<span class=\"key {class}\"></span>{words}")).collect();
@@ -167,6 +172,7 @@ fn settings(field: &Field, paved: &Paved, figures: &Figures) -> String {
         format!("{}, {}, {}", paved.settings.sweeps, paved.settings.passes, paved.end),
     ));
     told.extend(figures.share.map(|share| ("Paved".to_string(), percent(share))));
+    told.extend(figures.closing.map(|share| ("Closed".to_string(), percent(share))));
     for patch in &figures.patches {
         told.extend(patch.share.map(|share| (format!("of this round {}", patch.name), percent(share))));
     }

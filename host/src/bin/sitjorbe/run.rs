@@ -3,6 +3,7 @@
 use sitjorbe::raw::{is_sound, Outline, Settings};
 use sitjorbe::{End, Memory, Places, Refusal};
 
+use crate::closed::Seam;
 use crate::csv::Field;
 
 /// Sweeps of a field, unless others are asked for.
@@ -50,6 +51,8 @@ pub struct Paved {
     pub quads: Vec<[u32; 4]>,
     /// The rings round what is left open.
     pub left: Vec<Vec<u32>>,
+    /// What became of what the paving left open.
+    pub seam: Seam,
 }
 
 /// Why a field isn't paved.
@@ -88,6 +91,7 @@ pub fn pave(field: &Field, settings: &Settings) -> Result<Paved, NotPaved> {
             nodes: mesh.nodes().collect(),
             quads: mesh.quads().collect(),
             left: mesh.front_loops().map(<[u32]>::to_vec).collect(),
+            seam: Seam::AsPaved,
         });
     }
 }

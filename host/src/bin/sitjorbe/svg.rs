@@ -81,7 +81,7 @@ svg{forced-color-adjust:none}text{font:13px sans-serif;fill:#1a1a1a}.title{font-
 .open{fill:url(#hatch);stroke:#b3261e;stroke-width:2.2;stroke-linejoin:round;fill-rule:evenodd}.blind{fill:#3a3a3a}\
 .outline{fill:none;stroke:#111;stroke-width:1.8;stroke-linejoin:round}.nodes{fill:#1c2f45}\
 .halo{fill:none;stroke:#fff;stroke-width:2;stroke-opacity:.45}.polar{fill:none;stroke:#333;stroke-width:.7;stroke-opacity:.75}\
-.cross{fill:none;stroke:#fff;stroke-width:5}.fixation{fill:none;stroke:#111;stroke-width:2}.lacking{fill:url(#dots);stroke:#8a6a00;stroke-width:1}.frame{fill:none;stroke:#999;stroke-width:.8}";
+.closing{fill:#c6c0c6;stroke:#7d7580;stroke-linejoin:round}.cross{fill:none;stroke:#fff;stroke-width:5}.fixation{fill:none;stroke:#111;stroke-width:2}.lacking{fill:url(#dots);stroke:#8a6a00;stroke-width:1}.frame{fill:none;stroke:#999;stroke-width:.8}";
 
 /// What is left open and what has no estimate is told by a pattern too, not by colour alone.
 const PATTERNS: &str = r##"<pattern id="dots" width="7" height="7" patternUnits="userSpaceOnUse"><rect width="7" height="7" fill="#fdf0bd"/><circle cx="3.5" cy="3.5" r="1.3" fill="#8a6a00"/></pattern><pattern id="hatch" width="7" height="7" patternUnits="userSpaceOnUse" patternTransform="rotate(45)"><rect width="7" height="7" fill="#f6b5a6"/><path d="M0,0V7" stroke="#b3261e" stroke-width="1.6"/></pattern>"##;
@@ -179,18 +179,19 @@ fn heading(look: &Look, within: f64) -> (String, f64) {
 
 /// Quads by patch, what is open, blind spots, the outline and the nodes.
 fn mesh(sheet: &Sheet, field: &Field, paved: &Paved, look: &Look) -> String {
-    let mut patches = vec![String::new(); PATCHES.len()];
+    let (mut patches, mut closing) = (vec![String::new(); PATCHES.len()], String::new());
     let at = |id: &u32| paved.nodes[*id as usize];
-    for quad in &paved.quads {
-        patches[colour_of(paved.origins[quad[0] as usize].into())] += &sheet.ring(quad.iter().map(at));
+    for (place, quad) in paved.quads.iter().enumerate() {
+        let part = paved.loop_of(place).map_or(&mut closing, |number| &mut patches[colour_of(number)]);
+        *part += &sheet.ring(quad.iter().map(at));
     }
     let side = side_in_pixels(sheet, paved);
     let line = if side < SIDES_SEEN { 0.0 } else { (side / 14.0).clamp(0.3, 1.0) };
     let hidden = if look.hill.is_some() { ";fill-opacity:0" } else { "" };
     let mut drawn = look.hill.as_ref().map_or(String::new(), |hill| hill.shades(sheet, paved));
-    for (k, patch) in patches.iter().enumerate() {
-        drawn += &path(&format!("patch{k}"), patch)
-            .replace("<path", &format!(r#"<path style="stroke-width:{line:.2}{hidden}""#));
+    let names = (0..PATCHES.len()).map(|k| format!("patch{k}")).chain(["closing".to_string()]);
+    for (name, part) in names.zip(patches.iter().chain([&closing])) {
+        drawn += &path(&name, part).replace("<path", &format!(r#"<path style="stroke-width:{line:.2}{hidden}""#));
     }
     let ring = |points: &Vec<Point>| sheet.ring(points.iter().map(|point| [point.x, point.y]));
     let left: String = paved.left.iter().map(|ids| sheet.ring(ids.iter().map(at))).collect();

@@ -1,5 +1,5 @@
 /*
- * Sitjorbe: verified geometry for a paved visual field, from outline to quads. Version 0.3.0, shape 1.
+ * Sitjorbe: verified geometry for a paved visual field, from outline to quads. Version 0.3.0, shape 2.
  *
  * Written by tools/bindings from the Rattle source. docs/INTEGRATION.md says how to call; "SCOPE" in a comment is what
  * docs/SCOPE.md and docs/FORMATS.md set out. For x86-64 Linux, C11 or C++17, and later.
@@ -23,7 +23,7 @@
 #endif
 
 #define SITJORBE_VERSION "0.3.0"
-#define SITJORBE_ABI 1
+#define SITJORBE_ABI 2
 
 #ifdef __cplusplus
 #define SITJORBE_ASSERT(fact) static_assert(fact, "another layout than the library's: " #fact)
@@ -460,8 +460,8 @@ SITJORBE_ASSERT(offsetof(sitjorbe_preview_answer, front) == 64);
 SITJORBE_ASSERT(sizeof(sitjorbe_preview_answer) == 72);
 
 /**
- * The answer of `sitjorbe_exam`. The reply as it crosses: `refusal` is 0 where nothing is refused; what isn't asked for
- * is 0.
+ * The answer of `sitjorbe_exam` and `sitjorbe_exam_read`. The reply as it crosses: `refusal` is 0 where nothing is
+ * refused; what isn't asked for is 0.
  */
 typedef struct sitjorbe_exam_answer {
     uint32_t refusal; /**< the refusal's number, 0 where nothing is refused */
@@ -593,7 +593,7 @@ SITJORBE_ASSERT(sizeof(sitjorbe_small_quads_answer) == 16);
  */
 
 /** The number of the library's shape, which its name has too. */
-SITJORBE_MUST_USE uint32_t sitjorbe_abi_1(void);
+SITJORBE_MUST_USE uint32_t sitjorbe_abi_2(void);
 
 /** Whether the point is inside the outer loop and outside every hole. */
 SITJORBE_MUST_USE sitjorbe_contains_answer sitjorbe_contains(
@@ -793,6 +793,30 @@ SITJORBE_MUST_USE sitjorbe_exam_answer sitjorbe_exam(
     uint16_t *thresholds, size_t thresholds_len,
     uint32_t *count,
     uint32_t *sum,
+    uint32_t *reply, size_t reply_len);
+
+/**
+ * One reading request of a reader or a masked reader, to whom the results are lent for reading alone: what
+ * `sitjorbe_exam` answers to the role. The desk's role has no operation here. 20 comes before all else, and where
+ * anything is refused the reply list isn't written. A masked reader needs no results: any list and any figures do.
+ */
+SITJORBE_MUST_USE sitjorbe_exam_answer sitjorbe_exam_read(
+    uint32_t role,
+    uint32_t operation,
+    uint32_t item,
+    uint32_t u,
+    uint32_t v,
+    uint32_t nodes,
+    const double *xs, size_t xs_len,
+    const double *ys, size_t ys_len,
+    size_t quad_count,
+    const uint32_t *quads, size_t quads_len,
+    const uint32_t *next, size_t next_len,
+    const uint32_t *prev, size_t prev_len,
+    const uint16_t *origins, size_t origins_len,
+    const uint16_t *thresholds, size_t thresholds_len,
+    const uint32_t *count,
+    const uint32_t *sum,
     uint32_t *reply, size_t reply_len);
 
 /**
@@ -1044,6 +1068,17 @@ SITJORBE_MUST_USE static inline sitjorbe_exam_answer sitjorbe_exam_with(
         &results->count, &results->sum, reply, reply_len);
 }
 
+/** Calls sitjorbe_exam_read. */
+SITJORBE_MUST_USE static inline sitjorbe_exam_answer sitjorbe_exam_read_with(
+    const sitjorbe_mesh_lists *mesh, const sitjorbe_mesh_counts *counts, const sitjorbe_asked *asked,
+    const sitjorbe_results *results, uint32_t *reply, size_t reply_len) {
+    return sitjorbe_exam_read(
+        asked->role, asked->operation, asked->item, asked->u, asked->v, counts->nodes, mesh->xs, mesh->xs_len, mesh->ys,
+        mesh->ys_len, counts->quads, mesh->quads, mesh->quads_len, mesh->next, mesh->next_len, mesh->prev,
+        mesh->prev_len, mesh->origins, mesh->origins_len, results->thresholds, results->thresholds_len, &results->count,
+        &results->sum, reply, reply_len);
+}
+
 /** Calls sitjorbe_order. */
 SITJORBE_MUST_USE static inline sitjorbe_order_answer sitjorbe_order_with(
     const sitjorbe_mesh_lists *mesh, const sitjorbe_mesh_counts *counts, const uint32_t *order, size_t order_len,
@@ -1228,7 +1263,7 @@ static inline void sitjorbe_cut_lists(void *memory, const sitjorbe_list_lengths 
 __attribute__((retain))
 #endif
 #endif
-__attribute__((used)) static uint32_t (*const sitjorbe_abi)(void) = sitjorbe_abi_1;
+__attribute__((used)) static uint32_t (*const sitjorbe_abi)(void) = sitjorbe_abi_2;
 #endif
 
 #ifdef __cplusplus

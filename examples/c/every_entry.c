@@ -72,6 +72,9 @@ static void examine(const sitjorbe_pave_answer *p) {
     const sitjorbe_exam_answer begun = sitjorbe_exam(SITJORBE_DESK, SITJORBE_BEGIN, 0, 0, 0, 0, p->nodes, xs, NODES, ys, NODES, p->quads, quads, 4 * QUADS, next,
         NODES, prev, NODES, origins, NODES, thresholds, NODES, &count, &sum, NULL, 0);
     EXPECT(begun.refusal == 0 && count == 0 && sum == 0 && thresholds[8] == SITJORBE_NO_THRESHOLD);
+    const sitjorbe_exam_answer read = sitjorbe_exam_read(SITJORBE_READER, SITJORBE_READ_THRESHOLD, 8, 0, 0, p->nodes, xs, NODES, ys, NODES, p->quads, quads,
+        4 * QUADS, next, NODES, prev, NODES, origins, NODES, thresholds, NODES, &count, &sum, NULL, 0);
+    EXPECT(read.refusal == 17);
     const uint32_t order[] = {0, 1, 2, 3};
     const sitjorbe_order_answer accepted = sitjorbe_order(p->quads, quads, 4 * QUADS, order, 4, NULL, 0, NULL, 0);
     EXPECT(accepted.refusal == 0);

@@ -84,7 +84,7 @@ impl<'a> Exam<'a> {
     /// A masked reader of it.
     #[must_use]
     pub fn masked_reader(&self) -> MaskedReader<'_> {
-        MaskedReader::new(self.mesh, self.shared())
+        MaskedReader::new(self.mesh)
     }
 
     /// The mesh.

@@ -1,7 +1,5 @@
 //! One call of an exam: the mesh and the results as they are lent, and what is asked.
 
-use core::ptr;
-
 use crate::raw::Mesh;
 use crate::{ffi, floats, Refusal};
 
@@ -125,72 +123,15 @@ impl Asked {
     pub const READ_ESTIMATE: u32 = 9;
 }
 
-/// The results as they cross.
-struct Parts {
-    thresholds: *mut u16,
-    length: usize,
-    count: *mut u32,
-    sum: *mut u32,
-}
-
 impl Results<'_> {
-    fn parts(&mut self) -> Parts {
-        let Results { thresholds, count, sum } = self;
-        Parts { thresholds: thresholds.as_mut_ptr(), length: thresholds.len(), count: *count, sum: *sum }
-    }
-
     pub(crate) fn shared(&self) -> SharedResults<'_> {
         SharedResults { thresholds: self.thresholds, count: self.count, sum: self.sum }
     }
 }
 
 impl SharedResults<'_> {
-    /// For reads only: the pointers aren't to be written through.
-    fn parts(&self) -> Parts {
-        Parts {
-            thresholds: self.thresholds.as_ptr().cast_mut(),
-            length: self.thresholds.len(),
-            count: ptr::from_ref(self.count).cast_mut(),
-            sum: ptr::from_ref(self.sum).cast_mut(),
-        }
-    }
-}
-
-/// # Safety
-///
-/// The results are borrowed until the call returns: for writing, or else what is asked is a read.
-unsafe fn call(asked: Asked, mesh: &LentMesh<'_>, results: Parts, reply: &mut [u32]) -> ffi::ExamAnswer {
-    floats::check();
-    let Asked { role, operation, item, value, u, v } = asked;
-    let LentMesh { nodes, xs, ys, quad_count, quads, next, prev, origins } = *mesh;
-    ffi::sitjorbe_exam(
-        role,
-        operation,
-        item,
-        value,
-        u,
-        v,
-        nodes,
-        xs.as_ptr(),
-        xs.len(),
-        ys.as_ptr(),
-        ys.len(),
-        quad_count,
-        quads.as_ptr(),
-        quads.len(),
-        next.as_ptr(),
-        next.len(),
-        prev.as_ptr(),
-        prev.len(),
-        origins.as_ptr(),
-        origins.len(),
-        results.thresholds,
-        results.length,
-        results.count,
-        results.sum,
-        reply.as_mut_ptr(),
-        reply.len(),
-    )
+    /// No results: all that a masked reader lends.
+    pub(crate) const NONE: SharedResults<'static> = SharedResults { thresholds: &[], count: &0, sum: &0 };
 }
 
 /// The numbers that a call answers, whatever is asked by whatever role. A loop's ids are on the first places of `reply`.
@@ -213,9 +154,100 @@ pub fn exam_numbers(
     results: &mut Results<'_>,
     reply: &mut [u32],
 ) -> ffi::ExamAnswer {
+    floats::check();
+    let Asked { role, operation, item, value, u, v } = asked;
+    let LentMesh { nodes, xs, ys, quad_count, quads, next, prev, origins } = *mesh;
+    let Results { thresholds, count, sum } = results;
     // SAFETY: each pointer comes with the length of its slice or is that of a number; what may be written is borrowed for that. The entry is
     // proved to read and write nothing else.
-    unsafe { call(asked, mesh, results.parts(), reply) }
+    unsafe {
+        ffi::sitjorbe_exam(
+            role,
+            operation,
+            item,
+            value,
+            u,
+            v,
+            nodes,
+            xs.as_ptr(),
+            xs.len(),
+            ys.as_ptr(),
+            ys.len(),
+            quad_count,
+            quads.as_ptr(),
+            quads.len(),
+            next.as_ptr(),
+            next.len(),
+            prev.as_ptr(),
+            prev.len(),
+            origins.as_ptr(),
+            origins.len(),
+            thresholds.as_mut_ptr(),
+            thresholds.len(),
+            *count,
+            *sum,
+            reply.as_mut_ptr(),
+            reply.len(),
+        )
+    }
+}
+
+/// The numbers that a reader or a masked reader is answered: what [`exam_numbers`] answers to the role. The results are only read, and a masked
+/// reader's play no part; a threshold to enter isn't asked for. Any other role is refused with 20, the desk's too.
+///
+/// ```
+/// # let square = sitjorbe::Outline::new([[0.0, 0.0], [2.0, 0.0], [2.0, 2.0], [0.0, 2.0]]);
+/// # let mesh = sitjorbe::Paver::new(1.0).pave(&square)?;
+/// use sitjorbe::raw::{read_numbers, Asked, SharedResults};
+///
+/// let results = SharedResults { thresholds: &[300; 9], count: &4, sum: &4800 };
+/// let figures = Asked { role: Asked::READER, operation: Asked::READ_FIGURES, ..Asked::default() };
+/// assert_eq!(read_numbers(figures, &mesh.lent(), results, &mut []).sum, 4800);
+/// let masked = Asked { role: Asked::MASKED_READER, ..figures };
+/// assert_eq!(read_numbers(masked, &mesh.lent(), results, &mut []).refusal, 20);
+/// # Ok::<(), sitjorbe::NotPaved>(())
+/// ```
+pub fn read_numbers(
+    asked: Asked,
+    mesh: &LentMesh<'_>,
+    results: SharedResults<'_>,
+    reply: &mut [u32],
+) -> ffi::ExamAnswer {
+    floats::check();
+    let Asked { role, operation, item, value: _, u, v } = asked;
+    let LentMesh { nodes, xs, ys, quad_count, quads, next, prev, origins } = *mesh;
+    let SharedResults { thresholds, count, sum } = results;
+    // SAFETY: each pointer comes with the length of its slice or is that of a number. The reply list alone may be written, and is borrowed for that. The entry is proved to
+    // read and write nothing else.
+    unsafe {
+        ffi::sitjorbe_exam_read(
+            role,
+            operation,
+            item,
+            u,
+            v,
+            nodes,
+            xs.as_ptr(),
+            xs.len(),
+            ys.as_ptr(),
+            ys.len(),
+            quad_count,
+            quads.as_ptr(),
+            quads.len(),
+            next.as_ptr(),
+            next.len(),
+            prev.as_ptr(),
+            prev.len(),
+            origins.as_ptr(),
+            origins.len(),
+            thresholds.as_ptr(),
+            thresholds.len(),
+            count,
+            sum,
+            reply.as_mut_ptr(),
+            reply.len(),
+        )
+    }
 }
 
 /// A read by one of the roles.
@@ -227,9 +259,6 @@ pub(crate) fn read(
     results: SharedResults<'_>,
     reply: &mut [u32],
 ) -> Result<ffi::ExamAnswer, Refusal> {
-    assert!(operation >= Asked::READ_NODE, "a change needs the desk's results");
-    // SAFETY: as in `exam_numbers`, but that the results are borrowed for reading alone. The entry is proved to leave them as they were where
-    // anything is read, and writes nothing to them then.
-    let answer = unsafe { call(Asked { role, operation, item, value: 0, u, v }, mesh, results.parts(), reply) };
+    let answer = read_numbers(Asked { role, operation, item, value: 0, u, v }, mesh, results, reply);
     Refusal::check(answer.refusal).map(|()| answer)
 }

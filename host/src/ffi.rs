@@ -8,7 +8,7 @@
 use core::mem::{offset_of, size_of};
 
 /// The number of the shape that these declarations have: the library links only if its number is the same.
-pub const ABI: u32 = 1;
+pub const ABI: u32 = 2;
 
 /// The answer of `sitjorbe_contains`. `refusal` is the refusal's number, 0 where nothing is refused. The values of a
 /// refused query are false, 0.0 or 0.
@@ -204,8 +204,8 @@ pub struct PreviewAnswer {
     pub front: usize,
 }
 
-/// The answer of `sitjorbe_exam`. The reply as it crosses: `refusal` is 0 where nothing is refused; what isn't asked
-/// for is 0.
+/// The answer of `sitjorbe_exam` and `sitjorbe_exam_read`. The reply as it crosses: `refusal` is 0 where nothing is
+/// refused; what isn't asked for is 0.
 #[repr(C)]
 #[derive(Clone, Copy, Debug, PartialEq)]
 #[must_use = "an answer may be a refusal"]
@@ -374,17 +374,17 @@ const _: () = {
 #[must_use]
 pub fn abi() -> u32 {
     // SAFETY: it takes nothing, and answers a number.
-    unsafe { sitjorbe_abi_1() }
+    unsafe { sitjorbe_abi_2() }
 }
 
 /// Keeps the name of the shape's entry in every program, also in one that calls entries without the wrappers.
 #[used]
-static SHAPE: unsafe extern "C" fn() -> u32 = sitjorbe_abi_1;
+static SHAPE: unsafe extern "C" fn() -> u32 = sitjorbe_abi_2;
 
 #[link(name = "sitjorbe", kind = "static")]
 extern "C" {
     /// The number of the library's shape, which its name has too.
-    pub fn sitjorbe_abi_1() -> u32;
+    pub fn sitjorbe_abi_2() -> u32;
 
     /// Whether the point is inside the outer loop and outside every hole.
     pub fn sitjorbe_contains(
@@ -662,6 +662,37 @@ extern "C" {
         thresholds_len: usize,
         count: *mut u32,
         sum: *mut u32,
+        reply: *mut u32,
+        reply_len: usize,
+    ) -> ExamAnswer;
+
+    /// One reading request of a reader or a masked reader, to whom the results are lent for reading alone: what
+    /// `sitjorbe_exam` answers to the role. The desk's role has no operation here. 20 comes before all else, and where
+    /// anything is refused the reply list isn't written. A masked reader needs no results: any list and any figures do.
+    pub fn sitjorbe_exam_read(
+        role: u32,
+        operation: u32,
+        item: u32,
+        u: u32,
+        v: u32,
+        nodes: u32,
+        xs: *const f64,
+        xs_len: usize,
+        ys: *const f64,
+        ys_len: usize,
+        quad_count: usize,
+        quads: *const u32,
+        quads_len: usize,
+        next: *const u32,
+        next_len: usize,
+        prev: *const u32,
+        prev_len: usize,
+        origins: *const u16,
+        origins_len: usize,
+        thresholds: *const u16,
+        thresholds_len: usize,
+        count: *const u32,
+        sum: *const u32,
         reply: *mut u32,
         reply_len: usize,
     ) -> ExamAnswer;

@@ -66,7 +66,7 @@
 //! ```
 
 pub use crate::directions::{directions, directions_in};
-pub use crate::exam_call::{exam_numbers, Asked, LentMesh, Results, SharedResults};
+pub use crate::exam_call::{exam_numbers, read_numbers, Asked, LentMesh, Results, SharedResults};
 pub use crate::field::{direction, field};
 pub use crate::lent_mesh::Mesh;
 pub use crate::lent_stepper::Stepper;

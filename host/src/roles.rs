@@ -1,7 +1,5 @@
 //! The three roles of an exam: [`Desk`], [`Reader`] and [`MaskedReader`]. What a role lacks doesn't compile.
 
-use core::fmt;
-
 use crate::exam_call::read;
 use crate::raw::{exam_numbers, Asked, LentMesh, Results, SharedResults};
 use crate::{Node, Refusal};
@@ -57,17 +55,9 @@ pub struct Reader<'a> {
 /// # let exam = sitjorbe::Exam::begin(sitjorbe::raw::LentMesh::default());
 /// exam.masked_reader().enter(0, 300);
 /// ```
-#[derive(Clone, Copy)]
+#[derive(Clone, Copy, Debug)]
 pub struct MaskedReader<'a> {
     mesh: LentMesh<'a>,
-    results: SharedResults<'a>,
-}
-
-/// Without the results.
-impl fmt::Debug for MaskedReader<'_> {
-    fn fmt(&self, f: &mut fmt::Formatter<'_>) -> fmt::Result {
-        f.debug_struct("MaskedReader").field("mesh", &self.mesh).finish_non_exhaustive()
-    }
 }
 
 impl<'a> Desk<'a> {
@@ -123,14 +113,16 @@ impl<'a> Reader<'a> {
 }
 
 impl<'a> MaskedReader<'a> {
-    /// A masked reader of the exam on a mesh, with results lent.
+    /// A masked reader of the exam on a mesh. No results are lent: it is proved that they would play no part.
     #[must_use]
-    pub fn new(mesh: LentMesh<'a>, results: SharedResults<'a>) -> MaskedReader<'a> {
-        MaskedReader { mesh, results }
+    pub fn new(mesh: LentMesh<'a>) -> MaskedReader<'a> {
+        MaskedReader { mesh }
     }
 
-    fn shared(&self) -> SharedResults<'_> {
-        self.results
+    /// As the other roles' for the reads that they share.
+    #[allow(clippy::unused_self)]
+    fn shared(&self) -> SharedResults<'static> {
+        SharedResults::NONE
     }
 }
 
@@ -210,8 +202,9 @@ macro_rules! reads_results {
     };
 }
 
-reads_mesh!(Desk, DESK);
+// The desk reads what a reader does, and is answered the same.
+reads_mesh!(Desk, READER);
 reads_mesh!(Reader, READER);
 reads_mesh!(MaskedReader, MASKED_READER);
-reads_results!(Desk, DESK);
+reads_results!(Desk, READER);
 reads_results!(Reader, READER);

@@ -6,7 +6,7 @@ mod common;
 use common::exam::{hostile, junk_thresholds, moved, Event, ExamLists, Model};
 use common::rng::Rng;
 use common::Drawing;
-use sitjorbe::raw::{Asked, LentMesh, Settings};
+use sitjorbe::raw::{read_numbers, Asked, LentMesh, Settings, SharedResults};
 use sitjorbe::{ffi, Exam, Memory, Node, Places, Refusal, NO_THRESHOLD, OFF};
 
 // ---- exam roles
@@ -147,11 +147,17 @@ fn bits(r: ffi::ExamAnswer) -> ([u64; 3], [u32; 10]) {
     ([r.x.to_bits(), r.y.to_bits(), r.length as u64], numbers)
 }
 
-/// Asks the library and the model: answer, reply list, thresholds and figures agree, and nothing else is written.
+/// Asks the library and the model: answer, reply list, thresholds and figures agree, and nothing else is written. The readers' entry is asked the same: it answers
+/// roles 2 and 3 as the other does, and refuses all others.
 fn agree(lent: &mut ExamLists, asked: Asked) -> u32 {
     let mut rule = Rule::of(lent);
     let expected = rule.answer(asked);
     let Rule { model, figures, reply, .. } = rule;
+    let mut read = lent.reply.list().to_vec();
+    let numbers = lent.read(asked, &mut read);
+    let (by_readers, left) =
+        if matches!(asked.role, 2 | 3) { (expected, &reply[..]) } else { (refused(20), lent.reply.list()) };
+    assert_eq!((bits(numbers), &read[..]), (bits(by_readers), left), "the readers' entry: {asked:?} {model:?}");
     let answer = lent.ask(asked);
     assert_eq!(bits(answer), bits(expected), "{asked:?} {model:?}");
     assert_eq!((lent.thresholds.list(), lent.figures()), (&model.list[..], figures), "{asked:?} {model:?}");
@@ -361,9 +367,13 @@ fn a_masked_reader_gets_the_same_of_every_result() {
         for operation in OPERATIONS.into_iter().chain([4, 5, 6, 4, 5, 6]) {
             let [item, value, u, v] = random_numbers(&mut rng, &one);
             let asked = Asked { role: 3, operation, item, value, u, v };
+            let mut read = one.reply.list().to_vec();
+            let nothing = SharedResults { thresholds: &[], count: &0, sum: &0 };
+            let lends_none = read_numbers(asked, &one.mesh(), nothing, &mut read);
             let [mine, others] = [&mut one, &mut other].map(|lent| lent.ask(asked));
             assert_eq!(bits(mine), bits(others), "{asked:?}");
             assert_eq!(one.reply.list(), other.reply.list(), "{asked:?}");
+            assert_eq!((bits(lends_none), &read[..]), (bits(mine), one.reply.list()), "{asked:?}");
             for lent in [&one, &other] {
                 assert!(lent.kept() && lent.thresholds.kept() && lent.count.kept() && lent.sum.kept(), "{asked:?}");
             }

@@ -3,7 +3,7 @@
 from ctypes import POINTER, Structure, c_bool, c_double, c_int32, c_size_t, c_uint8, c_uint16, c_uint32  # noqa: F401
 
 VERSION = "0.3.0"
-ABI = 1
+ABI = 2
 
 # ---- numbers
 
@@ -202,7 +202,7 @@ class PreviewAnswer(Structure):
 
 
 class ExamAnswer(Structure):
-    """The answer of `sitjorbe_exam`. The reply as it crosses: `refusal` is 0 where nothing is refused; what isn't asked for is 0."""
+    """The answer of `sitjorbe_exam` and `sitjorbe_exam_read`. The reply as it crosses: `refusal` is 0 where nothing is refused; what isn't asked for is 0."""
 
     _fields_ = [
         ("refusal", c_uint32),  # the refusal's number, 0 where nothing is refused
@@ -251,7 +251,7 @@ class SmallQuadsAnswer(Structure):
 # ---- entries
 
 ENTRIES = {
-    "sitjorbe_abi_1": (c_uint32, [
+    "sitjorbe_abi_2": (c_uint32, [
     ]),
     "sitjorbe_contains": (ContainsAnswer, [
         ("outer", POINTER(c_double)),
@@ -474,6 +474,33 @@ ENTRIES = {
         ("operation", c_uint32),
         ("item", c_uint32),
         ("value", c_uint32),
+        ("u", c_uint32),
+        ("v", c_uint32),
+        ("nodes", c_uint32),
+        ("xs", POINTER(c_double)),
+        ("xs_len", c_size_t),
+        ("ys", POINTER(c_double)),
+        ("ys_len", c_size_t),
+        ("quad_count", c_size_t),
+        ("quads", POINTER(c_uint32)),
+        ("quads_len", c_size_t),
+        ("next", POINTER(c_uint32)),
+        ("next_len", c_size_t),
+        ("prev", POINTER(c_uint32)),
+        ("prev_len", c_size_t),
+        ("origins", POINTER(c_uint16)),
+        ("origins_len", c_size_t),
+        ("thresholds", POINTER(c_uint16)),
+        ("thresholds_len", c_size_t),
+        ("count", POINTER(c_uint32)),
+        ("sum", POINTER(c_uint32)),
+        ("reply", POINTER(c_uint32)),
+        ("reply_len", c_size_t),
+    ]),
+    "sitjorbe_exam_read": (ExamAnswer, [
+        ("role", c_uint32),
+        ("operation", c_uint32),
+        ("item", c_uint32),
         ("u", c_uint32),
         ("v", c_uint32),
         ("nodes", c_uint32),

@@ -153,7 +153,10 @@ class Repository(unittest.TestCase):
     def test_every_way_to_an_exam_asks_for_a_role(self):
         # Beside an entry that asks for none, the roles would be no more than a wish.
         to_results = [function for function in self.reading.functions if "thresholds" in [typed.name for typed in function.parameters]]
-        self.assertEqual([(function.name, function.parameters[0].name) for function in to_results], [("sitjorbe_exam", "role")])
+        self.assertEqual([(function.name, function.parameters[0].name) for function in to_results], [("sitjorbe_exam", "role"), ("sitjorbe_exam_read", "role")])
+        # The readers' entry is lent the results for reading.
+        lent = {typed.name: typed.pointer for typed in to_results[1].parameters}
+        self.assertEqual([lent[name] for name in ("thresholds", "count", "sum", "reply")], ["const", "const", "const", "mut"])
 
     def test_every_name_has_words_and_no_words_are_left_over(self):
         used = {typed.name for function in self.reading.functions for typed in declarations.lent(function)}

@@ -4,12 +4,12 @@
 
 ghost use Rattle.std.specs.Prelude.{◌≡◌};
 
-const ABI: u32 = 1;
+const ABI: u32 = 2;
 
 // The number of the library's shape, which its name has too.
 #[unsafe(no_mangle)]
-pub extern "C" fn sitjorbe_abi_1() -> u32
-    ensures { result ≡ 1 }
+pub extern "C" fn sitjorbe_abi_2() -> u32
+    ensures { result ≡ 2 }
 {
     ABI
 }

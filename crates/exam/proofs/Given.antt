@@ -23,7 +23,8 @@ use Rattle.exam.specs.declared.ExamAnswer.{ExamAnswer}
 use Rattle.exam.specs.Exam.{ExamMesh, mesh_in, may, may_read_mesh, may_read_results, mesh_seen, change_answer, reply_or, reply_with, result_reply, estimate_reply}
 use Rattle.exam.specs.Exam.{acted, does, exam_acts, flat, exam_numbers, ExamExit, exam_exit, exam_answer, masked_exit, masked_answer}
 use Rattle.exam.specs.Statement.{EstimateGiven, ExamGiven}
-use Rattle.exam.proofs.GivenLaws.{masked_sees, exam_kept, exam_begun, Call, after_calls}
+use Rattle.exam.specs.Calls.{Call, after_calls}
+use Rattle.exam.proofs.GivenLaws.{masked_sees, exam_kept, exam_begun}
 
 -- ---- the masked reader
 

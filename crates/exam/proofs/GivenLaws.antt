@@ -37,8 +37,8 @@ module _ (m : ExamMesh) (x : Results) (role : ℕ) where
   change_kept : (c : ResultChange) → Afresh (mesh_in m) x → Afresh (mesh_in m) (change_answer (mesh_in m) x c).results
   unfolding change_answer
   change_kept Begin a = begin_kept (mesh_in m) x
-  change_kept (Enter id v) a = enter_kept (mesh_in m) (quads_few m.quad_count_of m.quads) x id v a
-  change_kept (Withdraw id) a = withdraw_kept (mesh_in m) (quads_few m.quad_count_of m.quads) x id a
+  change_kept (Enter id v) a = enter_kept (mesh_in m) (quads_few m.quad_count m.quads) x id v a
+  change_kept (Withdraw id) a = withdraw_kept (mesh_in m) (quads_few m.quad_count m.quads) x id a
 
   pub exam_kept : (q : ExamRequest) (list : List ℕ) → Afresh (mesh_in m) x → Afresh (mesh_in m) (exam_answer m x role q list).left
   unfolding exam_answer exam_acts
@@ -56,16 +56,3 @@ module _ (m : ExamMesh) (x : Results) (role : ℕ) where
 pub exam_begun : (m : ExamMesh) (x : Results) (list : List ℕ) → Afresh (mesh_in m) (exam_answer m x 1 (Changes Begin) list).left
 unfolding exam_answer exam_acts change_answer
 exam_begun m x list = begin_kept (mesh_in m) x
-
--- ---- a whole exam
-
--- what some role asks, with its reply list
-pub record Call : Type 0 where
-  pub role : ℕ
-  pub request : ExamRequest
-  pub list : List ℕ
-
--- the results after a list of calls, each on what the one before it left
-unfoldable pub after_calls : ExamMesh → Results → List Call → Results
-after_calls m x [] = x
-after_calls m x (c ∷ cs) = after_calls m (exam_answer m x c.role c.request c.list).left cs

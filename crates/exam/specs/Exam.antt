@@ -27,7 +27,7 @@ pub record ExamMesh : Type 0 where
   pub nodes : ℕ
   pub xs : List Float
   pub ys : List Float
-  pub quad_count_of : ℕ
+  pub quad_count : ℕ
   pub quads : List ℕ
   pub next : List ℕ
   pub prev : List ℕ
@@ -35,7 +35,7 @@ pub record ExamMesh : Type 0 where
 
 abbrev pub exam_mesh : ℕ → List Float → List Float → ℕ → List ℕ → List ℕ → List ℕ → List ℕ → ExamMesh
 exam_mesh nodes xs ys count quads next prev origins =
-    record { nodes = nodes; xs = xs; ys = ys; quad_count_of = count; quads = quads; next = next; prev = prev; origins = origins }
+    record { nodes = nodes; xs = xs; ys = ys; quad_count = count; quads = quads; next = next; prev = prev; origins = origins }
 
 -- the count of nodes, which stops where a coordinate or the origin isn't lent
 unfoldable pub nodes_lent : ℕ → List Float → List Float → List ℕ → ℕ
@@ -46,7 +46,7 @@ nodes_in m = nodes_lent m.nodes m.xs m.ys m.origins
 
 -- the mesh of which figures and estimates are made, its counts as they stop
 abbrev pub mesh_in : ExamMesh → Mesh
-mesh_in m = mesh (nodes_in m) (quad_count_of m.quad_count_of m.quads) m.quads
+mesh_in m = mesh (nodes_in m) (quad_count_of m.quad_count m.quads) m.quads
 
 -- ---- roles: 1 the desk, 2 a reader, 3 a masked reader
 
@@ -70,6 +70,10 @@ may role (Changes c) = may_change role
 may role (ReadsMesh r) = may_read_mesh role
 may role (ReadsResults r) = may_read_results role
 may role Unknown = false
+
+-- who reads, with nothing to change: the desk's number is no reader's
+unfoldable pub reader_role : ℕ → ℕ
+reader_role role = cond (eqb role 1) 0 role
 
 -- ---- requests: an operation's number, and the numbers that it uses
 
@@ -119,7 +123,7 @@ loop_seen n next prev k list =
 
 unfoldable pub mesh_seen : ExamMesh → MeshRead → List ℕ → Seen
 mesh_seen m (ReadNode id) list = seen (node_reply (nodes_in m) m.xs m.ys m.origins id) list
-mesh_seen m (ReadQuad k) list = seen (quad_reply m.quad_count_of m.quads k) list
+mesh_seen m (ReadQuad k) list = seen (quad_reply m.quad_count m.quads k) list
 mesh_seen m (ReadLoop k) list = loop_seen (nodes_in m) m.next m.prev k list
 
 -- ---- what is changed and read of the results

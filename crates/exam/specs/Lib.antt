@@ -1,3 +1,4 @@
 pub mod Exam
 pub mod Roles
 pub mod Statement
+pub mod Calls

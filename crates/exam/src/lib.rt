@@ -7,6 +7,7 @@ ghost use Rattle.std.specs.Prelude.{◌≡◌};
 ghost use Rattle.outline.specs.Refusals.{numbered};
 ghost use Rattle.exam.specs.Exam.{role_number, may, exam_numbers};
 ghost use Rattle.exam.specs.Roles.{NumbersRole};
+ghost use Rattle.exam.specs.Calls.{EveryExamKeeps};
 
 use front_lent_mesh::QuadIds;
 use outline::{Point, Refusal};
@@ -145,3 +146,8 @@ impl From<Result<ExamReply, Refusal>> for ExamAnswer {
         }
     }
 }
+
+// THE THEOREM of the figures, which is its contract: after any requests of any roles both are those worked out afresh. There is nothing to do.
+pub fn figures_always_kept()
+    ensures { EveryExamKeeps }
+{}

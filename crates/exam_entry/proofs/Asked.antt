@@ -34,11 +34,11 @@ module _ (m : ExamMesh) (x : Results) (role : ℕ) (q : ExamRequest) (list : Lis
     exam_not_allowed f r same = exam_given m x role q list r list x (rw (← asked, ← e, f, ← same))
 
     pub exam_changes : b ≡ true → (c : ResultChange) → p ≡ Changes c → (n : ℕ) → n ≡ nodes_in m → (refusal : ℕ) (left : Results)
-        → outcome refusal left ≡ change_answer (mesh n (quad_count_of m.quad_count_of m.quads) m.quads) x c
+        → outcome refusal left ≡ change_answer (mesh n (quad_count_of m.quad_count m.quads) m.quads) x c
         → (d : Result ExamReply ℕ) → d ≡ reply_or refusal Done → (r : ExamAnswer) → r ≡ exam_numbers d → ExamGiven m x role q list r list left
     exam_changes t c is n stops refusal left changed d done r same =
         let all : outcome refusal left ≡ change_answer (mesh_in m) x c =
-        changed ∙ ap (λ (j : ℕ). change_answer (mesh j (quad_count_of m.quad_count_of m.quads) m.quads) x c) stops in
+        changed ∙ ap (λ (j : ℕ). change_answer (mesh j (quad_count_of m.quad_count m.quads) m.quads) x c) stops in
         allowed (acted d list left) (sym e ∙ t) (rw (is, ← all, ← done)) r same
 
     pub exam_reads_mesh : b ≡ true → (read : MeshRead) → p ≡ ReadsMesh read → (reply : Result ExamReply ℕ) (after : List ℕ) → seen reply after ≡ mesh_seen m read list
@@ -46,9 +46,9 @@ module _ (m : ExamMesh) (x : Results) (role : ℕ) (q : ExamRequest) (list : Lis
     exam_reads_mesh t read is reply after sees r same = allowed (acted reply after x) (sym e ∙ t) (rw (is, ← sees)) r same
 
     pub exam_reads_results : b ≡ true → (read : ResultRead) → p ≡ ReadsResults read → (n : ℕ) → n ≡ nodes_in m → (reply : Result ExamReply ℕ)
-        → reply ≡ result_reply (mesh n (quad_count_of m.quad_count_of m.quads) m.quads) x read
+        → reply ≡ result_reply (mesh n (quad_count_of m.quad_count m.quads) m.quads) x read
         → (r : ExamAnswer) → r ≡ exam_numbers reply → ExamGiven m x role q list r list x
     exam_reads_results t read is n stops reply reads r same =
         let all : reply ≡ result_reply (mesh_in m) x read =
-        reads ∙ ap (λ (j : ℕ). result_reply (mesh j (quad_count_of m.quad_count_of m.quads) m.quads) x read) stops in
+        reads ∙ ap (λ (j : ℕ). result_reply (mesh j (quad_count_of m.quad_count m.quads) m.quads) x read) stops in
         allowed (acted reply list x) (sym e ∙ t) (rw (is, ← all)) r same

@@ -6,7 +6,7 @@ use Rattle.exam.specs.declared.ExamRequest.{ExamRequest}
 use Rattle.exam.specs.declared.ExamRequest.TheVariants.{Changes, ReadsMesh, ReadsResults, Unknown}
 use Rattle.exam.specs.declared.ExamReply.{ExamReply}
 use Rattle.exam.specs.declared.ExamAnswer.{ExamAnswer}
-use Rattle.exam.specs.Exam.{ExamMesh, may_read_mesh, may, acted, exam_acts, exam_numbers, exam_answer}
+use Rattle.exam.specs.Exam.{ExamMesh, may_read_mesh, may, reader_role, acted, exam_acts, exam_numbers, exam_answer}
 use Rattle.exam.specs.Statement.{ExamGiven}
 use Rattle.exam.proofs.Given.{exam_given}
 
@@ -18,6 +18,14 @@ no_role role (ReadsResults r) e =
     let p = neither (eqb role 1) (eqb role 2 || eqb role 3) e in
     rw (p.0, (neither (eqb role 2) (eqb role 3) p.1).0)
 no_role role Unknown e = refl
+
+-- nor has the desk's, where a reader is asked for
+pub no_reader : (q : ExamRequest) → may (reader_role 1) q ≡ false
+unfolding reader_role
+no_reader (Changes c) = refl
+no_reader (ReadsMesh r) = refl
+no_reader (ReadsResults r) = refl
+no_reader Unknown = refl
 
 -- what is done, by its numbers
 pub exam_asked : (m : ExamMesh) (x : Results) (role : ℕ) (q : ExamRequest) (list : List ℕ) (reply : Result ExamReply ℕ) (after : List ℕ) (left : Results)

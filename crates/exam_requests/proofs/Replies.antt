@@ -48,7 +48,7 @@ module _ (m : ExamMesh) (list : List ℕ) (read : MeshRead) where
     unfolding mesh_seen
     node_seen is n e r same = rw (is, ← e, ← same)
 
-    pub quad_seen : read ≡ ReadQuad k → (r : Result ExamReply ℕ) → r ≡ quad_reply m.quad_count_of m.quads k → seen r list ≡ mesh_seen m read list
+    pub quad_seen : read ≡ ReadQuad k → (r : Result ExamReply ℕ) → r ≡ quad_reply m.quad_count m.quads k → seen r list ≡ mesh_seen m read list
     unfolding mesh_seen
     quad_seen is r same = rw (is, ← same)
 

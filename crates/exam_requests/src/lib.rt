@@ -5,14 +5,14 @@ ghost use Rattle.std.specs.Prelude.{◌≡◌};
 ghost use Rattle.outline.specs.Refusals.{refused, numbered};
 ghost use Rattle.front_lent_mesh.specs.Mesh.{mesh_lent};
 ghost use Rattle.exam_thresholds.specs.Figures.{outcome};
-ghost use Rattle.exam_results.specs.Lent.{results_lent, SameBorrows};
+ghost use Rattle.exam_results.specs.Lent.{results_lent, results_seen, SameBorrows};
 ghost use Rattle.exam.specs.Exam.{request_numbered, nodes_in, mesh_in};
 ghost use Rattle.exam.specs.Exam.{node_reply, quad_reply, loop_seen, seen, mesh_seen, change_answer, threshold_reply, estimate_reply, result_reply};
 ghost use Rattle.exam_requests.specs.Lent.{exam_mesh_lent};
 
 use exam::{ExamReply, ExamRequest, MeshRead, ResultChange, ResultRead};
 use exam_loop_reads::LentLinks;
-use exam_results::{LentResults, Thresholds, Weights};
+use exam_results::{LentResults, SeenResults, Thresholds, Weights};
 use front_lent_mesh::LentMesh;
 use outline::Refusal;
 
@@ -178,14 +178,14 @@ fn estimate_reply(
 pub fn read_results(
     read: ResultRead,
     mesh: LentMesh<'_>,
-    results: &LentResults<'_>,
+    results: SeenResults<'_>,
 ) -> Result<ExamReply, Refusal>
-    ensures { numbered result ≡ result_reply (mesh_lent mesh.entry) (results_lent results.now) read }
+    ensures { numbered result ≡ result_reply (mesh_lent mesh.entry) (results_seen results.entry) read }
 {
     let thresholds = results.thresholds(mesh);
     match read {
         ResultRead::ReadThreshold(id) => threshold_reply(&thresholds, id),
-        ResultRead::ReadFigures => Ok(ExamReply::Figures(*results.count, *results.sum)),
+        ResultRead::ReadFigures => Ok(ExamReply::Figures(results.count, results.sum)),
         ResultRead::ReadEstimate(k, u, v) => estimate_reply(&thresholds, k, Weights { u, v }),
     }
 }

@@ -2,9 +2,13 @@
 use Rattle.std.specs.Prelude.{◌≡◌}
 use Rattle.exam_thresholds.specs.Figures.{Results, results}
 use Rattle.exam_results.specs.declared.LentResults.{LentResults}
+use Rattle.exam_results.specs.declared.SeenResults.{SeenResults}
 
 abbrev pub results_lent : LentResults → Results
 results_lent r = results r.thresholds.now r.count.now r.sum.now
+
+abbrev pub results_seen : SeenResults → Results
+results_seen r = results r.thresholds.now r.count r.sum
 
 -- s writes where r does
 pub record SameBorrows (r s : LentResults) : Type 0 where

@@ -11,7 +11,7 @@ ghost use Rattle.exam_thresholds.specs.Figures.{moved, outcome, is_missing, refu
 ghost use Rattle.exam_estimates.specs.Estimate.{estimate, estimate_of, estimate_refusal, estimate_answer};
 ghost use Rattle.exam_results.specs.FigureLaws.{count_share, sum_share};
 ghost use Rattle.exam_results.specs.EstimateLaws.{Weighable, Estimable};
-ghost use Rattle.exam_results.specs.Lent.{results_lent, SameBorrows};
+ghost use Rattle.exam_results.specs.Lent.{results_lent, results_seen, SameBorrows};
 
 use front_lent_mesh::{LentMesh, QuadIds};
 use outline::Refusal;
@@ -64,7 +64,27 @@ pub struct LentResults<'a> {
     pub sum: &'a mut u32,
 }
 
+// The results as they are read: the thresholds, and the figures by value.
+#[derive(Clone, Copy)]
+pub struct SeenResults<'a> {
+    pub thresholds: &'a [u16],
+    pub count: u32,
+    pub sum: u32,
+}
+
 // ---- reading
+
+impl<'a> SeenResults<'a> {
+    // The thresholds, at the nodes of a mesh.
+    pub fn thresholds(self, mesh: LentMesh<'a>) -> Thresholds<'a>
+        ensures { (result.mesh ≡ mesh.entry) × (result.list.now ≡ self.entry.thresholds.now) }
+    {
+        Thresholds {
+            mesh,
+            list: self.thresholds,
+        }
+    }
+}
 
 impl Thresholds<'_> {
     // What the list has at id; past the list none.
@@ -187,13 +207,24 @@ impl Thresholds<'_> {
 // ---- the three calls
 
 impl LentResults<'_> {
+    // What is read of them.
+    pub fn seen(&self) -> SeenResults<'_>
+        ensures { results_seen result ≡ results_lent self.now }
+    {
+        SeenResults {
+            thresholds: &*self.thresholds,
+            count: *self.count,
+            sum: *self.sum,
+        }
+    }
+
     // The thresholds, at the nodes of a mesh.
     pub fn thresholds<'b>(&'b self, mesh: LentMesh<'b>) -> Thresholds<'b>
         ensures { (result.mesh ≡ mesh.entry) × (result.list.now ≡ self.now.thresholds.now) }
     {
         Thresholds {
             mesh,
-            list: &*self.thresholds,
+            list: self.seen().thresholds,
         }
     }
 

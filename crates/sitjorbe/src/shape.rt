@@ -2,8 +2,8 @@ ghost use Rattle.std.specs.Prelude.{◌≡◌};
 
 // The number of the library's shape, which its name has too.
 #[unsafe(no_mangle)]
-pub extern "C" fn sitjorbe_abi_1() -> u32
-    ensures { result ≡ 1 }
+pub extern "C" fn sitjorbe_abi_2() -> u32
+    ensures { result ≡ 2 }
 {
-    abi::sitjorbe_abi_1()
+    abi::sitjorbe_abi_2()
 }

@@ -3,7 +3,7 @@
 
 use std::collections::BTreeSet;
 
-use sitjorbe::raw::{exam_numbers, Asked, LentMesh, Results, SharedResults};
+use sitjorbe::raw::{exam_numbers, read_numbers, Asked, LentMesh, Results, SharedResults};
 use sitjorbe::{ffi, Desk, Reader};
 
 use super::rng::Rng;
@@ -191,6 +191,12 @@ impl ExamLists {
     pub fn ask(&mut self, asked: Asked) -> ffi::ExamAnswer {
         let (mesh, mut results, reply) = self.parts();
         exam_numbers(asked, &mesh, &mut results, reply)
+    }
+
+    /// Asks the readers' entry, to which the results are lent for reading.
+    pub fn read(&self, asked: Asked, reply: &mut [u32]) -> ffi::ExamAnswer {
+        let [count, sum] = [&self.count, &self.sum].map(|figure| &figure.list()[0]);
+        read_numbers(asked, &self.mesh(), SharedResults { thresholds: self.thresholds.list(), count, sum }, reply)
     }
 
     pub fn model(&self) -> Model {

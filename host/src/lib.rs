@@ -5,7 +5,7 @@
 //! each crosses as a pointer and a length ([`ffi`]), and gives the refusals' numbers their words ([`Refusal`]).
 //!
 //! The library is an archive for x86-64 Linux; `build.rs` says where it is looked for. An archive of another shape than [`ffi::ABI`] doesn't
-//! link. Nothing here needs `std` but [`closing`], for its square roots; what owns its lists, as [`Memory`] does, needs an allocator.
+//! link. Nothing here needs `std`; what owns its lists, as [`Memory`] does, needs an allocator.
 //!
 //! ```
 //! use sitjorbe::{NotPaved, Outline, Paver};
@@ -38,8 +38,6 @@
 #![deny(missing_docs)]
 
 extern crate alloc;
-// For the square root alone, which `closing` takes: it isn't in `core` yet.
-extern crate std;
 
 pub mod closing;
 mod cross_field;

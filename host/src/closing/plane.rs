@@ -3,9 +3,21 @@
 /// A point, or a step from one to another.
 pub(super) type Point = [f64; 2];
 
-/// The square root, rounded once on every machine.
+/// The square root, rounded once: `core` has none yet, and the processor has.
+#[cfg(target_arch = "x86_64")]
 pub(super) fn root(x: f64) -> f64 {
-    x.sqrt()
+    use core::arch::x86_64::{_mm_cvtsd_f64, _mm_set_sd, _mm_sqrt_sd};
+    // SAFETY: every x86-64 has these instructions, and they touch no memory.
+    unsafe {
+        let x = _mm_set_sd(x);
+        _mm_cvtsd_f64(_mm_sqrt_sd(x, x))
+    }
+}
+
+/// The library is for x86-64 alone: elsewhere this crate can be checked, and not linked.
+#[cfg(not(target_arch = "x86_64"))]
+pub(super) fn root(_: f64) -> f64 {
+    unreachable!("nothing links here")
 }
 
 pub(super) fn step(a: Point, b: Point) -> Point {

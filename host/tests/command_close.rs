@@ -128,4 +128,28 @@ fn what_stays_open_says_where_and_why() {
     let claims = claims.replace(&kinds, &(kinds[..last].to_string() + "],"));
     let said = call(&["quality", "-"], claims.as_bytes());
     assert!(said.status == 2 && !said.err.is_empty(), "{}{}", said.out, said.err);
+    // Areas balance and every quad turns left, but one lies where another does.
+    let twice = b"{\"format\":\"sitjorbe-mesh-1\",\"size\":2,\"sweeps\":400,\"passes\":600,\"end\":\"still\",\"loops\":[{\"name\":\"outline\",\"points\":[[0,0],[4,0],[4,2],[0,2]]}],\
+        \"nodes\":[[0,0],[2,0],[4,0],[4,2],[2,2],[0,2]],\"origins\":[0,0,0,0,0,0],\"quads\":[[0,1,4,5],[0,1,4,5]],\"left\":[],\"kinds\":[\"kept\",\"new\"],\"given_back\":0}";
+    let said = call(&["quality", "-"], twice);
+    assert!(
+        said.status == 2 && said.err.contains("it says that it is closed, and it isn't"),
+        "{}{}",
+        said.out,
+        said.err
+    );
+}
+
+/// A mesh that was written open is closed as it would have been at once.
+#[test]
+fn a_mesh_is_closed_afterwards() {
+    let folder = folder("close-later");
+    let [open, at_once, later] = ["open.json", "once.json", "later.json"].map(|name| inside(&folder, name));
+    assert_eq!(call(&[&RIGHT_EYE[..], &["-o", &open]].concat(), b"").status, 0);
+    assert_eq!(call(&[&RIGHT_EYE[..], &["--close", "-o", &at_once]].concat(), b"").status, 0);
+    assert_eq!(call(&["picture", &open, "--close", "-o", &later], b"").status, 0);
+    assert_eq!(part(&read(&later), "quads"), part(&read(&at_once), "quads"));
+    assert_eq!(part(&read(&later), "nodes"), part(&read(&at_once), "nodes"));
+    let again = call(&["picture", &later, "--close", "-o", "-", "--as", "quads.csv"], b"");
+    assert_eq!(again.out, call(&["picture", &at_once, "-o", "-", "--as", "quads.csv"], b"").out);
 }

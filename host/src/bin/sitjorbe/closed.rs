@@ -41,6 +41,18 @@ pub fn close(field: &Field, paved: Paved, way: Way, stage: &dyn Fn(&str)) -> Pav
     closed(paved, closing)
 }
 
+/// Whether a mesh that was read is closed, by the judge that every closing passes: there is nothing to close in it.
+pub fn is_judged(field: &Field, paved: &Paved) -> bool {
+    let drawing = Drawing::of(field);
+    let effort = Effort { way: Way::Keep, steps: 0 };
+    let size = paved.settings.size;
+    let same = |closed: &closing::Closed| closed.nodes() == paved.nodes && closed.quads() == paved.quads;
+    match closing::close(&drawing.outline(), size, &paved.nodes, &paved.quads, effort, &mut |_| true) {
+        Closing::Closed(closed) => same(&closed),
+        Closing::Open(_) => false,
+    }
+}
+
 fn in_words(stage: Stage) -> &'static str {
     match stage {
         Stage::Filling => "closing: filling",

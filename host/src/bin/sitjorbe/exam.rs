@@ -39,6 +39,7 @@ pub fn command(words: &[String]) -> Result<Status, Failure> {
 
 fn examine(file: &str, outputs: &Outputs, order: Option<&str>) -> Result<Status, Failure> {
     let Read { field, paved, mut brought, .. } = quality::read(file)?;
+    let paved = outputs.closed(&field, paved, &|_| ());
     if let Some(name) = order {
         let listed = order::read(&files::read_text(name)?).map_err(|what| named_failure(name, Failure::Cant(what)))?;
         order::check(&paved, &listed).map_err(|failure| named_failure(name, failure))?;

@@ -4,7 +4,10 @@ use std::collections::HashMap;
 use std::fs;
 use std::path::{Path, PathBuf};
 
+use sitjorbe::closing::Way;
+
 use crate::args::{Args, Known};
+use crate::closed;
 use crate::csv::Field;
 use crate::figures::Figures;
 use crate::files::{self, named, Failure};
@@ -16,7 +19,8 @@ use crate::run::Paved;
 use crate::svg::{Eye, Look};
 
 /// The options, for a command's own list.
-pub const OPTIONS: [Known; 9] = [
+pub const OPTIONS: [Known; 10] = [
+    ("--close", true),
     ("-o", true),
     ("--output", true),
     ("--as", true),
@@ -30,6 +34,8 @@ pub const OPTIONS: [Known; 9] = [
 
 /// The lines of a command's help on them.
 pub const HELP: &str = "\
+    --close              close what the paving leaves open, which may move nodes in three rings of quads next to it; --close=keep
+                         moves none
     -o, --output FILE    write FILE, as often as you like; its ending says what: .svg a picture, .vtk for ParaView, .msh for Gmsh,
                          .json all there is, .csv a row a node with its threshold, .quads.csv a row a quad, .steps.csv the bowl's
                          steps, .html a report of one page. {} in FILE stands for the field's name
@@ -44,6 +50,8 @@ pub const HELP: &str = "\
 
 /// What a call asks to be written.
 pub struct Outputs {
+    /// How what is left open is closed, if it is.
+    close: Option<Way>,
     targets: Vec<(String, Format)>,
     eye: Option<Eye>,
     title: Option<String>,
@@ -68,6 +76,7 @@ impl Outputs {
         };
         let read = |name: &str| files::read_text(name).map(|text| (named(name).to_string(), text));
         let outputs = Outputs {
+            close: args.value("--close").map(closed::way).transpose()?,
             targets: targets(args)?,
             eye,
             title: args.value("--title").map(str::to_string),
@@ -97,6 +106,14 @@ impl Outputs {
             }
         }
         Ok(())
+    }
+
+    /// A paving with what it leaves open closed, if that is asked for and can be.
+    pub fn closed(&self, field: &Field, paved: Paved, stage: &dyn Fn(&str)) -> Paved {
+        match self.close {
+            Some(way) => closed::close(field, paved, way, stage),
+            None => paved,
+        }
     }
 
     pub fn has_thresholds(&self) -> bool {

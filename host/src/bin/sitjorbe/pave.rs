@@ -1,6 +1,5 @@
 //! `sitjorbe pave`: fields paved, their figures said, meshes and pictures written.
 
-use sitjorbe::closing::Way;
 use sitjorbe::raw::Settings;
 
 use crate::advice::Advice;
@@ -22,8 +21,6 @@ sitjorbe pave FIELD.csv .. --size DEGREES [OPTIONS]: paves fields, says their fi
 
     --size DEGREES       the length wanted of a quad's side, 0.01 to 100
     --best               try sizes around that one, and keep the one that paves the largest share
-    --close              close what the paving leaves open, which may move nodes in three rings of quads next to it; --close=keep
-                         moves none
     --thin [DEGREES]     pave fewer points, about so far apart (default: the size), and say how far the outline moves
     --strict             answer status 1 where an outline isn't sound
 ";
@@ -38,9 +35,8 @@ outline, the others are blind spots. - is standard input. What is said goes to s
 The exit status is 0 if all went well, 1 if something is refused, 2 if something can't be read or written.
 ";
 
-const OPTIONS: [Known; 10] = [
+const OPTIONS: [Known; 9] = [
     ("--size", true),
-    ("--close", true),
     ("--best", false),
     ("--thin", true),
     ("--strict", false),
@@ -55,8 +51,6 @@ const OPTIONS: [Known; 10] = [
 struct Call {
     settings: Settings,
     best: bool,
-    /// How what is left open is closed, if it is.
-    close: Option<Way>,
     /// The spacing, in degrees, that points are thinned to.
     thin: Option<f64>,
     strict: bool,
@@ -93,7 +87,6 @@ impl Call {
                 passes: args.count("--passes", "0 to 600")?.unwrap_or(run::MOST_PASSES),
             },
             best: args.has("--best"),
-            close: args.value("--close").map(closed::way).transpose()?,
             thin: spacing(args, size)?,
             strict: args.has("--strict"),
             outputs: Outputs::of(args, &args.files)?,
@@ -115,10 +108,7 @@ impl Call {
         refused::check(field, Some(self.settings.size))?;
         let stage = |words: &str| progress.stage(&format!("{}: {words}", named(file)));
         let (paved, tried) = self.paved(field, &stage)?;
-        let paved = match self.close {
-            Some(way) => closed::close(field, paved, way, &stage),
-            None => paved,
-        };
+        let paved = self.outputs.closed(field, paved, &stage);
         stage("counting");
         let figures = figures::of(field, &paved);
         let mut look = self.outputs.look(file, field, &paved, Brought::default())?;

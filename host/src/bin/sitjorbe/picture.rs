@@ -39,6 +39,7 @@ pub fn command(words: &[String]) -> Result<Status, Failure> {
 
 fn draw(file: &str, outputs: &Outputs) -> Result<(), Failure> {
     let Read { field, paved, brought, .. } = quality::read(file)?;
+    let paved = outputs.closed(&field, paved, &|_| ());
     let figures = figures::of(&field, &paved);
     let look = outputs.look(file, &field, &paved, brought)?;
     outputs.write(file, (&field, &paved), &figures, &look, &|_| ())

@@ -4,6 +4,7 @@ use std::cmp::Ordering;
 
 use crate::advice::Advice;
 use crate::args::{Args, Known};
+use crate::closed;
 use crate::exact::Exact;
 use crate::figures;
 use crate::files::{self, named, Failure};
@@ -58,6 +59,9 @@ fn say(file: &str, json: bool) -> Result<(), Failure> {
 pub fn read(file: &str) -> Result<Read, Failure> {
     let mesh = mesh_reading::read(&files::read_text(file)?).map_err(Failure::Cant)?;
     check_balance(&mesh)?;
+    if mesh.paved.is_closed() && !closed::is_judged(&mesh.field, &mesh.paved) {
+        return Err(Failure::Cant("it says that it is closed, and it isn't: it was changed".to_string()));
+    }
     let digest = identity::digest(&mesh.paved);
     match &mesh.digest {
         Some(said) if *said != digest => Err(Failure::Cant(format!(

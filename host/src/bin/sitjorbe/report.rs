@@ -36,6 +36,8 @@ input. Tested, not proved: reading files, shares, drawing. What is red or dotted
 /// The same of a closed mesh.
 const PROVED_OF_CLOSED: &str = "Proved: the paving, the counts and sum of thresholds, every estimate, and that the order is accepted are the library's, which equals its definitions on every \
 input. The closing isn't proved: its mesh was judged, quad by quad and side by side, before it was taken. Tested, not proved: reading files, shares, drawing. What is dotted was not measured.";
+/// No more loops have a row of their own.
+const MOST_PATCHES: usize = 4;
 /// Of an order no more numbers are written.
 const MOST_LISTED: usize = 120;
 
@@ -173,7 +175,7 @@ fn settings(field: &Field, paved: &Paved, figures: &Figures) -> String {
     ));
     told.extend(figures.share.map(|share| ("Paved".to_string(), percent(share))));
     told.extend(figures.closing.map(|share| ("Closed".to_string(), percent(share))));
-    for patch in &figures.patches {
+    for patch in figures.patches.iter().take(MOST_PATCHES) {
         told.extend(patch.share.map(|share| (format!("of this round {}", patch.name), percent(share))));
     }
     if let Some(quality) = figures.quality {

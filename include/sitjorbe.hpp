@@ -135,16 +135,18 @@ class exam {
     std::uint32_t sum() const noexcept { return results_.sum; }
     /** The threshold at a node. */
     result<std::uint32_t> threshold(std::uint32_t node) const {
-        const sitjorbe_exam_answer answer = ask({SITJORBE_DESK, SITJORBE_READ_THRESHOLD, node, 0, 0, 0});
+        const sitjorbe_exam_answer answer = read({SITJORBE_READER, SITJORBE_READ_THRESHOLD, node, 0, 0, 0});
         return answer.refusal ? result<std::uint32_t>::refused(answer.refusal) : result<std::uint32_t>(answer.threshold);
     }
     /** The estimate in a quad a, b, d, c at the weights u, from a towards b, and v, from a towards c, of 256. */
     result<std::uint32_t> estimate(std::uint32_t quad, std::uint32_t u, std::uint32_t v) const {
-        const sitjorbe_exam_answer answer = ask({SITJORBE_DESK, SITJORBE_READ_ESTIMATE, quad, 0, u, v});
+        const sitjorbe_exam_answer answer = read({SITJORBE_READER, SITJORBE_READ_ESTIMATE, quad, 0, u, v});
         return answer.refusal ? result<std::uint32_t>::refused(answer.refusal) : result<std::uint32_t>(answer.estimate);
     }
-    /** Any request by any role, as sitjorbe_exam answers it. */
-    sitjorbe_exam_answer ask(const sitjorbe_asked &asked) const;
+    /** Any request of the desk, as sitjorbe_exam answers it. */
+    sitjorbe_exam_answer ask(const sitjorbe_asked &asked);
+    /** Any request of a reader or a masked reader, as sitjorbe_exam_read answers it: nothing is written. */
+    sitjorbe_exam_answer read(const sitjorbe_asked &asked) const;
 
   private:
     result<bool> change(std::uint32_t operation, std::uint32_t node, std::uint32_t value) {
@@ -152,9 +154,12 @@ class exam {
         return refusal ? result<bool>::refused(refusal) : result<bool>(true);
     }
 
+    /** The results, whose list is wherever this exam is now. */
+    sitjorbe_results lent(std::uint16_t *thresholds) const noexcept { return {thresholds, thresholds_.size(), results_.count, results_.sum}; }
+
     const mesh *mesh_;
-    mutable std::vector<std::uint16_t> thresholds_;
-    mutable sitjorbe_results results_;
+    std::vector<std::uint16_t> thresholds_;
+    sitjorbe_results results_;
 };
 
 /** A mesh in memory of its own: what a run made, or what steps left. */
@@ -334,9 +339,15 @@ inline exam::exam(const mesh &on) : mesh_(&on), thresholds_(on.node_count()), re
     static_cast<void>(ask({SITJORBE_DESK, SITJORBE_BEGIN, 0, 0, 0, 0}));
 }
 
-inline sitjorbe_exam_answer exam::ask(const sitjorbe_asked &asked) const {
-    results_.thresholds = thresholds_.data();
+inline sitjorbe_exam_answer exam::ask(const sitjorbe_asked &asked) {
+    results_ = lent(thresholds_.data());
     return sitjorbe_exam_with(&mesh_->lists(), &mesh_->counts(), &asked, &results_, nullptr, 0);
+}
+
+inline sitjorbe_exam_answer exam::read(const sitjorbe_asked &asked) const {
+    // The entry reads the list alone.
+    const sitjorbe_results results = lent(const_cast<std::uint16_t *>(thresholds_.data()));
+    return sitjorbe_exam_read_with(&mesh_->lists(), &mesh_->counts(), &asked, &results, nullptr, 0);
 }
 
 } // namespace sitjorbe

@@ -18,7 +18,7 @@ int main() {
     if (auto estimate = exam.estimate(0, 128, 128))
         std::cout << "in the middle of quad 0 " << *estimate << " tenths of a decibel\n";
 
-    const auto masked = exam.ask({SITJORBE_MASKED_READER, SITJORBE_READ_THRESHOLD, 0, 0, 0, 0});
+    const auto masked = exam.read({SITJORBE_MASKED_READER, SITJORBE_READ_THRESHOLD, 0, 0, 0, 0});
     std::cout << sitjorbe_refusal_words(masked.refusal) << '\n';
     std::cout << "testing from the last quad on: " << sitjorbe_refusal_words(mesh->check_order({3, 2, 1, 0}).refusal) << '\n';
 }

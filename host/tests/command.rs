@@ -297,6 +297,7 @@ fn pictures_say_what_they_show() {
         assert_eq!(said.status, 0, "{}", said.err);
         let svg = read(&out);
         check_xml(&svg);
+        assert!(svg.contains("svg{forced-color-adjust:none}"), "where a system forces colours, these stay");
         assert!(svg.contains(words) && svg.contains("R&amp;D &lt;&quot;1&quot;&gt;"));
         let places = sides.map(|side| svg.find(&format!(">{side}<")).expect("the side is named"));
         assert!(places[0] < places[1], "the left one is drawn first");

@@ -1,5 +1,5 @@
 /*
- * Sitjorbe: verified geometry for a paved visual field, from outline to quads. Version 0.3.0, shape 2.
+ * Sitjorbe: verified geometry for a paved visual field, from outline to quads. Version 0.3.0, shape 3.
  *
  * Written by tools/bindings from the Rattle source. docs/INTEGRATION.md says how to call; "SCOPE" in a comment is what
  * docs/SCOPE.md and docs/FORMATS.md set out. For x86-64 Linux, C11 or C++17, and later.
@@ -23,7 +23,7 @@
 #endif
 
 #define SITJORBE_VERSION "0.3.0"
-#define SITJORBE_ABI 2
+#define SITJORBE_ABI 3
 
 #ifdef __cplusplus
 #define SITJORBE_ASSERT(fact) static_assert(fact, "another layout than the library's: " #fact)
@@ -506,16 +506,16 @@ SITJORBE_ASSERT(offsetof(sitjorbe_order_answer, place) == 8);
 SITJORBE_ASSERT(sizeof(sitjorbe_order_answer) == 16);
 
 /**
- * The answer of `sitjorbe_steps`. `refusal` is 23 or 25, 0 where nothing is refused; `quad` is the lowest quad that the
- * bowl can't show, where 25 says so.
+ * The answer of `sitjorbe_bowl_steps`. `refusal` is 23 or 25, 0 where nothing is refused; `quad` is the lowest quad
+ * that the bowl can't show, where 25 says so.
  */
-typedef struct sitjorbe_steps_answer {
+typedef struct sitjorbe_bowl_steps_answer {
     uint32_t refusal; /**< the refusal's number, 0 where nothing is refused */
     size_t quad; /**< the lowest quad that the bowl can't show, on refusal 25 */
-} sitjorbe_steps_answer;
-SITJORBE_ASSERT(offsetof(sitjorbe_steps_answer, refusal) == 0);
-SITJORBE_ASSERT(offsetof(sitjorbe_steps_answer, quad) == 8);
-SITJORBE_ASSERT(sizeof(sitjorbe_steps_answer) == 16);
+} sitjorbe_bowl_steps_answer;
+SITJORBE_ASSERT(offsetof(sitjorbe_bowl_steps_answer, refusal) == 0);
+SITJORBE_ASSERT(offsetof(sitjorbe_bowl_steps_answer, quad) == 8);
+SITJORBE_ASSERT(sizeof(sitjorbe_bowl_steps_answer) == 16);
 
 /**
  * The answer of `sitjorbe_small_quads`. `refusal` is 26 where the lent list is too short, 0 otherwise; `count` is how
@@ -533,73 +533,73 @@ SITJORBE_ASSERT(sizeof(sitjorbe_small_quads_answer) == 16);
  *
  * The names of their parameters mean the same everywhere; a name's length is the same name with _len.
  *
- * outer        the outer loop's points, x then y
- * holes        the points of all holes, one hole after the other
- * lens         the number of points of each hole
- * x            the point asked about
- * y            the point asked about
- * xmin         the field record: the grid's left column
- * ymin         the field record: the grid's lowest row
- * h            the field record: the distance of two neighbours of the grid
- * nx           the field record: nodes in a row
- * ny           the field record: nodes in a column
- * values       the field's values, two floats a field node
- * marks        the field's marks, a byte a field node: 1 where the outline fixes its value, else 0
- * points       the points asked about, x then y
- * targets      a target for each point, x then y, any floats
- * answers      three floats a point: 0 and the direction, or the refusal's number and two zeros
- * size         the length wanted of a quad's side, 0.01 to 100
- * sweeps       the most sweeps of the field, at most 1,000
- * blocks       scratch of any length, which saves time: two numbers a point of the outline are enough
- * tx           the target, any two floats
- * ty           the target, any two floats
- * passes       the passes of the paving; more than 600 count as 600
- * xs           the nodes' first coordinates
- * ys           the nodes' second coordinates
- * next         for each node the one that follows it on the front, or SITJORBE_OFF
- * prev         for each node the one before it on the front, or SITJORBE_OFF
- * snapshot     a place a node, for the run's own use
- * origins      for each node the number of the outline's loop that it came from: 0 for the outer one, k + 1 for hole k
- * quads        four node numbers a quad, in the order a, b, d, c, which runs round it
- * edges        two node numbers a distinct edge, the smaller first
- * loops        the node numbers of the listed loops, one loop after the other; a place a node
- * lengths      the lengths of the listed loops; a place a loop of the outline
- * node_pool    scratch of any length, which saves time: four numbers a node place are enough
- * edge_pool    scratch of any length, which saves time: sixteen numbers an edge place are enough
- * tried        scratch of any length, which saves time: three numbers a node place are enough
- * node_count   how many nodes the mesh has
- * quad_count   how many quads the mesh has
- * edge_count   how many distinct edges the mesh has
- * front_count  how many edges the front has
- * a            the first node of the front edge that is stepped on
- * b            the node after it on the front
- * list         gets the front edges that the step would leave, two node numbers an edge, by their first node; two numbers a front edge are wanted, and four more
- * role         who asks: 1 the desk, 2 a reader, 3 a masked reader
- * operation    what is asked: 1 begin, 2 enter, 3 withdraw; 4 to 6 read a node, a quad, a loop; 7 to 9 read a threshold, the figures, an estimate
- * item         the number of the node, quad or loop, from 0
- * value        the threshold to enter, in tenths of a decibel, 0 to 500
- * u            the weight from a towards b, 0 to 256
- * v            the weight from a towards c, 0 to 256
- * nodes        how many nodes the mesh has
- * thresholds   a threshold a node, in tenths of a decibel; anything above SITJORBE_MOST_THRESHOLD means none
- * count        how many quads have all four thresholds
- * sum          the sum of those quads' thresholds, a node counted once for each such quad
- * reply        gets the node numbers of the loop that is read; a place a node is enough
- * order        quads' numbers in the order in which they are to be tested
- * places       scratch of any length, which saves time: a number a quad is enough
- * pool         scratch of any length, which saves time: eight numbers a quad, and two more, are enough
- * steps        gets two whole numbers a node, x then y, in steps of 1/64
- * fours        four numbers a small quad; 14,944 places are enough
+ * outer         the outer loop's points, x then y
+ * holes         the points of all holes, one hole after the other
+ * hole_lengths  the number of points of each hole
+ * x             the point asked about
+ * y             the point asked about
+ * xmin          the field record: the grid's left column
+ * ymin          the field record: the grid's lowest row
+ * h             the field record: the distance of two neighbours of the grid
+ * nx            the field record: nodes in a row
+ * ny            the field record: nodes in a column
+ * values        the field's values, two floats a field node
+ * marks         the field's marks, a byte a field node: 1 where the outline fixes its value, else 0
+ * points        the points asked about, x then y
+ * targets       a target for each point, x then y, any floats
+ * answers       three floats a point: 0 and the direction, or the refusal's number and two zeros
+ * size          the length wanted of a quad's side, 0.01 to 100
+ * sweeps        the most sweeps of the field, at most 1,000
+ * blocks        scratch of any length, which saves time: two numbers a point of the outline are enough
+ * tx            the target, any two floats
+ * ty            the target, any two floats
+ * passes        the passes of the paving; more than 600 count as 600
+ * xs            the nodes' first coordinates
+ * ys            the nodes' second coordinates
+ * next          for each node the one that follows it on the front, or SITJORBE_OFF
+ * prev          for each node the one before it on the front, or SITJORBE_OFF
+ * snapshot      a place a node, for the run's own use
+ * origins       for each node the number of the outline's loop that it came from: 0 for the outer one, k + 1 for hole k
+ * quads         four node numbers a quad, in the order a, b, d, c, which runs round it
+ * edges         two node numbers a distinct edge, the smaller first
+ * loops         the node numbers of the listed loops, one loop after the other; a place a node
+ * loop_lengths  the lengths of the listed loops; a place a loop of the outline
+ * node_pool     scratch of any length, which saves time: four numbers a node place are enough
+ * edge_pool     scratch of any length, which saves time: sixteen numbers an edge place are enough
+ * tried         scratch of any length, which saves time: three numbers a node place are enough
+ * node_count    how many nodes the mesh has
+ * quad_count    how many quads the mesh has
+ * edge_count    how many distinct edges the mesh has
+ * front_count   how many edges the front has
+ * a             the first node of the front edge that is stepped on
+ * b             the node after it on the front
+ * list          gets the front edges that the step would leave, two node numbers an edge, by their first node; two numbers a front edge are wanted, and four more
+ * role          who asks: 1 the desk, 2 a reader, 3 a masked reader
+ * operation     what is asked: 1 begin, 2 enter, 3 withdraw; 4 to 6 read a node, a quad, a loop; 7 to 9 read a threshold, the figures, an estimate
+ * item          the number of the node, quad or loop, from 0
+ * value         the threshold to enter, in tenths of a decibel, 0 to 500
+ * u             the weight from a towards b, 0 to 256
+ * v             the weight from a towards c, 0 to 256
+ * nodes         how many nodes the mesh has
+ * thresholds    a threshold a node, in tenths of a decibel; anything above SITJORBE_MOST_THRESHOLD means none
+ * count         how many quads have all four thresholds
+ * sum           the sum of those quads' thresholds, a node counted once for each such quad
+ * reply         gets the node numbers of the loop that is read; a place a node is enough
+ * order         quads' numbers in the order in which they are to be tested
+ * places        scratch of any length, which saves time: a number a quad is enough
+ * pool          scratch of any length, which saves time: eight numbers a quad, and two more, are enough
+ * steps         gets two whole numbers a node, x then y, in steps of 1/64
+ * fours         four numbers a small quad; 14,944 places are enough
  */
 
 /** The number of the library's shape, which its name has too. */
-SITJORBE_MUST_USE uint32_t sitjorbe_abi_2(void);
+SITJORBE_MUST_USE uint32_t sitjorbe_abi_3(void);
 
 /** Whether the point is inside the outer loop and outside every hole. */
 SITJORBE_MUST_USE sitjorbe_contains_answer sitjorbe_contains(
     const double *outer, size_t outer_len,
     const double *holes, size_t holes_len,
-    const size_t *lens, size_t lens_len,
+    const size_t *hole_lengths, size_t hole_lengths_len,
     double x,
     double y);
 
@@ -610,7 +610,7 @@ SITJORBE_MUST_USE sitjorbe_contains_answer sitjorbe_contains(
 SITJORBE_MUST_USE sitjorbe_nearest_answer sitjorbe_nearest_segment(
     const double *outer, size_t outer_len,
     const double *holes, size_t holes_len,
-    const size_t *lens, size_t lens_len,
+    const size_t *hole_lengths, size_t hole_lengths_len,
     double x,
     double y);
 
@@ -618,7 +618,7 @@ SITJORBE_MUST_USE sitjorbe_nearest_answer sitjorbe_nearest_segment(
 SITJORBE_MUST_USE sitjorbe_distance_answer sitjorbe_distance_to_boundary(
     const double *outer, size_t outer_len,
     const double *holes, size_t holes_len,
-    const size_t *lens, size_t lens_len,
+    const size_t *hole_lengths, size_t hole_lengths_len,
     double x,
     double y);
 
@@ -626,7 +626,7 @@ SITJORBE_MUST_USE sitjorbe_distance_answer sitjorbe_distance_to_boundary(
 SITJORBE_MUST_USE sitjorbe_sound_answer sitjorbe_sound(
     const double *outer, size_t outer_len,
     const double *holes, size_t holes_len,
-    const size_t *lens, size_t lens_len);
+    const size_t *hole_lengths, size_t hole_lengths_len);
 
 /**
  * Of the field's four directions at each point the one nearest to its target, which may be any two floats: three floats
@@ -652,7 +652,7 @@ SITJORBE_MUST_USE uint32_t sitjorbe_directions(
 SITJORBE_MUST_USE sitjorbe_field_record_answer sitjorbe_field(
     const double *outer, size_t outer_len,
     const double *holes, size_t holes_len,
-    const size_t *lens, size_t lens_len,
+    const size_t *hole_lengths, size_t hole_lengths_len,
     double size,
     size_t sweeps,
     double *values, size_t values_len,
@@ -680,7 +680,7 @@ SITJORBE_MUST_USE sitjorbe_direction_answer sitjorbe_direction(
 SITJORBE_MUST_USE sitjorbe_places_answer sitjorbe_places(
     const double *outer, size_t outer_len,
     const double *holes, size_t holes_len,
-    const size_t *lens, size_t lens_len,
+    const size_t *hole_lengths, size_t hole_lengths_len,
     double size);
 
 /**
@@ -692,7 +692,7 @@ SITJORBE_MUST_USE sitjorbe_places_answer sitjorbe_places(
 SITJORBE_MUST_USE sitjorbe_pave_answer sitjorbe_pave(
     const double *outer, size_t outer_len,
     const double *holes, size_t holes_len,
-    const size_t *lens, size_t lens_len,
+    const size_t *hole_lengths, size_t hole_lengths_len,
     double size,
     size_t sweeps,
     size_t passes,
@@ -707,7 +707,7 @@ SITJORBE_MUST_USE sitjorbe_pave_answer sitjorbe_pave(
     uint32_t *quads, size_t quads_len,
     uint32_t *edges, size_t edges_len,
     uint32_t *loops, size_t loops_len,
-    uint32_t *lengths, size_t lengths_len,
+    uint32_t *loop_lengths, size_t loop_lengths_len,
     uint32_t *node_pool, size_t node_pool_len,
     uint32_t *edge_pool, size_t edge_pool_len,
     uint32_t *blocks, size_t blocks_len,
@@ -720,7 +720,7 @@ SITJORBE_MUST_USE sitjorbe_pave_answer sitjorbe_pave(
 SITJORBE_MUST_USE sitjorbe_step_answer sitjorbe_step(
     const double *outer, size_t outer_len,
     const double *holes, size_t holes_len,
-    const size_t *lens, size_t lens_len,
+    const size_t *hole_lengths, size_t hole_lengths_len,
     double size,
     double xmin,
     double ymin,
@@ -750,7 +750,7 @@ SITJORBE_MUST_USE sitjorbe_step_answer sitjorbe_step(
 SITJORBE_MUST_USE sitjorbe_preview_answer sitjorbe_preview(
     const double *outer, size_t outer_len,
     const double *holes, size_t holes_len,
-    const size_t *lens, size_t lens_len,
+    const size_t *hole_lengths, size_t hole_lengths_len,
     double size,
     double xmin,
     double ymin,
@@ -834,7 +834,7 @@ SITJORBE_MUST_USE sitjorbe_order_answer sitjorbe_order(
  * The nodes of a lent mesh in whole steps of 1/64 degree, each coordinate at the nearest step, halves at the even one.
  * The mesh is only read, and the buffer is written once nothing is refused.
  */
-SITJORBE_MUST_USE sitjorbe_steps_answer sitjorbe_steps(
+SITJORBE_MUST_USE sitjorbe_bowl_steps_answer sitjorbe_bowl_steps(
     const double *xs, size_t xs_len,
     const double *ys, size_t ys_len,
     const uint32_t *next, size_t next_len,
@@ -862,8 +862,8 @@ typedef struct sitjorbe_outline {
     size_t outer_len; /**< its length */
     const double *holes; /**< the points of all holes, one hole after the other */
     size_t holes_len; /**< its length */
-    const size_t *lens; /**< the number of points of each hole */
-    size_t lens_len; /**< its length */
+    const size_t *hole_lengths; /**< the number of points of each hole */
+    size_t hole_lengths_len; /**< its length */
 } sitjorbe_outline;
 
 /** What an exam sets for a run. 400 sweeps and 600 passes are usual. */
@@ -911,8 +911,8 @@ typedef struct sitjorbe_mesh_lists {
     size_t edges_len; /**< its length */
     uint32_t *loops; /**< the node numbers of the listed loops, one loop after the other; a place a node */
     size_t loops_len; /**< its length */
-    uint32_t *lengths; /**< the lengths of the listed loops; a place a loop of the outline */
-    size_t lengths_len; /**< its length */
+    uint32_t *loop_lengths; /**< the lengths of the listed loops; a place a loop of the outline */
+    size_t loop_lengths_len; /**< its length */
 } sitjorbe_mesh_lists;
 
 /** How much of a mesh's lists is in use. Answers of runs and steps have them. */
@@ -959,27 +959,31 @@ typedef struct sitjorbe_results {
 SITJORBE_MUST_USE static inline sitjorbe_contains_answer sitjorbe_contains_with(
     const sitjorbe_outline *outline, double x, double y) {
     return sitjorbe_contains(
-        outline->outer, outline->outer_len, outline->holes, outline->holes_len, outline->lens, outline->lens_len, x, y);
+        outline->outer, outline->outer_len, outline->holes, outline->holes_len, outline->hole_lengths,
+        outline->hole_lengths_len, x, y);
 }
 
 /** Calls sitjorbe_nearest_segment. */
 SITJORBE_MUST_USE static inline sitjorbe_nearest_answer sitjorbe_nearest_segment_with(
     const sitjorbe_outline *outline, double x, double y) {
     return sitjorbe_nearest_segment(
-        outline->outer, outline->outer_len, outline->holes, outline->holes_len, outline->lens, outline->lens_len, x, y);
+        outline->outer, outline->outer_len, outline->holes, outline->holes_len, outline->hole_lengths,
+        outline->hole_lengths_len, x, y);
 }
 
 /** Calls sitjorbe_distance_to_boundary. */
 SITJORBE_MUST_USE static inline sitjorbe_distance_answer sitjorbe_distance_to_boundary_with(
     const sitjorbe_outline *outline, double x, double y) {
     return sitjorbe_distance_to_boundary(
-        outline->outer, outline->outer_len, outline->holes, outline->holes_len, outline->lens, outline->lens_len, x, y);
+        outline->outer, outline->outer_len, outline->holes, outline->holes_len, outline->hole_lengths,
+        outline->hole_lengths_len, x, y);
 }
 
 /** Calls sitjorbe_sound. */
 SITJORBE_MUST_USE static inline sitjorbe_sound_answer sitjorbe_sound_with(const sitjorbe_outline *outline) {
     return sitjorbe_sound(
-        outline->outer, outline->outer_len, outline->holes, outline->holes_len, outline->lens, outline->lens_len);
+        outline->outer, outline->outer_len, outline->holes, outline->holes_len, outline->hole_lengths,
+        outline->hole_lengths_len);
 }
 
 /** Calls sitjorbe_directions. */
@@ -996,9 +1000,9 @@ SITJORBE_MUST_USE static inline sitjorbe_field_record_answer sitjorbe_field_with
     const sitjorbe_outline *outline, const sitjorbe_settings *settings, const sitjorbe_field_lists *field,
     const sitjorbe_scratch *scratch) {
     return sitjorbe_field(
-        outline->outer, outline->outer_len, outline->holes, outline->holes_len, outline->lens, outline->lens_len,
-        settings->size, settings->sweeps, field->values, field->values_len, field->marks, field->marks_len,
-        scratch->blocks, scratch->blocks_len);
+        outline->outer, outline->outer_len, outline->holes, outline->holes_len, outline->hole_lengths,
+        outline->hole_lengths_len, settings->size, settings->sweeps, field->values, field->values_len, field->marks,
+        field->marks_len, scratch->blocks, scratch->blocks_len);
 }
 
 /** Calls sitjorbe_direction. */
@@ -1013,8 +1017,8 @@ SITJORBE_MUST_USE static inline sitjorbe_direction_answer sitjorbe_direction_wit
 SITJORBE_MUST_USE static inline sitjorbe_places_answer sitjorbe_places_with(
     const sitjorbe_outline *outline, const sitjorbe_settings *settings) {
     return sitjorbe_places(
-        outline->outer, outline->outer_len, outline->holes, outline->holes_len, outline->lens, outline->lens_len,
-        settings->size);
+        outline->outer, outline->outer_len, outline->holes, outline->holes_len, outline->hole_lengths,
+        outline->hole_lengths_len, settings->size);
 }
 
 /** Calls sitjorbe_pave. */
@@ -1022,13 +1026,13 @@ SITJORBE_MUST_USE static inline sitjorbe_pave_answer sitjorbe_pave_with(
     const sitjorbe_outline *outline, const sitjorbe_settings *settings, const sitjorbe_field_lists *field,
     const sitjorbe_mesh_lists *mesh, const sitjorbe_scratch *scratch) {
     return sitjorbe_pave(
-        outline->outer, outline->outer_len, outline->holes, outline->holes_len, outline->lens, outline->lens_len,
-        settings->size, settings->sweeps, settings->passes, field->values, field->values_len, field->marks,
-        field->marks_len, mesh->xs, mesh->xs_len, mesh->ys, mesh->ys_len, mesh->next, mesh->next_len, mesh->prev,
-        mesh->prev_len, scratch->snapshot, scratch->snapshot_len, mesh->origins, mesh->origins_len, mesh->quads,
-        mesh->quads_len, mesh->edges, mesh->edges_len, mesh->loops, mesh->loops_len, mesh->lengths, mesh->lengths_len,
-        scratch->node_pool, scratch->node_pool_len, scratch->edge_pool, scratch->edge_pool_len, scratch->blocks,
-        scratch->blocks_len, scratch->tried, scratch->tried_len);
+        outline->outer, outline->outer_len, outline->holes, outline->holes_len, outline->hole_lengths,
+        outline->hole_lengths_len, settings->size, settings->sweeps, settings->passes, field->values, field->values_len,
+        field->marks, field->marks_len, mesh->xs, mesh->xs_len, mesh->ys, mesh->ys_len, mesh->next, mesh->next_len,
+        mesh->prev, mesh->prev_len, scratch->snapshot, scratch->snapshot_len, mesh->origins, mesh->origins_len,
+        mesh->quads, mesh->quads_len, mesh->edges, mesh->edges_len, mesh->loops, mesh->loops_len, mesh->loop_lengths,
+        mesh->loop_lengths_len, scratch->node_pool, scratch->node_pool_len, scratch->edge_pool, scratch->edge_pool_len,
+        scratch->blocks, scratch->blocks_len, scratch->tried, scratch->tried_len);
 }
 
 /** Calls sitjorbe_step. */
@@ -1037,11 +1041,12 @@ SITJORBE_MUST_USE static inline sitjorbe_step_answer sitjorbe_step_with(
     const sitjorbe_field_lists *field, const sitjorbe_mesh_lists *mesh, const sitjorbe_mesh_counts *counts, uint32_t a,
     uint32_t b) {
     return sitjorbe_step(
-        outline->outer, outline->outer_len, outline->holes, outline->holes_len, outline->lens, outline->lens_len,
-        settings->size, record->xmin, record->ymin, record->h, record->nx, record->ny, field->values, field->values_len,
-        field->marks, field->marks_len, mesh->xs, mesh->xs_len, mesh->ys, mesh->ys_len, mesh->next, mesh->next_len,
-        mesh->prev, mesh->prev_len, mesh->origins, mesh->origins_len, mesh->quads, mesh->quads_len, mesh->edges,
-        mesh->edges_len, counts->nodes, counts->quads, counts->edges, counts->front, a, b);
+        outline->outer, outline->outer_len, outline->holes, outline->holes_len, outline->hole_lengths,
+        outline->hole_lengths_len, settings->size, record->xmin, record->ymin, record->h, record->nx, record->ny,
+        field->values, field->values_len, field->marks, field->marks_len, mesh->xs, mesh->xs_len, mesh->ys,
+        mesh->ys_len, mesh->next, mesh->next_len, mesh->prev, mesh->prev_len, mesh->origins, mesh->origins_len,
+        mesh->quads, mesh->quads_len, mesh->edges, mesh->edges_len, counts->nodes, counts->quads, counts->edges,
+        counts->front, a, b);
 }
 
 /** Calls sitjorbe_preview. */
@@ -1050,11 +1055,12 @@ SITJORBE_MUST_USE static inline sitjorbe_preview_answer sitjorbe_preview_with(
     const sitjorbe_field_lists *field, const sitjorbe_mesh_lists *mesh, const sitjorbe_mesh_counts *counts, uint32_t a,
     uint32_t b, uint32_t *list, size_t list_len) {
     return sitjorbe_preview(
-        outline->outer, outline->outer_len, outline->holes, outline->holes_len, outline->lens, outline->lens_len,
-        settings->size, record->xmin, record->ymin, record->h, record->nx, record->ny, field->values, field->values_len,
-        field->marks, field->marks_len, mesh->xs, mesh->xs_len, mesh->ys, mesh->ys_len, mesh->next, mesh->next_len,
-        mesh->prev, mesh->prev_len, mesh->origins, mesh->origins_len, mesh->quads, mesh->quads_len, mesh->edges,
-        mesh->edges_len, counts->nodes, counts->quads, counts->edges, counts->front, a, b, list, list_len);
+        outline->outer, outline->outer_len, outline->holes, outline->holes_len, outline->hole_lengths,
+        outline->hole_lengths_len, settings->size, record->xmin, record->ymin, record->h, record->nx, record->ny,
+        field->values, field->values_len, field->marks, field->marks_len, mesh->xs, mesh->xs_len, mesh->ys,
+        mesh->ys_len, mesh->next, mesh->next_len, mesh->prev, mesh->prev_len, mesh->origins, mesh->origins_len,
+        mesh->quads, mesh->quads_len, mesh->edges, mesh->edges_len, counts->nodes, counts->quads, counts->edges,
+        counts->front, a, b, list, list_len);
 }
 
 /** Calls sitjorbe_exam. */
@@ -1087,10 +1093,10 @@ SITJORBE_MUST_USE static inline sitjorbe_order_answer sitjorbe_order_with(
         counts->quads, mesh->quads, mesh->quads_len, order, order_len, places, places_len, pool, pool_len);
 }
 
-/** Calls sitjorbe_steps. */
-SITJORBE_MUST_USE static inline sitjorbe_steps_answer sitjorbe_steps_with(
+/** Calls sitjorbe_bowl_steps. */
+SITJORBE_MUST_USE static inline sitjorbe_bowl_steps_answer sitjorbe_bowl_steps_with(
     const sitjorbe_mesh_lists *mesh, const sitjorbe_mesh_counts *counts, int32_t *steps, size_t steps_len) {
-    return sitjorbe_steps(
+    return sitjorbe_bowl_steps(
         mesh->xs, mesh->xs_len, mesh->ys, mesh->ys_len, mesh->next, mesh->next_len, mesh->prev, mesh->prev_len,
         mesh->origins, mesh->origins_len, mesh->quads, mesh->quads_len, mesh->edges, mesh->edges_len, counts->nodes,
         counts->quads, counts->edges, counts->front, steps, steps_len);
@@ -1141,7 +1147,7 @@ static inline sitjorbe_record sitjorbe_pave_record(sitjorbe_pave_answer answer) 
 /** How long each list of a run wants to be; the members are called as the lists. */
 typedef struct sitjorbe_list_lengths {
     uint32_t refusal; /**< what refuses the outline or the size, 0 where nothing is refused; the lengths are 0 otherwise */
-    size_t values, marks, xs, ys, next, prev, origins, quads, edges, loops, lengths, snapshot, node_pool, edge_pool, blocks, tried;
+    size_t values, marks, xs, ys, next, prev, origins, quads, edges, loops, loop_lengths, snapshot, node_pool, edge_pool, blocks, tried;
 } sitjorbe_list_lengths;
 
 /**
@@ -1170,7 +1176,7 @@ static inline sitjorbe_list_lengths sitjorbe_list_lengths_for(
     lengths.quads = refused ? 0 : 4 * quads;
     lengths.edges = refused ? 0 : 2 * edges;
     lengths.loops = refused ? 0 : nodes;
-    lengths.lengths = refused ? 0 : outline->lens_len + 1;
+    lengths.loop_lengths = refused ? 0 : outline->hole_lengths_len + 1;
     lengths.snapshot = refused ? 0 : nodes;
     lengths.node_pool = refused ? 0 : 4 * nodes;
     lengths.edge_pool = refused ? 0 : 16 * edges;
@@ -1189,7 +1195,7 @@ static inline size_t sitjorbe_list_bytes(const sitjorbe_list_lengths *lengths) {
         + lengths->quads * sizeof(uint32_t)
         + lengths->edges * sizeof(uint32_t)
         + lengths->loops * sizeof(uint32_t)
-        + lengths->lengths * sizeof(uint32_t)
+        + lengths->loop_lengths * sizeof(uint32_t)
         + lengths->snapshot * sizeof(uint32_t)
         + lengths->node_pool * sizeof(uint32_t)
         + lengths->edge_pool * sizeof(uint32_t)
@@ -1229,9 +1235,9 @@ static inline void sitjorbe_cut_lists(void *memory, const sitjorbe_list_lengths 
     mesh->loops = (uint32_t *)(void *)at;
     mesh->loops_len = lengths->loops;
     at += lengths->loops * sizeof(uint32_t);
-    mesh->lengths = (uint32_t *)(void *)at;
-    mesh->lengths_len = lengths->lengths;
-    at += lengths->lengths * sizeof(uint32_t);
+    mesh->loop_lengths = (uint32_t *)(void *)at;
+    mesh->loop_lengths_len = lengths->loop_lengths;
+    at += lengths->loop_lengths * sizeof(uint32_t);
     scratch->snapshot = (uint32_t *)(void *)at;
     scratch->snapshot_len = lengths->snapshot;
     at += lengths->snapshot * sizeof(uint32_t);
@@ -1263,7 +1269,7 @@ static inline void sitjorbe_cut_lists(void *memory, const sitjorbe_list_lengths 
 __attribute__((retain))
 #endif
 #endif
-__attribute__((used)) static uint32_t (*const sitjorbe_abi)(void) = sitjorbe_abi_2;
+__attribute__((used)) static uint32_t (*const sitjorbe_abi)(void) = sitjorbe_abi_3;
 #endif
 
 #ifdef __cplusplus

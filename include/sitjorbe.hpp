@@ -186,8 +186,8 @@ class mesh {
     std::vector<span<std::uint32_t>> loops() const {
         std::vector<span<std::uint32_t>> found;
         const std::uint32_t *at = lists_.loops;
-        for (std::size_t k = 0; k < loops_; at += lists_.lengths[k++])
-            found.emplace_back(at, lists_.lengths[k]);
+        for (std::size_t k = 0; k < loops_; at += lists_.loop_lengths[k++])
+            found.emplace_back(at, lists_.loop_lengths[k]);
         return found;
     }
 
@@ -229,7 +229,7 @@ class mesh {
     /** The nodes in steps of the motor bowl, two numbers a node. */
     result<std::vector<std::int32_t>> bowl_steps() const {
         std::vector<std::int32_t> steps(2 * std::size_t(counts_.nodes));
-        const std::uint32_t refusal = sitjorbe_steps_with(&lists_, &counts_, steps.data(), steps.size()).refusal;
+        const std::uint32_t refusal = sitjorbe_bowl_steps_with(&lists_, &counts_, steps.data(), steps.size()).refusal;
         return refusal ? result<std::vector<std::int32_t>>::refused(refusal) : result<std::vector<std::int32_t>>(std::move(steps));
     }
 
@@ -285,7 +285,7 @@ class mesh {
         copy(lists_.quads, old.quads, 4 * counts_.quads);
         copy(lists_.edges, old.edges, 2 * counts_.edges);
         copy(lists_.loops, old.loops, old.loops_len);
-        copy(lists_.lengths, old.lengths, old.lengths_len);
+        copy(lists_.loop_lengths, old.loop_lengths, old.loop_lengths_len);
         return true;
     }
 

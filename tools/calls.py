@@ -20,13 +20,13 @@ class Group(NamedTuple):
 
 
 GROUPS = [
-    Group("outline", "outline", "An outline as it is lent: the outer loop, and any number of holes in it.", dict(outer="", holes="", lens="")),
+    Group("outline", "outline", "An outline as it is lent: the outer loop, and any number of holes in it.", dict(outer="", holes="", hole_lengths="")),
     Group("settings", "settings", "What an exam sets for a run. 400 sweeps and 600 passes are usual.", dict(size="", sweeps="", passes="")),
     Group("record", "record", "A field record: where the field's grid stands and how many nodes it has. Answers have one.", dict(xmin="", ymin="", h="", nx="", ny="")),
     Group("field_lists", "field", "The lists of a field. Directions, steps and previews want just as many places as it has nodes, which is what "
           "sitjorbe_list_lengths_for answers.", dict(values="", marks="")),
     Group("mesh_lists", "mesh", "The lists of a mesh. A run writes them all, a step all but the last two.",
-          dict(xs="", ys="", next="", prev="", origins="", quads="", edges="", loops="", lengths="")),
+          dict(xs="", ys="", next="", prev="", origins="", quads="", edges="", loops="", loop_lengths="")),
     Group("mesh_counts", "counts", "How much of a mesh's lists is in use. Answers of runs and steps have them.",
           dict(node_count="nodes", nodes="nodes", quad_count="quads", edge_count="edges", front_count="front")),
     Group("scratch", "scratch", "Lists for a run's own use. Of all but the snapshot any length will do.",
@@ -39,7 +39,7 @@ BY_PARAMETER = {name: (group, member or name) for group in GROUPS for name, memb
 # How long each list of a run wants to be, of the field's nodes, the places for nodes, quads and edges, and the outline.
 LENGTHS = {
     "values": "2 * field_nodes", "marks": "field_nodes", "xs": "nodes", "ys": "nodes", "next": "nodes", "prev": "nodes", "origins": "nodes", "quads": "4 * quads",
-    "edges": "2 * edges", "loops": "nodes", "lengths": "outline->lens_len + 1", "snapshot": "nodes", "node_pool": "4 * nodes", "edge_pool": "16 * edges",
+    "edges": "2 * edges", "loops": "nodes", "loop_lengths": "outline->hole_lengths_len + 1", "snapshot": "nodes", "node_pool": "4 * nodes", "edge_pool": "16 * edges",
     "blocks": "outline->outer_len + outline->holes_len", "tried": "3 * nodes",
 }
 LISTS = ("field_lists", "mesh_lists", "scratch")

@@ -7,7 +7,7 @@ without words is an error.
 PARAMETERS = {
     "outer": "the outer loop's points, x then y",
     "holes": "the points of all holes, one hole after the other",
-    "lens": "the number of points of each hole",
+    "hole_lengths": "the number of points of each hole",
     "size": "the length wanted of a quad's side, 0.01 to 100",
     "sweeps": "the most sweeps of the field, at most 1,000",
     "passes": "the passes of the paving; more than 600 count as 600",
@@ -34,7 +34,7 @@ PARAMETERS = {
     "quads": "four node numbers a quad, in the order a, b, d, c, which runs round it",
     "edges": "two node numbers a distinct edge, the smaller first",
     "loops": "the node numbers of the listed loops, one loop after the other; a place a node",
-    "lengths": "the lengths of the listed loops; a place a loop of the outline",
+    "loop_lengths": "the lengths of the listed loops; a place a loop of the outline",
     "node_pool": "scratch of any length, which saves time: four numbers a node place are enough",
     "edge_pool": "scratch of any length, which saves time: sixteen numbers an edge place are enough",
     "tried": "scratch of any length, which saves time: three numbers a node place are enough",

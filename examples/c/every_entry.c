@@ -79,7 +79,7 @@ static void examine(const sitjorbe_pave_answer *p) {
     const sitjorbe_order_answer accepted = sitjorbe_order(p->quads, quads, 4 * QUADS, order, 4, NULL, 0, NULL, 0);
     EXPECT(accepted.refusal == 0);
     int32_t steps[2 * NODES];
-    const sitjorbe_steps_answer shown = sitjorbe_steps(xs, NODES, ys, NODES, next, NODES, prev, NODES, origins, NODES, quads, 4 * QUADS, edges, 2 * EDGES,
+    const sitjorbe_bowl_steps_answer shown = sitjorbe_bowl_steps(xs, NODES, ys, NODES, next, NODES, prev, NODES, origins, NODES, quads, 4 * QUADS, edges, 2 * EDGES,
         p->nodes, p->quads, p->edges, p->front, steps, 2 * NODES);
     EXPECT(shown.refusal == 0 && steps[16] == SITJORBE_STEPS_PER_DEGREE && steps[17] == SITJORBE_STEPS_PER_DEGREE);
 }

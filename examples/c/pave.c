@@ -30,9 +30,9 @@ static sitjorbe_outline read_outline(FILE *file) {
         if (read != 2 || o.outer_len + o.holes_len == 2 * SITJORBE_MOST_POINTS)
             stop(2, read != 2 ? "a line isn't a point: x and y are wanted with a comma between" : "there are too many points");
         if (between && ++loops > 1)
-            lens[o.lens_len++] = 0;
+            lens[o.hole_lengths_len++] = 0;
         if (loops > 1)
-            lens[o.lens_len - 1]++;
+            lens[o.hole_lengths_len - 1]++;
         double *at = loops == 1 ? outer + o.outer_len : holes + o.holes_len;
         *(loops == 1 ? &o.outer_len : &o.holes_len) += 2;
         at[0] = x, at[1] = y, between = 0;
@@ -51,7 +51,7 @@ static void print(const sitjorbe_pave_answer *a, const sitjorbe_mesh_lists *mesh
     for (const uint32_t *q = mesh->quads; q < mesh->quads + 4 * a->quads; q += 4)
         printf("q %" PRIu32 " %" PRIu32 " %" PRIu32 " %" PRIu32 "\n", q[0], q[1], q[2], q[3]);
     for (size_t k = 0; k < a->loops; k++, puts(""))
-        for (uint32_t i = (uint32_t)printf("l") - 1; i < mesh->lengths[k]; i++)
+        for (uint32_t i = (uint32_t)printf("l") - 1; i < mesh->loop_lengths[k]; i++)
             printf(" %" PRIu32, *id++);
 }
 

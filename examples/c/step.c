@@ -55,7 +55,7 @@ int main(void) {
     printf("%u nodes and %zu quads, and a front of %zu edges\n", counts.nodes, counts.quads, counts.front);
 
     int32_t *steps = calloc(counts.nodes, 2 * sizeof *steps);
-    check(sitjorbe_steps_with(&mesh, &counts, steps, 2 * (size_t)counts.nodes).refusal);
+    check(sitjorbe_bowl_steps_with(&mesh, &counts, steps, 2 * (size_t)counts.nodes).refusal);
     printf("node %u stands at %d and %d steps\n", counts.nodes - 1, steps[2 * counts.nodes - 2], steps[2 * counts.nodes - 1]);
     free(steps);
     free(memory);

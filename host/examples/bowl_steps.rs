@@ -6,7 +6,7 @@
 use std::error::Error;
 use std::fmt::Write;
 
-use sitjorbe::{Outline, Paver, Steps, STEPS_PER_DEGREE};
+use sitjorbe::{BowlSteps, Outline, Paver, STEPS_PER_DEGREE};
 
 /// A field of less than a degree round the fovea, x and y in degrees.
 const OUTER: [[f64; 2]; 12] = [
@@ -45,7 +45,7 @@ fn path(nodes: &[[f64; 2]], quads: &[[u32; 4]]) -> String {
 }
 
 /// The longest way from a node to its step, along x or y, in degrees.
-fn longest_way(nodes: &[[f64; 2]], steps: &Steps) -> f64 {
+fn longest_way(nodes: &[[f64; 2]], steps: &BowlSteps) -> f64 {
     let ways =
         nodes.iter().zip(steps.degrees()).flat_map(|(node, step)| [0, 1].map(|axis| (node[axis] - step[axis]).abs()));
     ways.fold(0.0, f64::max)

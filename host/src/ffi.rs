@@ -8,7 +8,7 @@
 use core::mem::{offset_of, size_of};
 
 /// The number of the shape that these declarations have: the library links only if its number is the same.
-pub const ABI: u32 = 2;
+pub const ABI: u32 = 3;
 
 /// The answer of `sitjorbe_contains`. `refusal` is the refusal's number, 0 where nothing is refused. The values of a
 /// refused query are false, 0.0 or 0.
@@ -250,12 +250,12 @@ pub struct OrderAnswer {
     pub place: usize,
 }
 
-/// The answer of `sitjorbe_steps`. `refusal` is 23 or 25, 0 where nothing is refused; `quad` is the lowest quad that
-/// the bowl can't show, where 25 says so.
+/// The answer of `sitjorbe_bowl_steps`. `refusal` is 23 or 25, 0 where nothing is refused; `quad` is the lowest quad
+/// that the bowl can't show, where 25 says so.
 #[repr(C)]
 #[derive(Clone, Copy, Debug, PartialEq)]
 #[must_use = "an answer may be a refusal"]
-pub struct StepsAnswer {
+pub struct BowlStepsAnswer {
     /// The refusal's number, 0 where nothing is refused.
     pub refusal: u32,
     /// The lowest quad that the bowl can't show, on refusal 25.
@@ -362,9 +362,9 @@ const _: () = {
     assert!(offset_of!(OrderAnswer, refusal) == 0);
     assert!(offset_of!(OrderAnswer, place) == 8);
     assert!(size_of::<OrderAnswer>() == 16);
-    assert!(offset_of!(StepsAnswer, refusal) == 0);
-    assert!(offset_of!(StepsAnswer, quad) == 8);
-    assert!(size_of::<StepsAnswer>() == 16);
+    assert!(offset_of!(BowlStepsAnswer, refusal) == 0);
+    assert!(offset_of!(BowlStepsAnswer, quad) == 8);
+    assert!(size_of::<BowlStepsAnswer>() == 16);
     assert!(offset_of!(SmallQuadsAnswer, refusal) == 0);
     assert!(offset_of!(SmallQuadsAnswer, count) == 8);
     assert!(size_of::<SmallQuadsAnswer>() == 16);
@@ -374,17 +374,17 @@ const _: () = {
 #[must_use]
 pub fn abi() -> u32 {
     // SAFETY: it takes nothing, and answers a number.
-    unsafe { sitjorbe_abi_2() }
+    unsafe { sitjorbe_abi_3() }
 }
 
 /// Keeps the name of the shape's entry in every program, also in one that calls entries without the wrappers.
 #[used]
-static SHAPE: unsafe extern "C" fn() -> u32 = sitjorbe_abi_2;
+static SHAPE: unsafe extern "C" fn() -> u32 = sitjorbe_abi_3;
 
 #[link(name = "sitjorbe", kind = "static")]
 extern "C" {
     /// The number of the library's shape, which its name has too.
-    pub fn sitjorbe_abi_2() -> u32;
+    pub fn sitjorbe_abi_3() -> u32;
 
     /// Whether the point is inside the outer loop and outside every hole.
     pub fn sitjorbe_contains(
@@ -392,8 +392,8 @@ extern "C" {
         outer_len: usize,
         holes: *const f64,
         holes_len: usize,
-        lens: *const usize,
-        lens_len: usize,
+        hole_lengths: *const usize,
+        hole_lengths_len: usize,
         x: f64,
         y: f64,
     ) -> ContainsAnswer;
@@ -405,8 +405,8 @@ extern "C" {
         outer_len: usize,
         holes: *const f64,
         holes_len: usize,
-        lens: *const usize,
-        lens_len: usize,
+        hole_lengths: *const usize,
+        hole_lengths_len: usize,
         x: f64,
         y: f64,
     ) -> NearestAnswer;
@@ -417,8 +417,8 @@ extern "C" {
         outer_len: usize,
         holes: *const f64,
         holes_len: usize,
-        lens: *const usize,
-        lens_len: usize,
+        hole_lengths: *const usize,
+        hole_lengths_len: usize,
         x: f64,
         y: f64,
     ) -> DistanceAnswer;
@@ -429,8 +429,8 @@ extern "C" {
         outer_len: usize,
         holes: *const f64,
         holes_len: usize,
-        lens: *const usize,
-        lens_len: usize,
+        hole_lengths: *const usize,
+        hole_lengths_len: usize,
     ) -> SoundAnswer;
 
     /// Of the field's four directions at each point the one nearest to its target, which may be any two floats: three
@@ -462,8 +462,8 @@ extern "C" {
         outer_len: usize,
         holes: *const f64,
         holes_len: usize,
-        lens: *const usize,
-        lens_len: usize,
+        hole_lengths: *const usize,
+        hole_lengths_len: usize,
         size: f64,
         sweeps: usize,
         values: *mut f64,
@@ -498,8 +498,8 @@ extern "C" {
         outer_len: usize,
         holes: *const f64,
         holes_len: usize,
-        lens: *const usize,
-        lens_len: usize,
+        hole_lengths: *const usize,
+        hole_lengths_len: usize,
         size: f64,
     ) -> PlacesAnswer;
 
@@ -512,8 +512,8 @@ extern "C" {
         outer_len: usize,
         holes: *const f64,
         holes_len: usize,
-        lens: *const usize,
-        lens_len: usize,
+        hole_lengths: *const usize,
+        hole_lengths_len: usize,
         size: f64,
         sweeps: usize,
         passes: usize,
@@ -539,8 +539,8 @@ extern "C" {
         edges_len: usize,
         loops: *mut u32,
         loops_len: usize,
-        lengths: *mut u32,
-        lengths_len: usize,
+        loop_lengths: *mut u32,
+        loop_lengths_len: usize,
         node_pool: *mut u32,
         node_pool_len: usize,
         edge_pool: *mut u32,
@@ -558,8 +558,8 @@ extern "C" {
         outer_len: usize,
         holes: *const f64,
         holes_len: usize,
-        lens: *const usize,
-        lens_len: usize,
+        hole_lengths: *const usize,
+        hole_lengths_len: usize,
         size: f64,
         xmin: f64,
         ymin: f64,
@@ -599,8 +599,8 @@ extern "C" {
         outer_len: usize,
         holes: *const f64,
         holes_len: usize,
-        lens: *const usize,
-        lens_len: usize,
+        hole_lengths: *const usize,
+        hole_lengths_len: usize,
         size: f64,
         xmin: f64,
         ymin: f64,
@@ -713,7 +713,7 @@ extern "C" {
 
     /// The nodes of a lent mesh in whole steps of 1/64 degree, each coordinate at the nearest step, halves at the even
     /// one. The mesh is only read, and the buffer is written once nothing is refused.
-    pub fn sitjorbe_steps(
+    pub fn sitjorbe_bowl_steps(
         xs: *const f64,
         xs_len: usize,
         ys: *const f64,
@@ -734,7 +734,7 @@ extern "C" {
         front_count: usize,
         steps: *mut i32,
         steps_len: usize,
-    ) -> StepsAnswer;
+    ) -> BowlStepsAnswer;
 
     /// Every small quad, on the first places of the lent list: four numbers a four, in dictionary order.
     pub fn sitjorbe_small_quads(fours: *mut u32, fours_len: usize) -> SmallQuadsAnswer;

@@ -34,7 +34,7 @@ pub struct Mesh<'a> {
     pub(crate) edges: &'a [u32],
     pub(crate) front: usize,
     pub(crate) loops: &'a [u32],
-    pub(crate) lengths: &'a [u32],
+    pub(crate) loop_lengths: &'a [u32],
     pub(crate) filed: [usize; 2],
 }
 
@@ -109,7 +109,7 @@ impl<'a> Mesh<'a> {
     /// The number of listed loops.
     #[must_use]
     pub fn loop_count(&self) -> usize {
-        self.lengths.len()
+        self.loop_lengths.len()
     }
 
     /// Each node's coordinates, by id.
@@ -170,7 +170,7 @@ impl<'a> Mesh<'a> {
     pub fn front_loops(&self) -> impl ExactSizeIterator<Item = &'a [u32]> + Clone + 'a {
         let ids = self.loops;
         let mut start = 0;
-        self.lengths.iter().map(move |&length| {
+        self.loop_lengths.iter().map(move |&length| {
             let from = start;
             start += length as usize;
             &ids[from..start]

@@ -88,4 +88,4 @@ pub use refusal::Refusal;
 pub use roles::{Desk, MaskedReader, Reader};
 pub use small_quads::small_quads;
 pub use stepper::Stepper;
-pub use steps::{NotShown, Steps, STEPS_PER_DEGREE};
+pub use steps::{BowlSteps, NotShown, STEPS_PER_DEGREE};

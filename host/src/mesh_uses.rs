@@ -3,7 +3,7 @@
 use alloc::vec::Vec;
 
 use crate::raw;
-use crate::{Exam, Mesh, NotAccepted, NotShown, Stepper, Steps};
+use crate::{BowlSteps, Exam, Mesh, NotAccepted, NotShown, Stepper};
 
 impl Mesh {
     /// Begins an exam on the mesh: no threshold stands yet. [`Exam`] has an example.
@@ -71,8 +71,8 @@ impl Mesh {
     /// # Errors
     ///
     /// [`NotShown::Quad`] with the lowest quad that doesn't turn left at all four corners in steps, as happens to quads narrower than one.
-    pub fn bowl_steps(&self) -> Result<Steps, NotShown> {
-        Steps::of(&self.net.read(), self.net.counts)
+    pub fn bowl_steps(&self) -> Result<BowlSteps, NotShown> {
+        BowlSteps::of(&self.net.read(), self.net.counts)
     }
 
     /// A front that is stepped by hand, which begins with this mesh.

@@ -41,7 +41,7 @@ pub struct Lists<'a> {
     /// The ids of the listed loops, one loop after the other; a place a node.
     pub loops: &'a mut [u32],
     /// The lengths of the listed loops; a place a loop of the outline.
-    pub lengths: &'a mut [u32],
+    pub loop_lengths: &'a mut [u32],
     /// For the run's own use: it files nodes there, so as not to search them all. Those that find no place are searched one by one: with few places
     /// or none it takes longer, and answers the same.
     pub node_pool: &'a mut [u32],
@@ -96,7 +96,7 @@ pub fn pave<'a>(outline: &Outline<'_>, settings: &Settings, mut lists: Lists<'a>
         edges: &lists.edges[..2 * answer.edges],
         front,
         loops: &lists.loops[..answer.ids],
-        lengths: &lists.lengths[..answer.loops],
+        loop_lengths: &lists.loop_lengths[..answer.loops],
         filed: [filed(lists.node_pool), filed(lists.edge_pool)],
     })
 }
@@ -159,8 +159,8 @@ pub fn pave_numbers(outline: &Outline<'_>, settings: &Settings, lists: &mut List
             lists.edges.len(),
             lists.loops.as_mut_ptr(),
             lists.loops.len(),
-            lists.lengths.as_mut_ptr(),
-            lists.lengths.len(),
+            lists.loop_lengths.as_mut_ptr(),
+            lists.loop_lengths.len(),
             lists.node_pool.as_mut_ptr(),
             lists.node_pool.len(),
             lists.edge_pool.as_mut_ptr(),

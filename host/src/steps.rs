@@ -54,12 +54,12 @@ impl error::Error for NotShown {}
 /// A mesh's nodes in steps of the bowl. Each coordinate goes to the nearest step, halves to the even one: none moves by more than 1/128 of
 /// a degree. Quads and front stay as they are.
 #[derive(Clone, Debug, PartialEq, Eq)]
-pub struct Steps {
+pub struct BowlSteps {
     /// Two places a node.
     places: Vec<i32>,
 }
 
-impl Steps {
+impl BowlSteps {
     /// The steps of a mesh as it is lent.
     ///
     /// ```
@@ -74,11 +74,11 @@ impl Steps {
     /// # Errors
     ///
     /// [`NotShown::UnsoundMesh`], then [`NotShown::Quad`] with the lowest such quad.
-    pub fn of(mesh: &MeshRead<'_>, counts: MeshCounts) -> Result<Steps, NotShown> {
+    pub fn of(mesh: &MeshRead<'_>, counts: MeshCounts) -> Result<BowlSteps, NotShown> {
         // More nodes than coordinates are refused, however many are counted.
         let nodes = (counts.nodes as usize).min(mesh.xs.len());
         let mut places = vec![0; 2 * nodes];
-        steps(mesh, counts, &mut places).map(|()| Steps { places })
+        steps(mesh, counts, &mut places).map(|()| BowlSteps { places })
     }
 
     /// Each node's steps from the origin, by id.
@@ -106,10 +106,10 @@ impl Mesh<'_> {
     /// # Errors
     ///
     /// [`NotShown::Quad`] with the lowest quad that can't be shown.
-    pub fn steps(&self) -> Result<Steps, NotShown> {
+    pub fn steps(&self) -> Result<BowlSteps, NotShown> {
         let ((xs, ys), (next, prev)) = (self.coordinates(), self.links());
         let (quads, edges, origins) = (self.quad_ids(), self.edge_ids(), self.origins());
-        Steps::of(&MeshRead { xs, ys, next, prev, origins, quads, edges }, self.counts())
+        BowlSteps::of(&MeshRead { xs, ys, next, prev, origins, quads, edges }, self.counts())
     }
 }
 
@@ -121,7 +121,7 @@ impl Mesh<'_> {
 /// [`NotShown::UnsoundMesh`], also for fewer than two places a node; then [`NotShown::Quad`] with the lowest such quad. Nothing is written
 /// then.
 pub fn steps(mesh: &MeshRead<'_>, counts: MeshCounts, places: &mut [i32]) -> Result<(), NotShown> {
-    let ffi::StepsAnswer { refusal, quad } = steps_numbers(mesh, counts, places);
+    let ffi::BowlStepsAnswer { refusal, quad } = steps_numbers(mesh, counts, places);
     match Refusal::check(refusal) {
         Ok(()) => Ok(()),
         Err(Refusal::UnsoundMesh) => Err(NotShown::UnsoundMesh),
@@ -131,12 +131,12 @@ pub fn steps(mesh: &MeshRead<'_>, counts: MeshCounts, places: &mut [i32]) -> Res
 }
 
 /// As [`steps`], with the numbers as they cross.
-pub fn steps_numbers(mesh: &MeshRead<'_>, counts: MeshCounts, places: &mut [i32]) -> ffi::StepsAnswer {
+pub fn steps_numbers(mesh: &MeshRead<'_>, counts: MeshCounts, places: &mut [i32]) -> ffi::BowlStepsAnswer {
     floats::check();
     // SAFETY: each pointer comes with the length of its slice, and the slices live until the call returns; the one that may be
     // written is borrowed for that. The entry is proved to read and write nothing else.
     unsafe {
-        ffi::sitjorbe_steps(
+        ffi::sitjorbe_bowl_steps(
             mesh.xs.as_ptr(),
             mesh.xs.len(),
             mesh.ys.as_ptr(),

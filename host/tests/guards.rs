@@ -178,7 +178,7 @@ fn the_guards_of_a_run_show_a_write() {
     let nothing = RunPlaces::new(lengths);
     assert_eq!(nothing.written_past([0; LISTS.len()]), [""; 0]);
     let mut places = RunPlaces::new(lengths);
-    let Lists { values, marks, origins, lengths: last, blocks, tried, .. } = places.lists();
+    let Lists { values, marks, origins, loop_lengths: last, blocks, tried, .. } = places.lists();
     (values[7], marks[0], origins[19], last[4], blocks[15], tried[59]) = (1.0, 1, 1, 1, 1, 1);
     assert_eq!(places.written_past([0; LISTS.len()]), ["values", "marks", "origins", "lengths", "blocks", "tried"]);
     assert_eq!(places.written_past([8, 0, 0, 0, 0, 0, 0, 20, 0, 0, 0, 4, 0, 0, 16, 60]), ["marks", "lengths"]);

@@ -8,7 +8,7 @@ use common::rng::Rng;
 use common::steps::{answer, is_sound, nearest_step};
 use common::{filled, Drawing, Guarded};
 use sitjorbe::raw::{steps, steps_numbers, Mesh, MeshCounts, MeshRead, Settings};
-use sitjorbe::{Memory, NotShown, Places, Refusal, Steps, OFF, STEPS_PER_DEGREE};
+use sitjorbe::{BowlSteps, Memory, NotShown, Places, Refusal, OFF, STEPS_PER_DEGREE};
 
 /// A mesh that owns its lists.
 #[derive(Clone, Debug)]
@@ -122,7 +122,7 @@ fn every_coordinate_goes_to_its_nearest_step() {
     let nodes: Vec<[f64; 2]> = floats.chunks_exact(2).map(|pair| [pair[0], pair[1]]).collect();
     let lists = Lists::new(&nodes, &[]);
     assert_eq!(lists.compare(2 * nodes.len()), (0, 0));
-    let found = Steps::of(&lists.read(), lists.counts).unwrap();
+    let found = BowlSteps::of(&lists.read(), lists.counts).unwrap();
     let mut halves = 0;
     for (node, (count, degrees)) in nodes.iter().zip(found.counts().zip(found.degrees())) {
         for axis in 0..2 {
@@ -219,7 +219,7 @@ fn the_wrapper_says_which_quad() {
     assert_eq!((short, short.refusal(), short.refusal().number()), (NotShown::UnsoundMesh, Refusal::UnsoundMesh, 23));
     // More nodes than there are coordinates are refused, and no memory is asked for that many.
     let counts = MeshCounts { nodes: u32::MAX, ..lists.counts };
-    assert_eq!(Steps::of(&lists.read(), counts), Err(NotShown::UnsoundMesh));
+    assert_eq!(BowlSteps::of(&lists.read(), counts), Err(NotShown::UnsoundMesh));
 }
 
 // ---- runs

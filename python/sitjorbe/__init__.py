@@ -114,7 +114,7 @@ class Outline:
     def __init__(self, points, holes=()):
         loops = [_floats(loop) for loop in holes]
         self._lists = {"outer": _floats(points), "holes": (ctypes.c_double * sum(map(len, loops)))(*(number for loop in loops for number in loop)),
-                       "lens": _numbers(ctypes.c_size_t, [len(loop) // 2 for loop in loops])}
+                       "hole_lengths": _numbers(ctypes.c_size_t, [len(loop) // 2 for loop in loops])}
 
     @property
     def is_sound(self):
@@ -177,7 +177,7 @@ class Mesh:
         self.quads, self.edges = _given(lists["quads"], answer.quads, 4), _given(lists["edges"], answer.edges, 2)
         self.origins = _given(lists["origins"], answer.nodes)
         self.loops, start = [], 0
-        for length in lists["lengths"][:answer.loops]:
+        for length in lists["loop_lengths"][:answer.loops]:
             self.loops.append(lists["loops"][start:start + length])
             start += length
         self.whole, self.end, self.front = answer.whole, _entries.ENDS[answer.end], answer.front
@@ -225,7 +225,7 @@ class Mesh:
         """The nodes in whole steps of the motor bowl, 1/64 degree each, shape (n, 2). Raises Refused with 25 where a quad can't be shown."""
         answer, lists = self._answer, self._lists
         steps = (ctypes.c_int32 * (2 * answer.nodes))()
-        _asked("sitjorbe_steps", node_count=answer.nodes, quad_count=answer.quads, edge_count=answer.edges, front_count=answer.front, steps=steps, **lists)
+        _asked("sitjorbe_bowl_steps", node_count=answer.nodes, quad_count=answer.quads, edge_count=answer.edges, front_count=answer.front, steps=steps, **lists)
         return _given(steps, answer.nodes, 2)
 
 
@@ -238,7 +238,7 @@ def _lists_for(outline, size, growth):
         "values": (ctypes.c_double * (2 * least.field_nodes))(), "marks": (ctypes.c_uint8 * least.field_nodes)(),
         "xs": (ctypes.c_double * nodes)(), "ys": (ctypes.c_double * nodes)(), "origins": (ctypes.c_uint16 * nodes)(),
         "quads": (ctypes.c_uint32 * (4 * quads))(), "edges": (ctypes.c_uint32 * (2 * edges))(),
-        "lengths": (ctypes.c_uint32 * (len(given["lens"]) + 1))(), "node_pool": (ctypes.c_uint32 * (4 * nodes))(),
+        "loop_lengths": (ctypes.c_uint32 * (len(given["hole_lengths"]) + 1))(), "node_pool": (ctypes.c_uint32 * (4 * nodes))(),
         "edge_pool": (ctypes.c_uint32 * (16 * edges))(), "blocks": (ctypes.c_uint32 * (len(given["outer"]) + len(given["holes"])))(),
         "tried": (ctypes.c_uint32 * (3 * nodes))(), **{name: (ctypes.c_uint32 * nodes)() for name in ("next", "prev", "snapshot", "loops")},
     }

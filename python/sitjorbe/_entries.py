@@ -3,7 +3,7 @@
 from ctypes import POINTER, Structure, c_bool, c_double, c_int32, c_size_t, c_uint8, c_uint16, c_uint32  # noqa: F401
 
 VERSION = "0.3.0"
-ABI = 2
+ABI = 3
 
 # ---- numbers
 
@@ -230,8 +230,8 @@ class OrderAnswer(Structure):
     ]
 
 
-class StepsAnswer(Structure):
-    """The answer of `sitjorbe_steps`. `refusal` is 23 or 25, 0 where nothing is refused; `quad` is the lowest quad that the bowl can't show, where 25 says so."""
+class BowlStepsAnswer(Structure):
+    """The answer of `sitjorbe_bowl_steps`. `refusal` is 23 or 25, 0 where nothing is refused; `quad` is the lowest quad that the bowl can't show, where 25 says so."""
 
     _fields_ = [
         ("refusal", c_uint32),  # the refusal's number, 0 where nothing is refused
@@ -251,15 +251,15 @@ class SmallQuadsAnswer(Structure):
 # ---- entries
 
 ENTRIES = {
-    "sitjorbe_abi_2": (c_uint32, [
+    "sitjorbe_abi_3": (c_uint32, [
     ]),
     "sitjorbe_contains": (ContainsAnswer, [
         ("outer", POINTER(c_double)),
         ("outer_len", c_size_t),
         ("holes", POINTER(c_double)),
         ("holes_len", c_size_t),
-        ("lens", POINTER(c_size_t)),
-        ("lens_len", c_size_t),
+        ("hole_lengths", POINTER(c_size_t)),
+        ("hole_lengths_len", c_size_t),
         ("x", c_double),
         ("y", c_double),
     ]),
@@ -268,8 +268,8 @@ ENTRIES = {
         ("outer_len", c_size_t),
         ("holes", POINTER(c_double)),
         ("holes_len", c_size_t),
-        ("lens", POINTER(c_size_t)),
-        ("lens_len", c_size_t),
+        ("hole_lengths", POINTER(c_size_t)),
+        ("hole_lengths_len", c_size_t),
         ("x", c_double),
         ("y", c_double),
     ]),
@@ -278,8 +278,8 @@ ENTRIES = {
         ("outer_len", c_size_t),
         ("holes", POINTER(c_double)),
         ("holes_len", c_size_t),
-        ("lens", POINTER(c_size_t)),
-        ("lens_len", c_size_t),
+        ("hole_lengths", POINTER(c_size_t)),
+        ("hole_lengths_len", c_size_t),
         ("x", c_double),
         ("y", c_double),
     ]),
@@ -288,8 +288,8 @@ ENTRIES = {
         ("outer_len", c_size_t),
         ("holes", POINTER(c_double)),
         ("holes_len", c_size_t),
-        ("lens", POINTER(c_size_t)),
-        ("lens_len", c_size_t),
+        ("hole_lengths", POINTER(c_size_t)),
+        ("hole_lengths_len", c_size_t),
     ]),
     "sitjorbe_directions": (c_uint32, [
         ("xmin", c_double),
@@ -313,8 +313,8 @@ ENTRIES = {
         ("outer_len", c_size_t),
         ("holes", POINTER(c_double)),
         ("holes_len", c_size_t),
-        ("lens", POINTER(c_size_t)),
-        ("lens_len", c_size_t),
+        ("hole_lengths", POINTER(c_size_t)),
+        ("hole_lengths_len", c_size_t),
         ("size", c_double),
         ("sweeps", c_size_t),
         ("values", POINTER(c_double)),
@@ -344,8 +344,8 @@ ENTRIES = {
         ("outer_len", c_size_t),
         ("holes", POINTER(c_double)),
         ("holes_len", c_size_t),
-        ("lens", POINTER(c_size_t)),
-        ("lens_len", c_size_t),
+        ("hole_lengths", POINTER(c_size_t)),
+        ("hole_lengths_len", c_size_t),
         ("size", c_double),
     ]),
     "sitjorbe_pave": (PaveAnswer, [
@@ -353,8 +353,8 @@ ENTRIES = {
         ("outer_len", c_size_t),
         ("holes", POINTER(c_double)),
         ("holes_len", c_size_t),
-        ("lens", POINTER(c_size_t)),
-        ("lens_len", c_size_t),
+        ("hole_lengths", POINTER(c_size_t)),
+        ("hole_lengths_len", c_size_t),
         ("size", c_double),
         ("sweeps", c_size_t),
         ("passes", c_size_t),
@@ -380,8 +380,8 @@ ENTRIES = {
         ("edges_len", c_size_t),
         ("loops", POINTER(c_uint32)),
         ("loops_len", c_size_t),
-        ("lengths", POINTER(c_uint32)),
-        ("lengths_len", c_size_t),
+        ("loop_lengths", POINTER(c_uint32)),
+        ("loop_lengths_len", c_size_t),
         ("node_pool", POINTER(c_uint32)),
         ("node_pool_len", c_size_t),
         ("edge_pool", POINTER(c_uint32)),
@@ -396,8 +396,8 @@ ENTRIES = {
         ("outer_len", c_size_t),
         ("holes", POINTER(c_double)),
         ("holes_len", c_size_t),
-        ("lens", POINTER(c_size_t)),
-        ("lens_len", c_size_t),
+        ("hole_lengths", POINTER(c_size_t)),
+        ("hole_lengths_len", c_size_t),
         ("size", c_double),
         ("xmin", c_double),
         ("ymin", c_double),
@@ -434,8 +434,8 @@ ENTRIES = {
         ("outer_len", c_size_t),
         ("holes", POINTER(c_double)),
         ("holes_len", c_size_t),
-        ("lens", POINTER(c_size_t)),
-        ("lens_len", c_size_t),
+        ("hole_lengths", POINTER(c_size_t)),
+        ("hole_lengths_len", c_size_t),
         ("size", c_double),
         ("xmin", c_double),
         ("ymin", c_double),
@@ -535,7 +535,7 @@ ENTRIES = {
         ("pool", POINTER(c_uint32)),
         ("pool_len", c_size_t),
     ]),
-    "sitjorbe_steps": (StepsAnswer, [
+    "sitjorbe_bowl_steps": (BowlStepsAnswer, [
         ("xs", POINTER(c_double)),
         ("xs_len", c_size_t),
         ("ys", POINTER(c_double)),

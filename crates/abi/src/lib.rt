@@ -4,12 +4,12 @@
 
 ghost use Rattle.std.specs.Prelude.{◌≡◌};
 
-const ABI: u32 = 2;
+const ABI: u32 = 3;
 
 // The number of the library's shape, which its name has too.
 #[unsafe(no_mangle)]
-pub extern "C" fn sitjorbe_abi_2() -> u32
-    ensures { result ≡ 2 }
+pub extern "C" fn sitjorbe_abi_3() -> u32
+    ensures { result ≡ 3 }
 {
     ABI
 }

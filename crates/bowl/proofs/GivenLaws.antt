@@ -20,7 +20,7 @@ use Rattle.hand_mesh_check.specs.Check.{lent_state, farthest_node, coordinate_un
 use Rattle.hand_mesh_check.specs.Passed.{MeshPasses, mesh_passes, MeshRoom, room}
 use Rattle.bowl_nearest_step.specs.Step.{nearest_step}
 use Rattle.bowl_nearest_step.proofs.StepLaws.{step_near}
-use Rattle.bowl.specs.declared.StepsAnswer.{StepsAnswer}
+use Rattle.bowl.specs.declared.BowlStepsAnswer.{BowlStepsAnswer}
 use Rattle.bowl.specs.Steps.{mesh_unstepped, lowest_hidden, steps_answer, stored_steps, steps_left}
 use Rattle.bowl.specs.Stepped.{NodesWithin, QuadsWithin, NearStep, MeshStepped}
 use Rattle.bowl.proofs.StepsLaws.{stored_x, stored_y, stored_steps_past}
@@ -99,12 +99,12 @@ given_passes s places = by (eqb (mesh_refusal s) 0) refl (leb (2 * s.counts.node
 near_of_lem : (x : Float) (z : ℤ) → z ≡ nearest_step x → NearStep x z
 near_of_lem x z e = rw e (step_near x)
 
-module _ (s : State) (lent : List ℤ) (r : StepsAnswer) (answer : r ≡ steps_answer s (length lent)) where
+module _ (s : State) (lent : List ℤ) (r : BowlStepsAnswer) (answer : r ≡ steps_answer s (length lent)) where
   pub mesh_stored : r.refusal ≡ 0 → (left : List ℤ) → left ≡ stored_steps s.xs s.ys s.counts.nodes lent → MeshStepped s lent r left
   unfolding steps_left
   mesh_stored none left e =
       let n = s.counts.nodes in
-      let enough = (given_passes s (length lent) (ap (λ (a : StepsAnswer). a.refusal) (sym answer) ∙ none)).1 in
+      let enough = (given_passes s (length lent) (ap (λ (a : BowlStepsAnswer). a.refusal) (sym answer) ∙ none)).1 in
       record {
         answer = answer;
         steps = e ∙ rw (eq-eqb r.refusal 0 none) refl;

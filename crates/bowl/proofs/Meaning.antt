@@ -5,14 +5,14 @@ use Rattle.std.proofs.lemmas.Bool.{eqb-false}
 use Rattle.laws.specs.Loop.{go, out, Kept, run_keeps_at}
 use Rattle.front.specs.State.{State}
 use Rattle.hand_mesh_check.specs.Check.{mesh_refusal}
-use Rattle.bowl.specs.declared.StepsAnswer.{StepsAnswer}
+use Rattle.bowl.specs.declared.BowlStepsAnswer.{BowlStepsAnswer}
 use Rattle.bowl.specs.Steps.{steps_given, mesh_unstepped, hidden_at, hidden_turn, lowest_hidden, steps_answer}
 use Rattle.bowl.specs.Meaning.{shown_in, Steppable, StepsMean, is_given, is_unsound, is_hidden}
 
 -- ---- the search
 
 -- of the first n quads
-data StepsSearched (s : State) (n : ℕ) (r : StepsAnswer) : Type 0 where
+data StepsSearched (s : State) (n : ℕ) (r : BowlStepsAnswer) : Type 0 where
   all_shown : r ≡ steps_given → ((k : ℕ) → k < n → shown_in s k ≡ true) → StepsSearched s n r
   found : (k : ℕ) → r ≡ hidden_at k → k < n → shown_in s k ≡ false → ((j : ℕ) → j < k → shown_in s j ≡ true) → StepsSearched s n r
 
@@ -36,7 +36,7 @@ pub steps_mean : (s : State) (places : ℕ) → StepsMean s places (steps_answer
 unfolding steps_answer
 steps_mean s places = by (eqb (mesh_refusal s) 0) refl (leb (2 * s.counts.nodes) places) refl
   where
-    last : Steppable s places → {r : StepsAnswer} → StepsSearched s s.counts.quads r → StepsMean s places r
+    last : Steppable s places → {r : BowlStepsAnswer} → StepsSearched s s.counts.quads r → StepsMean s places r
     last S (all_shown e all) = is_given e S all
     last S (found k e h hid below) = is_hidden k e S h hid below
 

@@ -3,7 +3,7 @@ use Rattle.std.specs.Prelude.{Bool, true, false, ◌≡◌, ℕ, ◌*◌, ◌<�
 use Rattle.front.specs.State.{State}
 use Rattle.front_lent_mesh.specs.Mesh.{quad_in}
 use Rattle.hand_mesh_check.specs.Check.{mesh_refusal}
-use Rattle.bowl.specs.declared.StepsAnswer.{StepsAnswer}
+use Rattle.bowl.specs.declared.BowlStepsAnswer.{BowlStepsAnswer}
 use Rattle.bowl.specs.Steps.{is_shown, steps_given, mesh_unstepped, hidden_at}
 
 -- the quads of a mesh that the bowl can show
@@ -15,7 +15,7 @@ pub record Steppable (s : State) (places : ℕ) : Type 0 where
   pub sound : mesh_refusal s ≡ 0
   pub room : 2 * s.counts.nodes ≤ places
 
-pub data StepsMean (s : State) (places : ℕ) (r : StepsAnswer) : Type 0 where
+pub data StepsMean (s : State) (places : ℕ) (r : BowlStepsAnswer) : Type 0 where
   is_given : r ≡ steps_given → Steppable s places → ((k : ℕ) → k < s.counts.quads → shown_in s k ≡ true) → StepsMean s places r
   is_unsound : r ≡ mesh_unstepped → (Steppable s places → ⊥) → StepsMean s places r
   is_hidden : (k : ℕ) → r ≡ hidden_at k → Steppable s places → k < s.counts.quads → shown_in s k ≡ false

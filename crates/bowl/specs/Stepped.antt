@@ -1,11 +1,11 @@
--- What the code of the bowl asks and gives, place by place; and what a host gets of `sitjorbe_steps` (`MeshStepped`). Statements only.
+-- What the code of the bowl asks and gives, place by place; and what a host gets of `sitjorbe_bowl_steps` (`MeshStepped`). Statements only.
 use Rattle.std.specs.Prelude.{List, ◌≡◌, ℕ, ◌+◌, ◌*◌, ◌<◌, ◌≤◌, ℤ, pos, nat_abs, ◌-ℤ◌, ◌*ℤ◌, length, get_or, drop, Float}
 use Rattle.std.specs.Float.{nan}
 use Rattle.exact.specs.Units.{W, units, Within}
 use Rattle.exact.specs.Corner.{Vector}
 use Rattle.front.specs.State.{State}
 use Rattle.front_lent_mesh.specs.declared.QuadIds.{QuadIds}
-use Rattle.bowl.specs.declared.StepsAnswer.{StepsAnswer}
+use Rattle.bowl.specs.declared.BowlStepsAnswer.{BowlStepsAnswer}
 use Rattle.bowl.specs.declared.Steps.{Steps}
 use Rattle.bowl.specs.Steps.{steps_answer, steps_left}
 
@@ -57,7 +57,7 @@ abbrev pub NearStep : Float → ℤ → Type 0
 NearStep x step = (nat_abs (pos 128 *ℤ units x -ℤ pos (2 * W) *ℤ step) ≤ W)
 
 -- the mesh s and a step buffer were lent, r is answered and the buffer left
-pub record MeshStepped (s : State) (lent : List ℤ) (r : StepsAnswer) (left : List ℤ) : Type 0 where
+pub record MeshStepped (s : State) (lent : List ℤ) (r : BowlStepsAnswer) (left : List ℤ) : Type 0 where
   pub answer : r ≡ steps_answer s (length lent)
   pub steps : left ≡ steps_left s r lent
   -- no node moves by more than 1/128 in either coordinate

@@ -10,7 +10,7 @@ use Rattle.front_lent_mesh.specs.declared.QuadIds.{QuadIds}
 use Rattle.front_lent_mesh.specs.Mesh.{quad_in}
 use Rattle.hand_mesh_check.specs.Check.{mesh_refusal}
 use Rattle.bowl_nearest_step.specs.Step.{nearest_step}
-use Rattle.bowl.specs.declared.StepsAnswer.{StepsAnswer}
+use Rattle.bowl.specs.declared.BowlStepsAnswer.{BowlStepsAnswer}
 
 -- ---- which quads can be shown
 
@@ -33,30 +33,30 @@ is_shown xs ys q =
 
 -- ---- the answer
 
-abbrev pub steps_given : StepsAnswer
+abbrev pub steps_given : BowlStepsAnswer
 steps_given = record { refusal = 0; quad = 0 }
 
-abbrev pub mesh_unstepped : StepsAnswer
+abbrev pub mesh_unstepped : BowlStepsAnswer
 mesh_unstepped = record { refusal = 23; quad = 0 }
 
-abbrev pub hidden_at : ℕ → StepsAnswer
+abbrev pub hidden_at : ℕ → BowlStepsAnswer
 hidden_at k = record { refusal = 25; quad = k }
 
 -- the search is out at a quad that can't be shown
-abbrev pub hidden_turn : List Float → List Float → List ℕ → ℕ → Unit {0} → Turn (Unit {0}) StepsAnswer
+abbrev pub hidden_turn : List Float → List Float → List ℕ → ℕ → Unit {0} → Turn (Unit {0}) BowlStepsAnswer
 hidden_turn xs ys quads k s = cond (is_shown xs ys (quad_in quads k)) (go s) (out (hidden_at k))
 
 -- 25 with the lowest of n quads that can't be shown
-unfoldable pub lowest_hidden : List Float → List Float → List ℕ → ℕ → StepsAnswer
+unfoldable pub lowest_hidden : List Float → List Float → List ℕ → ℕ → BowlStepsAnswer
 lowest_hidden xs ys quads n = run n (hidden_turn xs ys quads) (λ s. steps_given) tt
 
 -- of the lowest quad, if there is one, as the code finds it
-abbrev pub hidden_answer : Option ℕ → StepsAnswer
+abbrev pub hidden_answer : Option ℕ → BowlStepsAnswer
 hidden_answer None = steps_given
 hidden_answer (Some k) = hidden_at k
 
 -- THE ANSWER, of a mesh as lent and of the places of the step buffer: 23 of the mesh, 23 where a node hasn't two places, then 25
-unfoldable pub steps_answer : State → ℕ → StepsAnswer
+unfoldable pub steps_answer : State → ℕ → BowlStepsAnswer
 steps_answer s places =
     cond (eqb (mesh_refusal s) 0 && leb (2 * s.counts.nodes) places) (lowest_hidden s.xs s.ys s.quads s.counts.quads) mesh_unstepped
 
@@ -71,5 +71,5 @@ unfoldable pub stored_steps : List Float → List Float → ℕ → List ℤ →
 stored_steps xs ys n steps = for_up n (store_turn xs ys) steps
 
 -- as the answer leaves it: unwritten on a refusal
-unfoldable pub steps_left : State → StepsAnswer → List ℤ → List ℤ
+unfoldable pub steps_left : State → BowlStepsAnswer → List ℤ → List ℤ
 steps_left s r steps = cond (eqb r.refusal 0) (stored_steps s.xs s.ys s.counts.nodes steps) steps

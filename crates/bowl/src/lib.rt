@@ -18,7 +18,7 @@ use outline::Refusal;
 // `refusal` is 23 or 25, 0 where nothing is refused; `quad` is the lowest quad that the bowl can't show, where 25 says so.
 #[repr(C)]
 #[derive(Clone, Copy, Default)]
-pub struct StepsAnswer {
+pub struct BowlStepsAnswer {
     pub refusal: u32,
     pub quad: usize,
 }
@@ -118,29 +118,29 @@ fn store_steps(mesh: &Mesh<'_>, steps: &mut [i32])
 // 23 of the mesh, 23 where a node hasn't two of the places, then 25.
 // It answers C's struct: as the error of a `Result` it would be there too, since 25 has a quad, and the entry would
 // owe besides that its refusal isn't 0.
-fn steps_answer(lent: NumberedMesh<'_, '_>, places: usize) -> StepsAnswer
+fn steps_answer(lent: NumberedMesh<'_, '_>, places: usize) -> BowlStepsAnswer
     requires { AllFit lent.mesh.xs.now × AllFit lent.mesh.ys.now }
     ensures { result ≡ steps_answer (lent_in lent.entry.mesh lent.entry.origins.now) places }
 {
     if lent.check().is_err() || places / 2 < lent.mesh.counts.nodes as usize {
-        return StepsAnswer {
+        return BowlStepsAnswer {
             refusal: u32::from(Refusal::UnsoundMesh),
-            ..StepsAnswer::default()
+            ..BowlStepsAnswer::default()
         };
     }
     match lowest_hidden(&lent.mesh) {
-        Some(quad) => StepsAnswer {
+        Some(quad) => BowlStepsAnswer {
             refusal: u32::from(Refusal::NotShown),
             quad,
         },
-        None => StepsAnswer::default(),
+        None => BowlStepsAnswer::default(),
     }
 }
 
 // The nodes of a lent mesh in whole steps of 1/64 degree, each coordinate at the nearest step, halves at the even one. The mesh is only read, and the buffer is
 // written once nothing is refused.
 #[unsafe(no_mangle)]
-pub extern "C" fn sitjorbe_steps(
+pub extern "C" fn sitjorbe_bowl_steps(
     xs: &[f64],
     ys: &[f64],
     next: &[u32],
@@ -153,7 +153,7 @@ pub extern "C" fn sitjorbe_steps(
     edge_count: usize,
     front_count: usize,
     steps: &mut [i32],
-) -> StepsAnswer
+) -> BowlStepsAnswer
     ensures { MeshStepped
         (lent_state xs.now ys.now next.now prev.now origins.now quads.now
         edges.now (counted node_count quad_count edge_count front_count)) steps.old result steps.new }

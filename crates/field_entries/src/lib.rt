@@ -39,7 +39,7 @@ pub struct DirectionAnswer {
 pub extern "C" fn sitjorbe_field<'a>(
     outer: &'a [f64],
     holes: &'a [f64],
-    lens: &[usize],
+    hole_lengths: &[usize],
     size: f64,
     sweeps: usize,
     values: &mut [f64],
@@ -47,11 +47,15 @@ pub extern "C" fn sitjorbe_field<'a>(
     blocks: &mut [u32],
 ) -> FieldRecordAnswer
     ensures { field_exit result values.new marks.new
-        ≡ field_numbers (field_answer (outline outer.now holes.now lens.now) size sweeps
+        ≡ field_numbers (field_answer (outline outer.now holes.now hole_lengths.now) size sweeps
         (field_lists values.old marks.old))
         × ((result.refusal ≡ 0 → ⊥) → blocks.new ≡ blocks.old) }
 {
-    let domain = Domain { outer, holes, lens };
+    let domain = Domain {
+        outer,
+        holes,
+        lens: hole_lengths,
+    };
     match field_cross::field(domain, size, sweeps, values, marks, blocks) {
         Err(refusal) => FieldRecordAnswer {
             refusal: u32::from(refusal),

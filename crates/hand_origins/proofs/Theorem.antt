@@ -1,19 +1,26 @@
 -- What holds of the definitions of specs/Theorem.antt.
-use Rattle.std.specs.Prelude.{Bool, cond, List, ◌≡◌, ℕ, suc, ◌+◌, ◌≤◌, leb, length, Float, Option, Some, None}
+use Rattle.std.specs.Prelude.{List, ℕ, ◌≤◌, Float, Bool, cond, ◌≡◌, suc, ◌+◌, leb, length, Option, Some, None}
+use Rattle.outline.specs.Outline.{Outline}
+use Rattle.field_direction.specs.Record.{FieldRecord}
+use Rattle.front.specs.State.{State, node_places}
+use Rattle.front.specs.Sampling.{from_boundary, sampled_count}
+use Rattle.books_hold.specs.Runs.{AcceptedRun}
+use Rattle.run_origins.specs.Origins.{OneOrigin, push_origin, quad_origins, origins_after}
+use Rattle.run_origins.proofs.Theorem.{origins_booked}
+use Rattle.books_hand.specs.Moves.{Move, moves_on}
+use Rattle.books_hand.proofs.Sequences.{sequence_holds}
+use Rattle.books_hand.specs.MoveLaws.{from_outline, FromOutline}
+use Rattle.books_hand.proofs.MoveLaws.{moves_kept}
 use Rattle.std.proofs.Math.Bool.{true, false}
 use Rattle.std.proofs.Math.Path.{refl, sym, ap}
 use Rattle.std.proofs.Common.{◌∙◌, add-one, arith, eqb-true}
 use Rattle.std.proofs.Math.Dec.{eqb}
 use Rattle.laws.specs.Loop.{for_up, for_up_same}
 use Rattle.laws.specs.Overlay.{overlay}
-use Rattle.outline.specs.Outline.{Outline}
 use Rattle.outline.specs.Accepted.{first_zero}
-use Rattle.field_direction.specs.Record.{FieldRecord}
 use Rattle.front.specs.declared.Corner.{Corner}
-use Rattle.front.specs.State.{State, node_places}
 use Rattle.front.specs.Place.{added, id_c, id_d, place, is_full}
 use Rattle.front.specs.Ready.{room_fits}
-use Rattle.front.specs.Sampling.{sampled_count}
 use Rattle.front_lent_mesh.specs.declared.QuadIds.{QuadIds}
 use Rattle.front_lent_mesh.specs.Mesh.{quad_in}
 use Rattle.front_lent_mesh.proofs.Answered.{ids_of, quad_same}
@@ -26,17 +33,25 @@ use Rattle.books.proofs.BookLaws.{frame_quad}
 use Rattle.books.proofs.Step.{Stepped, answered_step}
 use Rattle.books_hold.proofs.Stages.{standing}
 use Rattle.books_hold.proofs.Runs.{start, reached_holds}
-use Rattle.run_origins.specs.Origins.{push_origin, quad_origins, origins_after}
-use Rattle.run_origins.proofs.Theorem.{origins_booked}
 use Rattle.run_origins.specs.Writing.{push_count, push_at, push_length, push_over}
 use Rattle.hand_steps.specs.declared.StepOutcome.TheVariants.{Placed, Full, Cap}
 use Rattle.hand_steps.specs.Hand.{hand_refusal, handled, settled_on, place_on, step_on, new_origins, origins_on}
 use Rattle.hand_mesh_check.specs.Check.{mesh_refusal, edge_refusal}
 use Rattle.hand_steps.proofs.UseLaws.{there_of, on_front_lem, quad_below}
 use Rattle.hand_steps.proofs.StepLaws.{origins_same}
-use Rattle.books_hand.specs.MoveLaws.{FromOutline}
 use Rattle.hand_origins.proofs.Pushed.{push_counts, new_pushed}
 use Rattle.hand_origins.specs.Theorem.{NodesNumbered}
+
+-- ---- NO FRONT LOOP AND NO QUAD OF A SEQUENCE HAS NODES OF TWO NUMBERS
+
+-- of every outline, size and lists of which nothing is refused, any field, and any list of moves: before the first quad, after each one and as it stops
+pub sequence_origins : (o : Outline) (size : Float) (lent : State) → AcceptedRun o size lent → (field : FieldRecord) (ms : List Move) (k : ℕ)
+    → k ≤ (moves_on o size field ms (from_boundary o size lent)).counts.quads
+    → OneOrigin o size (moves_on o size field ms (from_boundary o size lent)) k
+sequence_origins o size lent A field ms =
+    let F = moves_kept o size field ms (from_boundary o size lent) (from_outline o size lent A) in
+    origins_booked o size F.lent (moves_on o size field ms (from_boundary o size lent)) F.accepted.outline F.accepted.front
+    (sequence_holds o size lent A field ms)
 
 -- ---- a step keeps the numbers written
 

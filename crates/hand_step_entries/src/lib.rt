@@ -95,7 +95,7 @@ fn preview_in<'a>(
 pub extern "C" fn sitjorbe_step<'a>(
     outer: &'a [f64],
     holes: &'a [f64],
-    lens: &[usize],
+    hole_lengths: &[usize],
     size: f64,
     xmin: f64,
     ymin: f64,
@@ -118,14 +118,18 @@ pub extern "C" fn sitjorbe_step<'a>(
     a: u32,
     b: u32,
 ) -> StepAnswer
-    ensures { HostSteps (outline outer.now holes.now lens.now) size
+    ensures { HostSteps (outline outer.now holes.now hole_lengths.now) size
         (field_record (grid_given xmin ymin h nx ny) values.now marks.now) a b
         (lent_state xs.old ys.old next.old prev.old origins.old quads.old
         edges.old (counted node_count quad_count edge_count front_count)) origins.old result
         (lent_state xs.new ys.new next.new prev.new origins.new quads.new
         edges.new (counts_given (counted node_count quad_count edge_count front_count) result)) origins.new }
 {
-    let domain = Domain { outer, holes, lens };
+    let domain = Domain {
+        outer,
+        holes,
+        lens: hole_lengths,
+    };
     let field = CrossField {
         grid: Grid {
             xmin,
@@ -159,7 +163,7 @@ pub extern "C" fn sitjorbe_step<'a>(
 pub extern "C" fn sitjorbe_preview<'a>(
     outer: &'a [f64],
     holes: &'a [f64],
-    lens: &[usize],
+    hole_lengths: &[usize],
     size: f64,
     xmin: f64,
     ymin: f64,
@@ -183,12 +187,16 @@ pub extern "C" fn sitjorbe_preview<'a>(
     b: u32,
     list: &mut [u32],
 ) -> PreviewAnswer
-    ensures { HostPreviews (outline outer.now holes.now lens.now) size
+    ensures { HostPreviews (outline outer.now holes.now hole_lengths.now) size
         (field_record (grid_given xmin ymin h nx ny) values.now marks.now) a b
         (lent_state xs.now ys.now next.now prev.now origins.now quads.now
         edges.now (counted node_count quad_count edge_count front_count)) list.old result list.new }
 {
-    let domain = Domain { outer, holes, lens };
+    let domain = Domain {
+        outer,
+        holes,
+        lens: hole_lengths,
+    };
     let field = CrossField {
         grid: Grid {
             xmin,

@@ -1,18 +1,36 @@
 -- What holds of the definitions of specs/Accepted.antt.
-use Rattle.std.specs.Prelude.{ℕ, ◌-◌, ◌≤◌, ◌<◌, ◌≡◌, refl, Bool, true, false, not, ◌&&◌, ◌||◌, cond, List, ◌⊎◌, length, get_or, eqb, ltb, leb}
-use Rattle.std.proofs.Common.{sym, ◌∙◌, ap, true≢false, ⊎_elim, arith, eqb-true, eq-eqb, ne_eqb, ltb-true, ltb-false, lt-ltb, leb-false}
+use Rattle.std.specs.Prelude.{ℕ, suc, ◌<◌, ◌≡◌, refl, Bool, true, false, cond, List, length, ◌-◌, ◌≤◌, not, ◌&&◌, ◌||◌, ◌⊎◌, get_or, eqb, ltb, leb}
+use Rattle.std.proofs.Common.{◌∙◌, ap, ⊎_elim, eq-or-lt_of_le, le_of_suc-le-suc, arith, sym, true≢false, eqb-true, eq-eqb, ne_eqb, ltb-true, ltb-false, lt-ltb, leb-false}
+use Rattle.laws.specs.Loop.{go, out, Kept, run_keeps_at, any_up, any_found, any_none, any_false}
+use Rattle.order.specs.declared.OrderAnswer.{OrderAnswer}
+use Rattle.order.specs.Order.{too_early, order_accepted, early_at, early_turn, first_early, is_step, lays, lays_for, needs, first_place, is_wrong, is_absent, names_each_once, waits_for, not_once, order_of, order_answer, placing_order}
 use Rattle.std.proofs.lemmas.Bool.{eqb-false, lt-leb, not-true, not-false}
-use Rattle.laws.specs.Loop.{any_up, any_found, any_none, any_false}
 use Rattle.laws.specs.Tests.{both, neither, and_both, or_cases, or_left, or_right}
 use Rattle.laws.specs.Tabulate.{tabulate_length, tabulate_at}
 use Rattle.front_lent_mesh.specs.declared.QuadIds.{QuadIds}
 use Rattle.front_lent_mesh.specs.Mesh.{quad_count_of, quad_in}
-use Rattle.order.specs.declared.OrderAnswer.{OrderAnswer}
-use Rattle.order.specs.Order.{is_step, lays, lays_for, needs, first_place, is_wrong, is_absent, names_each_once, waits_for, too_early}
-use Rattle.order.specs.Order.{order_accepted, not_once, first_early, order_of, order_answer, placing_order}
-use Rattle.order.proofs.PlaceLaws.{place_le, place_found, place_first}
-use Rattle.order.proofs.PlaceLaws.{placing_early}
-use Rattle.order.specs.Accepted.{SameStep, Lays, laid_bd, laid_dc, laid_ca, Uses, used_ab, used_bd, used_ca, LaidFor, EachOnce, Respects, Searched, none_early, some_early, first_searched, Means, is_accepted, is_not_once, is_early_lem}
+use Rattle.order.proofs.PlaceLaws.{place_le, place_found, place_first, placing_early}
+use Rattle.order.specs.Accepted.{SameStep, Lays, laid_bd, laid_dc, laid_ca, Uses, used_ab, used_bd, used_ca, LaidFor, EachOnce, Respects, Means, is_accepted, is_not_once, is_early_lem}
+
+-- ---- the first of them
+
+-- what the search for the first answers
+pub data Searched (quads : List ℕ) (n : ℕ) (order : List ℕ) (r : OrderAnswer) : Type 0 where
+  none_early : r ≡ order_accepted → ((p : ℕ) → p < length order → too_early quads n order p ≡ false) → Searched quads n order r
+  some_early : (p : ℕ) → r ≡ early_at p → p < length order → too_early quads n order p ≡ true → ((q : ℕ) → q < p → too_early quads n order q ≡ false)
+      → Searched quads n order r
+
+pub first_searched : (quads : List ℕ) (n : ℕ) (order : List ℕ) → Searched quads n order (first_early quads n order)
+unfolding first_early
+first_searched quads n order =
+    run_keeps_at (λ i s. (p : ℕ) → p < i → too_early quads n order p ≡ false) (Searched quads n order) (length order) (early_turn quads n order)
+    (λ s. order_accepted) tt (λ p h. absurd (omega arith)) (λ i s h below. next i s h below (too_early quads n order i) refl) (λ s all. none_early refl all)
+  where
+    next : (i : ℕ) (s : Unit {0}) → i < length order → ((p : ℕ) → p < i → too_early quads n order p ≡ false) → (b : Bool) → too_early quads n order i ≡ b
+        → Kept (λ t. (p : ℕ) → p < suc i → too_early quads n order p ≡ false) (Searched quads n order) (cond b (out (early_at i)) (go s))
+    next i s h below true e = some_early i refl h e below
+    next i s h below false e =
+        λ p less. ⊎_elim (λ same. ap (too_early quads n order) same ∙ e) (below p) (eq-or-lt_of_le (le_of_suc-le-suc less))
 
 -- ---- the tests say so
 

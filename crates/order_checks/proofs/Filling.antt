@@ -3,7 +3,8 @@ use Rattle.std.specs.Prelude.{◌≡◌, ℕ, ◌+◌, List, [], ◌∷◌, ◌+
 use Rattle.std.proofs.Common.{sym, ◌∙◌, ap, arith}
 use Rattle.std.proofs.lemmas.List.{length_push}
 use lib.Seq.{append_snoc, get_or-append-add}
-use Rattle.order_checks.specs.Places.{Filled, FirstPlaces, filled_next, filled_end}
+use Rattle.order_checks.specs.Places.{FirstPlaces}
+use Rattle.order_checks.proofs.Places.{Filled, filled_next, filled_end}
 
 -- the entries in `after` are filled, and those in `rest` are not
 pub record Filling (places order rest : List ℕ) : Type 0 where

@@ -1,2 +1,3 @@
 -- How first places are filled in: Filling.
 pub mod Filling
+pub mod Places

@@ -88,13 +88,17 @@ pub fn query_distance(domain: Domain<'_>, p: Point) -> Result<f64, Refusal>
 pub extern "C" fn sitjorbe_contains<'a>(
     outer: &'a [f64],
     holes: &'a [f64],
-    lens: &[usize],
+    hole_lengths: &[usize],
     x: f64,
     y: f64,
 ) -> ContainsAnswer
-    ensures { result ≡ contains_numbers (contains_answer (outline outer.now holes.now lens.now) (point x y)) }
+    ensures { result ≡ contains_numbers (contains_answer (outline outer.now holes.now hole_lengths.now) (point x y)) }
 {
-    let domain = Domain { outer, holes, lens };
+    let domain = Domain {
+        outer,
+        holes,
+        lens: hole_lengths,
+    };
     match query_contains(domain, Point { x, y }) {
         Err(refusal) => ContainsAnswer {
             refusal: u32::from(refusal),
@@ -109,13 +113,17 @@ pub extern "C" fn sitjorbe_contains<'a>(
 pub extern "C" fn sitjorbe_nearest_segment<'a>(
     outer: &'a [f64],
     holes: &'a [f64],
-    lens: &[usize],
+    hole_lengths: &[usize],
     x: f64,
     y: f64,
 ) -> NearestAnswer
-    ensures { NearestGiven (outline outer.now holes.now lens.now) (point x y) result }
+    ensures { NearestGiven (outline outer.now holes.now hole_lengths.now) (point x y) result }
 {
-    let domain = Domain { outer, holes, lens };
+    let domain = Domain {
+        outer,
+        holes,
+        lens: hole_lengths,
+    };
     match query_nearest(domain, Point { x, y }) {
         Err(refusal) => NearestAnswer {
             refusal: u32::from(refusal),
@@ -140,13 +148,17 @@ pub extern "C" fn sitjorbe_nearest_segment<'a>(
 pub extern "C" fn sitjorbe_distance_to_boundary<'a>(
     outer: &'a [f64],
     holes: &'a [f64],
-    lens: &[usize],
+    hole_lengths: &[usize],
     x: f64,
     y: f64,
 ) -> DistanceAnswer
-    ensures { result ≡ distance_numbers (distance_answer (outline outer.now holes.now lens.now) (point x y)) }
+    ensures { result ≡ distance_numbers (distance_answer (outline outer.now holes.now hole_lengths.now) (point x y)) }
 {
-    let domain = Domain { outer, holes, lens };
+    let domain = Domain {
+        outer,
+        holes,
+        lens: hole_lengths,
+    };
     match query_distance(domain, Point { x, y }) {
         Err(refusal) => DistanceAnswer {
             refusal: u32::from(refusal),

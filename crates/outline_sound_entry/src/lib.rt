@@ -19,11 +19,15 @@ pub struct SoundAnswer {
 pub extern "C" fn sitjorbe_sound<'a>(
     outer: &'a [f64],
     holes: &'a [f64],
-    lens: &[usize],
+    hole_lengths: &[usize],
 ) -> SoundAnswer
-    ensures { result ≡ sound_answer (outline outer.now holes.now lens.now) }
+    ensures { result ≡ sound_answer (outline outer.now holes.now hole_lengths.now) }
 {
-    let domain = Domain { outer, holes, lens };
+    let domain = Domain {
+        outer,
+        holes,
+        lens: hole_lengths,
+    };
     match outline_loops::check_outline(domain) {
         Err(refusal) => SoundAnswer {
             refusal: u32::from(refusal),

@@ -6,7 +6,7 @@ use Rattle.std.proofs.lemmas.Bool.{cases_lt}
 use Rattle.std.specs.declared.option.Option.{Option}
 use Rattle.std.specs.Io.KnownBytes.{Consumes, IsAtEnd, Appends}
 use Rattle.file_listing.specs.Program.{program_listing}
-use Rattle.file_listing.specs.Laws.{start_decides}
+use Rattle.file_listing.proofs.Laws.{start_decides}
 
 -- the bytes that were read are the first that decide, or all
 decided : (read rest : List ℕ) → length read ≤ 4609 → (length read < 4609 → rest ≡ []) → program_listing read ≡ program_listing (read ++ rest)

@@ -16,8 +16,9 @@ use Rattle.books.proofs.BookLaws.{frame_quad}
 use Rattle.front_sampled.proofs.Outlines.{outline_three}
 use Rattle.front_sampled.proofs.Begun.{refusal_places}
 use Rattle.books_hold.proofs.Stages.{standing}
-use Rattle.run_capacity.specs.Alike.{next_alike}
-use Rattle.run_capacity.specs.Twins.{NoFewer, Twins}
+use Rattle.run_capacity.proofs.Alike.{next_alike}
+use Rattle.run_capacity.specs.Twins.{NoFewer}
+use Rattle.run_capacity.proofs.Twins.{Twins}
 use Rattle.run_capacity.proofs.SideBySide.{Behind, RunsAgree}
 use Rattle.run_capacity.proofs.Lockstep.{advances_agree}
 use Rattle.run_capacity.proofs.SideBySide as lockstep

@@ -16,8 +16,8 @@ use Rattle.paving.specs.Advance.{EndedPaving, paved, Passing, passing, Passed, m
 use Rattle.paving.specs.Advance.{with_snapshot, most_passes, passes_turn, all_used, advance}
 use Rattle.paving.specs.Reach.{Placement, begin, placed}
 use Rattle.paving.specs.ReachLaws.{Reached, AtPassing, AtPassed, turn_kept, pass_kept, tried}
-use Rattle.run_capacity.specs.Placings.{place_snapshot}
-use Rattle.run_capacity.specs.Twins.{Twins, SnapshotsAgree, there_same, try_same, fits_too, place_twins, snapshot_twins, snapshots_agree}
+use Rattle.run_capacity.proofs.Placings.{place_snapshot}
+use Rattle.run_capacity.proofs.Twins.{Twins, SnapshotsAgree, there_same, try_same, fits_too, place_twins, snapshot_twins, snapshots_agree}
 use Rattle.run_capacity.proofs.SideBySide.{passed_state}
 use Rattle.run_capacity.proofs.SideBySide as lockstep
 

@@ -8,7 +8,7 @@ use Rattle.front.specs.State.{State}
 use Rattle.paving.specs.declared.End.TheVariants.{Full}
 use Rattle.paving.specs.Advance.{EndedPaving, Passed}
 use Rattle.paving.specs.ReachLaws.{Reached}
-use Rattle.run_capacity.specs.Twins.{Twins}
+use Rattle.run_capacity.proofs.Twins.{Twins}
 
 -- the state of a pass, and of a run
 abbrev pub passed_state : Passed → State

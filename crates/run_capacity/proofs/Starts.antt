@@ -24,9 +24,10 @@ use Rattle.front_sampled.proofs.Outlines.{Threes}
 use Rattle.front_sampled.proofs.Begun.{Begun, Places, refusal_places, state_at, TurnReady}
 use Rattle.front_sampled.proofs.Begun.{turn_ready, turn_fits, turn_at, begun_in}
 use Rattle.front_sampled.proofs.Same.{turn_same, same_at, same_start}
-use Rattle.run_capacity.specs.Alike.{EdgesAlike, Alike, add_alike}
-use Rattle.run_capacity.specs.Placings.{SameEdges, same_trans, either, same_add, alike_same, alike_more, Longer, longer}
-use Rattle.run_capacity.specs.Twins.{NoFewer, Twins}
+use Rattle.run_capacity.proofs.Alike.{EdgesAlike, Alike, add_alike}
+use Rattle.run_capacity.proofs.Placings.{SameEdges, same_trans, either, same_add, alike_same, alike_more, Longer, longer}
+use Rattle.run_capacity.specs.Twins.{NoFewer}
+use Rattle.run_capacity.proofs.Twins.{Twins}
 
 -- ---- one ring is joined in step
 

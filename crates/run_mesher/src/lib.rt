@@ -18,7 +18,7 @@ use run_pave_answer::PaveAnswer;
 pub extern "C" fn sitjorbe_pave<'a>(
     outer: &'a [f64],
     holes: &'a [f64],
-    lens: &[usize],
+    hole_lengths: &[usize],
     size: f64,
     sweeps: usize,
     passes: usize,
@@ -33,22 +33,26 @@ pub extern "C" fn sitjorbe_pave<'a>(
     quads: &mut [u32],
     edges: &mut [u32],
     loops: &mut [u32],
-    lengths: &mut [u32],
+    loop_lengths: &mut [u32],
     node_pool: &mut [u32],
     edge_pool: &mut [u32],
     blocks: &mut [u32],
     tried: &mut [u32],
 ) -> PaveAnswer
-    ensures { HostPaves (outline outer.now holes.now lens.now) (settings size sweeps passes)
+    ensures { HostPaves (outline outer.now holes.now hole_lengths.now) (settings size sweeps passes)
         (lent values.old marks.old xs.old ys.old next.old prev.old
-        snapshot.old origins.old quads.old edges.old loops.old lengths.old)
+        snapshot.old origins.old quads.old edges.old loops.old loop_lengths.old)
         result
         (lent values.new marks.new xs.new ys.new next.new prev.new snapshot.new
-        origins.new quads.new edges.new loops.new lengths.new)
+        origins.new quads.new edges.new loops.new loop_lengths.new)
         × Spares result.refusal (scratch node_pool.old edge_pool.old blocks.old tried.old)
         (scratch node_pool.new edge_pool.new blocks.new tried.new) }
 {
-    let domain = Domain { outer, holes, lens };
+    let domain = Domain {
+        outer,
+        holes,
+        lens: hole_lengths,
+    };
     let settings = Settings {
         size,
         sweeps,
@@ -66,7 +70,7 @@ pub extern "C" fn sitjorbe_pave<'a>(
         quads,
         edges,
         loops,
-        lengths,
+        lengths: loop_lengths,
     };
     let mut scratch = Scratch {
         node_pool,

@@ -36,12 +36,16 @@ fn count_places(domain: Domain<'_>, size: f64) -> PlacesAnswer
 pub extern "C" fn sitjorbe_places<'a>(
     outer: &'a [f64],
     holes: &'a [f64],
-    lens: &[usize],
+    hole_lengths: &[usize],
     size: f64,
 ) -> PlacesAnswer
-    ensures { PlacesGiven (outline outer.now holes.now lens.now) size result }
+    ensures { PlacesGiven (outline outer.now holes.now hole_lengths.now) size result }
 {
-    let domain = Domain { outer, holes, lens };
+    let domain = Domain {
+        outer,
+        holes,
+        lens: hole_lengths,
+    };
     match field_cross::check_drawn(domain, size) {
         Err(refusal) => PlacesAnswer {
             refusal: u32::from(refusal),

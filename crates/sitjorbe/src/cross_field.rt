@@ -13,7 +13,7 @@ use field_entries::{DirectionAnswer, FieldRecordAnswer};
 pub extern "C" fn sitjorbe_field<'a>(
     outer: &'a [f64],
     holes: &'a [f64],
-    lens: &[usize],
+    hole_lengths: &[usize],
     size: f64,
     sweeps: usize,
     values: &mut [f64],
@@ -21,11 +21,20 @@ pub extern "C" fn sitjorbe_field<'a>(
     blocks: &mut [u32],
 ) -> FieldRecordAnswer
     ensures { field_exit result values.new marks.new
-        ≡ field_numbers (field_answer (outline outer.now holes.now lens.now) size sweeps
+        ≡ field_numbers (field_answer (outline outer.now holes.now hole_lengths.now) size sweeps
         (field_lists values.old marks.old))
         × ((result.refusal ≡ 0 → ⊥) → blocks.new ≡ blocks.old) }
 {
-    field_entries::sitjorbe_field(outer, holes, lens, size, sweeps, values, marks, blocks)
+    field_entries::sitjorbe_field(
+        outer,
+        holes,
+        hole_lengths,
+        size,
+        sweeps,
+        values,
+        marks,
+        blocks,
+    )
 }
 
 // Of the field's four directions at (x, y) the one nearest to the target (tx, ty), which may be any two floats.

@@ -12,7 +12,7 @@ use hand_step_answers::{PreviewAnswer, StepAnswer};
 pub extern "C" fn sitjorbe_step<'a>(
     outer: &'a [f64],
     holes: &'a [f64],
-    lens: &[usize],
+    hole_lengths: &[usize],
     size: f64,
     xmin: f64,
     ymin: f64,
@@ -35,7 +35,7 @@ pub extern "C" fn sitjorbe_step<'a>(
     a: u32,
     b: u32,
 ) -> StepAnswer
-    ensures { HostSteps (outline outer.now holes.now lens.now) size
+    ensures { HostSteps (outline outer.now holes.now hole_lengths.now) size
         (field_record (grid_given xmin ymin h nx ny) values.now marks.now) a b
         (lent_state xs.old ys.old next.old prev.old origins.old quads.old
         edges.old (counted node_count quad_count edge_count front_count)) origins.old result
@@ -45,7 +45,7 @@ pub extern "C" fn sitjorbe_step<'a>(
     hand_step_entries::sitjorbe_step(
         outer,
         holes,
-        lens,
+        hole_lengths,
         size,
         xmin,
         ymin,
@@ -76,7 +76,7 @@ pub extern "C" fn sitjorbe_step<'a>(
 pub extern "C" fn sitjorbe_preview<'a>(
     outer: &'a [f64],
     holes: &'a [f64],
-    lens: &[usize],
+    hole_lengths: &[usize],
     size: f64,
     xmin: f64,
     ymin: f64,
@@ -100,7 +100,7 @@ pub extern "C" fn sitjorbe_preview<'a>(
     b: u32,
     list: &mut [u32],
 ) -> PreviewAnswer
-    ensures { HostPreviews (outline outer.now holes.now lens.now) size
+    ensures { HostPreviews (outline outer.now holes.now hole_lengths.now) size
         (field_record (grid_given xmin ymin h nx ny) values.now marks.now) a b
         (lent_state xs.now ys.now next.now prev.now origins.now quads.now
         edges.now (counted node_count quad_count edge_count front_count)) list.old result list.new }
@@ -108,7 +108,7 @@ pub extern "C" fn sitjorbe_preview<'a>(
     hand_step_entries::sitjorbe_preview(
         outer,
         holes,
-        lens,
+        hole_lengths,
         size,
         xmin,
         ymin,

@@ -8,10 +8,10 @@ use run_places::PlacesAnswer;
 pub extern "C" fn sitjorbe_places<'a>(
     outer: &'a [f64],
     holes: &'a [f64],
-    lens: &[usize],
+    hole_lengths: &[usize],
     size: f64,
 ) -> PlacesAnswer
-    ensures { PlacesGiven (outline outer.now holes.now lens.now) size result }
+    ensures { PlacesGiven (outline outer.now holes.now hole_lengths.now) size result }
 {
-    run_places::sitjorbe_places(outer, holes, lens, size)
+    run_places::sitjorbe_places(outer, holes, hole_lengths, size)
 }

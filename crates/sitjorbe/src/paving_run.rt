@@ -11,7 +11,7 @@ use run_pave_answer::PaveAnswer;
 pub extern "C" fn sitjorbe_pave<'a>(
     outer: &'a [f64],
     holes: &'a [f64],
-    lens: &[usize],
+    hole_lengths: &[usize],
     size: f64,
     sweeps: usize,
     passes: usize,
@@ -26,23 +26,43 @@ pub extern "C" fn sitjorbe_pave<'a>(
     quads: &mut [u32],
     edges: &mut [u32],
     loops: &mut [u32],
-    lengths: &mut [u32],
+    loop_lengths: &mut [u32],
     node_pool: &mut [u32],
     edge_pool: &mut [u32],
     blocks: &mut [u32],
     tried: &mut [u32],
 ) -> PaveAnswer
-    ensures { HostPaves (outline outer.now holes.now lens.now) (settings size sweeps passes)
+    ensures { HostPaves (outline outer.now holes.now hole_lengths.now) (settings size sweeps passes)
         (lent values.old marks.old xs.old ys.old next.old prev.old
-        snapshot.old origins.old quads.old edges.old loops.old lengths.old)
+        snapshot.old origins.old quads.old edges.old loops.old loop_lengths.old)
         result
         (lent values.new marks.new xs.new ys.new next.new prev.new snapshot.new
-        origins.new quads.new edges.new loops.new lengths.new)
+        origins.new quads.new edges.new loops.new loop_lengths.new)
         × Spares result.refusal (scratch node_pool.old edge_pool.old blocks.old tried.old)
         (scratch node_pool.new edge_pool.new blocks.new tried.new) }
 {
     run_mesher::sitjorbe_pave(
-        outer, holes, lens, size, sweeps, passes, values, marks, xs, ys, next, prev, snapshot,
-        origins, quads, edges, loops, lengths, node_pool, edge_pool, blocks, tried,
+        outer,
+        holes,
+        hole_lengths,
+        size,
+        sweeps,
+        passes,
+        values,
+        marks,
+        xs,
+        ys,
+        next,
+        prev,
+        snapshot,
+        origins,
+        quads,
+        edges,
+        loops,
+        loop_lengths,
+        node_pool,
+        edge_pool,
+        blocks,
+        tried,
     )
 }

@@ -9,13 +9,13 @@ use outline_queries::{ContainsAnswer, DistanceAnswer, NearestAnswer};
 pub extern "C" fn sitjorbe_contains<'a>(
     outer: &'a [f64],
     holes: &'a [f64],
-    lens: &[usize],
+    hole_lengths: &[usize],
     x: f64,
     y: f64,
 ) -> ContainsAnswer
-    ensures { result ≡ contains_numbers (contains_answer (outline outer.now holes.now lens.now) (point x y)) }
+    ensures { result ≡ contains_numbers (contains_answer (outline outer.now holes.now hole_lengths.now) (point x y)) }
 {
-    outline_queries::sitjorbe_contains(outer, holes, lens, x, y)
+    outline_queries::sitjorbe_contains(outer, holes, hole_lengths, x, y)
 }
 
 // The segment of the outline nearest to the point, from a to b, and its distance; its loop, 0 for the outer one, and its place there.
@@ -23,13 +23,13 @@ pub extern "C" fn sitjorbe_contains<'a>(
 pub extern "C" fn sitjorbe_nearest_segment<'a>(
     outer: &'a [f64],
     holes: &'a [f64],
-    lens: &[usize],
+    hole_lengths: &[usize],
     x: f64,
     y: f64,
 ) -> NearestAnswer
-    ensures { NearestGiven (outline outer.now holes.now lens.now) (point x y) result }
+    ensures { NearestGiven (outline outer.now holes.now hole_lengths.now) (point x y) result }
 {
-    outline_queries::sitjorbe_nearest_segment(outer, holes, lens, x, y)
+    outline_queries::sitjorbe_nearest_segment(outer, holes, hole_lengths, x, y)
 }
 
 // The distance from the point to the nearest segment of the outline.
@@ -37,11 +37,11 @@ pub extern "C" fn sitjorbe_nearest_segment<'a>(
 pub extern "C" fn sitjorbe_distance_to_boundary<'a>(
     outer: &'a [f64],
     holes: &'a [f64],
-    lens: &[usize],
+    hole_lengths: &[usize],
     x: f64,
     y: f64,
 ) -> DistanceAnswer
-    ensures { result ≡ distance_numbers (distance_answer (outline outer.now holes.now lens.now) (point x y)) }
+    ensures { result ≡ distance_numbers (distance_answer (outline outer.now holes.now hole_lengths.now) (point x y)) }
 {
-    outline_queries::sitjorbe_distance_to_boundary(outer, holes, lens, x, y)
+    outline_queries::sitjorbe_distance_to_boundary(outer, holes, hole_lengths, x, y)
 }

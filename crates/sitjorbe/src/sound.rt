@@ -9,9 +9,9 @@ use outline_sound_entry::SoundAnswer;
 pub extern "C" fn sitjorbe_sound<'a>(
     outer: &'a [f64],
     holes: &'a [f64],
-    lens: &[usize],
+    hole_lengths: &[usize],
 ) -> SoundAnswer
-    ensures { result ≡ sound_answer (outline outer.now holes.now lens.now) }
+    ensures { result ≡ sound_answer (outline outer.now holes.now hole_lengths.now) }
 {
-    outline_sound_entry::sitjorbe_sound(outer, holes, lens)
+    outline_sound_entry::sitjorbe_sound(outer, holes, hole_lengths)
 }

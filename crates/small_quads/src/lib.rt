@@ -67,7 +67,7 @@ impl Step {
 }
 
 // The same of the way from p to q to r, points of the lattice.
-#[tactic(auto, using(crate::specs::Integers::corner_law))]
+#[tactic(auto, using(crate::proofs::Integers::corner_law))]
 fn corner_turns(p: u32, q: u32, r: u32) -> bool
     requires { (p < 16) × (q < 16) × (r < 16) }
     ensures { result ≡ corner_turns p q r }

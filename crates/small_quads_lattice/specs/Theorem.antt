@@ -1,8 +1,7 @@
 -- THE THEOREM of the small quads: what holds of the list of every small quad, in SCOPE's words. Assumes nothing.
 use Rattle.std.specs.Prelude.{◌≡◌, ℕ, ◌+◌, ◌*◌, ◌<◌}
 use Rattle.small_quads_lattice.specs.Fours.{first_point, second_point, third_point, fourth_point, accepted_four, above_third, fours}
-use Rattle.small_quads_lattice.specs.Same.{fours_same}
-use Rattle.small_quads_lattice.specs.Order.{NumbersBelow, numbers_below, written_out, Before, fours_written, numbers_below_are, dictionary, every_four, accepted_any_start}
+use Rattle.small_quads_lattice.specs.Order.{NumbersBelow, numbers_below, written_out, Before}
 
 -- a, b, d and c as one number, the first point its highest digit to the base 16
 abbrev pub four_number : (a b d c : ℕ) → ℕ
@@ -22,13 +21,3 @@ pub record EverySmallQuad : Type 0 where
   pub starts : (a b d c : ℕ) → a < 16 → b < 16 → d < 16 → c < 16 → accepted_four (four_number b d c a) ≡ accepted_four (four_number a b d c)
   -- The list equals that of the fours that turn left at every corner with a sine above 1/3, worked out in integers.
   pub integers : fours accepted_four ≡ fours above_third
-
-pub every_small_quad : EverySmallQuad
-every_small_quad = record {
-  written = fours_written accepted_four;
-  exactly = numbers_below_are accepted_four 65536;
-  ordered = dictionary;
-  asked = every_four;
-  starts = accepted_any_start;
-  integers = fours_same;
-}

@@ -321,7 +321,7 @@ pub fn lists_by_kind<'a>(
         quads,
         edges,
         loops,
-        lengths,
+        loop_lengths: lengths,
         node_pool,
         edge_pool,
         blocks,

@@ -5,7 +5,7 @@ use Rattle.std.specs.Result.{is_err}
 use Rattle.outline.specs.declared.Refusal.{Refusal}
 use Rattle.outline.specs.Refusals.{refused}
 use Rattle.outline.proofs.Refused.{refusal_some}
-use Rattle.bowl.specs.declared.StepsAnswer.{StepsAnswer}
+use Rattle.bowl.specs.declared.BowlStepsAnswer.{BowlStepsAnswer}
 use Rattle.bowl.specs.Steps.{steps_given, hidden_answer}
 use Rattle.front.specs.State.{State}
 use Rattle.hand_mesh_check.specs.Check.{lent_in}
@@ -17,7 +17,7 @@ use Rattle.bowl.proofs.steps_answer.Goals.{Start, then-is_err-via-then-is_err, t
 abbrev lent : Start → State
 lent c = lent_in c.args.lent.mesh c.args.lent.origins.now
 
-abbrev steps_numbered : ℕ → ℕ → StepsAnswer
+abbrev steps_numbered : ℕ → ℕ → BowlStepsAnswer
 steps_numbered m n = record { refusal = m; quad = n }
 
 -- what `is_err` tells of a check
@@ -30,7 +30,7 @@ ok_none (Ok a) e = refl
 ok_none (Err r) e = cc
 
 -- an answer whose numbers are 0
-given_is : (r : StepsAnswer) → r.refusal ≡ 0 → r.quad ≡ 0 → r ≡ steps_given
+given_is : (r : BowlStepsAnswer) → r.refusal ≡ 0 → r.quad ≡ 0 → r ≡ steps_given
 given_is r e f = ap₂ (λ (m n : ℕ). steps_numbered m n) e f
 
 pub returns-then-is_err : goal.returns-then-is_err

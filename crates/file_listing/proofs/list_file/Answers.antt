@@ -2,7 +2,8 @@
 use Rattle.std.proofs.Common.{refl, sym, ap, ◌∙◌}
 use Rattle.outline.specs.Refusals.{numbered}
 use Rattle.listing.specs.Listing.{refused_listing}
-use Rattle.file_listing.specs.Laws.{RequestHeld, given_as, read_held, read_listed, refused_as, refused_listed}
+use Rattle.file_listing.specs.Laws.{RequestHeld}
+use Rattle.file_listing.proofs.Laws.{given_as, read_held, read_listed, refused_as, refused_listed}
 use Rattle.file_listing.proofs.list_file.Goals as goal
 use Rattle.file_listing.proofs.list_file.Goals.{In-Ok}
 

@@ -6,7 +6,7 @@ use Rattle.listing.specs.Buffer.{buffer, buffer_written}
 use Rattle.listing.specs.Listing.{listing}
 use Rattle.run.specs.Lent.{lent_in}
 use Rattle.file_listing.specs.Program.{program_lent, headed}
-use Rattle.file_listing.specs.Laws.{ProgramLengths, run_listed}
+use Rattle.file_listing.proofs.Laws.{ProgramLengths, run_listed}
 use Rattle.file_listing.proofs.list_outline.Goals as goal
 
 pub returns : goal.returns

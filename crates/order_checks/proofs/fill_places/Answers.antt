@@ -2,7 +2,7 @@
 use Rattle.std.specs.Prelude.{ℕ, List, [], length, get_or}
 use Rattle.std.proofs.Common.{sym, ap, ◌∙◌, arith, length-set, append-nil}
 use Rattle.std.proofs.lemmas.List.{get_or-replicate}
-use Rattle.order_checks.specs.Places.{Emptied, filled_none}
+use Rattle.order_checks.proofs.Places.{Emptied, filled_none}
 use Rattle.order_checks.proofs.Filling.{filling_next, filling_end}
 use Rattle.order_checks.proofs.fill_places.Goals as goal
 

@@ -12,7 +12,7 @@ use Rattle.outline_queries.proofs.sitjorbe_nearest_segment.Goals as goal
 pub returns-in-Err : goal.returns-in-Err
 unfolding nearest_numbers
 returns-in-Err c =
-    let fits : OutlineFits (outline c.args.outer.now c.args.holes.now c.args.lens.now)
+    let fits : OutlineFits (outline c.args.outer.now c.args.holes.now c.args.hole_lengths.now)
     = record { outer = λ i h. c.type_inv.outer i; holes = λ i h. c.type_inv.holes i } in
     let here : PointFits (point c.args.x c.args.y)
     = record { x = subst T (sym c.well_formed.1.1.1.0.1) tt; y = subst T (sym c.well_formed.1.1.1.1.0.1) tt } in
@@ -22,7 +22,7 @@ returns-in-Err c =
 pub returns-in-Ok : goal.returns-in-Ok
 unfolding nearest_numbers
 returns-in-Ok c =
-    let fits : OutlineFits (outline c.args.outer.now c.args.holes.now c.args.lens.now)
+    let fits : OutlineFits (outline c.args.outer.now c.args.holes.now c.args.hole_lengths.now)
     = record { outer = λ i h. c.type_inv.outer i; holes = λ i h. c.type_inv.holes i } in
     let here : PointFits (point c.args.x c.args.y)
     = record { x = subst T (sym c.well_formed.1.1.1.0.1) tt; y = subst T (sym c.well_formed.1.1.1.1.0.1) tt } in

@@ -9,8 +9,8 @@ use Rattle.outline_sound_entry.proofs.sitjorbe_sound.Goals as goal
 
 pub returns-in-Err : goal.returns-in-Err
 returns-in-Err c =
-    sound_refused (outline c.args.outer.now c.args.holes.now c.args.lens.now) (search rules) (grind (arith, common_steps, refusal_some))
+    sound_refused (outline c.args.outer.now c.args.holes.now c.args.hole_lengths.now) (search rules) (grind (arith, common_steps, refusal_some))
 
 pub returns-in-Ok : goal.returns-in-Ok
 returns-in-Ok c =
-    sound_judged (outline c.args.outer.now c.args.holes.now c.args.lens.now) {n = 0} (search rules) refl c.is_sound.ensures
+    sound_judged (outline c.args.outer.now c.args.holes.now c.args.hole_lengths.now) {n = 0} (search rules) refl c.is_sound.ensures

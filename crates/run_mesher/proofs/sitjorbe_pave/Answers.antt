@@ -38,9 +38,9 @@ pub returns : goal.returns
 returns c =
     let a = c.args in
     let run = c.pave.ensures in
-    let host = subst⁻¹ (λ (v : PaveAnswer). HostPaves (outline a.outer.now a.holes.now a.lens.now) (settings a.size a.sweeps a.passes)
+    let host = subst⁻¹ (λ (v : PaveAnswer). HostPaves (outline a.outer.now a.holes.now a.hole_lengths.now) (settings a.size a.sweeps a.passes)
     (lent a.values.now a.marks.now a.xs.now a.ys.now a.next.now a.prev.now a.snapshot.now a.origins.now a.quads.now a.edges.now a.loops.now
-    a.lengths.now) v (lent_in c.pave.new.lists)) c.from.ensures (host_paves c.pave.result run.paves) in
+    a.loop_lengths.now) v (lent_in c.pave.new.lists)) c.from.ensures (host_paves c.pave.result run.paves) in
     let spares = subst⁻¹ (λ (v : PaveAnswer). Spares v.refusal (scratch a.node_pool.now a.edge_pool.now a.blocks.now a.tried.now)
     (scratch_in c.pave.new.scratch c.pave.new.blocks)) c.from.ensures (host_spares c.pave.result run.spares) in
     let values = run.same_lists.values in

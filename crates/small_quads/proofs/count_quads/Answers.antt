@@ -7,7 +7,7 @@ use Rattle.std.proofs.lemmas.List.Filters.{length-filter_both}
 use Rattle.std.proofs.lemmas.Iterator.{YieldsList-from_range}
 use Rattle.std.proofs.lemmas.Iterator.Consumers.{count_from_yields_List, YieldsList-from_filter}
 use Rattle.small_quads_lattice.specs.Fours.{above_third}
-use Rattle.small_quads.specs.ListLaws.{fours_below, below_all, below_zero, length_next}
+use Rattle.small_quads.proofs.ListLaws.{fours_below, below_all, below_zero, length_next}
 use Rattle.small_quads.proofs.count_quads.Goals as goal
 
 -- of the m numbers from a on as many pass as there are fours

@@ -1,5 +1,5 @@
 -- `small_quads::list_quads` meets its contract: the invariant is `FoursWritten`: the fours below k on the first places. Assumes nothing.
-use Rattle.small_quads.specs.ListLaws.{fours_start, fours_room, fours_next, fours_end}
+use Rattle.small_quads.proofs.ListLaws.{fours_start, fours_room, fours_next, fours_end}
 use Rattle.small_quads.proofs.list_quads.Goals as goal
 
 pub loop-k-init : goal.loop-k-init

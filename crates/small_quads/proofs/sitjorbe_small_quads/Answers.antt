@@ -1,5 +1,5 @@
 -- `small_quads::sitjorbe_small_quads` meets its contract: `refused_is` and `listed_is` of ListLaws.antt, which rest on `fours_same`. Assumes nothing.
-use Rattle.small_quads.specs.ListLaws.{refused_is, listed_is}
+use Rattle.small_quads.proofs.ListLaws.{refused_is, listed_is}
 use Rattle.small_quads.proofs.sitjorbe_small_quads.Goals as goal
 
 pub returns-then-fours-count : goal.returns-then-fours-count

@@ -3,7 +3,7 @@
 use std::fmt::Write;
 
 use sitjorbe::raw::{MeshCounts, MeshRead};
-use sitjorbe::{NotShown, Steps, OFF, STEPS_PER_DEGREE};
+use sitjorbe::{BowlSteps, NotShown, OFF, STEPS_PER_DEGREE};
 
 use crate::files::Failure;
 use crate::hill::Places;
@@ -12,7 +12,7 @@ use crate::run::Paved;
 use crate::words::short;
 
 /// A mesh's nodes in steps. The front isn't needed: steps are of nodes and quads alone, so the mesh is lent without one.
-pub fn steps(paved: &Paved) -> Result<Steps, NotShown> {
+pub fn steps(paved: &Paved) -> Result<BowlSteps, NotShown> {
     let (places, off) = (Places::of(paved), vec![OFF; paved.nodes.len()]);
     let mesh = MeshRead {
         xs: &places.xs,
@@ -24,7 +24,7 @@ pub fn steps(paved: &Paved) -> Result<Steps, NotShown> {
         edges: &[],
     };
     let counts = MeshCounts { nodes: paved.nodes.len() as u32, quads: paved.quads.len(), edges: 0, front: 0 };
-    Steps::of(&mesh, counts)
+    BowlSteps::of(&mesh, counts)
 }
 
 /// Why the bowl can't show a mesh, with the quad's place.

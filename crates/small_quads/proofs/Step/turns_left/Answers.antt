@@ -1,6 +1,6 @@
 -- `small_quads::Step::turns_left` meets its contract: `turn_false` and `turn_true` of Integers.antt. Assumes nothing.
 use Rattle.std.proofs.Common.{refl}
-use Rattle.small_quads.specs.Integers.{turn_false, turn_true}
+use Rattle.small_quads.proofs.Integers.{turn_false, turn_true}
 use Rattle.small_quads.proofs.Step.turns_left.Goals as goal
 
 pub returns-then-plus-minus : goal.returns-then-plus-minus

@@ -1,13 +1,11 @@
--- A quad placed on states that are alike leaves states that are alike: `place_alike`.
-use Rattle.std.specs.Prelude.{ℕ, suc, ◌+◌, ◌*◌, ◌<◌, ◌≤◌, min, max, List, ◌≡◌, refl, Bool, true, false, cond, ◌⊎◌, eqb, ltb, set, get_or, Float}
-use Rattle.std.proofs.Common.{sym, ◌∙◌, subst, inl, inr, ⊎_elim, eq-or-lt_of_le, le_of_suc-le-suc, arith, length-set, eqb-true, ltb-true, ltb-false}
+-- What holds of the definitions of specs/Placings.antt.
+use Rattle.std.specs.Prelude.{ℕ, ◌+◌, ◌*◌, ◌<◌, ◌≤◌, min, max, List, ◌≡◌, refl, Bool, true, false, cond, ◌⊎◌, eqb, ltb, Float}
+use Rattle.std.proofs.Common.{sym, ◌∙◌, subst, inl, inr, ⊎_elim, eq-or-lt_of_le, arith, length-set, eqb-true, ltb-true, ltb-false}
 use Rattle.std.proofs.Math.Path.{ap}
 use Rattle.std.proofs.Math.ListN.{length}
 use Rattle.std.proofs.lemmas.Bool.{eqb-false}
-use Rattle.outline.specs.declared.Point.{Point}
 use Rattle.outline.specs.Outline.{Outline}
 use Rattle.topology.specs.Sums.{front_sum}
-use Rattle.topology.proofs.Changes.{removed_sum, added_sum}
 use Rattle.front.specs.declared.Corner.{Corner}
 use Rattle.front.specs.declared.Corner.TheVariants.{Reused, Fresh}
 use Rattle.front.specs.State.{State, node, next_of, has_edge, edge_places, push_node, push_quad, push_edge, add_edge, add_front, remove_front}
@@ -18,11 +16,11 @@ use Rattle.front.proofs.FrameLaws.{frame_node, frame_edge_places}
 use Rattle.front.proofs.Pushed.{IsNode, with_corners}
 use Rattle.paving.proofs.AttemptLaws.{quad_chosen}
 use Rattle.paving.specs.Reach.{Placement}
-use Rattle.books.specs.Book.{Quad, quad_at}
+use Rattle.books.specs.Book.{quad_at}
 use Rattle.books.proofs.BookLaws.{frame_quad}
 use Rattle.books.proofs.Step.{Stepped, answered_step}
-use Rattle.run_capacity.specs.Alike.{EdgesAlike, Alike, add_alike}
-use Rattle.run_capacity.specs.Attempts.{ReadsAlike, reads_alike, in_c, in_d, point_alike, id_c_lem, id_d_lem}
+use Rattle.run_capacity.proofs.Alike.{EdgesAlike, Alike, add_alike}
+use Rattle.run_capacity.proofs.Attempts.{ReadsAlike, reads_alike, in_c, in_d, point_alike, id_c_lem, id_d_lem}
 
 -- ---- the mesh edges of a placing are those of `add_edges`
 

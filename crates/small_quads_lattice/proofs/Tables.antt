@@ -1,5 +1,4 @@
--- Computed from the definitions: on the lattice's small numbers the float operations are exact, and a corner that passes in integers passes in
--- floats. Each table says that a search through all its entries finds none that fails. Assumes nothing.
+-- What holds of the definitions of specs/Tables.antt.
 use Rattle.std.specs.Prelude.{◌≡◌, refl, Bool, true, false, not, ◌&&◌, ℕ, ◌+◌, ◌*◌, ◌<◌, T, eqb, ℤ, pos, negsuc, ◌-ℤ◌, Float}
 use Rattle.std.proofs.Common.{ap, true≢false, eqb→eq}
 use Rattle.std.specs.Bool.{beq}

@@ -1,8 +1,7 @@
--- Two states are alike where a run reads the same of them: nodes, links, quads and mesh edges, but not what stands past the counts nor how
--- much is lent. And what follows for the links.
-use Rattle.std.specs.Prelude.{ℕ, zero, suc, ◌+◌, ◌*◌, ◌<◌, ◌≤◌, min, max, List, ◌≡◌, Bool, true, false, cond, ◌&&◌, ◌≢◌, eqb, length, get_or, set}
+-- What holds of the definitions of specs/Alike.antt.
+use Rattle.std.specs.Prelude.{ℕ, ◌+◌, ◌*◌, ◌<◌, ◌≤◌, min, max, List, ◌≡◌, Bool, true, false, cond, ◌≢◌, eqb, length, get_or, set}
 use Rattle.std.proofs.Math.Path.{refl, ap}
-use Rattle.std.proofs.Common.{sym, ◌∙◌, ⊎_elim, eq-or-lt_of_le, arith, length-set, get_or-set_same, get_or-set_other, eqb-true}
+use Rattle.std.proofs.Common.{sym, ◌∙◌, arith, length-set, get_or-set_same, get_or-set_other, eqb-true}
 use Rattle.std.proofs.lemmas.Bool.{eqb-false}
 use Rattle.laws.specs.Loop.{any_up}
 use Rattle.laws.proofs.Sums.{any_same}

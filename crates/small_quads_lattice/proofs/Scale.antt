@@ -1,5 +1,4 @@
--- Two steps multiplied by the same number above 0 turn as before: where the sine between the multiplied steps is above 1/3, so is that between
--- the steps. Assumes nothing.
+-- What holds of the definitions of specs/Scale.antt.
 use Rattle.std.specs.Prelude.{◌≡◌, [], ◌∷◌, ℕ, T, ℤ, pos, ◌+ℤ◌, ◌*ℤ◌, ◌-ℤ◌, ◌<ℤ◌}
 use Rattle.std.proofs.Common.{subst, ⊎_elim}
 use Rattle.std.specs.Int.Signed.{lt_z, lt_z_yes}

@@ -1,14 +1,13 @@
--- An attempt on a front edge answers the same in states that are alike: `try_alike`. Function by function along the definitions of the checks.
-use Rattle.std.specs.Prelude.{ℕ, ◌+◌, ◌*◌, ◌<◌, ◌≤◌, List, ◌≡◌, Bool, cond, ◌≢◌, Float, Some, None}
+-- What holds of the definitions of specs/Attempts.antt.
+use Rattle.std.specs.Prelude.{ℕ, ◌+◌, ◌*◌, ◌<◌, List, ◌≡◌, Bool, cond, ◌≢◌, Float, Some, None}
 use Rattle.std.proofs.Math.Path.{refl, ap, ap₂}
-use Rattle.std.proofs.Common.{sym, ◌∙◌}
+use Rattle.std.proofs.Common.{◌∙◌}
 use Rattle.std.proofs.Math.Bool.{true, false}
 use native.Mathlib.Omega.{arith}
 use Rattle.std.proofs.Math.Dec.{eqb}
 use Rattle.std.proofs.lemmas.Bool.{eqb-false}
 use Rattle.laws.specs.Loop.{any_up}
 use Rattle.laws.proofs.Sums.{any_same}
-use Rattle.numbers.specs.Float.{◌⊖◌, ◌⊗◌, tolerance}
 use Rattle.outline.specs.declared.Point.{Point}
 use Rattle.outline.specs.Outline.{Outline, point}
 use Rattle.geometry.specs.declared.Corners.{Corners}
@@ -22,10 +21,10 @@ use Rattle.front.specs.Neighbours.{neighbour_of}
 use Rattle.front.specs.Place.{corner_point, corner_id, id_c, id_d, added}
 use Rattle.front.specs.Sound.{Sound}
 use Rattle.front.proofs.Pushed.{IsNode}
-use Rattle.paving.specs.Checks.{close_node, too_close, node_ok, corner_free, corners_apart, blocks, node_inside, crosses_edge, edge_crosses, side_crosses}
+use Rattle.paving.specs.Checks.{close_node, too_close, node_ok, corner_free, blocks, node_inside, crosses_edge, edge_crosses, side_crosses}
 use Rattle.paving.specs.Checks.{edges_free, corners_of, quad_ok, quad_fits}
 use Rattle.paving.specs.Attempt.{is_reused, corner_at, ideal, corner_c, corner_d, quad_if, attempt_quad, try_toward, try_edge}
-use Rattle.run_capacity.specs.Alike.{EdgesAlike, Alike, next_alike, prev_alike}
+use Rattle.run_capacity.proofs.Alike.{EdgesAlike, Alike, next_alike, prev_alike}
 
 -- ---- what an attempt reads
 

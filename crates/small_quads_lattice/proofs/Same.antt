@@ -1,5 +1,4 @@
--- On the lattice the fours that `convex_ccw` accepts at 20 degrees are those that turn left at every corner with a sine above 1/3: `fours_same`, the
--- last statement. Floats to integers is the sine theorem of crate exact, integers to floats the tables. Assumes nothing.
+-- What holds of the definitions of specs/Same.antt.
 use Rattle.std.specs.Prelude.{◌≡◌, refl, [], ◌∷◌, ◌++◌, Bool, true, false, not, ◌&&◌, cond, ℕ, zero, suc, ◌+◌, ◌-◌, ◌*◌, ◌/◌, ◌%◌, ◌<◌, ◌≤◌, ℤ, ◌*ℤ◌, ◌-ℤ◌, Float}
 use Rattle.std.proofs.Math.Path.{sym, ap, ap₂, subst}
 use Rattle.std.proofs.Common.{◌∙◌, mul_comm, mul-le-mul, mul-le-mul_right, arith}
@@ -21,8 +20,8 @@ use Rattle.exact.specs.Corner.{Vector, step_units, cross, squared_length, sine_a
 use Rattle.exact.proofs.Sine.{sine_theorem}
 use Rattle.geometry.specs.Plane.{convex_ccw, doubled_area, area_term}
 use Rattle.small_quads_lattice.specs.Fours.{lattice_point, first_point, second_point, third_point, fourth_point, accepted_four, corner_turns, above_third, points_of, four_turn, fours}
-use Rattle.small_quads_lattice.specs.Tables.{float_of, small_difference, product, sum_is, zero_is, above_tolerance, steps_ok, grid_step, corner_is}
-use Rattle.small_quads_lattice.specs.Scale.{scaled_by, unscale}
+use Rattle.small_quads_lattice.proofs.Tables.{float_of, small_difference, product, sum_is, zero_is, above_tolerance, steps_ok, grid_step, corner_is}
+use Rattle.small_quads_lattice.proofs.Scale.{scaled_by, unscale}
 
 -- ---- floats to integers
 

@@ -2,8 +2,11 @@
 
 import ctypes
 import importlib.util
+import pathlib
 import re
+import tempfile
 import unittest
+from unittest import mock
 
 from common import ROOT, command
 import calls
@@ -121,6 +124,18 @@ class Numbers(unittest.TestCase):
         for kept, words in (({7: "aa"}, "the shape isn't that of number 7"), ({8: reading.digest()}, "the entry's number is 7")):
             with self.assertRaisesRegex(entries.Wrong, words):
                 bindings.check_number(reading, kept)
+
+    def test_only_the_number_is_raised(self):
+        """From 2 to 3, which stands in `u32` too."""
+        with tempfile.TemporaryDirectory() as folder:
+            source, list_of_shapes = pathlib.Path(folder) / "lib.rt", pathlib.Path(folder) / "shapes.txt"
+            source.write_text("const ABI: u32 = 2; fn sitjorbe_abi_2() -> u32 { ABI }")
+            list_of_shapes.write_text("1 aa\n2 bb\n")
+            with mock.patch.object(bindings, "SHAPE", {source: ["ABI: u32 = {};", "fn sitjorbe_abi_{}()"]}), \
+                    mock.patch.object(bindings, "SHAPES", list_of_shapes):
+                bindings.raise_number(entries.joined([SOURCE]), {1: "aa", 2: "bb"})
+            self.assertEqual(source.read_text(), "const ABI: u32 = 3; fn sitjorbe_abi_3() -> u32 { ABI }")
+            self.assertEqual(list(bindings.shapes(list_of_shapes.read_text())), [1, 2, 3])
 
 
 class Repository(unittest.TestCase):

@@ -6,8 +6,10 @@
 use alloc::vec::Vec;
 use core::fmt;
 
+use super::ladder::Job;
 use super::plane::{cross, length, step, Point};
 use super::sampled::Sampled;
+use crate::raw::is_sound;
 
 /// The sine of the paving's least corner, 20 degrees.
 pub(super) const LEAST_SINE: f64 = 0.342_020_143_325_668_7;
@@ -19,6 +21,8 @@ pub(super) const FARTHEST: f64 = 1_001.0;
 /// Why nodes and quads aren't a closed mesh of an outline. The numbers are quads, edges or nodes, from 0.
 #[derive(Clone, Copy, Debug, PartialEq, Eq)]
 pub enum NotClosed {
+    /// The outline as drawn isn't sound.
+    Unsound,
     /// A node isn't finite or too far away, or a quad names a node that isn't there.
     NoMesh,
     /// The lowest quad with a corner of 20 degrees or less, or a side of no length.
@@ -34,6 +38,7 @@ pub enum NotClosed {
 impl fmt::Display for NotClosed {
     fn fmt(&self, f: &mut fmt::Formatter<'_>) -> fmt::Result {
         match self {
+            NotClosed::Unsound => f.write_str("the outline isn't sound"),
             NotClosed::NoMesh => f.write_str("a node or a quad's number can't be used"),
             NotClosed::Corner(quad) => write!(f, "quad {quad} has a corner of 20 degrees or less"),
             NotClosed::Side(quad) => write!(f, "quad {quad} has a side that is there twice or isn't matched"),
@@ -79,8 +84,11 @@ pub(super) struct Claim {
 
 impl Closed {
     /// The closed mesh that is claimed, if it is one.
-    pub(super) fn judged(outline: &Sampled, claim: Claim) -> Result<Closed, NotClosed> {
-        covers(outline, &claim.nodes, &claim.quads)?;
+    pub(super) fn judged(job: &Job<'_>, claim: Claim) -> Result<Closed, NotClosed> {
+        if is_sound(job.drawn) != Ok(true) {
+            return Err(NotClosed::Unsound);
+        }
+        covers(job.outline, &claim.nodes, &claim.quads)?;
         let Claim { nodes, quads, kinds, sources, given_back } = claim;
         Ok(Closed { nodes, quads, kinds, sources, given_back })
     }

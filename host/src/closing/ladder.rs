@@ -12,6 +12,7 @@ use super::points::Spacing;
 use super::sampled::Sampled;
 use super::work::{Budget, Halt, Work};
 use super::Stage;
+use crate::raw::Outline;
 
 /// Layers given back round the front, rung by rung; the last gives all back.
 const RUNGS: [usize; 4] = [0, 1, 2, usize::MAX];
@@ -20,6 +21,7 @@ const LIFTED: f64 = 0.6;
 
 /// What is to be closed.
 pub(super) struct Job<'a> {
+    pub(super) drawn: &'a Outline<'a>,
     pub(super) outline: &'a Sampled,
     pub(super) points: &'a [Point],
     pub(super) quads: &'a [[u32; 4]],
@@ -55,7 +57,7 @@ pub(super) fn climb(job: &Job<'_>, budget: Budget<'_>) -> Result<Closed, Failure
         let closed = work.close(if layers == usize::MAX { 0 } else { layers });
         let failure = match closed {
             Err(failure) => failure,
-            Ok(()) => match Closed::judged(job.outline, work.net.claim(job)) {
+            Ok(()) => match Closed::judged(job, work.net.claim(job)) {
                 Ok(closed) => return Ok(closed),
                 Err(refused) => Failure::Refused(refused, work.net.bad_places()),
             },

@@ -115,7 +115,8 @@ pub fn close(
     else {
         return Closing::Open([Place { at: [0.0; 2], why: Reason::OtherOutline }].to_vec());
     };
-    let job = ladder::Job { outline: &sampled, points: nodes, quads, size, bends: effort.way == Way::Bend };
+    let job =
+        ladder::Job { drawn: outline, outline: &sampled, points: nodes, quads, size, bends: effort.way == Way::Bend };
     if is_sound(outline) != Ok(true) {
         return Closing::Open([reasons::unsound(&job)].to_vec());
     }

@@ -1,12 +1,16 @@
-//! Closes fields at random, of thirteen kinds, and says how well: `closing_fields [--count N] [--seed S] [--fine F] [--kind K] [--keep] [--each] [--svg FOLDER]`.
+//! Closes fields at random, of thirteen kinds, and says how well: `closing_fields [--count N] [--seed S] [--fine F] [--kind K] [--keep] [--each] [--svg FOLDER]
+//! [--gmsh]`.
 //!
 //! Of those whose sampled outline has no corner of 20 degrees or less and no gap below a tenth of its spacing it says how many are closed; of those closed, over all quads,
 //! the sines, the sides, the inner nodes that haven't four quads, what was kept, and the time beside that of the run itself. `--fine 3` asks for sizes a third as large, so
-//! for nine times as many quads.
+//! for nine times as many quads. `--gmsh` meshes each field by Gmsh too, where it is installed: whole quads by algorithm 6 and Blossom, on one core.
 
-#[path = "../tests/common/fields.rs"]
+#[path = "../../tests/common/fields.rs"]
 mod fields;
-#[path = "../tests/common/rng.rs"]
+mod fit;
+mod gmsh;
+mod picture;
+#[path = "../../tests/common/rng.rs"]
 #[allow(dead_code)]
 mod rng;
 
@@ -14,8 +18,11 @@ use std::collections::BTreeMap;
 use std::env;
 use std::fs;
 
-use sitjorbe::closing::{close, Closed, Closing, Effort, Kind, Reason, Way};
-use sitjorbe::raw::{Mesh, Outline, Settings};
+use fit::is_fit;
+use picture::picture;
+
+use sitjorbe::closing::{close, Closed, Closing, Effort, Reason, Way};
+use sitjorbe::raw::{Outline, Settings};
 use sitjorbe::{Memory, Places};
 
 /// An outline that owns its lists, as the generator makes it.
@@ -56,7 +63,8 @@ struct Measured {
     inner: [usize; 2],
     /// Of the field and paving, and of the closing, in seconds.
     times: [f64; 2],
-    why: String,
+    /// Gmsh's quads and seconds.
+    other: Option<(usize, f64)>,
 }
 
 struct Wish {
@@ -67,6 +75,7 @@ struct Wish {
     way: Way,
     each: bool,
     svg: Option<String>,
+    gmsh: bool,
 }
 
 fn main() {
@@ -95,6 +104,7 @@ fn wish() -> Wish {
         way: if has("--keep") { Way::Keep } else { Way::Bend },
         each: has("--each"),
         svg: after("--svg"),
+        gmsh: has("--gmsh"),
     }
 }
 
@@ -118,12 +128,14 @@ fn measured(kind: &'static str, seed: u64, wish: &Wish) -> Option<Measured> {
     match &closing {
         Closing::Closed(closed) => found.take(closed),
         Closing::Open(places) => {
-            found.why = places.iter().take(3).map(|place| format!("{} at {:.1?}; ", place.why, place.at)).collect();
+            let why: String =
+                places.iter().take(3).map(|place| format!("{} at {:.1?}; ", place.why, place.at)).collect();
             if fit || places.iter().any(|place| place.why == Reason::Budget) {
-                println!("open: {kind} {seed}, size {size:.3}, {} paved: {}", mesh.quad_count(), found.why);
+                println!("open: {kind} {seed}, size {size:.3}, {} paved: {why}", mesh.quad_count());
             }
         }
     }
+    found.other = if wish.gmsh { gmsh::meshed(&outline, size) } else { None };
     if let Some(folder) = &wish.svg {
         let name = format!("{folder}/{}-{seed}.svg", kind.replace(' ', "-"));
         fs::write(name, picture(&mesh, &closing)).expect("written");
@@ -188,34 +200,6 @@ impl Measured {
     }
 }
 
-/// Whether the sampled outline, a mesh that nothing is paved of, has no corner of 20 degrees or less, and no gap below a tenth of its spacing.
-fn is_fit(start: &Mesh<'_>) -> bool {
-    let nodes: Vec<[f64; 2]> = start.nodes().collect();
-    let (next, prev) = start.links();
-    let sampled = nodes.len();
-    let at = |id: u32| nodes[id as usize];
-    let narrow = (0..sampled as u32).any(|k| {
-        let ([ax, ay], [x, y], [bx, by]) = (at(prev[k as usize]), at(k), at(next[k as usize]));
-        let turn = (by - y).atan2(bx - x) - (ay - y).atan2(ax - x);
-        (-turn).rem_euclid(std::f64::consts::TAU).to_degrees() <= 20.0
-    });
-    let tight = (0..sampled as u32).any(|a| {
-        let b = next[a as usize];
-        let spacing = (at(b)[0] - at(a)[0]).hypot(at(b)[1] - at(a)[1]);
-        (0..sampled as u32).any(|k| {
-            let beside = [k, next[k as usize], prev[k as usize]];
-            !beside.contains(&a) && !beside.contains(&b) && from_side(at(k), at(a), at(b)) < 0.1 * spacing
-        })
-    });
-    !narrow && !tight
-}
-
-fn from_side(p: [f64; 2], a: [f64; 2], b: [f64; 2]) -> f64 {
-    let (side, to) = ([b[0] - a[0], b[1] - a[1]], [p[0] - a[0], p[1] - a[1]]);
-    let t = ((to[0] * side[0] + to[1] * side[1]) / (side[0] * side[0] + side[1] * side[1])).clamp(0.0, 1.0);
-    (to[0] - t * side[0]).hypot(to[1] - t * side[1])
-}
-
 /// What a list has at a share of its length, once sorted.
 fn at_share(list: &mut [f64], share: f64) -> f64 {
     list.sort_by(f64::total_cmp);
@@ -244,6 +228,11 @@ fn say(all: &[Measured]) {
                 1e6 * time(0) / quads,
                 1e6 * time(1) / quads
             );
+            let others: Vec<(usize, f64)> = some.iter().filter_map(|one| one.other).collect();
+            if !others.is_empty() {
+                let (quads, time) = others.iter().fold((0, 0.0), |sum, one| (sum.0 + one.0, sum.1 + one.1));
+                println!("{:>80}Gmsh: {:.1}", "", 1e6 * time / quads as f64);
+            }
         }
     }
 }
@@ -270,47 +259,4 @@ fn line(name: &str, some: &[&Measured]) {
         sum(|one| one.kept[0] + one.kept[1]) / sum(|one| one.paved),
         sum(|one| one.kept[0]) / sum(|one| one.paved)
     );
-}
-
-/// A quad and its colour.
-type Coloured = ([u32; 4], &'static str);
-
-/// The mesh as a picture: unmoved quads, bent ones and new ones.
-fn picture(mesh: &Mesh<'_>, closing: &Closing) -> String {
-    let paved: Vec<[f64; 2]> = mesh.nodes().collect();
-    let (nodes, quads): (&[[f64; 2]], Vec<Coloured>) = match closing {
-        Closing::Closed(closed) => (
-            closed.nodes(),
-            closed
-                .quads()
-                .iter()
-                .zip(closed.kinds())
-                .map(|(quad, kind)| {
-                    (
-                        *quad,
-                        match kind {
-                            Kind::Kept => "#bcd4ec",
-                            Kind::Bent => "#c4e3c0",
-                            Kind::New => "#f6e7a8",
-                        },
-                    )
-                })
-                .collect(),
-        ),
-        Closing::Open(_) => (&paved, mesh.quads().map(|quad| (quad, "#eeb4b4")).collect()),
-    };
-    let fold = |axis: usize, pick: fn(f64, f64) -> f64| nodes.iter().map(|p| p[axis]).reduce(pick).unwrap_or(0.0);
-    let (low, high) = ([fold(0, f64::min), fold(1, f64::min)], [fold(0, f64::max), fold(1, f64::max)]);
-    let scale = 1_000.0 / (high[0] - low[0]).max(high[1] - low[1]);
-    let mut text = String::from("<svg xmlns=\"http://www.w3.org/2000/svg\" viewBox=\"-5 -5 1010 1010\"><rect x=\"-5\" y=\"-5\" width=\"1010\" height=\"1010\" fill=\"white\"/>\n");
-    for (quad, fill) in quads {
-        let place = |id: u32| {
-            let [x, y] = nodes[id as usize];
-            format!("{:.1},{:.1}", scale * (x - low[0]), scale * (high[1] - y))
-        };
-        let corners = quad.map(place).join(" ");
-        text.push_str(&format!("<polygon points=\"{corners}\" fill=\"{fill}\" stroke=\"#444\" stroke-width=\"1\"/>\n"));
-    }
-    text.push_str("</svg>\n");
-    text
 }

@@ -1,0 +1,5 @@
+pub mod Even
+mod Examples
+pub mod Laying
+pub mod Steps
+mod Written

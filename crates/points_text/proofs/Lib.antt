@@ -1,0 +1,3 @@
+mod Comments
+mod Letters
+mod Spans

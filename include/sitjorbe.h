@@ -821,7 +821,8 @@ SITJORBE_MUST_USE sitjorbe_exam_answer sitjorbe_exam_read(
 
 /**
  * Whether the quads may be tested in this order: each of them once, and after every quad that laid a front edge which
- * it used up. `places` and `pool` are scratch of any length: what they hold doesn't change the answer.
+ * it used up. `places` and `pool` are scratch of any length: what they hold doesn't change the answer. A refusal may
+ * write them too: 21 `places` alone, and 22 both.
  */
 SITJORBE_MUST_USE sitjorbe_order_answer sitjorbe_order(
     size_t quad_count,

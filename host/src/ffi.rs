@@ -698,7 +698,8 @@ extern "C" {
     ) -> ExamAnswer;
 
     /// Whether the quads may be tested in this order: each of them once, and after every quad that laid a front edge
-    /// which it used up. `places` and `pool` are scratch of any length: what they hold doesn't change the answer.
+    /// which it used up. `places` and `pool` are scratch of any length: what they hold doesn't change the answer. A
+    /// refusal may write them too: 21 `places` alone, and 22 both.
     pub fn sitjorbe_order(
         quad_count: usize,
         quads: *const u32,

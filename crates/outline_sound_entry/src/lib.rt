@@ -1,8 +1,9 @@
 // The public entry that judges an outline. It has no `requires`.
 #![tactic(auto)]
 
-ghost use Rattle.std.specs.Prelude.{◌≡◌};
+ghost use Rattle.std.specs.Prelude.{◌≡◌, ◌↔◌, true};
 ghost use Rattle.outline.specs.Outline.{outline};
+ghost use Rattle.outline_sound.specs.Meaning.{SoundOutline};
 ghost use Rattle.outline_sound_entry.specs.Answer.{sound_answer};
 
 use outline::Domain;
@@ -21,7 +22,8 @@ pub extern "C" fn sitjorbe_sound<'a>(
     holes: &'a [f64],
     hole_lengths: &[usize],
 ) -> SoundAnswer
-    ensures { result ≡ sound_answer (outline outer.now holes.now hole_lengths.now) }
+    ensures answer { result ≡ sound_answer (outline outer.now holes.now hole_lengths.now) }
+    ensures means { result.refusal ≡ 0 → (result.sound ≡ true) ↔ SoundOutline (outline outer.now holes.now hole_lengths.now) }
 {
     let domain = Domain {
         outer,

@@ -4,6 +4,7 @@
 ghost use Rattle.std.specs.Prelude.{◌≡◌, cond, ◌+◌, ◌-◌, ◌*◌, ◌/◌, ◌%◌, ◌<◌, ◌≤◌, length};
 ghost use Rattle.std.proofs.lemmas.List.Edits.{sets};
 ghost use Rattle.small_quads_lattice.specs.Fours.{corner_turns, above_third, points_of, fours, fours_answer, small_quads};
+ghost use Rattle.small_quads_lattice.specs.Theorem.{EverySmallQuad};
 ghost use Rattle.small_quads.specs.Integers.{step_squared, left_turn};
 ghost use Rattle.small_quads.specs.ListLaws.{FourFits};
 
@@ -137,7 +138,8 @@ fn list_quads(list: &mut [u32])
 // Every small quad, on the first places of the lent list: four numbers a four, in dictionary order.
 #[unsafe(no_mangle)]
 pub extern "C" fn sitjorbe_small_quads(fours: &mut [u32]) -> SmallQuadsAnswer
-    ensures { fours_answer result.refusal result.count fours.new ≡ small_quads fours.old }
+    ensures listed { fours_answer result.refusal result.count fours.new ≡ small_quads fours.old }
+    ensures every { EverySmallQuad }
 {
     let count = count_quads();
     if fours.len() < 4 * count {

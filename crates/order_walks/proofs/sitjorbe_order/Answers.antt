@@ -25,19 +25,19 @@ module _ (count : ℕ) (quads order : List ℕ) {n : ℕ} {l : List ℕ} where
 pub new-requires : goal.new-requires
 new-requires c = rw c.quad_count-n.ensures (quads_few _ _)
 
-pub returns-then-not-names_each_once : goal.returns-then-not-names_each_once
-returns-then-not-names_each_once c =
+pub returns-then-not-names_each_once-clause-answer : goal.returns-then-not-names_each_once-clause-answer
+returns-then-not-names_each_once-clause-answer c =
     rw c.default.ensures.1
     (refuses _ _ _ c.quad_count-n.ensures c.new-presentation.ensures (sym c.names_each_once.ensures ∙ c.if-not-names_each_once.true) c.from.ensures)
 
-pub returns-in-Some : goal.returns-in-Some
-returns-in-Some c =
+pub returns-in-Some-clause-answer : goal.returns-in-Some-clause-answer
+returns-in-Some-clause-answer c =
     let made = c.new.ensures in
     passes _ _ _ c.quad_count-n.ensures c.new-presentation.ensures (sym c.names_each_once.ensures ∙ c.if-not-names_each_once.false) made.0 made.1 made.2
     (rw c.from-in-Some.ensures c.in-Some.ensures)
 
-pub returns-in-None : goal.returns-in-None
-returns-in-None c =
+pub returns-in-None-clause-answer : goal.returns-in-None-clause-answer
+returns-in-None-clause-answer c =
     let made = c.new.ensures in
     let none = c.default-in-None.ensures in
     ap₂ answer_of none.0 none.1

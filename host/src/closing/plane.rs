@@ -3,21 +3,28 @@
 /// A point, or a step from one to another.
 pub(super) type Point = [f64; 2];
 
-/// The square root, rounded once: `core` has none yet, and the processor has.
-#[cfg(target_arch = "x86_64")]
+/// The square root, rounded once to the nearest float, which `core` doesn't have yet. Newton's steps come within a last
+/// place, and whole numbers decide it. Of what isn't a normal number above 0, the number itself, or NaN below 0.
 pub(super) fn root(x: f64) -> f64 {
-    use core::arch::x86_64::{_mm_cvtsd_f64, _mm_set_sd, _mm_sqrt_sd};
-    // SAFETY: every x86-64 has these instructions, and they touch no memory.
-    unsafe {
-        let x = _mm_set_sd(x);
-        _mm_cvtsd_f64(_mm_sqrt_sd(x, x))
+    if !x.is_normal() || x < 0.0 {
+        return if x < 0.0 { f64::NAN } else { x };
     }
-}
-
-/// The library is for x86-64 alone: elsewhere this crate can be checked, and not linked.
-#[cfg(not(target_arch = "x86_64"))]
-pub(super) fn root(_: f64) -> f64 {
-    unreachable!("nothing links here")
+    let mut y = f64::from_bits((x.to_bits() + (1023 << 52)) >> 1);
+    for _ in 0..4 {
+        y = 0.5 * (y + x / y);
+    }
+    let parts = |z: f64| ((z.to_bits() & ((1 << 52) - 1)) | (1 << 52), (z.to_bits() >> 52) as i32);
+    let ((m, k), (n, e)) = (parts(y), parts(x));
+    // x is n · 2^(e − 1075), y is m · 2^(k − 1075): in units of y's last place squared, four times x is
+    let four = u128::from(n) << (e + 1075 - 2 * k + 2);
+    let near = |m: u64| u128::from(2 * m + 1) * u128::from(2 * m + 1);
+    if near(m) < four {
+        f64::from_bits(y.to_bits() + 1)
+    } else if four < near(m - 1) {
+        f64::from_bits(y.to_bits() - 1)
+    } else {
+        y
+    }
 }
 
 pub(super) fn step(a: Point, b: Point) -> Point {
@@ -150,5 +157,23 @@ impl Random {
     /// From 0 up to 1.
     pub(super) fn part(&mut self) -> f64 {
         (self.next() >> 11) as f64 / (1u64 << 53) as f64
+    }
+}
+
+#[cfg(test)]
+mod tests {
+    #[test]
+    fn the_root_is_the_processors() {
+        let mut bits = 0x9e37_79b9_7f4a_7c15_u64;
+        for _ in 0..200_000 {
+            bits = bits.wrapping_mul(6_364_136_223_846_793_005).wrapping_add(1_442_695_040_888_963_407);
+            let x = f64::from_bits(bits & (u64::MAX >> 1));
+            for x in
+                [x, 1.0 + (bits >> 12) as f64 * f64::EPSILON / 2.0, (bits >> 40) as f64, ((bits >> 40) as f64).powi(2)]
+            {
+                assert!(!x.is_normal() || super::root(x).to_bits() == x.sqrt().to_bits(), "{x:e}");
+            }
+        }
+        assert!(super::root(0.0) == 0.0 && super::root(-1.0).is_nan());
     }
 }

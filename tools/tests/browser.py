@@ -114,6 +114,15 @@ class Browser:
                 else {"type": {"down": "pointerDown", "up": "pointerUp"}[step], "button": 0} for step in steps]
         self.act({"type": "pointer", "id": kind, "parameters": {"pointerType": kind}, "actions": down})
 
+    def fingers(self, *hands, kind="touch"):
+        """Fingers at once, each a list of as many steps: places, "down", "up", or None for a finger that stays."""
+        def action(step):
+            if step is None:
+                return {"type": "pause", "duration": 0}
+            return {"type": "pointerMove", "duration": 0, "x": round(step[0]), "y": round(step[1])} if isinstance(step, tuple) \
+                else {"type": {"down": "pointerDown", "up": "pointerUp"}[step], "button": 0}
+        self.act(*({"type": "pointer", "id": f"{kind} {k}", "parameters": {"pointerType": kind}, "actions": [action(step) for step in hand]} for k, hand in enumerate(hands)))
+
     def press(self, *names):
         """Keys one after another; "Control+Shift+z" are held together."""
         actions = []

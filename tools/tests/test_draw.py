@@ -3,7 +3,6 @@
 import csv
 import json
 import math
-import os
 import pathlib
 import re
 import socket
@@ -15,59 +14,13 @@ import urllib.request
 
 import browser
 from common import ROOT
+from page_case import COMMAND, SPOT, SQUARE, STATE, PageCase, Server, command_mesh, not_built, points_of
 
-COMMAND = ROOT / "host/target/release/sitjorbe"
-SQUARE = [(-10, -10), (10, -10), (10, 10), (-10, 10)]
-SPOT = [(2, -2), (2, 2), (6, 2), (6, -2)]
 # The page's colours: of words, with their ground, and of marks on the sheet.
 WORDS_ON = [("ink", "ground"), ("ink", "sheet"), ("ink", "control"), ("ink", "wrong-ground"), ("faint", "ground"), ("faint", "sheet"), ("wrong", "sheet"),
             ("on-accent", "accent")]
 MARKS = ["lit", "preview", "wrong", "open", "accent"]
 COLOURS = sorted({*MARKS, *(name for pair in WORDS_ON for name in pair)})
-STATE = "return JSON.parse(sessionStorage.getItem('sitjorbe-draw-1')).state"
-
-
-def not_built():
-    return None if os.access(COMMAND, os.X_OK) else "the command isn't built"
-
-
-def points_of(loops):
-    return "\n".join("".join(f"{x!r},{y!r}\n" for x, y in points) for points in loops)
-
-
-def command_mesh(loops, size):
-    """The mesh that the command paves: each quad's corners, by the loop that it came from."""
-    said = subprocess.run([COMMAND, "pave", "-", "--size", str(size), "-o", "-", "--as", "json"], input=points_of(loops).encode(), capture_output=True, check=True)
-    mesh = json.loads(said.stdout)
-    patches = {}
-    for quad in mesh["quads"]:
-        patches.setdefault(mesh["origins"][quad[0]], []).append([tuple(mesh["nodes"][node]) for node in quad])
-    return patches
-
-
-class Server:
-    """The command, serving."""
-
-    def __init__(self):
-        self.process = subprocess.Popen([COMMAND, "draw"], stdout=subprocess.PIPE, stderr=subprocess.PIPE, text=True)
-        self.url = self.process.stdout.readline().strip()
-        self.port = int(re.fullmatch(r"http://127\.0\.0\.1:(\d+)/", self.url)[1])
-
-    def close(self):
-        self.process.terminate()
-        self.process.communicate()
-
-    def post(self, path, body):
-        request = urllib.request.Request(self.url.rstrip("/") + path, json.dumps(body).encode(), {"Content-Type": "application/json"})
-        with urllib.request.urlopen(request) as answer:
-            return json.load(answer)
-
-    def status(self, text, body=b""):
-        """The status of a request that is sent as it stands."""
-        with socket.create_connection(("127.0.0.1", self.port), timeout=20) as link:
-            link.sendall(text.replace("\n", "\r\n").replace("HOST", f"127.0.0.1:{self.port}").encode() + body)
-            told = link.makefile("rb").readline().decode()
-        return int(told.split()[1])
 
 
 class Hostile(unittest.TestCase):
@@ -88,7 +41,7 @@ class Hostile(unittest.TestCase):
             page, policy = answer.read().decode(), answer.headers["Content-Security-Policy"]
         self.assertNotIn("{{", re.sub(r"<script.*</script>", "", page, flags=re.DOTALL))
         self.assertIn("default-src 'none'", policy)
-        self.assertEqual(re.findall(r"(?:src|href)=\"(?!data:)[^\"]*\"", page), [], "nothing is fetched")
+        self.assertEqual(re.findall(r"(?:src|href)=\"(?!data:)[^\"]*\"", page), ['href="/masked"'], "nothing is fetched, and one page is linked to")
 
     def test_hosts_and_origins(self):
         self.check(200, f"GET / HTTP/1.1\nHost: localhost:{self.server.port}\n\n")
@@ -120,78 +73,7 @@ class Hostile(unittest.TestCase):
             self.assertLess(time.monotonic() - begun, 5)
 
 
-class Page(unittest.TestCase):
-    @classmethod
-    def setUpClass(cls):
-        if lacking := not_built() or browser.missing():
-            raise unittest.SkipTest(f"the page to draw on isn't tried in a browser: {lacking}")
-        cls.server = Server()
-        cls.addClassCleanup(cls.server.close)
-        cls.browser = browser.Browser()
-        cls.addClassCleanup(cls.browser.close)
-
-    def setUp(self):
-        self.run_ = self.browser.run
-        self.browser.go(self.server.url)
-        self.run_("sessionStorage.clear()")
-        self.browser.reload()
-        self.browser.complaints()
-        self.browser.wait("return document.querySelectorAll('#example option').length > 0")
-        for _ in range(2):
-            self.browser.click("#closer")
-        self.assertGreater(self.at(1, 0)[0] - self.at(0, 0)[0], 10, "a pixel is less than a tenth of a degree, so that whole degrees are hit")
-
-    def tearDown(self):
-        self.assertEqual(self.browser.complaints(), [])
-
-    # ---- the page as it stands
-
-    def at(self, x, y):
-        """Where a place in degrees is in the window."""
-        return tuple(self.run_("const m = document.getElementById('loops').getScreenCTM(); return [m.a * arguments[0] + m.e, m.d * arguments[1] + m.f]", x, y))
-
-    def press_at(self, *places, kind="mouse"):
-        for place in places:
-            self.browser.pointer(self.at(*place), "down", "up", kind=kind)
-
-    def mode(self, name):
-        self.browser.click(f"#modes [value={name}]")
-
-    def text(self, selector):
-        return self.run_("return document.querySelector(arguments[0]).textContent", selector)
-
-    def waits_for_words(self, selector, words):
-        return self.browser.wait("const t = document.querySelector(arguments[0])?.textContent ?? ''; return t.includes(arguments[1]) && t", selector, words)
-
-    def state(self):
-        return self.run_(STATE)
-
-    def loops(self):
-        return [[tuple(point) for point in loop["points"]] for loop in self.state()["loops"]]
-
-    def paths(self, selector):
-        """The rings of a path as lists of points."""
-        told = self.run_("return [...document.querySelectorAll(arguments[0])].map((path) => path.getAttribute('d')).join('')", selector)
-        return [[tuple(map(float, point.split(","))) for point in ring.rstrip("Z").split("L")] for ring in told.split("M")[1:]]
-
-    def patches(self):
-        return {k: rings for k in range(6) if (rings := self.paths(f"#patches .patch-{k}"))}
-
-    def draws_square_and_spot(self):
-        self.press_at(*SQUARE, SQUARE[0])
-        self.browser.wait(STATE + ".loops.length === 1")
-        self.mode("blind")
-        self.press_at(*SPOT)
-        self.browser.press("Enter")
-        self.browser.wait(STATE + ".loops.length === 2")
-        self.waits_for_words("#verdict", "is paved")
-        self.browser.wait("return document.querySelector('#patches .patch-1')?.getAttribute('d').length > 0")
-
-    def opens(self, name):
-        self.run_("document.getElementById('example').value = arguments[0]", name)
-        self.browser.click("#example-form button")
-        self.waits_for_words("#verdict", "is paved")
-
+class Page(PageCase):
     # ---- drawing
 
     def test_a_square_with_a_blind_spot(self):
@@ -233,27 +115,151 @@ class Page(unittest.TestCase):
         time.sleep(0.6)
         self.assertEqual(self.patches(), command_mesh(self.loops(), 3))
 
+    def ring(self, radius=20, steps=120):
+        """A stroke round fixation in so many steps."""
+        places = [(radius * math.cos(2 * k * math.pi / steps), radius * math.sin(2 * k * math.pi / steps)) for k in range(steps)]
+        return [self.at(*place) for place in places]
+
     def test_a_stroke_of_a_finger(self):
-        ring = [(20 * math.cos(k * math.pi / 60), 20 * math.sin(k * math.pi / 60)) for k in range(120)]
-        self.browser.pointer(self.at(*ring[0]), "down", *(self.at(*place) for place in ring[1:]), "up", kind="touch")
+        first, *rest = self.ring()
+        self.browser.pointer(first, "down", *rest, "up", kind="touch")
         self.browser.wait(STATE + ".loops.length === 1")
         [points] = self.loops()
         for one, other in zip(points, points[1:]):
-            self.assertTrue(1.4 < math.dist(one, other) < 3, "about half a size apart")
+            self.assertAlmostEqual(math.dist(one, other), 3, delta=0.002, msg="a size apart")
         for point in points:
             self.assertAlmostEqual(math.hypot(*point), 20, delta=0.15)
-            self.assertEqual(self.rounded(point), point)
         self.waits_for_words("#verdict", "is paved")
         self.assertEqual(self.patches(), command_mesh([points], 3))
+
+    def test_a_fast_stroke_has_points_a_size_apart_as_well(self):
+        first, *rest = self.ring(steps=8)
+        self.browser.pointer(first, "down", *rest, first, "up")
+        self.browser.wait(STATE + ".loops.length === 1")
+        [points] = self.loops()
+        self.assertGreater(len(points), 35, "the pointer was seen in eight places")
+        for one, other in zip(points, points[1:]):
+            self.assertAlmostEqual(math.dist(one, other), 3, delta=0.002)
 
     def test_a_stroke_goes_on_from_points(self):
         self.press_at((-10, -10), (10, -10))
         self.browser.pointer(self.at(12, 0), "down", self.at(12, 5), self.at(8, 12))
-        self.assertIn((12.0, 5.0), [point for line in self.paths("#loops .draft") for point in line], "it is seen while it is drawn")
+        drawn = [point for line in self.paths("#loops .draft") for point in line]
+        self.assertLess(min(math.dist(point, (12, 3)) for point in drawn), 0.05, "it is seen while it is drawn")
         self.browser.pointer("up")
         self.browser.press("Enter")
         self.waits_for_words("#verdict", "is paved")
-        self.assertEqual(self.loops(), [[(-10, -10), (10, -10), (12, 0), (12, 5), (8, 12)]])
+        [points] = self.loops()
+        self.assertEqual(points[:3], [(-10, -10), (10, -10), (12, 0)])
+        for one, other in zip(points[2:-1], points[3:-1]):
+            self.assertAlmostEqual(math.dist(one, other), 3, delta=0.002)
+        self.assertLess(math.dist(points[-1], (8, 12)), 1.5, "it ends where the stroke ended")
+
+    # ---- fingers
+
+    def test_steps_by_touch(self):
+        self.draws_square_and_spot()
+        self.mode("step")
+        self.waits_for_words("#look", "Nothing is placed yet")
+        edge = self.paths("#front .front")[0]
+        middle = [(edge[0][axis] + edge[1][axis]) / 2 for axis in (0, 1)]
+        self.press_at(middle, kind="touch")
+        self.waits_for_words("#look", "a quad would come")
+        self.assertEqual(self.patches(), {}, "a tap looks")
+        self.press_at(middle, kind="touch")
+        self.browser.wait(STATE + ".moves.length === 1")
+        self.browser.wait("return document.querySelector('#patches .patch-0')?.getAttribute('d').length > 0")
+        self.assertEqual(sum(map(len, self.patches().values())), 1, "the next one places")
+
+    def test_a_second_finger_gives_up_a_stroke_and_pinches(self):
+        before = self.at(1, 0)[0] - self.at(0, 0)[0]
+        stroke, other = [self.at(x, 0) for x in (-10, -5, 0)], [self.at(x, 0) for x in (4, 6, 9)]
+        self.browser.fingers([stroke[0], "down", stroke[1], stroke[2], None, None, None, None, "up"], [None, None, None, other[0], other[0], "down", other[1], other[2], "up"])
+        self.assertEqual((self.state()["draft"], self.loops()), (None, []), "nothing is drawn")
+        after = self.at(1, 0)[0] - self.at(0, 0)[0]
+        self.assertGreater(after, 1.2 * before, "the fingers went apart")
+        (x, y), (qx, qy) = self.at(0, 0), stroke[2]
+        self.assertAlmostEqual(x, qx, delta=3, msg="what lay under the finger that stayed lies there still")
+        self.assertAlmostEqual(y, qy, delta=3)
+        self.press_at((1, 1), kind="touch")
+        self.browser.wait(STATE + ".draft?.points.length === 1")
+
+    def test_a_pinch_puts_a_point_back(self):
+        self.draws_square_and_spot()
+        self.mode("move")
+        corner, aside, other = self.at(10, 10), self.at(14, 14), self.at(-5, -5)
+        self.browser.fingers([corner, "down", aside, None, None, "up"], [None, None, other, other, "down", "up"])
+        self.assertEqual(self.loops(), [SQUARE, SPOT])
+
+    def test_a_palm_beside_a_pen_does_nothing(self):
+        pen = [self.at(x, y) for x, y in ((-10, -10), (-6, -10), (10, -10), (10, 10))]
+        palm = [self.at(x, y) for x, y in ((-14, -14), (-13, -13), (-12, -12))]
+        def pointer(name, kind, steps):
+            actions = [{"type": "pause", "duration": 0} if step is None else {"type": "pointerMove", "duration": 0, "x": round(step[0]), "y": round(step[1])} if isinstance(step, tuple)
+                       else {"type": {"down": "pointerDown", "up": "pointerUp"}[step], "button": 0} for step in steps]
+            return {"type": "pointer", "id": name, "parameters": {"pointerType": kind}, "actions": actions}
+        self.browser.act(pointer("palm", "touch", [palm[0], "down", palm[1], None, None, palm[2], None, None, "up"]),
+                         pointer("pen", "pen", [None, None, None, pen[0], "down", pen[1], pen[2], pen[3], "up"]))
+        points = [tuple(point) for point in self.state()["draft"]["points"]]
+        self.assertEqual(points[0], (-10, -10), "the palm, which lay there first, has drawn nothing")
+        for one, another in zip(points, points[1:-1]):
+            self.assertAlmostEqual(math.dist(one, another), 3, delta=0.002)
+        self.assertLess(math.dist(points[-1], (10, 10)), 1.6)
+
+    def test_targets_are_large_for_fingers(self):
+        self.browser.chrome("Emulation.setTouchEmulationEnabled", enabled=True, maxTouchPoints=5)
+        self.browser.chrome("Emulation.setDeviceMetricsOverride", width=400, height=800, deviceScaleFactor=1, mobile=True)
+        self.addCleanup(self.browser.chrome, "Emulation.clearDeviceMetricsOverride")
+        self.addCleanup(self.browser.chrome, "Emulation.setTouchEmulationEnabled", enabled=False)
+        self.draws_square_and_spot()
+        self.assertTrue(self.run_("return matchMedia('(pointer: coarse)').matches"))
+        small = """return [...document.querySelectorAll('button, select, input:not([type=radio]), .choice label, .tick, summary')].filter((one) => {
+          const box = one.getBoundingClientRect(); const target = one.closest('.tick')?.getBoundingClientRect() ?? box;
+          return box.width > 0 && (target.width < 44 || target.height < 44); }).map((one) => one.outerHTML)"""
+        self.assertEqual(self.run_(small), [])
+
+    # ---- advice, thinning, work that nobody waits for
+
+    def test_a_dense_outline_is_thinned_where_that_is_asked_for(self):
+        rows = "".join(f"{20 * math.cos(k * math.pi / 500)!r},{20 * math.sin(k * math.pi / 500)!r}\n" for k in range(1000))
+        file = pathlib.Path(self.browser.folder.name, "dense.csv")
+        file.write_text(rows)
+        self.browser.type("#open", str(file))
+        self.waits_for_words("#figures", "1,000 points 0.126° apart")
+        self.assertIn("None of the field is paved", self.text("#verdict"))
+        self.assertNotIn("Smaller quads", self.text("#figures"))
+        self.browser.click("#thin")
+        said = self.waits_for_words("#thin-said", "of 1,000 points stay")
+        self.assertIn("the outline moves by at most", said)
+        self.assertEqual(len(self.loops()[0]), 1000, "nothing is thinned unasked")
+        self.browser.click("#thin-it")
+        self.browser.wait(STATE + ".loops[0].points.length < 60")
+        self.browser.wait("return document.querySelectorAll('#patches .patch-0').length > 0 && document.querySelector('#patches .patch-0').getAttribute('d').length > 0")
+        self.assertEqual(self.patches(), command_mesh(self.loops(), 3))
+        self.browser.click("#undo")
+        self.browser.wait(STATE + ".loops[0].points.length === 1000")
+
+    def sets_size(self, size):
+        self.run_("document.getElementById('size').select()")
+        self.browser.type("#size", size)
+
+    def test_what_is_of_before_says_so_and_stop_stops(self):
+        self.opens("30-2")
+        before = self.text("#verdict")
+        self.sets_size("0.12")
+        self.waits_for_words("#stale-words", "Of before: the new answer is under way")
+        self.assertEqual(self.text("#verdict"), before)
+        self.assertLess(float(self.run_("return getComputedStyle(document.getElementById('result')).opacity")), 0.7, "it is faint")
+        self.browser.click("#stop")
+        self.waits_for_words("#stale-words", "Stopped")
+        self.assertTrue(self.run_("return document.getElementById('busy').hidden"))
+        until = time.monotonic() + 5
+        while self.server.workers() and time.monotonic() < until:
+            time.sleep(0.02)
+        self.assertEqual(self.server.workers(), 0, "nothing runs on in the server")
+        self.sets_size("6")
+        self.browser.wait("return document.getElementById('stale').hidden")
+        self.waits_for_words("#figures", "Nodes")
 
     def test_size_and_eye(self):
         self.opens("24-2")
@@ -338,7 +344,7 @@ class Page(unittest.TestCase):
 
     def balances(self):
         told = self.text("#books")
-        self.assertEqual(told.count("balances ✓"), 2, told)
+        self.assertEqual(told.count("balances ✓"), 3, told)
 
     def test_a_stepped_field_is_kept_over_a_reload(self):
         self.draws_square_and_spot()
@@ -355,10 +361,12 @@ class Page(unittest.TestCase):
         self.draws_square_and_spot()
         self.mode("nearest")
         self.press_at((7, 1))
-        self.waits_for_words("#nearest-said", "is inside the field, 1° from")
+        self.waits_for_words("#nearest-said", "is in the field, 1° from")
         self.assertEqual([list(map(self.rounded, segment)) for segment in self.marked("#marks .lit")], [[(6, 2), (6, -2)]])
         self.press_at((0, 14))
-        self.waits_for_words("#nearest-said", "is outside the field, 4° from")
+        self.waits_for_words("#nearest-said", "is outside the outline, 4° from")
+        self.press_at((4, 1))
+        self.waits_for_words("#nearest-said", "is in “blind spot”, 1° from")
 
     def test_crosses(self):
         self.draws_square_and_spot()
@@ -414,13 +422,6 @@ class Page(unittest.TestCase):
 
     # ---- files
 
-    def saved(self, name):
-        file = pathlib.Path(self.browser.folder.name, name)
-        until = time.monotonic() + browser.PATIENCE_S
-        while not file.exists() and time.monotonic() < until:
-            time.sleep(0.05)
-        return file
-
     def test_files(self):
         self.browser.type("#open", str(ROOT / "examples/right-eye.csv"))
         self.waits_for_words("#files-said", "right-eye.csv is opened")
@@ -439,6 +440,59 @@ class Page(unittest.TestCase):
         self.assertEqual(picture[:8], b"\x89PNG\r\n\x1a\n")
         self.assertEqual(struct.unpack(">II", picture[16:24]), (2 * width, 2 * height))
         self.assertGreater(len(picture), 50_000, "it isn't blank")
+
+    def test_a_whole_field_is_saved_and_opened(self):
+        self.draws_square_and_spot()
+        self.browser.click("#eyes [value=left]")
+        self.run_("document.getElementById('title').select()")
+        self.browser.type("#title", "Anna")
+        self.browser.wait(STATE + ".title === 'Anna'")
+        self.assertTrue(self.asks_before_it_closes(), "nothing of it is saved")
+        self.browser.click("#save-field")
+        saved = json.loads(self.saved("Anna.json").read_text())
+        self.browser.wait("return document.getElementById('files-said').textContent.includes('is saved')")
+        self.assertFalse(self.asks_before_it_closes())
+        digest = json.loads(subprocess.run([COMMAND, "pave", "-", "--size", "3", "-o", "-", "--as", "json"], input=points_of(self.loops()).encode(),
+                                           capture_output=True, check=True).stdout)["digest"]
+        self.assertEqual((saved["title"], saved["eye"], saved["size"], saved["digest"]), ("Anna", "left", 3, digest))
+        names = [loop["name"] for loop in self.state()["loops"]]
+        before = self.loops()
+        self.browser.click("#clear")
+        self.browser.click("#eyes [value=right]")
+        self.assertEqual(self.loops(), [])
+        self.browser.type("#open", str(self.saved("Anna.json")))
+        self.waits_for_words("#files-said", "Anna.json is opened")
+        state = self.state()
+        self.assertEqual((self.loops(), state["eye"], state["size"], state["title"]), (before, "left", 3, "Anna"))
+        self.assertEqual([loop["name"] for loop in state["loops"]], names)
+        self.assertFalse(self.asks_before_it_closes())
+        self.press_at((0, -10))
+        self.browser.wait("return !" + STATE.removeprefix("return ") + ".loops[0].points.every((p) => p[0] !== 0)")
+        self.assertTrue(self.asks_before_it_closes(), "it was changed since")
+
+    def asks_before_it_closes(self):
+        return self.run_("const event = new Event('beforeunload', { cancelable: true }); dispatchEvent(event); return event.defaultPrevented")
+
+    def test_the_command_takes_a_file(self):
+        server = Server(str(ROOT / "examples/right-eye.csv"))
+        self.addCleanup(server.close)
+        self.browser.go(server.url)
+        self.waits_for_words("#verdict", "field is")
+        if self.run_("return document.getElementById('close-open').checked"):
+            self.browser.click("#close-open")
+        self.waits_for_words("#verdict", "is paved")
+        self.assertEqual(self.state()["title"], "right-eye")
+        self.assertEqual(self.patches(), command_mesh(self.loops(), 3))
+        self.browser.go(self.server.url)
+
+    def test_what_the_page_says_is_told(self):
+        self.browser.click("#about")
+        words = self.text("#about-dialog")
+        for told in ("measured nowhere", "says nothing of how well the patient sees", "Proved, on every input", "Not proved, but judged one by one"):
+            self.assertIn(told, words)
+        self.assertTrue(self.run_("return document.getElementById('about-dialog').open"))
+        self.browser.press("Escape")
+        self.assertFalse(self.run_("return document.getElementById('about-dialog').open"))
 
     def test_a_file_that_cant_be_read(self):
         file = pathlib.Path(self.browser.folder.name, "wrong.csv")
@@ -471,6 +525,53 @@ class Page(unittest.TestCase):
             for mark in MARKS:
                 self.assertGreaterEqual(contrast(colours[mark], colours["sheet"]), 3, (scheme, mark))
         self.browser.chrome("Emulation.setEmulatedMedia", features=[])
+
+
+class Closing(PageCase):
+    """What a paving leaves open is closed, as the page has it from the start."""
+
+    closes = True
+
+    def test_the_whole_field_is_covered(self):
+        self.draws_square_and_spot()
+        self.waits_for_words("#verdict", "All of the field is covered")
+        mesh = self.server.post("/pave", {"loops": self.state()["loops"], "size": 3, "eye": None, "close": True})["mesh"]
+        self.assertEqual(self.patches_by_kind(), [mesh["kinds"].count(2), len(mesh["kinds"]) - mesh["kinds"].count(2)])
+        self.assertEqual(self.paths("#patches .open"), [])
+        self.assertIn("closed afterwards", self.text("#figures .legend"))
+        told = self.text("#figures")
+        self.assertIn("Closed afterwards", told)
+        self.assertIn(f"{100 * mesh['closing']['share']:.1f}", told)
+        self.assertAlmostEqual(mesh["figures"]["share"] + mesh["closing"]["share"], 1, places=9)
+
+    def patches_by_kind(self):
+        return [len(self.paths("#patches .closing")), sum(map(len, self.patches().values()))]
+
+    def test_the_switch_is_remembered(self):
+        self.draws_square_and_spot()
+        self.waits_for_words("#verdict", "is covered")
+        self.browser.click("#close-open")
+        self.waits_for_words("#verdict", "measured nowhere")
+        self.assertEqual(self.patches(), command_mesh([SQUARE, SPOT], 3))
+        self.run_("sessionStorage.clear()")
+        self.browser.reload()
+        self.browser.wait("return document.querySelectorAll('#example option').length > 0")
+        self.assertFalse(self.run_("return document.getElementById('close-open').checked"))
+
+    def test_an_exam_takes_the_closed_mesh(self):
+        self.draws_square_and_spot()
+        self.waits_for_words("#verdict", "is covered")
+        self.mode("exam")
+        self.browser.wait("return !document.getElementById('exam').hidden")
+        exam = self.server.post("/exam/state", {})
+        self.assertEqual(exam["left"], [])
+        books = self.server.post("/exam/books", {"exam": exam["id"]})
+        self.assertTrue(books["areas_balance"] and books["edges_balance"] and books["counts_balance"], books)
+        self.server.post("/exam/simulate", {"exam": exam["id"], "patient": {"seed": 1, "noise": 0, "loss": None}, "count": None})
+        files = self.server.post("/exam/save", {"exam": exam["id"]})
+        again = self.server.post("/exam/open", {"text": files["json"], "replaces": exam["id"]})
+        self.assertEqual(again["quads"], exam["quads"])
+        self.assertAlmostEqual(again["share_tested"], 1, places=9)
 
 
 def contrast(one, other):

@@ -31,7 +31,23 @@ fn command(words: &[&str]) -> String {
 }
 
 /// The parts of the page's script, in their order.
-const SCRIPTS: [&str; 10] = ["state", "ask", "view", "shapes", "panel", "drawing", "steps", "files", "surface", "page"];
+const SCRIPTS: [&str; 15] = [
+    "state",
+    "ask",
+    "view",
+    "shapes",
+    "panel",
+    "drawing",
+    "steps",
+    "files",
+    "gestures",
+    "surface",
+    "exam",
+    "exam_view",
+    "hill",
+    "exam_panel",
+    "page",
+];
 
 #[test]
 fn the_page() {
@@ -76,7 +92,8 @@ fn the_page() {
     assert!(!script.contains("</script") && !kept("page.css").contains("</style"));
     assert_eq!([page.matches("<script").count(), page.matches("<style").count()], [1, 1], "none is without a nonce");
     let parts = fs::read_dir(&folder).expect("a folder").count();
-    assert_eq!(parts, SCRIPTS.len() + 2, "every part is in the page");
+    // The masked reader's page has a text and a script of its own.
+    assert_eq!(parts, SCRIPTS.len() + 2 + 2, "every part is in a page");
 }
 
 /// The examples are the repository's, and the mesh of each is what the library makes and the command writes.
@@ -203,7 +220,11 @@ fn texts_that_are_read() {
     let wrong: Vec<&str> = list(&value, "wrong").iter().map(|line| line.as_text().expect("words")).collect();
     assert!(wrong.len() == 2 && wrong[0].starts_with("line 2: ") && wrong[1].starts_with("line 3: "), "{wrong:?}");
     assert_eq!(value.get("loops"), None);
-    assert_eq!(read(""), Value::map([("loops", Value::List(vec![])), ("notes", Value::List(vec![]))]));
+    let nothing = read("");
+    assert_eq!((list(&nothing, "loops"), list(&nothing, "notes")), (&[][..], &[][..]));
+    for name in ["size", "eye", "digest"] {
+        assert_eq!(part(&nothing, name), &Value::Null, "a text of points has none");
+    }
 }
 
 /// A refusal: its number, loop and point, and the words after the library's own.

@@ -10,6 +10,11 @@ use crate::json::{self, Value};
 /// No answer takes longer in a test.
 const PATIENCE: Duration = Duration::from_secs(120);
 
+fn request(line: &str, headers: &[(&str, &str)], body: &[u8]) -> Vec<u8> {
+    let headers: String = headers.iter().map(|(name, value)| format!("{name}: {value}\r\n")).collect();
+    [format!("{line} HTTP/1.1\r\n{headers}\r\n").as_bytes(), body].concat()
+}
+
 /// A server, until it is dropped.
 pub struct Server {
     child: Child,
@@ -18,8 +23,14 @@ pub struct Server {
 
 impl Server {
     pub fn start() -> Server {
+        Server::with(&[])
+    }
+
+    /// One that is called with more words.
+    pub fn with(words: &[&str]) -> Server {
         let mut child = Command::new(env!("CARGO_BIN_EXE_sitjorbe"))
             .arg("draw")
+            .args(words)
             .stdin(Stdio::null())
             .stdout(Stdio::piped())
             .spawn()
@@ -53,13 +64,19 @@ impl Server {
         // It may be answered, and the connection ended, before all is written.
         let _ = stream.write_all(bytes);
         let _ = stream.shutdown(Shutdown::Write);
+        Said::read(stream).whole_or_none()
+    }
+
+    /// What is answered where only headers are asked for.
+    pub fn head(&self, path: &str) -> Said {
+        let mut stream = self.connect();
+        stream.write_all(&request(&format!("HEAD {path}"), &[("Host", &self.host())], b"")).expect("it listens");
         Said::read(stream)
     }
 
     /// What is answered to a request whose headers are told: `Host` and the others.
     pub fn ask(&self, line: &str, headers: &[(&str, &str)], body: &[u8]) -> Said {
-        let headers: String = headers.iter().map(|(name, value)| format!("{name}: {value}\r\n")).collect();
-        self.send(&[format!("{line} HTTP/1.1\r\n{headers}\r\n").as_bytes(), body].concat())
+        self.send(&request(line, headers, body))
     }
 
     pub fn get(&self, path: &str) -> Said {
@@ -76,7 +93,37 @@ impl Server {
             ("Content-Type", "application/json"),
             ("Content-Length", &length),
         ];
-        self.ask(&format!("POST {path}"), &headers, body)
+        self.say(&request(&format!("POST {path}"), &headers, body))
+    }
+
+    /// What is answered to these bytes, after which the connection stays open, as a browser's does.
+    pub fn say(&self, bytes: &[u8]) -> Said {
+        let mut stream = self.connect();
+        let _ = stream.write_all(bytes);
+        Said::read(stream).whole_or_none()
+    }
+
+    /// A connection on which a body was sent by a page with a name, and whose answer hasn't been read.
+    pub fn posted(&self, path: &str, page: &str, body: &Value) -> TcpStream {
+        let (host, body) = (self.host(), body.to_string());
+        let length = body.len().to_string();
+        let headers = [
+            ("Host", host.as_str()),
+            ("Content-Type", "application/json"),
+            ("Content-Length", &length),
+            ("Sitjorbe-Page", page),
+        ];
+        let mut stream = self.connect();
+        stream.write_all(&request(&format!("POST {path}"), &headers, body.as_bytes())).expect("it listens");
+        stream
+    }
+
+    /// The processes that the server began and that haven't ended.
+    pub fn workers(&self) -> usize {
+        let id = self.child.id();
+        let tasks = std::fs::read_dir(format!("/proc/{id}/task")).expect("it runs").flatten();
+        let children = tasks.filter_map(|task| std::fs::read_to_string(task.path().join("children")).ok());
+        children.map(|text| text.split_whitespace().count()).sum()
     }
 
     /// The value that is answered to a body.
@@ -122,8 +169,22 @@ impl Said {
             headers: rest.split("\r\n").map(pair).collect(),
             body: bytes[end + 4..].to_vec(),
         };
-        assert_eq!(said.header("Content-Length"), Some(said.body.len().to_string().as_str()));
         said
+    }
+
+    /// The same; none may have come.
+    fn whole_or_none(self) -> Said {
+        if self.status == 0 {
+            self
+        } else {
+            self.whole()
+        }
+    }
+
+    /// The same, of which the headers tell its length.
+    pub fn whole(self) -> Said {
+        assert_eq!(self.header("Content-Length"), Some(self.body.len().to_string().as_str()));
+        self
     }
 
     pub fn header(&self, name: &str) -> Option<&str> {

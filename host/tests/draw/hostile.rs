@@ -1,23 +1,31 @@
 //! Requests that no page sends. Each has its status and words, and the server still answers after all of them.
 
 use std::fs;
-use std::io::{Read, Write};
-use std::net::Shutdown;
 use std::process::Command;
-use std::thread;
-use std::time::{Duration, Instant};
 
-use crate::client::{Said, Server};
+use crate::client::Server;
 use crate::common::rng::Rng;
 use crate::json::Value;
 use crate::{body, part, square, with_hole};
 
 /// The paths that take a body.
-const PATHS: [&str; 9] =
-    ["/examples", "/read", "/write", "/check", "/pave", "/picture", "/nearest", "/crosses", "/step"];
+pub const PATHS: [&str; 12] = [
+    "/examples",
+    "/first",
+    "/read",
+    "/write",
+    "/save",
+    "/thin",
+    "/check",
+    "/pave",
+    "/picture",
+    "/nearest",
+    "/crosses",
+    "/step",
+];
 
 /// That it still answers, and answers right.
-fn answers(server: &mut Server) {
+pub fn answers(server: &mut Server) {
     assert!(server.is_running());
     assert_eq!(server.get("/").status, 200);
     let asked = body(&vec![square(2.0)], &[("size", Value::Number(1.0))]);
@@ -26,7 +34,7 @@ fn answers(server: &mut Server) {
 }
 
 /// A body that every path takes.
-fn everything() -> Value {
+pub fn everything() -> Value {
     let points = Value::list([[1.0, 1.0], [4.0, 4.0]].into_iter().map(Value::point));
     body(
         &with_hole(),
@@ -107,12 +115,16 @@ fn the_call() {
         (output.status.code().expect("it ends"), text(output.stdout), text(output.stderr))
     };
     let (status, said, _) = call(&["--help"]);
-    assert!(status == 0 && said.starts_with("sitjorbe draw [--port N]: "), "{said}");
+    assert!(status == 0 && said.starts_with("sitjorbe draw [FILE] [--port N]: "), "{said}");
     for words in
-        [&["field.csv"][..], &["--port"], &["--port", "x"], &["--port", "65536"], &["--port", "-1"], &["--size", "3"]]
+        [&["nowhere.csv"][..], &["a.csv", "b.csv"], &["--port"], &["--port", "x"], &["--port", "-1"], &["--size", "3"]]
     {
         let (status, said, wrong) = call(words);
         assert!(status == 2 && said.is_empty() && wrong.starts_with("sitjorbe: "), "{words:?}: {wrong}");
+    }
+    for port in ["65536", "99999"] {
+        let (status, _, wrong) = call(&["--port", port]);
+        assert_eq!((status, wrong), (2, format!("sitjorbe: --port wants a number from 0 to 65535: {port}\n")));
     }
     let server = Server::start();
     let (status, said, wrong) = call(&["--port", &server.port.to_string()]);
@@ -128,9 +140,11 @@ fn methods_and_paths() {
         let said = ask(&format!("GET {path}"));
         assert_eq!((said.status, said.header("Allow")), (405, Some("POST")), "{path}");
     }
-    for method in ["HEAD", "POST", "PUT", "DELETE", "OPTIONS", "TRACE", "CONNECT", "PATCH", "get", "G\"T"] {
-        let said = ask(&format!("{method} /"));
-        assert_eq!((said.status, said.header("Allow")), (405, Some("GET")), "{method}");
+    for method in ["POST", "PUT", "DELETE", "OPTIONS", "TRACE", "CONNECT", "PATCH", "get", "G\"T"] {
+        for page in ["/", "/masked"] {
+            let said = ask(&format!("{method} {page}"));
+            assert_eq!((said.status, said.header("Allow")), (405, Some("GET, HEAD")), "{method}");
+        }
         let said = ask(&format!("{method} /etc/passwd"));
         assert_eq!(said.status, if method == "POST" { 404 } else { 405 }, "{method}");
     }
@@ -305,7 +319,8 @@ fn bodies_by_their_contents() {
             assert!(!said.error().is_empty());
         }
         let said = server.post(path, b"{}");
-        assert_eq!(said.status, if path == "/examples" { 200 } else { 400 }, "{path}");
+        let takes_nothing = ["/examples", "/first"].contains(&path);
+        assert_eq!(said.status, if takes_nothing { 200 } else { 400 }, "{path}");
     }
     let with = |name: &str, value: Value| {
         let Value::Map(mut pairs) = everything() else { unreachable!() };
@@ -423,114 +438,16 @@ fn too_much() {
     answers(&mut server);
 }
 
-/// Connections that say nothing, or stop in the middle, neither keep others out nor stay.
+/// HEAD is answered as GET is, without the body.
 #[test]
-fn quiet_connections() {
-    let mut server = Server::start();
-    let head = format!(
-        "POST /pave HTTP/1.1\r\nHost: {}\r\nContent-Type: application/json\r\nContent-Length: 100\r\n",
-        server.host()
-    );
-    let began = Instant::now();
-    let open: Vec<_> = (0..300)
-        .map(|k| {
-            let mut stream = server.connect();
-            let said = match k % 4 {
-                0 => "",
-                1 => "GET / HT",
-                2 => &head,
-                _ => &format!("{head}\r\n{{\"loops\":"),
-            };
-            let _ = stream.write_all(said.as_bytes());
-            stream
-        })
-        .collect();
-    answers(&mut server);
-    assert!(began.elapsed() < Duration::from_secs(8), "{:?}", began.elapsed());
-    // The first were cut off for the later ones; of those that stay, who began to speak is told that it took too long.
-    let said: Vec<(usize, Said)> = open.into_iter().enumerate().map(|(k, stream)| (k, Said::read(stream))).collect();
-    assert!(
-        began.elapsed() > Duration::from_secs(9) && began.elapsed() < Duration::from_secs(30),
-        "{:?}",
-        began.elapsed()
-    );
-    for (k, said) in said {
-        let late = k >= 300 - 30 && k % 4 != 0;
-        assert!(said.status == 408 || (!late && [0, 400].contains(&said.status)), "{k}: {}", said.status);
-    }
-    answers(&mut server);
-}
-
-/// One that says a byte now and then is cut off too; half a body that ends is told so.
-#[test]
-fn slow_connections() {
-    let mut server = Server::start();
-    let mut stream = server.connect();
-    let began = Instant::now();
-    stream.set_nonblocking(false).expect("it blocks");
-    while began.elapsed() < Duration::from_secs(20) && stream.write_all(b"G").is_ok() {
-        thread::sleep(Duration::from_millis(300));
-        stream.set_read_timeout(Some(Duration::from_millis(10))).expect("a time");
-        if !matches!(stream.peek(&mut [0]), Err(error) if error.kind() == std::io::ErrorKind::WouldBlock) {
-            break;
-        }
-    }
-    assert!(
-        began.elapsed() > Duration::from_secs(9) && began.elapsed() < Duration::from_secs(14),
-        "{:?}",
-        began.elapsed()
-    );
-    let mut text = String::new();
-    stream.set_read_timeout(Some(Duration::from_secs(5))).expect("a time");
-    let _ = stream.read_to_string(&mut text);
-    assert!(text.starts_with("HTTP/1.1 408 "), "{text}");
-    let gone = server.connect();
-    gone.shutdown(Shutdown::Both).expect("it ends");
-    answers(&mut server);
-}
-
-/// Many requests at once, each with the answer that it has alone.
-#[test]
-fn many_at_once() {
-    let mut server = Server::start();
-    let asked = everything().to_string();
-    let without_time = |said: &Said| {
-        let Value::Map(mut pairs) = said.value() else { panic!("a map: {}", said.text()) };
-        pairs.retain(|(name, _)| name != "seconds");
-        Value::Map(pairs)
-    };
-    let alone: Vec<Value> = PATHS.map(|path| without_time(&server.post(path, asked.as_bytes()))).to_vec();
-    let shared = &server;
-    thread::scope(|scope| {
-        for k in 0..32 {
-            let (alone, asked) = (&alone, &asked);
-            scope.spawn(move || {
-                for (place, path) in PATHS.iter().enumerate().cycle().skip(k).take(PATHS.len()) {
-                    let said = shared.post(path, asked.as_bytes());
-                    // The thread that steps has a short queue.
-                    assert!(said.status == 200 || (said.status == 503 && *path == "/step"), "{path}: {}", said.text());
-                    assert!(said.status == 503 || without_time(&said) == alone[place], "{path}");
-                }
-            });
-        }
-    });
-    answers(&mut server);
-}
-
-/// While fields are paved that take long, others are answered.
-#[test]
-fn a_long_paving_keeps_nobody_waiting() {
+fn heads_of_pages() {
     let server = Server::start();
-    let long = body(&vec![square(500.0)], &[("size", Value::Number(1.2))]);
-    let (server, began) = (&server, Instant::now());
-    thread::scope(|scope| {
-        let paving = scope.spawn(|| server.post("/pave", long.to_string().as_bytes()).status);
-        thread::sleep(Duration::from_millis(100));
-        for _ in 0..5 {
-            let near = body(&vec![square(2.0)], &[("at", Value::point([1.0, 0.5]))]);
-            assert_eq!(part(&server.value("/nearest", &near), "inside"), &Value::Bool(true));
-        }
-        assert!(!paving.is_finished(), "it was to take longer: {:?}", began.elapsed());
-        assert_eq!(paving.join().expect("it is answered"), 200);
-    });
+    for page in ["/", "/masked"] {
+        let (whole, head) = (server.get(page), server.head(page));
+        assert_eq!((whole.status, head.status), (200, 200));
+        assert_eq!(head.header("Content-Length"), Some(whole.body.len().to_string().as_str()));
+        assert!(head.body.is_empty() && !whole.body.is_empty());
+    }
+    let missing = server.head("/nowhere");
+    assert!(missing.status == 404 && missing.body.is_empty());
 }

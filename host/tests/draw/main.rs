@@ -9,7 +9,11 @@ mod json;
 
 mod answers;
 mod client;
+mod crowds;
+mod exam;
+mod fields;
 mod hostile;
+mod masked;
 mod stepping;
 
 use common::Drawing;

@@ -28,6 +28,13 @@ impl Failure {
         }
     }
 
+    /// What is wrong, a line or more.
+    pub fn words(&self) -> &str {
+        match self {
+            Failure::Refused(words) | Failure::Cant(words) | Failure::Named(words) => words,
+        }
+    }
+
     /// Says it; the exit status that it gives.
     pub fn said(&self) -> Status {
         let (words, status) = match self {

@@ -1,43 +1,52 @@
 //! The answers to what a page asks. Every mesh, judgement, nearest edge and direction in them is the proved library's.
 
-use std::time::Instant;
-
-use sitjorbe::raw::{contains, directions, is_sound, least_places, nearest_segment, LeastPlaces, Outline, Settings};
+use sitjorbe::raw::{contains, directions, is_sound, least_places, nearest_segment, LeastPlaces, Outline};
 use sitjorbe::Refusal;
 
 use crate::csv::{self, Field};
-use crate::figures::{self, Figures};
 use crate::files::lines_fed;
 use crate::json::Value;
-use crate::mesh_json::{figures_value, left_value, loops_value, mesh_values};
 use crate::naming::Naming;
+use crate::place::where_in_words;
 use crate::refused::{self, Place};
-use crate::run::{self, Drawing, NotPaved, Paved, MOST_PASSES, SWEEPS};
+use crate::run::{Drawing, SWEEPS};
 use crate::sound::{self, Fault};
-use crate::svg::{self, Eye, Look};
 
 use super::asked;
 use super::examples;
+use super::meshes;
+use super::saved;
 use super::wrong::Wrong;
 
-type Answer = fn(&Value) -> Result<Value, Wrong>;
+pub type Answer = fn(&Value) -> Result<Value, Wrong>;
 
-/// The paths that are answered here; /step has a thread of its own.
-pub const PATHS: [(&str, Answer); 8] = [
+/// The paths that are answered here.
+const PATHS: [(&str, Answer); 10] = [
     ("/examples", |_| Ok(examples::value())),
     ("/read", read),
     ("/write", write),
+    ("/save", meshes::save),
+    ("/thin", meshes::thin),
     ("/check", check),
-    ("/pave", pave),
-    ("/picture", picture),
+    ("/pave", meshes::pave),
+    ("/picture", meshes::picture),
     ("/nearest", nearest),
     ("/crosses", crosses),
 ];
 
-/// Outlines with more samples aren't paved here, so that no run takes minutes, or memory that several at once haven't got.
-const MOST_SAMPLED: usize = 50_000;
-const TOO_MANY_SAMPLES: &str =
-    "the outline has too many samples to be paved here: set a larger size, or use sitjorbe pave";
+/// Those that may take long: they pave, or make a field.
+const LONG: [&str; 4] = ["/pave", "/picture", "/crosses", "/save"];
+
+/// The answer at a path, if there is one.
+pub fn at(path: &str) -> Option<Answer> {
+    PATHS.iter().find(|(other, _)| *other == path).map(|(_, answer)| *answer)
+}
+
+/// Whether an answer is made in a process of its own.
+pub fn takes_long(path: &str) -> bool {
+    LONG.contains(&path)
+}
+
 /// So many crosses are asked for at once.
 const MOST_CROSSES: usize = 4_096;
 
@@ -62,10 +71,10 @@ pub fn refused(field: &Field, refusal: Refusal) -> Value {
 }
 
 fn read(body: &Value) -> Result<Value, Wrong> {
-    let words = |lines: &[String]| Value::list(lines.iter().map(|line| Value::text(line)));
-    Ok(match csv::parse(&lines_fed(asked::text(body)?)) {
-        Ok(field) => Value::map([("loops", loops_value(&field)), ("notes", words(&field.notes))]),
-        Err(lines) => Value::map([("wrong", words(&lines))]),
+    let name = asked::title(body)?;
+    Ok(match saved::read(&lines_fed(asked::text(body)?)) {
+        Ok(opened) => opened.value(&name),
+        Err(lines) => Value::map([("wrong", Value::list(lines.iter().map(|line| Value::text(line))))]),
     })
 }
 
@@ -74,7 +83,7 @@ fn write(body: &Value) -> Result<Value, Wrong> {
 }
 
 /// What is refused of a field, whether it is sound, and what isn't.
-fn judgement(field: &Field, sound: Result<bool, Refusal>) -> Vec<(String, Value)> {
+pub fn judgement(field: &Field, sound: Result<bool, Refusal>) -> Vec<(String, Value)> {
     let faults = if sound == Ok(false) { sound::faults(field) } else { vec![] };
     let fault = |fault: &Fault| {
         let segments = fault.segments(field).into_iter();
@@ -97,76 +106,20 @@ fn check(body: &Value) -> Result<Value, Wrong> {
     Ok(Value::Map(judgement(&field, sound)))
 }
 
-/// A field's mesh, unless it is refused. More than there is memory for is wrong.
-fn paved(field: &Field, size: f64) -> Result<Result<Paved, Refusal>, Wrong> {
-    match least_places(&Drawing::of(field).outline(), size) {
-        Err(refusal) => return Ok(Err(refusal)),
-        Ok(LeastPlaces { sampled_nodes, .. }) if sampled_nodes > MOST_SAMPLED => {
-            return Err(Wrong::too_much(TOO_MANY_SAMPLES));
-        }
-        Ok(_) => {}
-    }
-    match run::pave(field, &Settings { size, sweeps: SWEEPS, passes: MOST_PASSES }) {
-        Ok(paved) => Ok(Ok(paved)),
-        Err(NotPaved::Refused(refusal)) => Ok(Err(refusal)),
-        Err(NotPaved::NoMemory) => Err(Wrong::too_much(refused::NO_MEMORY)),
-    }
-}
-
-fn pave(body: &Value) -> Result<Value, Wrong> {
-    let (field, size, eye) = (asked::field(body)?, asked::size(body)?, asked::eye(body)?);
-    let began = Instant::now();
-    let paved = paved(&field, size)?;
-    let seconds = began.elapsed().as_secs_f64();
-    let mut answer = judgement(&field, paved.as_ref().map(|paved| paved.sound).map_err(|refusal| *refusal));
-    if let Ok(paved) = paved {
-        let figures = figures::of(&field, &paved);
-        answer.push(("mesh".to_string(), mesh_value(&field, &paved, &figures, eye)));
-    }
-    answer.push(("seconds".to_string(), Value::Number(seconds)));
-    Ok(Value::Map(answer))
-}
-
-fn mesh_value(field: &Field, paved: &Paved, figures: &Figures, eye: Option<Eye>) -> Value {
-    let notes = figures::stopped(paved).into_iter().chain(eye.and_then(|eye| eye.doubt(field)));
-    let words = |lines: Vec<String>| Value::list(lines.iter().map(|line| Value::text(line)));
-    let head = [
-        ("end", Value::text(&paved.end.to_string())),
-        ("whole", Value::Bool(paved.whole)),
-        ("verdict", Value::text(&figures::verdict(figures, true))),
-        ("notes", words(notes.collect())),
-        ("sentences", words(figures::sentences(figures, &paved.settings))),
-        ("figures", figures_value(figures)),
-        ("left", left_value(paved)),
-    ];
-    let mesh = mesh_values(&paved.nodes, &paved.origins, &paved.quads);
-    Value::Map(head.into_iter().chain(mesh).map(|(name, value)| (name.to_string(), value)).collect())
-}
-
-fn picture(body: &Value) -> Result<Value, Wrong> {
-    let (field, size) = (asked::field(body)?, asked::size(body)?);
-    let look = Look { title: asked::title(body)?, eye: asked::eye(body)?, ..Look::default() };
-    Ok(match paved(&field, size)? {
-        Ok(paved) => {
-            let figures = figures::of(&field, &paved);
-            Value::map([("svg", Value::text(&svg::draw(&field, &paved, &figures, &look)))])
-        }
-        Err(refusal) => refused(&field, refusal),
-    })
-}
-
 fn nearest(body: &Value) -> Result<Value, Wrong> {
     let (field, at) = (asked::field(body)?, asked::point(body, "at")?);
     let drawing = Drawing::of(&field);
     let outline = drawing.outline();
-    let found = nearest_segment(&outline, at).and_then(|segment| Ok((segment, contains(&outline, at)?)));
+    let found = nearest_segment(&outline, at)
+        .and_then(|segment| Ok((segment, contains(&outline, at)?, where_in_words(&field, &drawing, at)?)));
     Ok(match found {
-        Ok((segment, inside)) => Value::map([
+        Ok((segment, inside, words)) => Value::map([
             ("loop", Value::count(segment.loop_index)),
             ("place", Value::count(segment.segment_index)),
             ("ends", Value::list([segment.a, segment.b].into_iter().map(Value::point))),
             ("distance", Value::Number(segment.distance)),
             ("inside", Value::Bool(inside)),
+            ("where", Value::text(&words)),
         ]),
         Err(refusal) => refused(&field, refusal),
     })

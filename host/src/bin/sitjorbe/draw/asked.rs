@@ -22,7 +22,7 @@ fn read<T>(value: &Value, name: &str, what: &str, as_it: impl Fn(&Value) -> Opti
 }
 
 /// Longer names and titles aren't taken.
-const LONGEST_TEXT: usize = 200;
+pub const LONGEST_TEXT: usize = 200;
 
 fn short(words: &str, name: &str) -> Result<(), Wrong> {
     if words.chars().count() > LONGEST_TEXT {
@@ -62,6 +62,31 @@ pub fn title(body: &Value) -> Result<String, Wrong> {
 
 pub fn text(body: &Value) -> Result<&str, Wrong> {
     part(body, "text")?.as_text().ok_or_else(|| Wrong::shape("text isn't text"))
+}
+
+/// A whole number up to a bound.
+pub fn count(body: &Value, name: &str, most: usize) -> Result<usize, Wrong> {
+    read(part(body, name)?, name, "a whole number", |value| value.as_count(most))
+}
+
+/// The same, or none where it is null or absent.
+pub fn maybe_count(body: &Value, name: &str, most: usize) -> Result<Option<usize>, Wrong> {
+    maybe(body, name).map(|value| read(value, name, "a whole number", |value| value.as_count(most))).transpose()
+}
+
+/// When something was done, in milliseconds since 1970, if that is told.
+pub fn time(body: &Value) -> Result<Option<f64>, Wrong> {
+    maybe(body, "time").map(|value| read(value, "time", "a number", Value::as_number)).transpose()
+}
+
+/// Whether something is asked for; not where it is absent.
+pub fn is_asked(body: &Value, name: &str) -> bool {
+    body.get(name) == Some(&Value::Bool(true))
+}
+
+/// One word of several.
+pub fn name<'a>(body: &'a Value, name: &str) -> Result<&'a str, Wrong> {
+    part(body, name)?.as_text().ok_or_else(|| Wrong::shape(&format!("{name} isn't text")))
 }
 
 pub fn point(body: &Value, name: &str) -> Result<[f64; 2], Wrong> {

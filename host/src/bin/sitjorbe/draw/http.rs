@@ -168,11 +168,14 @@ impl Asking<'_> {
 }
 
 /// An answer.
+#[derive(Debug)]
 pub struct Answer {
     pub status: u16,
     /// Its headers, but for those that every answer has.
     pub headers: Vec<String>,
     pub body: Vec<u8>,
+    /// Whether the headers alone are written, which tell the body's length.
+    pub is_head: bool,
 }
 
 /// Every answer has these.
@@ -187,6 +190,7 @@ fn reason(status: u16) -> &'static str {
         404 => "Not Found",
         405 => "Method Not Allowed",
         408 => "Request Timeout",
+        409 => "Conflict",
         411 => "Length Required",
         413 => "Content Too Large",
         415 => "Unsupported Media Type",
@@ -205,7 +209,8 @@ pub fn write(stream: &TcpStream, answer: &Answer) {
         head += &format!("{header}\r\n");
     }
     let mut timed = Timed::new(stream, WRITING);
-    let written = timed.write_all(format!("{head}\r\n").as_bytes()).and_then(|()| timed.write_all(&answer.body));
+    let body = if answer.is_head { &[][..] } else { &answer.body };
+    let written = timed.write_all(format!("{head}\r\n").as_bytes()).and_then(|()| timed.write_all(body));
     if written.is_ok() && stream.shutdown(Shutdown::Write).is_ok() {
         let mut lingering = Timed::new(stream, LINGERING);
         let _ = io::copy(&mut lingering, &mut io::sink());

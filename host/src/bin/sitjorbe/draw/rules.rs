@@ -20,28 +20,51 @@ pub fn hosts(port: u16) -> Vec<String> {
 /// What is asked for.
 #[derive(Debug, PartialEq)]
 pub enum Route {
-    Page,
-    /// The path, and the length of its body.
-    Post(String, usize),
+    /// A page by its path; whether its headers alone are wanted.
+    Page(String, bool),
+    /// A path that takes a body.
+    Post(Post),
+}
+
+/// What a body is sent to.
+#[derive(Debug, PartialEq)]
+pub struct Post {
+    pub path: String,
+    pub length: usize,
+    /// The page that sends it, if it says which: its newer requests take the place of the older ones.
+    pub page: Option<String>,
+}
+
+/// The paths that are known: pages, and those that take a body.
+pub struct Paths<'a> {
+    pub pages: &'a [&'a str],
+    pub posts: &'a dyn Fn(&str) -> bool,
 }
 
 /// What a request asks for, if it keeps to the rules.
-pub fn check(head: &Head, hosts: &[String], is_path: impl Fn(&str) -> bool) -> Result<Route, Wrong> {
+pub fn check(head: &Head, hosts: &[String], paths: &Paths<'_>) -> Result<Route, Wrong> {
     let host = head.header("host")?.ok_or(Wrong::new(400, "there is no Host header"))?;
     if !hosts.iter().any(|other| other.eq_ignore_ascii_case(host)) {
         return Err(Wrong::new(403, "the Host header isn't this server's address"));
     }
     let not_allowed = |allow: &'static str| {
-        Err(Wrong { allow: Some(allow), ..Wrong::new(405, &format!("the method isn't {allow}")) })
+        Err(Wrong { allow: Some(allow), ..Wrong::new(405, &format!("the method isn't one of {allow}")) })
     };
+    let (is_page, is_post) = (|path: &str| paths.pages.contains(&path), paths.posts);
     match (head.method.as_str(), head.target.as_str()) {
-        ("GET", "/") => Ok(Route::Page),
-        ("POST", path) if is_path(path) => Ok(Route::Post(path.to_string(), length(head, host)?)),
-        (_, "/") => not_allowed("GET"),
-        (_, path) if is_path(path) => not_allowed("POST"),
-        ("GET" | "POST", _) => Err(Wrong::new(404, "there is no such path")),
-        _ => not_allowed("GET, POST"),
+        (method @ ("GET" | "HEAD"), path) if is_page(path) => Ok(Route::Page(path.to_string(), method == "HEAD")),
+        ("POST", path) if is_post(path) => Ok(Route::Post(post(head, host, path)?)),
+        (_, path) if is_page(path) => not_allowed("GET, HEAD"),
+        (_, path) if is_post(path) => not_allowed("POST"),
+        ("GET" | "HEAD" | "POST", _) => Err(Wrong::new(404, "there is no such path")),
+        _ => not_allowed("GET, HEAD, POST"),
     }
+}
+
+fn post(head: &Head, host: &str, path: &str) -> Result<Post, Wrong> {
+    let length = length(head, host)?;
+    let page = head.header("sitjorbe-page")?.map(str::to_string);
+    Ok(Post { path: path.to_string(), length, page })
 }
 
 /// The length of a body that may be read.

@@ -4,9 +4,13 @@ use std::collections::VecDeque;
 use std::io;
 use std::net::{Shutdown, TcpStream};
 use std::sync::{Condvar, Mutex, MutexGuard, PoisonError};
+use std::time::Duration;
 
-/// So many requests are worked on at once.
-const MOST_SERVED: usize = 8;
+use super::patience::Patience;
+use super::wrong::Wrong;
+
+/// How often who waits looks whether its client still does.
+const LOOKING: Duration = Duration::from_millis(50);
 /// So many more wait for their turn.
 const MOST_WAITING: usize = 56;
 /// So many connections may stand whose request hasn't come yet.
@@ -17,8 +21,9 @@ fn locked<T>(mutex: &Mutex<T>) -> MutexGuard<'_, T> {
 }
 
 /// Requests that are worked on, and that wait for it.
-#[derive(Default)]
 pub struct Turns {
+    /// So many are worked on at once.
+    most_served: usize,
     counts: Mutex<Counts>,
     freed: Condvar,
 }
@@ -33,18 +38,31 @@ struct Counts {
 pub struct Turn<'a>(&'a Turns);
 
 impl Turns {
-    /// Waits for a turn; none where too many wait already.
-    pub fn take(&self) -> Option<Turn<'_>> {
+    pub fn new(most_served: usize) -> Turns {
+        Turns { most_served, counts: Mutex::default(), freed: Condvar::new() }
+    }
+
+    /// Waits for a turn, as long as its client does; none where too many wait already.
+    pub fn take(&self, patience: &Patience<'_>) -> Result<Turn<'_>, Wrong> {
         let mut counts = locked(&self.counts);
         if counts.waiting >= MOST_WAITING {
-            return None;
+            return Err(Wrong::busy());
         }
         counts.waiting += 1;
-        let freed = self.freed.wait_while(counts, |counts| counts.served >= MOST_SERVED);
-        counts = freed.unwrap_or_else(PoisonError::into_inner);
+        let mut is_over = false;
+        while counts.served >= self.most_served && !is_over {
+            let waited = self.freed.wait_timeout(counts, LOOKING);
+            counts = waited.unwrap_or_else(PoisonError::into_inner).0;
+            is_over = patience.is_over();
+        }
         counts.waiting -= 1;
+        if is_over {
+            // Whoever freed a turn may have told this one alone.
+            self.freed.notify_one();
+            return Err(Wrong::given_up());
+        }
         counts.served += 1;
-        Some(Turn(self))
+        Ok(Turn(self))
     }
 }
 

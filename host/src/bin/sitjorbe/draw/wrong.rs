@@ -28,6 +28,11 @@ impl Wrong {
         Wrong::new(503, "too much is asked at once: wait, and ask again")
     }
 
+    /// Nobody wants the answer any more.
+    pub fn given_up() -> Wrong {
+        Wrong::new(409, "it was given up: a newer request of the same page took its place")
+    }
+
     pub fn bug() -> Wrong {
         Wrong::new(500, "a bug: this request ended the thread that served it; the server goes on")
     }

@@ -5,11 +5,15 @@ const NOTICED_MS = 300;
 /** A newer question waits so long for an older one's answer; then the older one is given up. */
 const PATIENCE_MS = 700;
 
+/** This page, by a name that nobody guesses: a newer question of it takes the place of an older one at the same path. */
+const PAGE = Array.from(crypto.getRandomValues(new Uint32Array(4)), (word) => word.toString(16)).join("-");
+
 /** The answer to a question; throws the words of an error. */
 async function post(path, body, signal) {
+  const headers = { "Content-Type": "application/json", "Sitjorbe-Page": PAGE };
   let response;
   try {
-    response = await fetch(path, { method: "POST", headers: { "Content-Type": "application/json" }, body: JSON.stringify(body), signal });
+    response = await fetch(path, { method: "POST", headers, body: JSON.stringify(body), signal });
   } catch (error) {
     if (error.name === "AbortError") throw error;
     throw new Error("There is no answer: is “sitjorbe draw” still running?");
@@ -44,6 +48,12 @@ class Asker {
     this.last = null;
     this.waiting = null;
     this.settle();
+  }
+
+  /** Ends what is under way, here and in the server; what was asked stays unanswered. */
+  stop() {
+    this.drop();
+    this.control?.abort();
   }
 
   hurry(control) {

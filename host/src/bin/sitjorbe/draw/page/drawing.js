@@ -1,9 +1,11 @@
 // Points added, moved and removed.
 
 /** A press counts as on a point or a line within so many pixels: by mouse or pen, and by finger. */
-const NEAR = { mouse: 10, pen: 10, touch: 20, keys: 0 };
-/** Points of a stroke are half a size apart, but at least so many degrees. */
+const NEAR = { mouse: 10, pen: 10, touch: 22, keys: 0 };
+/** Points of a stroke are a size apart, or as many sizes as make up so many degrees. */
 const LEAST_APART = 0.3;
+/** They are rounded to a thousandth of a degree, so that they are that far apart. */
+const THOUSANDTHS = 1000;
 const MOST_POINTS = 4096;
 
 /** Within how many degrees a press counts as on something. */
@@ -177,18 +179,38 @@ function clearAll() {
 
 // ---- a stroke
 
-/** Points of a stroke that lie far enough apart. */
-function extendStroke(stroke, at) {
-  const apart = Math.max(sizeAsked() / 2, LEAST_APART);
-  if (stroke.length === 0 || distance(stroke.at(-1), at) >= apart) stroke.push(snapped(at));
+function strokeSpacing() {
+  const size = Math.max(sizeAsked(), 0.01);
+  return size * Math.ceil(LEAST_APART / size - 1e-9);
 }
 
-/** A stroke ends; where it comes back to the loop's first point, the loop is closed. */
-function endStroke(stroke, kind) {
+/** Goes on to a place: on the way there a point wherever it comes to be a size from the last one, also where the pointer moved farther. */
+function extendStroke(gesture, at) {
+  const { stroke } = gesture;
+  const apart = strokeSpacing();
+  while (distance(stroke.at(-1), at) >= apart) {
+    const next = leaving(stroke.at(-1), apart, gesture.way, at);
+    stroke.push(next.map((value) => Math.round(value * THOUSANDTHS) / THOUSANDTHS + 0));
+    gesture.way = next;
+  }
+  gesture.way = at;
+}
+
+/** Where the way from a place within a circle to one beyond it leaves it. */
+function leaving([cx, cy], radius, [ax, ay], [bx, by]) {
+  const [ux, uy, vx, vy] = [bx - ax, by - ay, ax - cx, ay - cy];
+  const [square, half, rest] = [ux * ux + uy * uy, ux * vx + uy * vy, vx * vx + vy * vy - radius * radius];
+  const along = Math.min(Math.max((Math.sqrt(Math.max(half * half - square * rest, 0)) - half) / square, 0), 1);
+  return [ax + along * ux, ay + along * uy];
+}
+
+/** A stroke ends. Where it comes back to the loop's first point the loop is closed; else its end is a point as well, unless it is near the last one. */
+function endStroke({ stroke, kind }, at) {
+  const half = strokeSpacing() / 2;
   const first = state.draft?.points[0] ?? stroke[0];
-  const back = Math.max(sizeAsked() / 2, 1.5 * reachOf(kind));
-  const isRound = (state.draft?.points.length ?? 0) + stroke.length > 3 && distance(first, stroke.at(-1)) <= back;
-  const points = isRound && stroke.length > 1 ? stroke.slice(0, -1) : stroke;
-  addPoints(points);
+  const isRound = (state.draft?.points.length ?? 0) + stroke.length > 3 && distance(first, at) <= Math.max(half, 1.5 * reachOf(kind));
+  if (isRound && distance(first, stroke.at(-1)) < half) stroke.pop();
+  if (!isRound && distance(stroke.at(-1), at) >= half) stroke.push(snapped(at));
+  addPoints(stroke);
   if (isRound) closeDraft();
 }

@@ -18,33 +18,81 @@ async function fetchExamples() {
 function openExample(name) {
   const example = examples.get(name);
   if (example === undefined) return;
-  const { loops, size, eye } = structuredClone(example);
-  openField(loops, { title: name.replaceAll("/", "-"), size: size ?? state.size, eye: eye ?? null });
+  openField({ ...structuredClone(example), title: name.replaceAll("/", "-"), digest: null });
   tell(`${name} is opened.`);
 }
 
-function openField(loops, more) {
-  change(() => Object.assign(state, { loops, draft: null, selected: null, ...more }));
+/** Opens a field; settings that it doesn't have stay as they are. Its mesh is to have the digest that it tells, if it tells one. */
+function openField({ loops, size, eye, title, digest }) {
+  change(() => Object.assign(state, { loops, draft: null, selected: null, title: title ?? state.title, size: size ?? state.size, eye: eye ?? state.eye }));
   state.view = fitted();
+  shownNow.digestWanted = digest ?? null;
   enter("move");
+  setSaved();
+}
+
+/** The field that the command was called with, where nothing is drawn yet. */
+async function openFirst() {
+  if (hasField() || state.draft !== null) return;
+  const { field } = await post("/first", {}).catch(() => ({ field: null }));
+  if (field === null || hasField() || state.draft !== null) return;
+  openField(field);
+  fileSaid(`${field.title} is opened.`, field.notes);
+}
+
+/** Says where a file's mesh isn't the one that is paved of its field here. */
+function compareDigest(mesh) {
+  const wanted = shownNow.digestWanted;
+  shownNow.digestWanted = null;
+  if (wanted === null || mesh === null || wanted === mesh.digest) return;
+  fileSaid(`The file's mesh is ${wanted}, and what is paved here is ${mesh.digest}: another version or size made it.`);
 }
 
 async function openFile(file) {
+  if (exam !== null && !(await endExam())) return false;
   if (file.size > LONGEST_FILE) {
     fileSaid(`${file.name} is too long for a file of points.`);
-    return;
+    return false;
   }
-  const answer = await post("/read", { text: await file.text() }).catch((error) => ({ wrong: [error.message] }));
+  const text = await file.text();
+  if (/"exam"\s*:/.test(text)) return openExam(text);
+  const answer = await post("/read", { text, title: stem(file.name) }).catch((error) => ({ wrong: [error.message] }));
   if (answer.wrong !== undefined) {
     fileSaid(`${file.name} can't be read:`, answer.wrong);
-    return;
+    return false;
   }
-  openField(answer.loops, { title: stem(file.name) });
+  openField(answer);
   fileSaid(`${file.name} is opened.`, answer.notes);
+  return true;
 }
 
 function stem(name) {
   return name.replace(/\.[^.]*$/, "").slice(0, LONGEST_TITLE);
+}
+
+// ---- thinning
+
+/** Says what thinning would do, and asks. */
+async function offerThin() {
+  const answer = await post("/thin", { ...field(), size: sizeAsked() }).catch((error) => ({ refusal: { words: error.message } }));
+  const words = answer.refusal?.words ?? answer.words;
+  shownNow.thinned = answer.refusal || answer.stay === answer.drawn ? null : answer;
+  put("thin-said", sentence(words).replace("Thinned to", "Thinned to points about"));
+  part("thin-it").hidden = part("leave-it").hidden = shownNow.thinned === null;
+}
+
+/** The points that stay take the place of all; undo brings the original back. */
+function thinIt() {
+  const { loops, words } = shownNow.thinned;
+  endThin();
+  change(() => Object.assign(state, { loops, selected: null }));
+  put("thin-said", `${words} Undo brings the original back.`);
+}
+
+function endThin() {
+  shownNow.thinned = null;
+  part("thin-it").hidden = part("leave-it").hidden = true;
+  put("thin-said", "");
 }
 
 function fileSaid(words, lines = []) {
@@ -72,6 +120,13 @@ async function saving(work) {
   } catch (error) {
     fileSaid(error.message);
   }
+}
+
+/** The whole field: points, names, eye, size, title, and its mesh's digest. */
+async function saveField() {
+  const { text } = await post("/save", fieldWithSettings());
+  save(new Blob([text], { type: "application/json" }), "json");
+  setSaved();
 }
 
 async function saveCsv() {

@@ -11,6 +11,7 @@ let typing = null;
 /** After every change: all that is shown follows, and what it needs is asked for. */
 function changed(isTyped = false) {
   keep();
+  endThin();
   forgetNearest();
   if (shownNow.refusedDraft !== null) forgetRefusedDraft();
   if (!hasField()) clearAnswers();
@@ -40,7 +41,8 @@ function clearAnswers() {
 }
 
 function askField() {
-  if (!hasField()) return;
+  if (!hasField() || isExam()) return;
+  if (isStopped) isStopped = false;
   paver.ask(fieldWithSettings());
   askSteps();
   askCrosses();
@@ -49,6 +51,7 @@ function askField() {
 function showMesh(answer) {
   Object.assign(shownNow, { paved: answer, mesh: answer.mesh ?? null, refusal: answer.refusal ?? null, faults: answer.faults ?? [] });
   showResult(answer);
+  compareDigest(shownNow.mesh);
   drawMesh();
   drawMarks();
 }
@@ -61,12 +64,38 @@ function failMesh(words) {
 }
 
 const waitedFor = new Set();
+/** Whether the answers to what is drawn were stopped. */
+let isStopped = false;
 
-/** What is awaited for long is said, and what stands meanwhile is faint. */
+/** What is awaited for long is said, and what stands meanwhile is faint and says so. */
 function showBusy(isBusy, asker) {
   waitedFor[isBusy ? "add" : "delete"](asker);
+  if (isBusy) isStopped = false;
   part("busy").hidden = waitedFor.size === 0;
-  part("patches").classList.toggle("stale", waitedFor.size > 0);
+  showStale();
+}
+
+function showStale() {
+  const isStale = waitedFor.size > 0 || isStopped;
+  for (const name of ["patches", "result", "steps"]) part(name).classList.toggle("stale", isStale);
+  part("stale").hidden = !isStale;
+  part("again").hidden = !isStopped;
+  const words = isStopped ? "Stopped. What stands here is of before." : "Of before: the new answer is under way.";
+  put("stale-words", isStale ? words : "");
+}
+
+function stop() {
+  for (const asker of [paver, stepper, crosser]) asker.stop();
+  isStopped = true;
+  showStale();
+  tell("Stopped.");
+}
+
+/** Asks again for what was stopped. */
+function goOn() {
+  isStopped = false;
+  showStale();
+  askField();
 }
 
 // ---- nearest edge and crosses
@@ -83,7 +112,7 @@ function showNearest(answer, { at }) {
   shownNow.nearest = { ...answer, at };
   const { points, name } = { ...state.loops[answer.loop] };
   const next = ((answer.place + 1) % points.length) + 1;
-  const place = `${at.map(short).join(", ")} is ${answer.inside ? "inside" : "outside"} the field`;
+  const place = `${at.map(short).join(", ")} is ${answer.where}`;
   const words = `${place}, ${short(answer.distance)}° from its nearest edge: “${name}”, point ${answer.place + 1} to ${next}.`;
   part("nearest-said").textContent = words;
   drawMarks();
@@ -107,8 +136,17 @@ function showCrosses(answer, { points, apart }) {
 
 // ---- modes
 
-/** Enters a mode; a loop that is being drawn is ended before. */
-function enter(mode) {
+/** Enters a mode; a loop that is being drawn is ended before, and an exam is asked about. */
+async function enter(mode) {
+  if (mode !== "exam" && exam !== null && !(await endExam())) {
+    showControls();
+    return;
+  }
+  if (mode === "exam") {
+    if (exam === null && hasField()) await beginExam();
+    showControls();
+    return;
+  }
   if (state.draft !== null && state.draft.kind !== mode) endDraft();
   state.mode = mode === "outline" || hasField() ? mode : "outline";
   if (state.mode !== "move") state.selected = null;
@@ -116,18 +154,26 @@ function enter(mode) {
   changed();
 }
 
+/** Takes the last change back: in an exam the last threshold. */
+function undoAny() {
+  if (isExam()) undoEntry();
+  else undo();
+}
+
 // ---- listening
 
 function listenToControls() {
   const clicks = {
-    undo, redo, close: closeDraft, remove: removePoint, clear: clearAll, closer: () => zoom(ZOOM), farther: () => zoom(1 / ZOOM), fit,
-    "undo-step": undoStep, "start-again": startAgain,
-    "save-csv": () => saving(saveCsv), "save-svg": () => saving(saveSvg), "save-png": () => saving(savePng),
+    undo: undoAny, redo, close: closeDraft, remove: removePoint, clear: clearAll, closer: () => zoom(ZOOM), farther: () => zoom(1 / ZOOM), fit,
+    "undo-step": undoStep, "start-again": startAgain, stop, again: goOn,
+    thin: offerThin, "thin-it": thinIt, "leave-it": endThin, about: () => part("about-dialog").showModal(), "about-close": () => part("about-dialog").close(),
+    "save-field": () => saving(saveField), "save-csv": () => saving(saveCsv), "save-svg": () => saving(saveSvg), "save-png": () => saving(savePng),
   };
   for (const [name, work] of Object.entries(clicks)) part(name).addEventListener("click", () => work());
   for (const button of document.querySelectorAll("[data-passes]")) button.addEventListener("click", () => move(Number(button.dataset.passes)));
   for (const choice of document.querySelectorAll("#modes input")) choice.addEventListener("change", () => enter(choice.value));
   for (const choice of document.querySelectorAll("#eyes input")) choice.addEventListener("change", () => change(() => { state.eye = choice.value || null; }));
+  part("close-open").addEventListener("change", (event) => { rememberClose(event.target.checked); changed(); });
   part("show-crosses").addEventListener("change", (event) => { state.crosses = event.target.checked; changed(); });
   part("example-form").addEventListener("submit", (event) => { event.preventDefault(); openExample(part("example").value); });
 }
@@ -172,9 +218,16 @@ function begin() {
   listenToControls();
   listenToBoxes();
   listenToFiles();
+  listenToExam();
   new ResizeObserver(redraw).observe(part("frame"));
   fetchExamples();
+  if (state.mode === "exam") {
+    state.mode = "move";
+    fetchExam();
+  }
+  openFirst();
   changed();
+  addEventListener("beforeunload", (event) => { if (isUnsaved()) event.preventDefault(); });
 }
 
 begin();

@@ -5,6 +5,7 @@ const HINTS = {
   blind: "Click round the blind spot, or draw it in one stroke.",
   move: "Drag a point to move it. Click on a line to add a point. Delete removes the selected one.",
   step: "Point at a bold edge to see the quad that would come; press to place it.",
+  exam: "Type the threshold of the marked node, in decibels, and press Enter. Press on a node to pick it.",
   nearest: "Click anywhere: the nearest edge of the outline lights up.",
 };
 const NEXT = "Drag a point to move it. Click on a line to add one. Is there a blind spot? Choose “Draw blind spot”.";
@@ -35,22 +36,25 @@ function hint() {
 }
 
 function showControls() {
+  const isOn = isExam();
   part("hint").textContent = hint();
   document.querySelector(`#modes [value="${state.mode}"]`).checked = true;
   for (const mode of document.querySelectorAll("#modes input")) mode.disabled = mode.value !== "outline" && !hasField();
   document.querySelector(`#eyes [value="${state.eye ?? ""}"]`).checked = true;
   typed("size", state.size);
   typed("title", state.title);
-  part("undo").disabled = changes.past.length === 0;
-  part("redo").disabled = changes.future.length === 0;
+  part("undo").disabled = isOn ? !exam.can_undo : changes.past.length === 0;
+  part("redo").disabled = isOn || changes.future.length === 0;
   part("close").disabled = state.draft === null;
   part("remove").disabled = state.selected === null && state.draft === null;
-  part("clear").disabled = !hasField() && state.draft === null;
-  for (const name of ["save-csv", "save-svg", "save-png"]) part(name).disabled = !hasField();
+  part("clear").disabled = isOn || (!hasField() && state.draft === null);
+  for (const name of ["save-field", "save-csv", "save-svg", "save-png", "thin"]) part(name).disabled = !hasField();
   part("show-crosses").checked = state.crosses;
+  part("close-open").checked = state.close;
   part("loop-section").hidden = !hasField();
   part("steps").hidden = state.mode !== "step";
-  part("result").hidden = state.mode === "step";
+  part("result").hidden = state.mode === "step" || isOn;
+  part("exam").hidden = !isOn;
   surface.classList.toggle("moving", state.mode === "move");
   surface.classList.remove("over");
   showPoint();
@@ -105,9 +109,10 @@ function showResult(answer, wrong = answer?.refusal?.words) {
   put("faults", ...faults.map(({ words }) => html("li", {}, sentence(words))));
   put("notes", ...(mesh?.notes ?? []).map((words) => html("li", {}, sentence(words))));
   const share = mesh?.figures.share ?? null;
+  part("share").classList.toggle("closed", mesh?.closing !== undefined);
   part("share").hidden = share === null;
   part("share-paved").style.width = `${100 * Math.min(share ?? 0, 1)}%`;
-  part("figures").replaceChildren(...(mesh === null ? [] : [legend(mesh), figuresTable(mesh.figures), html("p", { class: "legend" }, FIGURES_READ)]));
+  part("figures").replaceChildren(...(mesh === null ? [] : [legend(mesh), figuresTable(mesh), html("p", { class: "legend" }, FIGURES_READ)]));
 }
 
 function saidOf(wrong, faults, mesh) {
@@ -128,9 +133,18 @@ function swatch(name) {
 
 function legend(mesh) {
   const isOpen = mesh.left.length > 0;
-  const parts = [isOpen && ["open", "measured nowhere"], state.loops.length > 1 && ["blind", "blind spot"]];
-  const advice = isOpen ? [html("br"), "Smaller quads usually leave less open."] : [];
+  const parts = [mesh.closing && ["closing", "closed afterwards"], isOpen && ["open", "measured nowhere"], state.loops.length > 1 && ["blind", "blind spot"]];
+  const advice = mesh.advice === null ? [] : [html("br"), mesh.advice, ...(mesh.is_dense ? [html("br"), thinButton()] : [])];
   return html("p", { class: "legend" }, ...parts.filter(Boolean).map(([name, words]) => html("span", {}, swatch(name), words)), ...advice);
+}
+
+function thinButton() {
+  const button = html("button", { type: "button" }, "Thin the points…");
+  button.addEventListener("click", () => {
+    offerThin();
+    part("thin-said").scrollIntoView({ block: "center" });
+  });
+  return button;
 }
 
 function percent(share) {
@@ -141,11 +155,12 @@ const FIGURES = ["Nodes", "Quads", "Share", "Angle", "Sides"];
 const FIGURES_READ = "Angle: the smallest of a quad's four, the least and the median. Sides: a quad's longest side over its shortest, the most and the median.";
 
 /** Two rows a patch, its name and its figures, and two for all. */
-function figuresTable(figures) {
+function figuresTable({ figures, closing }) {
   const patches = figures.patches.map((patch, k) => figuresRows([swatch(colourOf(k)), k === 0 ? "Paved from the outline" : `Paved round “${patch.name}”`], patch));
-  const all = figures.patches.length > 1 ? [figuresRows(["All"], figures)] : [];
+  const closed = closing === undefined ? [] : [figuresRows([swatch("closing"), "Closed afterwards"], { nodes: closing.nodes, quads: closing.new, share: closing.share, quality: null })];
+  const all = figures.patches.length > 1 || closing !== undefined ? [figuresRows(["All"], { ...figures, share: figures.share === null ? null : figures.share + (closing?.share ?? 0) })] : [];
   const head = html("tr", {}, ...FIGURES.map((words) => html("th", { scope: "col" }, words)));
-  return html("table", {}, html("thead", {}, head), ...patches, ...all);
+  return html("table", {}, html("thead", {}, head), ...patches, ...closed, ...all);
 }
 
 function figuresRows(name, { nodes, quads, share, quality }) {

@@ -10,7 +10,7 @@ const MOST_CROSSES = 4096;
 
 /** What was answered for what is drawn: none of it is kept. */
 const NOTHING = { paved: null, mesh: null, refusal: null, faults: [], nearest: null, crosses: null, steps: null };
-const shownNow = { ...NOTHING, refusedDraft: null };
+const shownNow = { ...NOTHING, refusedDraft: null, digestWanted: null, thinned: null, estimate: null };
 
 function ring(points) {
   return points.length === 0 ? "" : `M${points.map(([x, y]) => `${x},${y}`).join("L")}Z`;
@@ -43,6 +43,8 @@ function redraw() {
   drawGrid();
   drawLoops();
   drawMesh();
+  drawExam();
+  drawHill();
   drawCrosses();
   drawFront();
   drawMarks();
@@ -66,7 +68,7 @@ function draftPaths() {
 }
 
 function drawPoints() {
-  const hidden = state.mode === "step" || state.mode === "nearest";
+  const hidden = ["step", "nearest", "exam"].includes(state.mode);
   const loops = hidden ? [] : state.loops.flatMap((loop) => loop.points.map((point) => dot(point, "point")));
   const draft = (state.draft?.points ?? []).map((point, k) => dot(point, k === 0 ? "point first-point" : "point"));
   part("points").replaceChildren(...loops, ...draft, ...(hidden ? [] : selectedDot()));
@@ -91,14 +93,15 @@ function meshShown() {
 
 function drawMesh() {
   const mesh = meshShown();
-  part("patches").replaceChildren(...(mesh === null ? [] : meshPaths(mesh)));
+  part("patches").replaceChildren(...(mesh === null || isExam() ? [] : meshPaths(mesh)));
 }
 
-function meshPaths({ nodes, origins, quads, left = [] }) {
+function meshPaths({ nodes, origins, quads, kinds = [], left = [] }) {
   const patches = Array.from({ length: PATCH_COLOURS }, () => []);
-  for (const quad of quads) patches[colourOf(origins[quad[0]])].push(ring(quad.map((id) => nodes[id])));
+  const closing = [];
+  quads.forEach((quad, k) => (kinds[k] === 2 ? closing : patches[colourOf(origins[quad[0]])]).push(ring(quad.map((id) => nodes[id]))));
   const side = sideInPixels();
-  const made = patches.map((rings, k) => path(`patch patch-${k}`, rings.join("")));
+  const made = [...patches.map((rings, k) => path(`patch patch-${k}`, rings.join(""))), path("patch closing", closing.join(""))];
   for (const patch of made) patch.style.strokeWidth = side < SIDES_SEEN ? 0 : Math.min(Math.max(side / 14, 0.3), 1.2);
   const open = path("open", left.map((ids) => ring(ids.map((id) => nodes[id]))).join(""));
   open.style.strokeWidth = Math.min(Math.max(side / 5, 0.3), 2);

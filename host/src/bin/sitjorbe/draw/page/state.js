@@ -10,7 +10,7 @@ const USUAL_SIZE = 3;
 /** All that a reload keeps. `loops` has the outline first; `draft` is the loop that is being drawn. */
 const state = {
   loops: [], draft: null, eye: null, size: USUAL_SIZE, title: "field", moves: [],
-  selected: null, mode: "outline", crosses: false, view: null,
+  selected: null, mode: "outline", crosses: false, view: null, saved: null, look: "shades", close: true, quadNumbers: "", showBowl: false, examSaved: "",
 };
 /** How the tags of changes begin that come letter by letter. */
 const TYPED = "typed ";
@@ -70,6 +70,29 @@ function travel(from, to, words) {
   changed();
 }
 
+// ---- what is saved
+
+/** A word for what a saved field has: it changes with each point, name and setting. */
+function workWord() {
+  const text = JSON.stringify([state.loops, state.draft, state.eye, state.size, state.title]);
+  let [a, b] = [0xdeadbeef, 0x41c6ce57];
+  for (let place = 0; place < text.length; place += 1) {
+    const code = text.charCodeAt(place);
+    [a, b] = [Math.imul(a ^ code, 2654435761), Math.imul(b ^ code, 1597334677)];
+  }
+  return `${(a >>> 0).toString(16)}-${(b >>> 0).toString(16)}`;
+}
+
+/** What stands is saved, or is as it was opened. */
+function setSaved() {
+  state.saved = workWord();
+  keep();
+}
+
+function isUnsaved() {
+  return isExamUnsaved() || (hasField() || state.draft !== null) && workWord() !== state.saved;
+}
+
 function keep() {
   const full = JSON.stringify({ state, changes });
   const text = full.length <= MOST_KEPT ? full : JSON.stringify({ state, changes: { past: [], future: [], tag: null } });
@@ -80,8 +103,19 @@ function keep() {
   }
 }
 
+/** Whether what stays open is to be closed, as it was chosen the last time, in whatever tab. */
+function rememberClose(isOn) {
+  state.close = isOn;
+  try {
+    localStorage.setItem(`${KEPT_AS}-close`, String(isOn));
+  } catch {
+    // a browser that keeps nothing
+  }
+}
+
 function fetchKept() {
   try {
+    state.close = localStorage.getItem(`${KEPT_AS}-close`) !== "false";
     const kept = JSON.parse(sessionStorage.getItem(KEPT_AS));
     Object.assign(state, kept.state);
     Object.assign(changes, kept.changes);
@@ -114,7 +148,7 @@ function field() {
 
 /** The field with its settings. A size that isn't a number goes as 0, which the library refuses in words. */
 function fieldWithSettings() {
-  return { loops: state.loops, size: sizeAsked(), eye: state.eye, title: state.title };
+  return { loops: state.loops, size: sizeAsked(), eye: state.eye, title: state.title, close: state.close };
 }
 
 function sizeAsked() {

@@ -132,16 +132,22 @@ function lookAlong(step) {
 // ---- the books
 
 function showBooks(books) {
-  const { nodes, quads, front, sampled } = books;
+  part("books").replaceChildren(booksBody(books));
+}
+
+function booksBody(books) {
+  const { nodes, quads, front, sampled, shape } = books;
   const area = (value) => value.toLocaleString("en", { maximumFractionDigits: 3 });
   const rows = [
     ["Nodes of the sampled outline", sampled.toLocaleString("en")], ["Nodes", nodes.toLocaleString("en")], ["Quads", quads.toLocaleString("en")],
     ["Edges", books.edges.toLocaleString("en")], ["Edges of the front", front.toLocaleString("en")],
-    ["Front edges + 2 × quads + sampled = 2 × nodes", `${front} + ${2 * quads} + ${sampled} = ${2 * nodes}: ${verdictOf(books.counts_balance)}`],
+    [`Front edges + 2 × quads + sampled${shape === 0 ? "" : " + 2 × Euler's number"} = 2 × nodes`,
+      `${front} + ${2 * quads} + ${sampled}${shape === 0 ? "" : ` + ${2 * shape}`} = ${2 * nodes}: ${verdictOf(books.counts_balance)}`],
     ["Area at the start", area(books.area_start)], ["Area of the quads", area(books.area_quads)], ["Area inside the front", area(books.area_front)],
     ["Quads + front = start, summed exactly", verdictOf(books.areas_balance)],
+    [`Quads + front = start, edge by edge, of ${counted(books.edges_looked_at, "edge")}`, books.edges_balance ? verdictOf(true) : `${counted(books.wrong_edges, "edge")} wrong ✗`],
   ];
-  part("books").replaceChildren(html("tbody", {}, ...rows.map(([name, value]) => html("tr", {}, html("th", { scope: "row" }, name), html("td", {}, value)))));
+  return html("tbody", {}, ...rows.map(([name, value]) => html("tr", {}, html("th", { scope: "row" }, name), html("td", {}, value))));
 }
 
 function verdictOf(balances) {

@@ -1,140 +1,10 @@
-// Pointer and keyboard on the surface.
+// The keyboard on the surface.
 
-/** A press that moves by so many pixels is a stroke or a drag. */
-const DRAG_FROM = 6;
 const STEP = 1;
 const LARGE_STEP = 5;
 const SMALL_STEP = 0.1;
 const ARROWS = { ArrowLeft: [-1, 0], ArrowRight: [1, 0], ArrowUp: [0, 1], ArrowDown: [0, -1] };
 const ZOOM = 1.25;
-
-function eventPlace(event) {
-  const { left, top } = surface.getBoundingClientRect();
-  return toDegrees([event.clientX - left, event.clientY - top]);
-}
-
-function kindOf(event) {
-  return event.pointerType in NEAR ? event.pointerType : "mouse";
-}
-
-// ---- pointer
-
-function pointerDown(event) {
-  if (!event.isPrimary || event.button !== 0) return;
-  event.preventDefault();
-  surface.focus({ preventScroll: true });
-  surface.setPointerCapture(event.pointerId);
-  Object.assign(hand, { byKeys: false, carries: false, leaves: false });
-  const at = within(eventPlace(event));
-  hand.cursor = snapped(at);
-  hand.gesture = { begun: at, kind: kindOf(event), isDrag: false, stroke: null, point: null, before: snapshot() };
-  if (state.mode === "move") grab(at);
-  drawCursor();
-}
-
-/** What a press takes hold of: a point, a line, which gets a point there, or the view. */
-function grab(at) {
-  const { gesture } = hand;
-  const reach = reachOf(gesture.kind);
-  const segment = pointNear(at, reach) === null ? segmentNear(at, reach) : null;
-  if (segment !== null) insertPoint(segment, at);
-  else select(pointNear(at, reach));
-  gesture.point = state.selected;
-  gesture.before = snapshot();
-}
-
-function pointerMove(event) {
-  const at = within(eventPlace(event));
-  Object.assign(hand, { over: at, hovers: event.pointerType !== "touch" });
-  showReadout(at);
-  if (hand.gesture !== null) dragged(at, event);
-  else if (state.mode === "step" && hand.hovers) lookNear(at);
-  else if (state.mode === "move") surface.classList.toggle("over", (pointNear(at, reachOf("mouse")) ?? segmentNear(at, reachOf("mouse"))) !== null);
-  if (state.draft !== null && hand.gesture === null) drawLoops();
-}
-
-function dragged(at, event) {
-  const { gesture } = hand;
-  const isDrag = gesture.isDrag || distance(gesture.begun, at) * sheet.scale >= DRAG_FROM;
-  if (!isDrag) return;
-  gesture.isDrag = true;
-  if (isDrawing()) strokeOn(gesture, at, event);
-  else if (gesture.point !== null) dragPoint(gesture, at);
-  else if (state.mode === "move") pan(gesture.begun, eventPlace(event));
-}
-
-function strokeOn(gesture, at, event) {
-  gesture.stroke ??= [snapped(gesture.begun)];
-  const between = event.getCoalescedEvents?.() ?? [];
-  for (const one of [...between.map((each) => within(eventPlace(each))), at]) extendStroke(gesture.stroke, one);
-  const drawn = [...(state.draft?.points ?? []), ...gesture.stroke, at];
-  drawLoops();
-  part("loops").append(path("draft", line(...drawn)));
-}
-
-function dragPoint(gesture, at) {
-  movePoint(gesture.point, snapped(at));
-  followPoint();
-}
-
-/** While a point moves the mesh follows; the change is entered when it rests. */
-function followPoint() {
-  drawLoops();
-  drawPoints();
-  showPoint();
-  askField();
-}
-
-function pan([x, y], [toX, toY]) {
-  state.view = { ...state.view, x: state.view.x + x - toX, y: state.view.y + y - toY };
-  redraw();
-}
-
-function pointerUp(event) {
-  const { gesture } = hand;
-  if (gesture === null) return;
-  hand.gesture = null;
-  const at = within(eventPlace(event));
-  if (gesture.stroke !== null) endStroke(gesture.stroke, gesture.kind);
-  else if (gesture.isDrag && gesture.point !== null) enterMoved(gesture.before);
-  else if (!gesture.isDrag) press(at, gesture.kind);
-  keep();
-}
-
-function enterMoved(before) {
-  state.moves = [];
-  if (snapshot() !== before) remember(before, null);
-  else askField();
-}
-
-function pointerCancel() {
-  const { gesture } = hand;
-  hand.gesture = null;
-  if (gesture?.point) enterMoved(gesture.before);
-  redraw();
-}
-
-function pointerLeave() {
-  hand.over = null;
-  showReadout(null);
-  if (state.mode === "step" && hand.gesture === null && hand.edge !== null && !hand.byKeys) look(null);
-  if (state.draft !== null) drawLoops();
-}
-
-/** What a press does at a place. */
-function press(at, kind) {
-  if (isDrawing()) pressDrawing(at, kind);
-  else if (state.mode === "step") pressStep(at, kind);
-  else if (state.mode === "nearest") askNearest(snapped(at));
-}
-
-function wheel(event) {
-  if (!event.ctrlKey) return;
-  event.preventDefault();
-  zoom(event.deltaY < 0 ? ZOOM : 1 / ZOOM, eventPlace(event));
-}
-
-// ---- keyboard
 
 function keyDown(event) {
   const handled = ARROWS[event.key] ? moveCursor(event) : (KEYS[event.key] ?? (() => false))(event);
@@ -164,6 +34,7 @@ function moveCursor(event) {
   showReadout(hand.cursor);
   if (hand.carries) carry();
   else if (state.mode === "step") lookNear(hand.cursor);
+  else if (isExam()) askEstimate(hand.cursor);
   tell(hand.cursor.map(short).join(", "));
   hand.over = hand.cursor;
   if (state.draft !== null) drawLoops();
@@ -208,6 +79,7 @@ function pressMoveKey() {
 function tabKey(step) {
   hand.byKeys = true;
   if (state.mode === "step") return lookAlong(step);
+  if (isExam()) return pickAlong(step);
   return state.mode === "move" && selectAlong(step);
 }
 
@@ -231,12 +103,17 @@ function escapeKey() {
   } else {
     select(null);
     if (state.mode === "step") look(null);
+    if (isExam()) desk.chosen = null;
     tell("Tab leaves the drawing.");
   }
   return true;
 }
 
 function deleteKey() {
+  if (isExam()) {
+    withdraw();
+    return true;
+  }
   hand.carries = false;
   removePoint();
   return true;
@@ -254,10 +131,12 @@ function fitKey() {
 
 /** Undo and redo, anywhere but where text is typed. */
 function pageKeyDown(event) {
-  const isTyped = event.target.matches("input[type=text], input[type=number]");
+  const isEmpty = event.target.id === "decibels" && event.target.value === "";
+  const isTyped = event.target.matches("input[type=text], input[type=number]") && !isEmpty;
   if (isTyped || !(event.ctrlKey || event.metaKey) || event.altKey) return;
   const key = event.key.toLowerCase();
-  if (key === "z" && !event.shiftKey) undo();
+  if (key === "z" && !event.shiftKey) undoAny();
+  else if (isExam()) return;
   else if (key === "y" || key === "z") redo();
   else return;
   event.preventDefault();

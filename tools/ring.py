@@ -1,5 +1,5 @@
 #!/usr/bin/env python3
-"""Writes calls of `ring` and `prove` (crates/laws/proofs/Ring.antt and Certificate.antt).
+"""Writes calls of `ring` and `prove` (crates/laws/proofs/RingBase.antt and CertificateBase.antt).
 
   ring.py identity NAME VARIABLES LEFT RIGHT
       A declaration NAME that proves LEFT ≡ RIGHT over ℤ by `ring`.

@@ -1,12 +1,8 @@
--- The book's step for one placing goes through, and the book then matches the state after it. The book reads quads and coordinates
--- from a later state of the run, as they are answered at its end. The theorem, `booked`, stands at the end.
-use Rattle.std.specs.Prelude.{ℕ, List, [], ◌≡◌, ◌+◌, ◌<◌, ◌≤◌, ◌∷◌, ◌++◌, refl, true, length, get_or, Float}
-use Rattle.std.proofs.Math.Option.{some}
-use Rattle.front.specs.State.{State, node_places}
-use Rattle.books.specs.Book.{Book, book, Quad, book_quad, edge, has, without, comes_off, new_node, side, quad_at}
-use Rattle.books.proofs.Matches.{Matches, edges_sum}
+-- What holds of the definitions of proofs/BookedBase.antt.
+use Rattle.std.specs.Prelude.{ℕ, ◌+◌, ◌<◌, ◌≤◌, List, [], ◌∷◌, ◌++◌, ◌≡◌, refl, true, length, get_or, Float}
 use Rattle.std.proofs.Math.Path.{sym}
 use Rattle.std.proofs.Common.{◌∙◌, ap, add-zero, add-one, take-suc, length-take-le, eq-eqb}
+use Rattle.std.proofs.Math.Option.{some}
 use native.Mathlib.Omega.{arith}
 use Rattle.std.proofs.Math.ListN.{take}
 use Rattle.std.specs.Float.{nan}
@@ -14,26 +10,22 @@ use Rattle.outline.specs.Outline.{Outline}
 use Rattle.topology.specs.Sums.{front_sum}
 use Rattle.topology.specs.Links.{at, at_other}
 use Rattle.topology.proofs.Changes.{removed_sum, added_sum}
-use Rattle.topology.proofs.Placing.{Kind, reused, fresh, off_if, on_if, placing, new_nodes, ByKind}
+use Rattle.topology.proofs.PlacingBase.{Kind, reused, fresh, off_if, on_if, placing, new_nodes, ByKind}
 use Rattle.front.specs.declared.Corner.{Corner}
 use Rattle.front.specs.declared.Corner.TheVariants.{Reused, Fresh}
+use Rattle.front.specs.State.{State, node_places}
 use Rattle.front.specs.Place.{id_c, id_d}
 use Rattle.front.specs.Sound.{Sound, Frame}
 use Rattle.front.proofs.FrameLaws.{frame_trans}
 use Rattle.paving.specs.Reach.{Placement}
-use Rattle.books.proofs.BookLaws.{frame_quad, has_edge_lem, has_none, without_sum}
+use Rattle.books.specs.Book.{edge, Book, book, has, without, comes_off, new_node, side, Quad, quad_at, book_quad}
+use Rattle.books.proofs.Matches.{edges_sum, Matches}
+use Rattle.books.proofs.BookBase.{frame_quad, has_edge_lem, has_none, without_sum}
 use Rattle.front.proofs.Moved.{kind_of}
 use Rattle.front.proofs.Sides.{new_added, Sides, sides}
 use Rattle.books.proofs.Answered.{answered}
 use Rattle.books.proofs.Step.{Stepped}
-
--- ---- the statement
-
--- the book's step for quad q, as answered by the state final, goes through from b, and leaves a book of the state t
-pub record BookStep (final : State) (q : Quad) (b : Book) (t : State) (ls : List (List ℕ)) : Type 0 where
-  pub book : Book
-  pub through : book_quad final q b ≡ some book
-  pub matches : Matches t ls book
+use Rattle.books.proofs.BookedBase.{BookStep}
 
 -- ---- the nodes
 

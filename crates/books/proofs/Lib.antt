@@ -9,3 +9,7 @@ pub mod NetExamples
 pub mod PointsExamples
 pub mod Snapshot
 pub mod Step
+pub mod AreasBase
+pub mod BookBase
+pub mod BookedBase
+pub mod NetBase

@@ -6,7 +6,7 @@ use Rattle.std.proofs.Math.Option.{some}
 use Rattle.std.proofs.Math.IntN.{pos-+ℤ-pos}
 use Rattle.std.specs.Int.Signed.{lt_z, lt_z_yes}
 use Rattle.laws.specs.Loop.{for_up, sum_up}
-use Rattle.laws.proofs.Ring.{var, ◌*ᵉ◌, ◌-ᵉ◌}
+use Rattle.laws.proofs.RingBase.{var, ◌*ᵉ◌, ◌-ᵉ◌}
 use Rattle.laws.proofs.Ring.{ring}
 use Rattle.exact.specs.Units.{units}
 use Rattle.exact.specs.Corner.{Vector, cross, sine_above_third, step_units}
@@ -17,8 +17,8 @@ use Rattle.cover_turns.specs.Turn.{turn, Covers}
 use Rattle.cover_turns.proofs.Turns.{turn_back, quad_covers}
 use Rattle.books.specs.Book.{Book, Quad, quad_at, start_book, book_after, place_of, quad_edges}
 use Rattle.books.specs.Net.{net, quads_edges}
-use Rattle.books.proofs.NetLaws.{quad_sum_lem}
-use Rattle.books.proofs.Areas.{FrontJoins}
+use Rattle.books.proofs.NetBase.{quad_sum_lem}
+use Rattle.books.proofs.AreasBase.{FrontJoins}
 use Rattle.books.specs.Points.{turn_of, winding, quads_round, LeftOfAll, RightOfNone}
 use Rattle.books.specs.Holds.{step_of, CornerHolds, QuadHolds}
 use Rattle.books.proofs.Areas.{quads_sum, weights_balance}

@@ -4,7 +4,7 @@ use Rattle.std.proofs.Common.{sym, subst}
 use Rattle.std.specs.Float.Ieee.{le}
 use Rattle.std.specs.Float.Ieee.Fits.{and_l, and_r}
 use Rattle.numbers.specs.Float.{tolerance}
-use Rattle.exact.proofs.Sine.{corner_tests}
+use Rattle.exact.proofs.SineBase.{corner_tests}
 use Rattle.exact.proofs.Sine.{side_long, sine_theorem}
 use Rattle.outline.specs.declared.Point.{Point}
 use Rattle.geometry.specs.declared.Corners.{Corners}

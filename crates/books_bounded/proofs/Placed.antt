@@ -27,7 +27,7 @@ use Rattle.paving.specs.Advance.{with_snapshot}
 use Rattle.paving.specs.Reach.{Placement, Reaches, begin, snapshot, placed}
 use Rattle.books.specs.Book.{Book, Quad, quad_at}
 use Rattle.books.proofs.Matches.{Matches}
-use Rattle.books.proofs.BookLaws.{frame_quad}
+use Rattle.books.proofs.BookBase.{frame_quad}
 use Rattle.books.specs.Holds.{QuadHolds}
 use Rattle.books.proofs.Step.{answered_step}
 use Rattle.books_bounded.proofs.Point.{Bounded}

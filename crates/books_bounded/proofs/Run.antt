@@ -8,7 +8,7 @@ use Rattle.front.specs.Sampling.{front_refusal, from_boundary}
 use Rattle.paving.specs.Reach.{Reaches}
 use Rattle.front_sampled.proofs.Outlines.{outline_three}
 use Rattle.front_sampled.proofs.Begun.{begun}
-use Rattle.front_sampled.proofs.Points.{OfSamples}
+use Rattle.front_sampled.proofs.PointsBase.{OfSamples}
 use Rattle.front_sampled.proofs.Points.{sampled_all}
 use Rattle.books_bounded.proofs.Point.{Bounded}
 use Rattle.books_bounded.proofs.Sampled.{sample_bounded, mean_bounded}

@@ -23,7 +23,7 @@ use Rattle.hand_mesh_check.specs.Check.{mesh_refusal, edge_refusal}
 use Rattle.hand_placing.proofs.Local.{placed_nodes}
 use Rattle.hand_steps.specs.declared.StepOutcome.TheVariants.{Placed, Full, Cap}
 use Rattle.hand_steps.specs.Hand.{hand_refusal, handled, settled_on, place_on, step_on}
-use Rattle.hand_steps.proofs.UseLaws.{there_of}
+use Rattle.hand_steps.proofs.UseBase.{there_of}
 use Rattle.books_hand.specs.Moves.{with_scratch, Move, named, passes, lends, move_on, moves_on}
 use Rattle.books_hand.proofs.Lending.{sampled_blind, places_in, reached_in}
 use Rattle.books_hand.specs.MoveLaws.{reached_then, FromOutline}

@@ -29,7 +29,7 @@ use Rattle.paving.specs.Advance.{with_snapshot}
 use Rattle.paving.specs.Reach.{Reaches, begin, snapshot, placed}
 use Rattle.books.proofs.Answered.{answered}
 use Rattle.books_bounded.proofs.Run.{run_bounded}
-use Rattle.books_hold.proofs.Stages.{standing}
+use Rattle.books_hold.proofs.StagesBase.{standing}
 use Rattle.books_hold.proofs.Stages.{stage_at}
 use Rattle.books_hold.specs.Runs.{AcceptedRun}
 use Rattle.books_hold.proofs.Runs.{begins, start, turns}

@@ -15,12 +15,12 @@ use Rattle.books.specs.Book.{Book, quad_at, start_book}
 use Rattle.books.specs.Net.{net, quads_edges}
 use Rattle.books.proofs.Matches.{Matches}
 use Rattle.books.proofs.BookLaws.{matches_sum}
-use Rattle.books.proofs.NetLaws.{net_weight, net_anti}
+use Rattle.books.proofs.NetBase.{net_weight, net_anti}
 use Rattle.books.proofs.NetLaws.{net_sum}
-use Rattle.books.proofs.Areas.{FrontJoins}
+use Rattle.books.proofs.AreasBase.{FrontJoins}
 use Rattle.books.specs.Holds.{QuadHolds}
 use Rattle.books_bounded.proofs.Corners.{node_of}
-use Rattle.books_hold.proofs.Stages.{Start, Stage}
+use Rattle.books_hold.proofs.StagesBase.{Start, Stage}
 
 -- ---- the nodes of a book
 

@@ -12,7 +12,7 @@ use Rattle.books.specs.Book.{Book, quad_at, book_after}
 use Rattle.books.specs.Holds.{HoldsAfter, Closes, BooksHold}
 use Rattle.books.proofs.Areas.{areas_balance}
 use Rattle.books.proofs.Points.{quad_holds_covers, points_balance}
-use Rattle.books_hold.proofs.Stages.{Start, Stage, QuadsTurn}
+use Rattle.books_hold.proofs.StagesBase.{Start, Stage, QuadsTurn}
 use Rattle.books_hold.proofs.Stages.{stage_at, stage_before}
 use Rattle.books_hold.proofs.Areas.{start_joins, net_edges, quads_turn}
 use Rattle.books_hold.proofs.Fronts.{loops_hold, counts_hold, closes}

@@ -1,14 +1,13 @@
--- Every run of passes ends as Ends.antt describes it: `advance_ends`. Turn by turn through a pass, and pass by pass.
-use Rattle.std.specs.Prelude.{◌≡◌, List, ℕ, suc, ◌<◌, ◌≤◌, length, get_or, Bool, cond, ◌≢◌, min, Float, Option, Some, None}
+-- What holds of the definitions of proofs/EndBase.antt.
+use Rattle.std.specs.Prelude.{◌≡◌, Bool, cond, List, ◌≢◌, ℕ, suc, min, ◌<◌, ◌≤◌, get_or, Float, Option, Some, None}
 use Rattle.std.proofs.Math.Path.{refl, sym}
-use Rattle.std.proofs.Common.{◌∙◌, ⊎_elim, eq-or-lt_of_le, le_of_suc-le-suc, arith, length-set, get_or-set_same, get_or-set_other, ap, subst, true≢false}
-use Rattle.laws.specs.Loop.{for_up_keeps, go, out, Kept, run_keeps_at}
-use Rattle.topology.specs.Links.{off, link_in_lem, link_out}
-use Rattle.paving.specs.Advance.{copy_turn, copied, paved, Passing, passing, Passed, most_quads, after_quad, settle, is_there, pass_turn, after_pass, pass, with_snapshot, most_passes, passes_turn, all_used, advance}
+use Rattle.std.proofs.Common.{◌∙◌, ap, subst, true≢false, arith}
 use Rattle.std.proofs.Math.Bool.{true, false}
 use Rattle.std.proofs.Math.Dec.{leb, ltb}
 use borrow.Author.Tests.{leb-true, leb-false, eq-eqb, ne_eqb, ltb-true, ltb-false}
+use Rattle.laws.specs.Loop.{go, out, Kept, run_keeps_at}
 use Rattle.outline.specs.Outline.{Outline}
+use Rattle.topology.specs.Links.{off, link_in_lem, link_out}
 use Rattle.field_direction.specs.Record.{FieldRecord}
 use Rattle.front.specs.State.{State, next_of, node_places}
 use Rattle.front.specs.Place.{place, is_full}
@@ -17,33 +16,15 @@ use Rattle.front.specs.declared.FarCorners.{FarCorners}
 use Rattle.paving.specs.declared.End.{End}
 use Rattle.paving.specs.declared.End.TheVariants.{Still, Passes, Cap, Full}
 use Rattle.paving.specs.Attempt.{try_edge}
+use Rattle.paving.specs.Advance.{paved, Passing, passing, Passed, most_quads, after_quad, settle, is_there, pass_turn, after_pass, pass}
+use Rattle.paving.specs.Advance.{with_snapshot, most_passes, passes_turn, all_used, advance}
 use Rattle.paving.specs.Reach.{Placement, begin, snapshot, placed}
 use Rattle.paving.specs.ReachLaws.{Reached, tried}
 use Rattle.books.proofs.Step.{answered_step}
-use Rattle.books_hold.proofs.Stages.{Start, standing}
+use Rattle.books_hold.proofs.StagesBase.{Start, standing}
 use Rattle.books_hold.specs.Ends.{StillAt, FullAt, PassesLead, LastPass, Ended}
 use Rattle.books_hold.specs.Ends as ends
-
--- i is the last of the numbers below n + 1, or below n
-pub last_or_less : (i n : ℕ) {A : Type 0} → i < suc n → (i ≡ n → A) → (i < n → A) → A
-last_or_less i n h last less = ⊎_elim last less (eq-or-lt_of_le (le_of_suc-le-suc h))
-
--- ---- the snapshot holds the links
-
-pub copied_at : (n : ℕ) (links l : List ℕ) → n ≤ length l → (a : ℕ) → a < n → get_or (copied n links l) a 0 ≡ get_or links a off
-unfolding copied
-copied_at n links l long a h =
-    (for_up_keeps (λ k m. (length m ≡ length l) × ((a : ℕ) → a < k → get_or m a 0 ≡ get_or links a off)) n (copy_turn links) l
-    (refl, λ a h. absurd (omega arith)) one).1 a h
-  where
-    one : (k : ℕ) (m : List ℕ) → k < n → (length m ≡ length l) × ((a : ℕ) → a < k → get_or m a 0 ≡ get_or links a off)
-        → (length (copy_turn links k m) ≡ length l) × ((a : ℕ) → a < suc k → get_or (copy_turn links k m) a 0 ≡ get_or links a off)
-    one k m less P = (
-      length-set m k (get_or links k off) ∙ P.0,
-      λ a h.
-          last_or_less a k h (λ e. rw e (get_or-set_same m k (get_or links k off) 0 (omega (arith, P.0))))
-          (λ g. get_or-set_other m k a (get_or links k off) 0 (λ e. omega arith) ∙ P.1 a g),
-    )
+use Rattle.books_hold.proofs.EndBase.{last_or_less, copied_at}
 
 -- ---- the snapshot holds the links
 

@@ -9,8 +9,8 @@ use Rattle.topology.specs.Sums.{front_sum, front_one}
 use Rattle.topology.specs.Links.{off, at, at_self, at_other}
 use Rattle.topology.specs.Front.{Loops, loops_same}
 use Rattle.topology.proofs.Front.{target, edge_next, edge_once}
-use Rattle.topology.proofs.Follow as topology
-use Rattle.topology.proofs.Follow.{Follows}
+use Rattle.topology.proofs.FollowBase as topology
+use Rattle.topology.proofs.FollowBase.{Follows}
 use Rattle.topology.proofs.Follow.{follows_links}
 use Rattle.topology.proofs.LongLoops.{walks_long}
 use Rattle.front.specs.State.{State, next_of}
@@ -19,10 +19,10 @@ use Rattle.front.specs.Sound.{Sound}
 use Rattle.paving.specs.Loops.{front_loops}
 use Rattle.books.specs.Book.{Edge, Book, loop_edges, follow}
 use Rattle.books.proofs.Matches.{edges_sum, Matches}
-use Rattle.books.proofs.BookLaws.{count_sum, matches_nodes, matches_edges}
+use Rattle.books.proofs.BookBase.{count_sum, matches_nodes, matches_edges}
 use Rattle.books.specs.Net.{count_edge}
 use Rattle.books.specs.Holds.{LoopsHold, Closes}
-use Rattle.front_sampled.proofs.Starts.{sum_loops}
+use Rattle.front_sampled.proofs.StartsBase.{sum_loops}
 
 -- ---- following edges
 

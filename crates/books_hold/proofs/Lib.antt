@@ -6,3 +6,5 @@ pub mod Theorem
 pub mod Demand
 pub mod Areas
 pub mod Fronts
+pub mod EndBase
+pub mod StagesBase

@@ -17,14 +17,14 @@ use Rattle.paving.specs.ReachLaws.{Reached, advance_reaches}
 use Rattle.run_whole.specs.Run.{run_refusal, run_of}
 use Rattle.books.specs.Book.{start_book}
 use Rattle.books.specs.Holds.{BooksHold}
-use Rattle.books.proofs.Areas.{FrontJoins}
+use Rattle.books.proofs.AreasBase.{FrontJoins}
 use Rattle.front_sampled.proofs.Outlines.{outline_three}
-use Rattle.front_sampled.proofs.Begun.{Begun}
+use Rattle.front_sampled.proofs.BegunBase.{Begun}
 use Rattle.front_sampled.proofs.Begun.{begun}
 use Rattle.front_sampled.proofs.Starts.{starts}
 use Rattle.books_bounded.proofs.Placed.{placement_holds}
 use Rattle.books_bounded.proofs.Run.{run_bounded}
-use Rattle.books_hold.proofs.Stages.{Start, QuadsTurn, standing}
+use Rattle.books_hold.proofs.StagesBase.{Start, QuadsTurn, standing}
 use Rattle.books_hold.proofs.Areas.{start_joins}
 use Rattle.books_hold.proofs.Assembled.{reached_hold}
 use Rattle.books_hold.specs.Ends.{Ended}

@@ -12,7 +12,7 @@ use Rattle.topology.specs.Links.{at, at_is}
 use Rattle.front.specs.State.{State}
 use Rattle.books.specs.Book.{edge, Book, book, Quad, quad_at, has, without, and_then, comes_off, goes_on, new_node, side, book_quad, book_after, start_book}
 use Rattle.books.proofs.Matches.{edges_sum}
-use Rattle.books.proofs.BookLaws.{count_sum, without_sum, Gives, gives_then}
+use Rattle.books.proofs.BookBase.{count_sum, without_sum, Gives, gives_then}
 use Rattle.front_lent_mesh.specs.Mesh.{quad_in}
 use Rattle.front_lent_mesh.proofs.Answered.{quad_same}
 use Rattle.order.specs.Accepted.{Lays, laid_bd, laid_dc, laid_ca, Uses, used_ab, used_bd, used_ca}

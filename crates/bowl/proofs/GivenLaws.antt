@@ -19,7 +19,7 @@ use Rattle.front.specs.State.{State}
 use Rattle.hand_mesh_check.specs.Check.{lent_state, farthest_node, coordinate_unsound, mesh_refusal}
 use Rattle.hand_mesh_check.specs.Passed.{MeshPasses, mesh_passes, MeshRoom, room}
 use Rattle.bowl_nearest_step.specs.Step.{nearest_step}
-use Rattle.bowl_nearest_step.proofs.StepLaws.{step_near}
+use Rattle.bowl_nearest_step.proofs.StepBase.{step_near}
 use Rattle.bowl.specs.declared.BowlStepsAnswer.{BowlStepsAnswer}
 use Rattle.bowl.specs.Steps.{mesh_unstepped, lowest_hidden, steps_answer, stored_steps, steps_left}
 use Rattle.bowl.specs.Stepped.{NodesWithin, QuadsWithin, NearStep, MeshStepped}

@@ -10,13 +10,13 @@ use Rattle.std.specs.Int.{w32, w64}
 use Rattle.std.proofs.lemmas.Int.{to_z-of_z}
 use Rattle.laws.specs.Loop.{for_up, for_up_keeps, Loop, loop_next}
 use Rattle.laws.specs.Tests.{T-ext}
-use Rattle.laws.proofs.Ring.{var, num, ◌-ᵉ◌}
-use Rattle.laws.proofs.Certificate.{hyp}
+use Rattle.laws.proofs.RingBase.{var, num, ◌-ᵉ◌}
+use Rattle.laws.proofs.CertificateBase.{hyp}
 use Rattle.laws.proofs.Certificate.{prove, of-<ℤ, to-<ℤ}
 use Rattle.exact.specs.Corner.{Vector, cross}
 use Rattle.outline_orientation.specs.Orient.{way}
 use Rattle.bowl_nearest_step.specs.Step.{nearest_step}
-use Rattle.bowl_nearest_step.proofs.StepLaws.{nat_abs_neg, apart}
+use Rattle.bowl_nearest_step.proofs.StepBase.{nat_abs_neg, apart}
 use Rattle.bowl_nearest_step.proofs.StepLaws.{step_few}
 use Rattle.bowl.specs.declared.Steps.{Steps}
 use Rattle.bowl.specs.Steps.{steps_at, turns_left, is_shown, store_turn, stored_steps}

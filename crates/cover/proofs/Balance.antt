@@ -4,7 +4,7 @@ use Rattle.std.proofs.Common.{sym, ap, ap₂, ◌∙◌, arith, true≢false}
 use Rattle.std.proofs.Math.IntN.{+ℤ_idr}
 use Rattle.laws.specs.Loop.{sum_up}
 use Rattle.laws.proofs.Sums.{sum_zero, sum_suc}
-use Rattle.laws.proofs.Ring.{var, num, neg, ◌+ᵉ◌}
+use Rattle.laws.proofs.RingBase.{var, num, neg, ◌+ᵉ◌}
 use Rattle.laws.proofs.Ring.{ring}
 use Rattle.exact.specs.Units.{units}
 use Rattle.exact.specs.Corner.{Vector}
@@ -18,7 +18,7 @@ use Rattle.books.specs.Net.{net}
 use Rattle.books.proofs.NetLaws.{same_net}
 use Rattle.books.specs.Points.{turn_of, winding, is_round, quads_round}
 use Rattle.books.specs.Holds.{LoopsHold, HoldsAfter}
-use Rattle.books_hold.proofs.EndLaws.{last_or_less}
+use Rattle.books_hold.proofs.EndBase.{last_or_less}
 use Rattle.cover.specs.Cover.{InOne, PavedOnce}
 
 -- ---- a count of 1

@@ -3,9 +3,9 @@
 use Rattle.std.specs.Prelude.{◌≡◌, refl, Bool, true, false, cond, List, [], ◌∷◌, T, not, ℕ, zero, suc, ◌+◌, ◌*◌, ℤ, pos, negsuc, neg_ℤ, ◌+ℤ◌, ◌-ℤ◌}
 use Rattle.std.proofs.Common.{subst, inl, inr}
 use Rattle.std.specs.Int.Signed.{lt_z, lt_z_yes, lt_z_no}
-use Rattle.laws.proofs.Ring.{Expr, var, num, ◌+ᵉ◌, ◌*ᵉ◌, ◌-ᵉ◌, neg}
+use Rattle.laws.proofs.RingBase.{Expr, var, num, ◌+ᵉ◌, ◌*ᵉ◌, ◌-ᵉ◌, neg}
 use Rattle.laws.proofs.Ring.{ring}
-use Rattle.laws.proofs.Certificate.{Nonneg, not_nonneg, of-≤ℤ, sign, hyp, nat, sq, eqn, ◌⊞◌, ◌⊠◌}
+use Rattle.laws.proofs.CertificateBase.{Nonneg, not_nonneg, of-≤ℤ, sign, hyp, nat, sq, eqn, ◌⊞◌, ◌⊠◌}
 use Rattle.laws.proofs.Certificate.{of-<ℤ, prove}
 use Rattle.exact.specs.Corner.{Vector, cross}
 use Rattle.cover_turns.specs.Turn.{crossing}

@@ -3,9 +3,9 @@ use Rattle.std.specs.Prelude.{◌≡◌, refl, Bool, true, false, cond, not, [],
 use Rattle.std.proofs.Common.{sym, ap, ◌∙◌, subst, inl, inr, arith}
 use Rattle.std.specs.Int.Signed.{lt_z, lt_z_yes, lt_z_no}
 use Rattle.std.proofs.lemmas.Int.{ints}
-use Rattle.laws.proofs.Ring.{var, num, ◌+ᵉ◌, ◌*ᵉ◌, ◌-ᵉ◌, neg}
+use Rattle.laws.proofs.RingBase.{var, num, ◌+ᵉ◌, ◌*ᵉ◌, ◌-ᵉ◌, neg}
 use Rattle.laws.proofs.Ring.{ring}
-use Rattle.laws.proofs.Certificate.{Nonneg, of-≤ℤ, to-≤ℤ, hyp}
+use Rattle.laws.proofs.CertificateBase.{Nonneg, of-≤ℤ, to-≤ℤ, hyp}
 use Rattle.laws.proofs.Certificate.{of-<ℤ, prove}
 use Rattle.exact.specs.Corner.{Vector, cross}
 use Rattle.outline_orientation.specs.Orient.{orient, way}

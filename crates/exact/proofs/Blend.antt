@@ -6,9 +6,9 @@ use Rattle.std.proofs.Common.{sym, ap, ap₂, ◌∙◌, subst, inl, inr, true�
 use Rattle.std.proofs.Math.Nat.{mul-mul-mul_comm}
 use Rattle.std.proofs.Math.IntN.{neg_ℤ-neg_ℤ}
 use Rattle.std.specs.Float.Ieee.{unlike, lt}
-use Rattle.laws.proofs.Ring.{Expr, var, num, ◌+ᵉ◌, ◌*ᵉ◌, ◌-ᵉ◌, neg}
+use Rattle.laws.proofs.RingBase.{Expr, var, num, ◌+ᵉ◌, ◌*ᵉ◌, ◌-ᵉ◌, neg}
 use Rattle.laws.proofs.Ring.{ring}
-use Rattle.laws.proofs.Certificate.{Nonneg, nonneg, not_nonneg, of_le, to_le, of-≤ℤ, hyp, nat, eqn, ◌⊞◌, ◌⊠◌, Hyps, Eqns, zero_of}
+use Rattle.laws.proofs.CertificateBase.{Nonneg, nonneg, not_nonneg, of_le, to_le, of-≤ℤ, hyp, nat, eqn, ◌⊞◌, ◌⊠◌, Hyps, Eqns, zero_of}
 use Rattle.laws.proofs.Certificate.{of-<ℤ, prove}
 use Rattle.numbers.specs.Float.{◌⊕◌, ◌⊖◌, ◌⊗◌, ◌⊘◌}
 use Rattle.exact.proofs.Rounding.{Close}

@@ -12,10 +12,10 @@ use Rattle.std.specs.Float.Ieee.Exact.{odd_sign, round_exact}
 use Rattle.std.specs.Float.Ieee.Fits.{down_pos, round_is, round-fits}
 use Rattle.std.specs.Float.Ieee.Order.{drop, kept, round_mono}
 use Rattle.std.specs.Float.Ieee.Scale.{round_same}
-use Rattle.laws.proofs.Ring.{var, num, ◌+ᵉ◌, ◌*ᵉ◌, ◌-ᵉ◌}
+use Rattle.laws.proofs.RingBase.{var, num, ◌+ᵉ◌, ◌*ᵉ◌, ◌-ᵉ◌}
 use Rattle.laws.proofs.Ring.{ring}
-use Rattle.laws.proofs.Ring as R
-use Rattle.laws.proofs.Certificate.{Nonneg, nonneg, of-≤ℤ, to-≤ℤ, hyp, ◌⊞◌, ◌⊠◌}
+use Rattle.laws.proofs.RingBase as R
+use Rattle.laws.proofs.CertificateBase.{Nonneg, nonneg, of-≤ℤ, to-≤ℤ, hyp, ◌⊞◌, ◌⊠◌}
 use Rattle.laws.proofs.Certificate.{prove}
 use Rattle.numbers.specs.Float.{◌⊕◌, ◌⊖◌, ◌⊗◌, ◌⊘◌, is_finite, zero_f, one_f}
 use Rattle.numbers.specs.Nearest.{Representable, digits_of}

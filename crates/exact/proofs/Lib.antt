@@ -11,3 +11,5 @@ pub mod PartLaws
 pub mod Root
 pub mod Rounding
 pub mod SineBounds
+pub mod ExamplesBase
+pub mod SineBase

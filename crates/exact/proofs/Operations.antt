@@ -12,7 +12,7 @@ use Rattle.std.specs.Float.Ieee.Exact.{units_val}
 use Rattle.std.specs.Float.Ieee.Fits.{round_is, down_pos, up_pos}
 use Rattle.std.specs.Float.Ieee.Scale.{round_same}
 use Rattle.std.specs.Float.Ieee.Order.{drop, kept}
-use Rattle.laws.proofs.Certificate.{sub_pos}
+use Rattle.laws.proofs.CertificateBase.{sub_pos}
 use Rattle.numbers.specs.Float.{◌⊕◌, ◌⊖◌, ◌⊗◌, ◌⊘◌}
 use Rattle.exact.proofs.Rounding.{Close, rounded, round_close, round_close_whole, close_cancel}
 use Rattle.exact.specs.Units.{W, W-pos, Val, signed, signed_not, units, neg_val, Within, within_units}

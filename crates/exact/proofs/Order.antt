@@ -13,8 +13,8 @@ use Rattle.std.specs.Float.{nan, inf, fin, binary64}
 use Rattle.std.specs.Float.Ieee.{up, down, fits, lt, eq, le, below, level}
 use Rattle.std.specs.Float.Ieee.Bits.{is_true, is_false}
 use Rattle.std.specs.Float.Ieee.Fits.{down_pos, and_i, and_l, and_r, eq→eqb}
-use Rattle.laws.proofs.Ring.{Expr, var, num, con, ◌+ᵉ◌, ◌*ᵉ◌, ◌-ᵉ◌, neg, eval, same}
-use Rattle.laws.proofs.Certificate.{Nonneg, nonneg, not_nonneg, of_le, to_le, of-≤ℤ, <ℤ_or-≤ℤ, hyp, ◌⊞◌}
+use Rattle.laws.proofs.RingBase.{Expr, var, num, con, ◌+ᵉ◌, ◌*ᵉ◌, ◌-ᵉ◌, neg, eval, same}
+use Rattle.laws.proofs.CertificateBase.{Nonneg, nonneg, not_nonneg, of_le, to_le, of-≤ℤ, <ℤ_or-≤ℤ, hyp, ◌⊞◌}
 use Rattle.laws.proofs.Certificate.{of-<ℤ, to-<ℤ, <ℤ_weaken, ≤ℤ_antisym, prove}
 use Rattle.laws.specs.Tests.{T-ext}
 use Rattle.numbers.specs.Float.{is_finite, abs_f}

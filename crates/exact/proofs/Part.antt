@@ -4,8 +4,8 @@ use Rattle.std.proofs.Common.{sym, ◌∙◌, subst, inl, inr, zero-le}
 use Rattle.std.specs.Float.{binary64}
 use Rattle.std.specs.Float.Ieee.{fits, le, unlike}
 use Rattle.std.specs.Float.Ieee.Fits.{add-fits, div-fits}
-use Rattle.laws.proofs.Ring.{var, ◌+ᵉ◌, ◌-ᵉ◌}
-use Rattle.laws.proofs.Certificate.{of-≤ℤ, to-≤ℤ, <ℤ_or-≤ℤ, hyp, ◌⊞◌}
+use Rattle.laws.proofs.RingBase.{var, ◌+ᵉ◌, ◌-ᵉ◌}
+use Rattle.laws.proofs.CertificateBase.{of-≤ℤ, to-≤ℤ, <ℤ_or-≤ℤ, hyp, ◌⊞◌}
 use Rattle.laws.proofs.Certificate.{<ℤ_weaken, prove}
 use Rattle.numbers.specs.Float.{◌⊕◌, ◌⊖◌, ◌⊗◌, ◌⊘◌, zero_f, one_f, clamp_f}
 use Rattle.exact.specs.Units.{W-pos, units, Within, within_units}

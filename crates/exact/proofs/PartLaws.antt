@@ -7,8 +7,8 @@ use Rattle.std.proofs.Common.{sym, ap, ◌∙◌, subst, inl, inr, zero-le, le_t
 use Rattle.std.specs.Float.{nan, inf, fin, binary64}
 use Rattle.std.specs.Float.Ieee.{fits, is_nan, le, lt, eq, unlike, round, of_bits}
 use Rattle.std.specs.Float.Ieee.Fits.{add-fits, div-fits}
-use Rattle.laws.proofs.Ring.{var, ◌+ᵉ◌, ◌*ᵉ◌, ◌-ᵉ◌, neg}
-use Rattle.laws.proofs.Certificate.{of-≤ℤ, to-≤ℤ, <ℤ_or-≤ℤ, hyp, ◌⊞◌, ◌⊠◌}
+use Rattle.laws.proofs.RingBase.{var, ◌+ᵉ◌, ◌*ᵉ◌, ◌-ᵉ◌, neg}
+use Rattle.laws.proofs.CertificateBase.{of-≤ℤ, to-≤ℤ, <ℤ_or-≤ℤ, hyp, ◌⊞◌, ◌⊠◌}
 use Rattle.laws.proofs.Certificate.{<ℤ_weaken, prove}
 use Rattle.numbers.specs.Float.{◌⊕◌, ◌⊖◌, ◌⊗◌, ◌⊘◌, zero_f, one_f, clamp_f}
 use Rattle.exact.proofs.Rounding.{Close}

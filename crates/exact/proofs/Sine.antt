@@ -1,48 +1,26 @@
--- The sine theorem: for places within 1,001, where the f64 test of a corner passes, the exact sine is above 1/3. It is the last statement;
--- `side_long`, before it, says that no side is short. Each computed value is a record of its units and of how near it is to the exact one;
--- SineBounds has the arithmetic. Assumes nothing.
-use Rattle.std.specs.Prelude.{[], not, ◌&&◌, ℕ, ◌*◌, ◌^◌, ◌≤◌, ◌<◌, T, Float, ◌≡◌, refl, ◌∷◌, Bool, true, false, ◌+◌, ltb, ℤ, pos, neg_ℤ, ◌+ℤ◌, ◌*ℤ◌, ◌-ℤ◌}
-use Rattle.std.proofs.Common.{le_trans, le_of_lt, mul-le-mul_left, lit≤, sym, ap, ap₂, ◌∙◌, subst, le_of_eq, mul_assoc, mul-le-mul, mul-le-mul_right, le_of_mul-le-mul_right, not-le_of_lt, arith, ltb→lt, lt→ltb}
-use Rattle.std.specs.Float.Ieee.{le, unlike, of_bits}
-use Rattle.std.specs.Float.Ieee.Fits.{and_l, and_r, and_i, add-fits}
-use Rattle.numbers.specs.Float.{◌⊖◌, ◌⊗◌, ◌⊘◌, tolerance, ◌⊕◌}
-use Rattle.exact.specs.Units.{W, W-pos, Val, signed, units, unlike_self, Within, within_units}
-use Rattle.exact.proofs.Constants.{tolerance_units, tolerance_val}
-use Rattle.exact.proofs.SineBounds.{Long, Rel, RelAnd, rel, rel_and, le_of_sq, unit_below, length_law, side_law, quotient_law, product_law, products_below, signed_near, cross_law, sine_law}
-use Rattle.exact.specs.Corner.{sin20, norm, corner_ok, Vector, step_units, cross, squared_length, sine_above_third, is_short}
+-- What holds of the definitions of proofs/SineBase.antt.
+use Rattle.std.specs.Prelude.{◌≡◌, refl, [], ◌∷◌, Bool, true, false, not, ℕ, ◌+◌, ◌*◌, ◌^◌, ◌≤◌, ◌<◌, T, ltb, ℤ, pos, neg_ℤ, ◌+ℤ◌, ◌*ℤ◌, ◌-ℤ◌, Float}
+use Rattle.std.proofs.Common.{sym, ap, ap₂, ◌∙◌, subst, le_trans, le_of_eq, mul_assoc, mul-le-mul, mul-le-mul_right, mul-le-mul_left, le_of_mul-le-mul_right, not-le_of_lt, arith, lit≤, ltb→lt, lt→ltb}
 use Rattle.std.proofs.Math.Nat.{mul-mul-mul_comm}
 use Rattle.std.proofs.Math.Dec.{not_T}
 use Rattle.std.proofs.Math.IntN.{neg_ℤ-neg_ℤ}
 use Rattle.std.specs.Float.{binary64}
+use Rattle.std.specs.Float.Ieee.{unlike, le, of_bits}
+use Rattle.std.specs.Float.Ieee.Fits.{and_i, add-fits}
 use Rattle.laws.proofs.Integer.{negℤ-*ℤ, *ℤ_negℤ}
-use Rattle.laws.proofs.Ring.{var, num, ◌*ᵉ◌, ◌-ᵉ◌}
-use Rattle.laws.proofs.Certificate.{Nonneg, nonneg, nonneg_is, to_le, hyp, nat, ◌⊞◌, ◌⊠◌}
+use Rattle.laws.proofs.RingBase.{var, num, ◌*ᵉ◌, ◌-ᵉ◌}
+use Rattle.laws.proofs.CertificateBase.{Nonneg, nonneg, nonneg_is, to_le, hyp, nat, ◌⊞◌, ◌⊠◌}
 use Rattle.laws.proofs.Certificate.{prove}
+use Rattle.numbers.specs.Float.{◌⊕◌, ◌⊖◌, ◌⊗◌, ◌⊘◌, tolerance}
+use Rattle.exact.specs.Units.{W, W-pos, Val, signed, units, unlike_self, Within, within_units}
+use Rattle.exact.proofs.Constants.{tolerance_units, tolerance_val}
 use Rattle.exact.proofs.Order.{above_of_not_le}
 use Rattle.exact.proofs.Operations.{mul_law, product_small, Sum, sub_law, sum_small, sum_within, add_law_pos, div_law}
 use Rattle.exact.proofs.Root.{root_law}
-
--- ---- the constants of the test
-
--- what is above 1e-12 is above 10 ^ -13
-pub long_of : (L : ℕ) → tolerance_units < L → Long L
-unfolding W tolerance_units
-long_of L h = le_trans (lit≤ {n = 10 ^ 13 * tolerance_units} tt) (mul-le-mul_left (10 ^ 13) (le_of_lt h))
-
--- ---- the theorems
-
--- the three tests of a corner: the step in, the step out, and the sine between them
-pub record CornerTests (ax ay bx by cx cy : Float) : Type 0 where
-  pub into : T (not (le (norm (bx ⊖ ax) (by ⊖ ay)) tolerance))
-  pub out : T (not (le (norm (cx ⊖ bx) (cy ⊖ by)) tolerance))
-  pub sine : T (not (le (((bx ⊖ ax) ⊗ (cy ⊖ by) ⊖ (by ⊖ ay) ⊗ (cx ⊖ bx)) ⊘ (norm (bx ⊖ ax) (by ⊖ ay) ⊗ norm (cx ⊖ bx) (cy ⊖ by))) sin20))
-
-pub corner_tests : (ax ay bx by cx cy : Float) → T (corner_ok ax ay bx by cx cy) → CornerTests ax ay bx by cx cy
-unfolding corner_ok
-corner_tests ax ay bx by cx cy t =
-    let into = not (le (norm (bx ⊖ ax) (by ⊖ ay)) tolerance) in
-    let out = not (le (norm (cx ⊖ bx) (cy ⊖ by)) tolerance) in
-    record { into = and_l into out (and_l (into && out) _ t); out = and_r into out (and_l (into && out) _ t); sine = and_r (into && out) _ t }
+use Rattle.exact.proofs.SineBounds.{Rel, RelAnd, rel, rel_and, le_of_sq, Long, unit_below, length_law, side_law, quotient_law, product_law}
+use Rattle.exact.proofs.SineBounds.{products_below, signed_near, cross_law, sine_law}
+use Rattle.exact.specs.Corner.{sin20, norm, corner_ok, Vector, step_units, cross, squared_length, sine_above_third, is_short}
+use Rattle.exact.proofs.SineBase.{long_of, corner_tests}
 
 -- ---- the constants of the test
 

@@ -4,8 +4,8 @@
 use Rattle.std.specs.Prelude.{◌≡◌, List, [], ◌∷◌, Bool, true, false, ℕ, suc, ◌+◌, ◌*◌, ◌^◌, ◌≤◌, ◌<◌, T, ℤ, pos, ◌+ℤ◌, ◌*ℤ◌, ◌-ℤ◌}
 use Rattle.std.proofs.Common.{sym, ap, ◌∙◌, subst, le_trans, le_of_eq, le_of_suc-le-suc, lt_of_le_of_lt, add_comm, suc-mul, mul-suc, mul_comm, mul_assoc, mul-le-mul, mul-le-mul_right, add-mul, mul-pos, arith}
 use Rattle.std.proofs.Math.Nat.{mul-mul-mul_comm}
-use Rattle.laws.proofs.Ring.{Expr, var, con, num, ◌+ᵉ◌, ◌*ᵉ◌, ◌-ᵉ◌, neg, eval, same}
-use Rattle.laws.proofs.Certificate.{Nonneg, nonneg, of_le, Certificate, hyp, nat, ◌⊞◌, ◌⊠◌, eqn, expr_of, zero_of}
+use Rattle.laws.proofs.RingBase.{Expr, var, con, num, ◌+ᵉ◌, ◌*ᵉ◌, ◌-ᵉ◌, neg, eval, same}
+use Rattle.laws.proofs.CertificateBase.{Nonneg, nonneg, of_le, Certificate, hyp, nat, ◌⊞◌, ◌⊠◌, eqn, expr_of, zero_of}
 use Rattle.laws.proofs.Certificate.{prove}
 use Rattle.laws.proofs.Examples.{cauchy}
 use Rattle.numbers.specs.Isqrt.{square_lt}

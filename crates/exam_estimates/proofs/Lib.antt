@@ -1,3 +1,4 @@
 pub mod Moves
 pub mod OneOff
 pub mod Examples
+pub mod MovesBase

@@ -15,7 +15,7 @@ use Rattle.exam_thresholds.specs.Figures.{Results, unless_refused, refusal_at, w
 use Rattle.exam_thresholds.specs.Laws.{stands_means, taken}
 use Rattle.exam_thresholds.proofs.Laws.{other_same}
 use Rattle.exam_estimates.specs.Estimate.{estimate_of, least_threshold, greatest_threshold, estimate_refusal, estimated, estimate_answer}
-use Rattle.exam_estimates.proofs.Moves.{estimate_moves}
+use Rattle.exam_estimates.proofs.MovesBase.{estimate_moves}
 use Rattle.exam_estimates.proofs.Moves.{estimate_least, estimate_greatest}
 use Rattle.exam_estimates.specs.OneOff.{tenths_apart, EqualWithin, elsewhere}
 

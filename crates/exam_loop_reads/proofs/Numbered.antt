@@ -12,7 +12,7 @@ use Rattle.topology.specs.Listing.{long_loops, walks}
 use Rattle.exam_loop_reads.specs.declared.FoundLoop.{FoundLoop}
 use Rattle.exam_loop_reads.specs.Code.{long_from, Found}
 use Rattle.exam_loops.specs.Loops.{loop_numbered}
-use Rattle.exam_loops.proofs.Walks.{listing_long, listing_short}
+use Rattle.exam_loops.proofs.WalksBase.{listing_long, listing_short}
 
 last : (a n j : ℕ) → a + n ≡ j → range_with_len a (suc n) ≡ range_with_len a n ++ j ∷ []
 last a zero j e = let same : a ≡ j = omega arith in ap (λ (k : ℕ). k ∷ []) same

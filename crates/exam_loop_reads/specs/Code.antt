@@ -15,9 +15,9 @@ use Rattle.topology.specs.Listing.{long_loops, walks}
 use Rattle.laws.specs.Overlay.{overlay}
 use Rattle.exam_loop_reads.specs.declared.FoundLoop.{FoundLoop}
 use Rattle.exam_loops.specs.Loops.{links_sound, linked_loops, loop_numbered, loop_reading, read_into, read_loop}
-use Rattle.exam_loops.proofs.Walks.{walk_under, walk_closed, walk_onward, walk_first, walk_along}
+use Rattle.exam_loops.proofs.WalksBase.{walk_under, walk_closed, walk_onward, walk_first, walk_along}
 use Rattle.exam_loops.proofs.Walks.{starts_none}
-use Rattle.exam_loops.proofs.Walks.{numbered_last, numbered_past, listing_long, listing_short, listing_stays}
+use Rattle.exam_loops.proofs.WalksBase.{numbered_last, numbered_past, listing_long, listing_short, listing_stays}
 
 -- ---- how many nodes a walk takes
 

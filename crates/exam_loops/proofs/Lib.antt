@@ -1,3 +1,5 @@
 pub mod Listed
 pub mod Walks
 pub mod Examples
+pub mod ListedBase
+pub mod WalksBase

@@ -17,13 +17,13 @@ use Rattle.paving.specs.ReachLaws.{advance_reaches}
 use Rattle.run_whole.specs.Run.{run_refusal, run_of}
 use Rattle.front_sampled.proofs.Outlines.{outline_three}
 use Rattle.front_sampled.proofs.Begun.{begun}
-use Rattle.books_hold.proofs.Stages.{Standing, standing}
+use Rattle.books_hold.proofs.StagesBase.{Standing, standing}
 use Rattle.run.specs.declared.Paved.{Paved}
 use Rattle.run.specs.Run.{Lent, narrowed, field_part, state_part, Ran, ran, answered_state, refusal_of, accepted_in, accepted_run, run_answer}
 use Rattle.front_lent_mesh.specs.Mesh.{node_count_of}
 use Rattle.exam.specs.Exam.{nodes_lent}
 use Rattle.exam_loops.specs.Loops.{linked_loops, loop_numbered, read_into, read_loop}
-use Rattle.exam_loops.proofs.Walks.{numbered_past}
+use Rattle.exam_loops.proofs.WalksBase.{numbered_past}
 use Rattle.exam_loops.proofs.Listed.{sound_listed}
 
 module _ (o : Outline) (set : Settings) (f : FieldLists) (lent : State) (none : run_refusal o set f lent ≡ 0) where

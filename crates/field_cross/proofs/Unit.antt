@@ -13,7 +13,7 @@ use Rattle.exact.proofs.Order.{lt_val, above_pos, above_of_not_le}
 use Rattle.exact.proofs.Operations.{product_small, mul_law, Sum, add_law, sub_law, add_law_pos, div_law}
 use Rattle.exact.proofs.Root.{root_law}
 use Rattle.exact.proofs.SineBounds.{le_of_sq, Rel, RelAnd, rel, rel_and, Long, length_law}
-use Rattle.exact.proofs.Sine.{long_of}
+use Rattle.exact.proofs.SineBase.{long_of}
 use Rattle.exact.specs.Corner.{norm}
 use Rattle.outline.specs.declared.Point.{Point}
 use Rattle.field_cross.specs.Seeds.{seed}

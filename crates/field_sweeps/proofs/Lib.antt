@@ -1,2 +1,3 @@
 pub mod Worst
 pub mod TwoRows
+pub mod WorstBase

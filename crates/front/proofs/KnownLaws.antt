@@ -10,7 +10,7 @@ use Rattle.topology.specs.Sums.{front_sum}
 use Rattle.topology.specs.Links.{off, update, at, at_is, link_set}
 use Rattle.topology.proofs.Front.{edge_next, next_edge}
 use Rattle.topology.proofs.Changes.{Change, remove, add, added_sum}
-use Rattle.topology.proofs.Placing.{placing}
+use Rattle.topology.proofs.PlacingBase.{placing}
 use Rattle.front.specs.declared.Counts.{Counts}
 use Rattle.front.specs.declared.Corner.{Corner}
 use Rattle.front.specs.declared.Corner.TheVariants.{Reused, Fresh}

@@ -4,7 +4,7 @@ use Rattle.std.proofs.Common.{arith, length-set, eq-eqb}
 use Rattle.topology.specs.Sums.{All, one}
 use Rattle.topology.specs.Links.{off, link_of, link_set}
 use Rattle.topology.proofs.Changes.{Change, remove, add, stored, reversed, removed_sum, added_sum, Valid, AmongNodes}
-use Rattle.topology.proofs.Placing.{Kind, reused, fresh, placing}
+use Rattle.topology.proofs.PlacingBase.{Kind, reused, fresh, placing}
 use Rattle.front.specs.declared.Corner.{Corner}
 use Rattle.front.specs.declared.Corner.TheVariants.{Reused, Fresh}
 use Rattle.front.specs.State.{State, next_of, with_front, add_front, remove_front}

@@ -7,7 +7,7 @@ use Rattle.topology.specs.Links.{off, at, link_of, link_out}
 use Rattle.topology.specs.Front.{Loops}
 use Rattle.topology.proofs.Front.{source, target, next_edge, next_in, no_self, next_of_prev, prev_in}
 use Rattle.topology.proofs.Changes.{OffFront}
-use Rattle.topology.proofs.Placing.{ByKind, Placeable, new_nodes}
+use Rattle.topology.proofs.PlacingBase.{ByKind, Placeable, new_nodes}
 use Rattle.front.specs.declared.Corner.{Corner}
 use Rattle.front.specs.declared.Corner.TheVariants.{Reused, Fresh}
 use Rattle.front.specs.State.{State, next_of, prev_of}

@@ -3,7 +3,7 @@ use Rattle.std.specs.Prelude.{ℕ, ◌+◌, ◌*◌, ◌≤◌, List, ◌≡◌,
 use Rattle.std.proofs.Common.{◌∙◌, ap, arith, length-set, get_or-set_same, get_or-set_other}
 use Rattle.topology.specs.Sums.{All}
 use Rattle.topology.proofs.Changes.{Change, stored, reversed, AmongNodes, within_reversed, stored_length, stored_past}
-use Rattle.topology.proofs.Placing.{After}
+use Rattle.topology.proofs.PlacingBase.{After}
 use Rattle.front.specs.declared.Corner.{Corner}
 use Rattle.front.specs.State.{State, Quad, quad_at, with_front, push_quad}
 use Rattle.front.specs.Place.{id_c, id_d, add_edges, move_front, place}

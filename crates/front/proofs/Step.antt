@@ -6,7 +6,7 @@ use Rattle.std.proofs.Math.ListN.{length}
 use Rattle.topology.specs.Sums.{All, Even, total, front_sum, one, loop_one}
 use Rattle.topology.specs.Links.{at}
 use Rattle.topology.proofs.Changes.{removed_sum, added_sum}
-use Rattle.topology.proofs.Placing.{Kind, reused, fresh, placing, After, placed_edges}
+use Rattle.topology.proofs.PlacingBase.{Kind, reused, fresh, placing, After, placed_edges}
 use Rattle.topology.proofs.Placing.{placed}
 use Rattle.topology.specs.Balance.{front_sumℤ, quad_sumℤ, Antisymmetric}
 use Rattle.topology.proofs.Balance.{balance}

@@ -14,7 +14,7 @@ use Rattle.topology.proofs.Front.{next_of_prev, prev_in}
 use Rattle.topology.specs.Sums.{one}
 use Rattle.topology.proofs.Changes.{reversed, removed_sum}
 use Rattle.topology.proofs.Changes as changes
-use Rattle.topology.proofs.Placing.{placing}
+use Rattle.topology.proofs.PlacingBase.{placing}
 use Rattle.front.specs.declared.Counts.{Counts}
 use Rattle.front.specs.declared.Corner.{Corner}
 use Rattle.front.specs.declared.Corner.TheVariants.{Reused, Fresh}

@@ -9,7 +9,7 @@ use Rattle.outline.specs.Outline.{Outline, loop_at, loop_start, first_of, missha
 use Rattle.front.specs.State.{State, cleared}
 use Rattle.front.specs.Sampling.{loop_count, loop_parts, loop_nodes, sampled_count, front_refusal, boundary_turn}
 use Rattle.front_sampled.specs.Nodes.{room_places}
-use Rattle.front_sampled.proofs.Begun.{refusal_places}
+use Rattle.front_sampled.proofs.BegunBase.{refusal_places}
 use Rattle.front_sampled.proofs.Outlines.{outline_three}
 use Rattle.front_boundary.specs.Counting.{even_up}
 use Rattle.front_boundary.specs.Laying.{LoopRoom, CanSample, lay_loop}

@@ -23,9 +23,9 @@ use Rattle.front_sampled.proofs.Cuts.{loop_cuts, cuts_length}
 use Rattle.front_sampled.proofs.Rings.{ring_in_lem, ring_differ, ring_longest}
 use Rattle.front_sampled.specs.Joins.{join, OnlyLinked, Joinable, join_is, join_one, next_joined}
 use Rattle.front_sampled.proofs.Laid.{Laid, linked_pushed, off_pushed}
-use Rattle.front_sampled.proofs.Turn.{split_points, split_count, split_pushed}
+use Rattle.front_sampled.proofs.TurnBase.{split_points, split_count, split_pushed}
 use Rattle.front_sampled.proofs.Turn.{turn_sampled, sampled_count_lem, cuts_three}
-use Rattle.front_sampled.proofs.Begun.{Places, state_at, loops_at}
+use Rattle.front_sampled.proofs.BegunBase.{Places, state_at, loops_at}
 use Rattle.front_sampled.proofs.Begun.{turn_ready, turn_fits}
 use Rattle.front_sampled.proofs.Outlines.{Threes}
 use Rattle.front_boundary.specs.Laying.{link_turn, link_ring, lay_loop}

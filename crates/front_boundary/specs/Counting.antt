@@ -4,7 +4,7 @@ use Rattle.std.proofs.Common.{sym, ap, ◌∙◌, add-one, arith, lt-ltb, le-ltb
 use Rattle.laws.specs.Loop.{sum_up}
 use Rattle.laws.proofs.Sums.{sum_zero, sum_suc}
 use Rattle.outline.specs.Outline.{Outline, loop_at, loop_start, hole_start, hole_length, misshapen}
-use Rattle.outline.proofs.OutlineLaws.{start_first, start_next, start_grows, shaped}
+use Rattle.outline.proofs.OutlineBase.{start_first, start_next, start_grows, shaped}
 use Rattle.front.specs.State.{most_nodes}
 use Rattle.front.specs.Sampling.{loop_parts, loop_nodes, sampled_count, sampled_refusal}
 

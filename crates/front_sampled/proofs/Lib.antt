@@ -9,3 +9,7 @@ pub mod Lists
 pub mod Outlines
 pub mod RingJoins
 pub mod Rings
+pub mod BegunBase
+pub mod PointsBase
+pub mod StartsBase
+pub mod TurnBase

@@ -1,37 +1,25 @@
--- What the sampled nodes are: each is a cut of a segment of a loop, or the midpoint of two such points.
-use Rattle.std.specs.Prelude.{[], Float, ◌≡◌, Bool, true, false, cond, ◌∷◌}
-use Prim.Native.Nat.{ℕ, ◌<◌, zero, suc, ◌+◌, ◌-◌, ◌≤◌}
-use Rattle.numbers.specs.Float.{◌⊕◌, ◌⊘◌, two_f}
-use Rattle.outline.specs.declared.Point.{Point}
-use Rattle.outline.specs.Outline.{Outline, loop_at, points, point, point_at, point_after, after}
-use Rattle.front.specs.Sampling.{parts, loop_count, cut, sampled_count, front_refusal, sample_loop, ring_of, sampled_at, midpoint, ring_in, from_boundary}
+-- What holds of the definitions of proofs/PointsBase.antt.
+use Rattle.std.specs.Prelude.{◌≡◌, Bool, true, false, cond, [], ◌∷◌, Float}
 use Rattle.std.proofs.Common.{subst, arith}
+use Prim.Native.Nat.{ℕ, zero, suc, ◌+◌, ◌-◌, ◌<◌, ◌≤◌}
 use Rattle.std.specs.Float.{nan}
 use Rattle.laws.specs.Loop.{for_up}
+use Rattle.outline.specs.declared.Point.{Point}
+use Rattle.outline.specs.Outline.{Outline, loop_at, point, after}
 use Rattle.topology.specs.Sums.{All}
 use Rattle.front.specs.declared.Ring.{Ring}
 use Rattle.front.specs.State.{State, node, cleared}
+use Rattle.front.specs.Sampling.{loop_count, sampled_count, front_refusal, sample_loop, ring_of, sampled_at, midpoint, ring_in, from_boundary}
 use Rattle.front_sampled.proofs.Lists.{all_append, all_at}
 use Rattle.front_sampled.specs.Nodes.{nodes_of, nodes_length, nodes_at}
 use Rattle.front_sampled.proofs.Cuts.{loop_cuts, cuts_length, cuts_least, cuts_all}
 use Rattle.front_sampled.proofs.Rings.{ring_longest, ordered_in, after_in}
-use Rattle.front_sampled.proofs.Turn.{split_points, added_points, turn_points}
+use Rattle.front_sampled.proofs.TurnBase.{split_points, added_points, turn_points}
 use Rattle.front_sampled.proofs.Turn.{turn_sampled}
 use Rattle.front_sampled.proofs.Outlines.{Threes}
-use Rattle.front_sampled.proofs.Begun.{Places, refusal_places, no_nodes, state_at}
+use Rattle.front_sampled.proofs.BegunBase.{Places, refusal_places, no_nodes, state_at}
 use Rattle.front_sampled.proofs.Begun.{turn_ready, turn_fits, turn_at, begun_in}
-
--- ---- definitions
-
--- halfway from a to b, as an odd loop's midpoint is computed
-abbrev pub halfway : Point → Point → Point
-halfway a b = point ((a.x ⊕ b.x) ⊘ two_f) ((a.y ⊕ b.y) ⊘ two_f)
-
--- P holds of every cut of every segment of every loop, and of the point halfway between two points of which it holds
-pub record OfSamples (P : Point → Type 0) (o : Outline) (size : Float) : Type 0 where
-  pub cuts : (k i j : ℕ) → k < loop_count o → i < points (loop_at o k) → j < parts size (loop_at o k) i
-      → P (cut (point_at (loop_at o k) i) (point_after (loop_at o k) i) (parts size (loop_at o k) i) j)
-  pub midpoints : (a b : Point) → P a → P b → P (halfway a b)
+use Rattle.front_sampled.proofs.PointsBase.{OfSamples}
 
 -- ---- laws
 

@@ -20,10 +20,10 @@ use Rattle.front.specs.Sampling.{ring_of, ordered_at, sampled_at, midpoint, ring
 use Rattle.front_sampled.specs.Nodes.{nodes_of, nodes_length, nodes_at, Pushed}
 use Rattle.front_sampled.proofs.Cuts.{loop_cuts, cuts_length, cuts_least}
 use Rattle.front_sampled.proofs.Rings.{ring_longest, ordered_in, after_in}
-use Rattle.front_sampled.proofs.Turn.{split_points, added_points, turn_points}
+use Rattle.front_sampled.proofs.TurnBase.{split_points, added_points, turn_points}
 use Rattle.front_sampled.proofs.Turn.{turn_sampled}
 use Rattle.front_sampled.proofs.Outlines.{Threes}
-use Rattle.front_sampled.proofs.Begun.{Places, no_nodes, state_at, loops_at}
+use Rattle.front_sampled.proofs.BegunBase.{Places, no_nodes, state_at, loops_at}
 use Rattle.front_sampled.proofs.Begun.{turn_ready, turn_fits, turn_at}
 
 -- ---- a ring is read off the nodes from its base on

@@ -1,64 +1,23 @@
--- The book's start matches what `from_boundary` leaves.
-use Rattle.std.specs.Prelude.{◌≡◌, ℕ, zero, suc, ◌+◌, ◌*◌, ◌≤◌, length, take, Float}
-use Rattle.std.proofs.Math.Path.{refl, ap}
-use Rattle.std.proofs.Common.{◌∙◌, sym, take_all}
-use mathlib.Core.List.{List, [], ◌∷◌, ◌++◌, map}
+-- What holds of the definitions of proofs/StartsBase.antt.
+use Rattle.std.specs.Prelude.{◌≡◌, ℕ, ◌≤◌, length, take, Float}
+use Rattle.std.proofs.Math.Path.{ap}
+use Rattle.std.proofs.Common.{sym, ◌∙◌, take_all}
+use mathlib.Core.List.{[], map}
 use native.Mathlib.Omega.{arith}
 use Rattle.numbers.specs.Float.{zero_f}
-use Rattle.topology.specs.Sums.{total, path_sum, loop_sum, front_sum}
-use Rattle.topology.specs.Links.{off}
-use Rattle.topology.specs.Front.{head_or}
-use Rattle.front.specs.State.{State, node_places, edge_places, cleared}
-use Rattle.books.specs.Book.{Edge, filled, room_for, edges_to, loop_edges, start_book}
-use Rattle.books.proofs.Matches.{edges_sum, Matches}
-use Rattle.front_sampled.proofs.Begun.{Places, refusal_places}
 use Rattle.outline.specs.declared.Point.{Point}
 use Rattle.outline.specs.Outline.{Outline}
+use Rattle.topology.specs.Sums.{front_sum}
+use Rattle.front.specs.State.{State, cleared}
 use Rattle.front.specs.Sampling.{sampled_count, front_refusal, from_boundary, boundary_loops}
+use Rattle.books.specs.Book.{room_for, start_book}
+use Rattle.books.proofs.Matches.{Matches}
 use Rattle.front_sampled.specs.Nodes.{nodes_of, nodes_xs, nodes_ys, Room, room_places}
 use Rattle.front_sampled.proofs.Outlines.{Threes}
+use Rattle.front_sampled.proofs.BegunBase.{refusal_places}
 use Rattle.front_sampled.proofs.Begun.{begun_in}
 use Rattle.front_sampled.proofs.Same.{same_start}
-
--- ---- sums over a loop's edges
-
-module _ (w : ℕ → ℕ → ℕ) where
-  sum_append : (es fs : List Edge) → edges_sum w (es ++ fs) ≡ edges_sum w es + edges_sum w fs
-  unfolding edges_sum
-  sum_append [] fs = omega arith
-  sum_append (e ∷ es) fs = omega (arith, sum_append es fs)
-
-  sum_path : (u : ℕ) (us : List ℕ) (z : ℕ) → edges_sum w (edges_to (u ∷ us) z) ≡ path_sum w u us z
-  unfolding edges_sum edges_to path_sum
-  sum_path u [] z = omega arith
-  sum_path u (v ∷ us) z = ap (λ (k : ℕ). w u v + k) (sum_path v us z)
-
-  sum_loop : (l : List ℕ) → edges_sum w (edges_to l (head_or 0 l)) ≡ loop_sum w l
-  unfolding edges_sum edges_to loop_sum
-  sum_loop [] = refl
-  sum_loop (u ∷ us) = sum_path u us u
-
-  pub sum_loops : (ls : List (List ℕ)) → edges_sum w (loop_edges ls) ≡ front_sum w ls
-  unfolding edges_sum loop_edges total
-  sum_loops [] = refl
-  sum_loops (l ∷ ls) = sum_append (edges_to l (head_or 0 l)) (loop_edges ls) ∙ rw (sum_loop l, sum_loops ls)
-
--- ---- the book's lists, which are just large enough
-
-pub filled_length : {A : Type 0} (n : ℕ) (a : A) → length (filled n a) ≡ n
-unfolding filled
-filled_length zero a = refl
-filled_length (suc n) a = ap suc (filled_length n a)
-
--- places for n nodes in any lists: so there are n in the book's
-pub room_for_lem : (n : ℕ) (lent : State) → Places n lent → Places n (room_for n)
-unfolding room_for node_places edge_places
-room_for_lem n lent P =
-    let few : n ≤ 4294967294 = omega (arith, P.nodes) in
-    record {
-      nodes = rw (filled_length n zero_f, filled_length n off) (omega arith);
-      edges = rw (filled_length {A = ℕ} (2 * n) 0) (omega arith);
-    }
+use Rattle.front_sampled.proofs.StartsBase.{sum_loops, filled_length, room_for_lem}
 
 -- ---- the book's lists, which are just large enough
 

@@ -10,7 +10,7 @@ use Rattle.front.specs.declared.Corner.{Corner}
 use Rattle.front.specs.declared.Corner.TheVariants.{Reused, Fresh}
 use Rattle.front.specs.Place.{added, corner_id}
 use Rattle.hand_steps.specs.Hand.{new_origins}
-use Rattle.hand_steps.proofs.UseLaws.{Below}
+use Rattle.hand_steps.proofs.UseBase.{Below}
 use Rattle.run_origins.specs.Writing.{push_count, push_at}
 
 -- a corner's push, where n nodes are numbered: nothing for one that is reused

@@ -29,15 +29,15 @@ use Rattle.paving.specs.Attempt.{try_edge, far}
 use Rattle.paving.specs.Advance.{most_quads}
 use Rattle.paving.specs.Reach.{Placement}
 use Rattle.paving.specs.ReachLaws.{tried}
-use Rattle.books.proofs.BookLaws.{frame_quad}
+use Rattle.books.proofs.BookBase.{frame_quad}
 use Rattle.books.proofs.Step.{Stepped, answered_step}
-use Rattle.books_hold.proofs.Stages.{standing}
+use Rattle.books_hold.proofs.StagesBase.{standing}
 use Rattle.books_hold.proofs.Runs.{start, reached_holds}
 use Rattle.run_origins.specs.Writing.{push_count, push_at, push_length, push_over}
 use Rattle.hand_steps.specs.declared.StepOutcome.TheVariants.{Placed, Full, Cap}
 use Rattle.hand_steps.specs.Hand.{hand_refusal, handled, settled_on, place_on, step_on, new_origins, origins_on}
 use Rattle.hand_mesh_check.specs.Check.{mesh_refusal, edge_refusal}
-use Rattle.hand_steps.proofs.UseLaws.{there_of, on_front_lem, quad_below}
+use Rattle.hand_steps.proofs.UseBase.{there_of, on_front_lem, quad_below}
 use Rattle.hand_steps.proofs.StepLaws.{origins_same}
 use Rattle.hand_origins.proofs.Pushed.{push_counts, new_pushed}
 use Rattle.hand_origins.specs.Theorem.{NodesNumbered}

@@ -27,7 +27,7 @@ use Rattle.hand_steps.specs.declared.StepOutcome.{StepOutcome}
 use Rattle.hand_steps.specs.declared.StepOutcome.TheVariants.{Placed, Full, Cap}
 use Rattle.hand_steps.specs.Hand.{hand_refusal, Handled, handled, settled_on, place_on}
 use Rattle.hand_steps.specs.Lent.{OnFront}
-use Rattle.hand_steps.proofs.UseLaws.{front_room, quad_fits_lem}
+use Rattle.hand_steps.proofs.UseBase.{front_room, quad_fits_lem}
 use Rattle.hand_previews.specs.declared.Foreseen.{Foreseen}
 use Rattle.hand_previews.specs.declared.View.{View}
 use Rattle.hand_previews.specs.Preview.{EdgeList, edge_list, edge_turn, front_listed, foresight, foreseen, foreseen_on, preview_refusal, view_on}

@@ -19,7 +19,7 @@ use Rattle.hand_mesh_check.specs.Check.{lent_state}
 use Rattle.hand_steps.specs.declared.StepOutcome.{StepOutcome}
 use Rattle.hand_steps.specs.Hand.{hand_refusal, Handled, place_on, step_on, step_answer, StepTaken}
 use Rattle.hand_steps.specs.Lent.{Around, OnFront}
-use Rattle.hand_steps.proofs.UseLaws.{on_front_lem, front_room}
+use Rattle.hand_steps.proofs.UseBase.{on_front_lem, front_room}
 use Rattle.hand_steps.proofs.StepLaws.{origins_same}
 use Rattle.hand_previews.specs.declared.View.{View}
 use Rattle.hand_previews.specs.Preview.{preview_refusal, view_on, preview_answer, preview_list, PreviewTaken}

@@ -24,7 +24,7 @@ use Rattle.hand_placing.proofs.Local.{placed_nodes, placed_quads, placed_xs, pla
 use Rattle.hand_steps.specs.declared.StepOutcome.TheVariants.{Placed, Cap}
 use Rattle.hand_steps.specs.Hand.{handled, settled_on, place_on}
 use Rattle.hand_steps.specs.Lent.{OnFront}
-use Rattle.hand_steps.proofs.UseLaws.{Below, quad_below, quad_fits_lem}
+use Rattle.hand_steps.proofs.UseBase.{Below, quad_below, quad_fits_lem}
 use Rattle.hand_previews.specs.Preview.{foresight, foreseen, foreseen_on, view_on}
 use Rattle.hand_step_answers.specs.declared.PreviewAnswer.{PreviewAnswer}
 use Rattle.hand_step_answers.specs.Answers.{fresh_x, fresh_y, view_numbers}

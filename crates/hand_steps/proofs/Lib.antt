@@ -2,3 +2,4 @@ pub mod UseLaws
 pub mod Quads
 pub mod Readings
 pub mod StepLaws
+pub mod UseBase

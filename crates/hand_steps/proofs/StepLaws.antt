@@ -25,7 +25,7 @@ use Rattle.hand_steps.specs.declared.StepOutcome.{StepOutcome}
 use Rattle.hand_steps.specs.declared.StepOutcome.TheVariants.{Placed, Full, Cap}
 use Rattle.hand_steps.specs.Hand.{hand_refusal, Handled, handled, settled_on, place_on, step_on, step_answer, origin_turn, new_origins, StepTaken}
 use Rattle.hand_steps.specs.Lent.{OnFront, Settleable}
-use Rattle.hand_steps.proofs.UseLaws.{front_room, quad_fits_lem}
+use Rattle.hand_steps.proofs.UseBase.{front_room, quad_fits_lem}
 
 -- ---- the refusal
 

@@ -1,8 +1,8 @@
 -- Worked uses of `ring` and `prove`, each with the call of tools/ring.py that wrote it. They show the form, and the check computes them. Assumes nothing.
 use Rattle.std.specs.Prelude.{◌≡◌, [], ◌∷◌, ℕ, ◌+◌, ◌*◌, ◌^◌, ◌≤◌, ℤ, pos, ◌+ℤ◌, ◌*ℤ◌, ◌-ℤ◌, ◌≤ℤ◌}
-use Rattle.laws.proofs.Ring.{var, num, ◌+ᵉ◌, ◌*ᵉ◌, ◌-ᵉ◌}
+use Rattle.laws.proofs.RingBase.{var, num, ◌+ᵉ◌, ◌*ᵉ◌, ◌-ᵉ◌}
 use Rattle.laws.proofs.Ring.{ring}
-use Rattle.laws.proofs.Certificate.{Nonneg, of-≤ℤ, to-≤ℤ, to_le, hyp, nat, ◌⊞◌, ◌⊠◌, sq, eqn, zero_of}
+use Rattle.laws.proofs.CertificateBase.{Nonneg, of-≤ℤ, to-≤ℤ, to_le, hyp, nat, ◌⊞◌, ◌⊠◌, sq, eqn, zero_of}
 use Rattle.laws.proofs.Certificate.{prove}
 
 -- Lagrange's identity: the cross product and the dot product of two vectors.

@@ -6,3 +6,5 @@ pub mod Ring
 pub mod Chain
 pub mod Integer
 pub mod Sums
+pub mod CertificateBase
+pub mod RingBase

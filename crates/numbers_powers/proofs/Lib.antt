@@ -1,2 +1,3 @@
 pub mod Powers
 pub mod Examples
+pub mod PowersBase

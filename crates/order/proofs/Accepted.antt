@@ -9,7 +9,8 @@ use Rattle.laws.specs.Tests.{both, neither, and_both, or_cases, or_left, or_righ
 use Rattle.laws.specs.Tabulate.{tabulate_length, tabulate_at}
 use Rattle.front_lent_mesh.specs.declared.QuadIds.{QuadIds}
 use Rattle.front_lent_mesh.specs.Mesh.{quad_count_of, quad_in}
-use Rattle.order.proofs.PlaceLaws.{place_le, place_found, place_first, placing_early}
+use Rattle.order.proofs.PlaceBase.{place_le, place_found, place_first}
+use Rattle.order.proofs.PlaceLaws.{placing_early}
 use Rattle.order.specs.Accepted.{SameStep, Lays, laid_bd, laid_dc, laid_ca, Uses, used_ab, used_bd, used_ca, LaidFor, EachOnce, Respects, Means, is_accepted, is_not_once, is_early_lem}
 
 -- ---- the first of them

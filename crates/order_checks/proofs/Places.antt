@@ -3,7 +3,7 @@ use Rattle.std.specs.Prelude.{ℕ, suc, ◌+◌, ◌-◌, ◌≤◌, ◌<◌, �
 use Rattle.std.proofs.Common.{sym, ◌∙◌, ap, arith, length-set, get_or-set_same, get_or-set_other, eqb-true}
 use Rattle.std.proofs.lemmas.Bool.{eqb-false}
 use Rattle.order.specs.Order.{first_place}
-use Rattle.order.proofs.PlaceLaws.{place_step, place_end}
+use Rattle.order.proofs.PlaceBase.{place_step, place_end}
 use Rattle.order_checks.specs.Places.{FirstPlaces}
 
 -- the same of the list from p on, where the first p entries are not yet looked at

@@ -7,3 +7,5 @@ pub mod Examples
 pub mod Limits
 pub mod RefusalLaws
 pub mod Table
+pub mod OutlineBase
+pub mod SearchBase

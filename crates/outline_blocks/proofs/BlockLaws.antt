@@ -6,7 +6,7 @@ use Rattle.std.specs.Float.{binary64}
 use Rattle.std.specs.Float.Ieee.{fits}
 use Rattle.outline.specs.Outline.{Outline, hole_length, hole_start, hole_at, loop_at, points, point_at, point_after, most_points}
 use Rattle.outline.specs.Outline.{misshapen, outline_refusal, LoopPlace}
-use Rattle.outline.proofs.OutlineLaws.{start_over, shaped, HolesPassed}
+use Rattle.outline.proofs.OutlineBase.{start_over, shaped, HolesPassed}
 use Rattle.outline.proofs.OutlineLaws.{passed_place, passed_few}
 use Rattle.outline.specs.Accepted.{OutlineFits, Accepted, each, loop_within}
 use Rattle.outline.proofs.Accepted.{accepted}

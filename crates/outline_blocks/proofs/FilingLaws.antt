@@ -2,7 +2,7 @@
 use Rattle.std.specs.Prelude.{true, false, List, ◌⊎◌, ◌≡◌, refl, ℕ, zero, suc, ◌+◌, ◌*◌, ◌≤◌, ◌<◌, length, get_or, set, Float}
 use Rattle.std.proofs.Common.{inl, inr, sym, ap, ◌∙◌, subst, zero-le, le_antisymm, eq-or-lt_of_le, arith, length-set, get_or-set_same, get_or-set_other}
 use Rattle.outline.specs.Outline.{Outline, loop_at, points, misshapen, outline_refusal}
-use Rattle.outline.proofs.OutlineLaws.{HolesPassed}
+use Rattle.outline.proofs.OutlineBase.{HolesPassed}
 use Rattle.outline.specs.Accepted.{OutlineFits}
 use Rattle.outline_blocks.specs.Blocks.{reach, is_farther, Farthest, block_size, block_end, side_at, BlockFiled, LoopFiled, BlockFiles, LoopFiles}
 use Rattle.outline_blocks.specs.Blocks.{first_block, first_block_at, Drawn}

@@ -2,7 +2,7 @@
 use Rattle.std.specs.Prelude.{List, ◌≡◌, refl, ℕ, zero, suc, ◌+◌, ◌*◌, ◌≤◌, length, Float}
 use Rattle.std.proofs.Common.{◌∙◌, sym, subst, arith}
 use Rattle.outline.specs.Outline.{Outline, LoopPlace, loop_at, points, most_points, outline_refusal}
-use Rattle.outline.proofs.OutlineLaws.{shaped}
+use Rattle.outline.proofs.OutlineBase.{shaped}
 use Rattle.outline.proofs.Accepted.{accepted}
 use Rattle.outline_loops.specs.declared.Loop.{Loop}
 use Rattle.outline_loops.specs.Loops.{LoopListed}

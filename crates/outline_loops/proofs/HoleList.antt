@@ -10,7 +10,7 @@ use Rattle.std.specs.List.{list_any}
 use Rattle.laws.specs.Loop.{for_up_same, any_turn, any_up}
 use Rattle.laws.proofs.Lists.{any_list}
 use Rattle.outline.specs.Outline.{Outline, hole_length, hole_start, hole_at, loop_at, misshapen}
-use Rattle.outline.proofs.OutlineLaws.{start_first, start_next, shaped, HolesPassed}
+use Rattle.outline.proofs.OutlineBase.{start_first, start_next, shaped, HolesPassed}
 use Rattle.outline_loops.specs.declared.Hole.{Hole}
 use Rattle.outline_loops.specs.declared.Holes.{Holes}
 use Rattle.outline_loops.specs.Holes.{placed, cut, hole_list, Filled, HolePlace}

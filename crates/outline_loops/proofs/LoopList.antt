@@ -7,7 +7,7 @@ use Rattle.std.proofs.lemmas.Iterator.Consumers.{YieldsList-from_first, YieldsLi
 use Rattle.std.proofs.lemmas.Iterator.{YieldsList}
 use Rattle.laws.specs.Loop.{for_up, for_up_same}
 use Rattle.outline.specs.Outline.{Outline, outline_of, hole_length, hole_start, hole_at, loop_at, loop_start, most_points, LoopPlace}
-use Rattle.outline.proofs.OutlineLaws.{start_first, start_next, start_grows, shaped}
+use Rattle.outline.proofs.OutlineBase.{start_first, start_next, start_grows, shaped}
 use Rattle.outline_loops.specs.declared.Loop.{Loop}
 use Rattle.outline_loops.specs.declared.Loops.{Loops}
 use Rattle.outline_loops.specs.Holes.{hole_list}

@@ -9,8 +9,8 @@ use Rattle.std.proofs.lemmas.Bool.{not-true}
 use Rattle.std.specs.Float.Ieee.{Float, fits, is_nan, lt, le}
 use Rattle.std.specs.Float.{binary64}
 use Rattle.std.specs.Float.Ieee.Fits.{add-fits, sub-fits}
-use Rattle.laws.proofs.Ring.{var, num, ◌-ᵉ◌, neg}
-use Rattle.laws.proofs.Certificate.{nonneg, of-≤ℤ, to-≤ℤ, to_le, hyp, ◌⊞◌}
+use Rattle.laws.proofs.RingBase.{var, num, ◌-ᵉ◌, neg}
+use Rattle.laws.proofs.CertificateBase.{nonneg, of-≤ℤ, to-≤ℤ, to_le, hyp, ◌⊞◌}
 use Rattle.laws.proofs.Certificate.{prove}
 use Rattle.numbers.specs.Float.{◌⊕◌, ◌⊖◌, ◌⊗◌, zero_f}
 use Rattle.exact.specs.Units.{W-pos, signed, units, Within, widen}

@@ -16,7 +16,7 @@ use Rattle.outline.specs.declared.Search.{Search}
 use Rattle.outline.specs.Outline.{Outline, hole_at, points, point_at, point_after}
 use Rattle.outline.specs.Queries.{squared_distance, foot_of, point_segment_distance, near, nowhere, nearer, segment_turn, nearest_in_loop, hole_turn, nearest_segment}
 use Rattle.outline.specs.Search.{search, search_start, searched, search_turn, search_loop, search_hole, search_from}
-use Rattle.outline.proofs.SearchLaws.{Finds, finds_segment}
+use Rattle.outline.proofs.SearchBase.{Finds, finds_segment}
 use Rattle.outline.proofs.SearchLaws.{search_same}
 use Rattle.outline_blocks.proofs.OrderLaws.{lt_self, lt_cut}
 use Rattle.outline_nearest.proofs.FarLaws.{either_way}

@@ -13,7 +13,7 @@ use Rattle.exact.proofs.Order.{le_val}
 use Rattle.outline.specs.declared.Point.{Point}
 use Rattle.outline.specs.declared.Search.{Search}
 use Rattle.outline.specs.Outline.{Outline, hole_at, loop_at, points, point_at, point_after}
-use Rattle.outline.proofs.OutlineLaws.{outer_points, hole_points}
+use Rattle.outline.proofs.OutlineBase.{outer_points, hole_points}
 use Rattle.outline.specs.Search.{search_turn, search_loop, search_hole, search_from}
 use Rattle.outline_blocks.specs.Blocks.{block_end, is_listed, BlockThere, LoopDrawn, block_extent}
 use Rattle.outline_blocks.proofs.BetweenLaws.{BlockPlace}

@@ -6,9 +6,9 @@ use Rattle.std.proofs.Math.IntN.{pos-ne-negsuc}
 use Rattle.std.specs.declared.cmp.Ordering.{Ordering}
 use Rattle.std.specs.declared.cmp.Ordering.TheVariants.{Less, Equal, Greater}
 use Rattle.std.specs.Ordering.{is_eq, is_lt, is_gt, ordering_index}
-use Rattle.laws.proofs.Ring.{var, num, ◌+ᵉ◌, ◌*ᵉ◌, ◌-ᵉ◌, neg}
+use Rattle.laws.proofs.RingBase.{var, num, ◌+ᵉ◌, ◌*ᵉ◌, ◌-ᵉ◌, neg}
 use Rattle.laws.proofs.Ring.{ring}
-use Rattle.laws.proofs.Certificate.{sub_pos}
+use Rattle.laws.proofs.CertificateBase.{sub_pos}
 use Rattle.exact.specs.Units.{units}
 use Rattle.exact.specs.Corner.{Vector, cross}
 use Rattle.outline.specs.declared.Point.{Point}

@@ -2,7 +2,7 @@
 use Rattle.std.specs.Prelude.{Bool, true, false, not, List, [], ◌∷◌, ◌≡◌, refl, ℕ, ◌+◌, ◌*◌, ◌^◌, ◌≤◌, ◌<◌, ℤ, pos, neg_ℤ, nat_abs, ◌+ℤ◌, ◌*ℤ◌, ◌-ℤ◌, length, get_or, set, Float}
 use Rattle.std.specs.Bool.{beq}
 use Rattle.std.proofs.Common.{ap, ap₂, ◌∙◌, arith, mul-le-mul, le_of_lt, le_trans, length-set, pow-add}
-use Rattle.laws.proofs.Ring.{var, num, ◌+ᵉ◌, ◌*ᵉ◌, ◌-ᵉ◌, neg}
+use Rattle.laws.proofs.RingBase.{var, num, ◌+ᵉ◌, ◌*ᵉ◌, ◌-ᵉ◌, neg}
 use Rattle.laws.proofs.Ring.{ring}
 use Rattle.exact.specs.Units.{signed, sign_of, size_of, units}
 use Rattle.outline.specs.declared.Point.{Point}

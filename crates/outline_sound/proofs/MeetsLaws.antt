@@ -3,11 +3,11 @@ use Rattle.std.specs.Prelude.{◌≡◌, not, ◌↔◌, List, [], ◌∷◌, �
 use Rattle.std.proofs.Common.{sym, ap, ap₂, ◌∙◌, subst, inl, inr, arith}
 use Rattle.std.proofs.Math.IntN.{pos, ℤ_discrete}
 use Rattle.laws.proofs.Integer.{eq_of_sub}
-use Rattle.laws.proofs.Ring.{Expr, var, num, ◌+ᵉ◌, ◌*ᵉ◌, ◌-ᵉ◌, neg}
+use Rattle.laws.proofs.RingBase.{Expr, var, num, ◌+ᵉ◌, ◌*ᵉ◌, ◌-ᵉ◌, neg}
 use Rattle.laws.proofs.Ring.{ring}
-use Rattle.laws.proofs.Certificate.{Nonneg, nonneg, nonneg_is, not_nonneg, to_le, of-≤ℤ, to-≤ℤ, <ℤ_or-≤ℤ, sign, hyp, nat, ◌⊞◌, ◌⊠◌}
+use Rattle.laws.proofs.CertificateBase.{Nonneg, nonneg, nonneg_is, not_nonneg, to_le, of-≤ℤ, to-≤ℤ, <ℤ_or-≤ℤ, sign, hyp, nat, ◌⊞◌, ◌⊠◌}
 use Rattle.laws.proofs.Certificate.{of-<ℤ, to-<ℤ, ≤ℤ_antisym}
-use Rattle.laws.proofs.Certificate.{eqn, zero_of}
+use Rattle.laws.proofs.CertificateBase.{eqn, zero_of}
 use Rattle.laws.proofs.Certificate.{prove}
 use Rattle.exact.specs.Corner.{Vector, cross}
 use Rattle.outline_orientation.specs.Orient.{orient}

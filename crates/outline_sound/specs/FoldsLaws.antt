@@ -10,10 +10,10 @@ use Rattle.std.proofs.Math.IntN.{pos}
 use Rattle.std.specs.Int.Signed.{lt_z, lt_z_yes}
 use Rattle.std.specs.Float.Ieee.Fits.{and_i, and_l, and_r, eq→eqb}
 use Rattle.laws.proofs.Integer.{eq_of_sub}
-use Rattle.laws.proofs.Ring.{Expr, var, num, ◌+ᵉ◌, ◌*ᵉ◌, ◌-ᵉ◌, neg}
-use Rattle.laws.proofs.Certificate.{Nonneg, nonneg, nonneg_is, nonneg-+, nonneg_sq, not_nonneg, to_le, of-≤ℤ, <ℤ_or-≤ℤ, sign, hyp, nat, ◌⊞◌, ◌⊠◌}
+use Rattle.laws.proofs.RingBase.{Expr, var, num, ◌+ᵉ◌, ◌*ᵉ◌, ◌-ᵉ◌, neg}
+use Rattle.laws.proofs.CertificateBase.{Nonneg, nonneg, nonneg_is, nonneg-+, nonneg_sq, not_nonneg, to_le, of-≤ℤ, <ℤ_or-≤ℤ, sign, hyp, nat, ◌⊞◌, ◌⊠◌}
 use Rattle.laws.proofs.Certificate.{of-<ℤ, <ℤ_weaken}
-use Rattle.laws.proofs.Certificate.{sq, eqn, zero_of}
+use Rattle.laws.proofs.CertificateBase.{sq, eqn, zero_of}
 use Rattle.laws.proofs.Certificate.{prove}
 use Rattle.exact.specs.Corner.{Vector, cross}
 use Rattle.outline_orientation.specs.Orient.{way, orient}

@@ -6,7 +6,7 @@ use Rattle.std.proofs.Common.{sym, ap, ◌∙◌, arith, T_not}
 use Rattle.std.proofs.Math.Dec.{not_T}
 use Rattle.std.proofs.Math.IntN.{pos}
 use Rattle.std.specs.Int.Signed.{lt_z, lt_z_yes}
-use Rattle.laws.proofs.Ring.{Expr, var, ◌*ᵉ◌, ◌-ᵉ◌}
+use Rattle.laws.proofs.RingBase.{Expr, var, ◌*ᵉ◌, ◌-ᵉ◌}
 use Rattle.exact.specs.Corner.{Vector}
 use Rattle.outline_orientation.specs.Orient.{orient}
 use Rattle.outline_sound.specs.Sound.{overlap, parted}

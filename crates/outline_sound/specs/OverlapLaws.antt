@@ -7,9 +7,9 @@ use Rattle.std.proofs.Math.IntN.{+ℤ_comm}
 use Rattle.std.specs.Int.Signed.{lt_z, lt_z_yes, lt_z_no, ≤ℤ_refl}
 use Rattle.std.specs.Float.Ieee.Fits.{and_i, and_l, and_r}
 use Rattle.laws.proofs.Integer.{eq_of_sub}
-use Rattle.laws.proofs.Ring.{var, num, ◌+ᵉ◌, ◌*ᵉ◌, ◌-ᵉ◌, neg}
+use Rattle.laws.proofs.RingBase.{var, num, ◌+ᵉ◌, ◌*ᵉ◌, ◌-ᵉ◌, neg}
 use Rattle.laws.proofs.Ring.{ring}
-use Rattle.laws.proofs.Certificate.{Nonneg, nonneg, nonneg_is, not_nonneg, of_le, of-≤ℤ, <ℤ_or-≤ℤ, hyp, ◌⊞◌, ◌⊠◌, eqn, zero_of}
+use Rattle.laws.proofs.CertificateBase.{Nonneg, nonneg, nonneg_is, not_nonneg, of_le, of-≤ℤ, <ℤ_or-≤ℤ, hyp, ◌⊞◌, ◌⊠◌, eqn, zero_of}
 use Rattle.laws.proofs.Certificate.{of-<ℤ, <ℤ_weaken, prove}
 use Rattle.outline_sound.specs.Sound.{min_z, max_z, overlap}
 

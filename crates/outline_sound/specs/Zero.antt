@@ -3,9 +3,9 @@
 use Rattle.std.specs.Prelude.{◌≡◌, refl, List, [], ◌∷◌, zero, suc, T, ℤ, pos, negsuc, neg_ℤ, ◌+ℤ◌, ◌*ℤ◌, ◌-ℤ◌}
 use Rattle.std.proofs.Common.{sym, ap, ap₂, ◌∙◌, subst, inl, inr, arith}
 use Rattle.std.proofs.Math.IntN.{*ℤ-zero}
-use Rattle.laws.proofs.Ring.{Expr, var, num, ◌+ᵉ◌, ◌*ᵉ◌, ◌-ᵉ◌, neg, eval, same}
+use Rattle.laws.proofs.RingBase.{Expr, var, num, ◌+ᵉ◌, ◌*ᵉ◌, ◌-ᵉ◌, neg, eval, same}
 use Rattle.laws.proofs.Ring.{ring}
-use Rattle.laws.proofs.Certificate.{Nonneg, nonneg, not_nonneg, of_le, sign, Eqns, hyp, ◌⊞◌, ◌⊠◌}
+use Rattle.laws.proofs.CertificateBase.{Nonneg, nonneg, not_nonneg, of_le, sign, Eqns, hyp, ◌⊞◌, ◌⊠◌}
 use Rattle.laws.proofs.Certificate.{prove}
 
 -- multiples of some expressions, added up

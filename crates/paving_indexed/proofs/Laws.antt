@@ -8,7 +8,7 @@ use Rattle.geometry.specs.declared.Key.{Key}
 use Rattle.geometry.specs.declared.Corners.{Corners}
 use Rattle.geometry.specs.Keys.{key_of, edge_bucket, spans_kept, clearance, is_too_close, too_close_at, lowest, highest, is_in_box, is_candidate}
 use Rattle.index_key_rects.specs.Rects.{rect_of, rect_at, edge_rect, Meets}
-use Rattle.index_key_rects.proofs.KeyLaws.{box_meets, candidate_meets, end_meets}
+use Rattle.index_key_rects.proofs.KeyBase.{box_meets, candidate_meets, end_meets}
 use Rattle.front.specs.State.{node_in, edge_is}
 use Rattle.paving.specs.Checks.{share_end, blocks_at, crosses_at}
 use Rattle.paving_indexed.specs.Rects.{node_rects, edge_rects, listed, close_at, inside_at, crossing_at}

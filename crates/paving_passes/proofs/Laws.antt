@@ -14,7 +14,7 @@ use Rattle.paving.specs.ReachLaws.{Reached, AtPassing, AtPassed, turn_kept}
 use Rattle.paving.specs.Reach.{begin}
 use Rattle.paving_snapshots.specs.Stretches.{node_after, Stretches}
 use Rattle.paving_snapshots.proofs.StretchLaws.{after_more, after_few, after_off}
-use Rattle.paving_snapshots.proofs.Taking.{loop_over}
+use Rattle.paving_snapshots.proofs.TakingBase.{loop_over}
 use Rattle.paving_ends.specs.Answers.{settled, passed, pass_answer}
 use Rattle.std.specs.declared.ops.ControlFlow.{ControlFlow}
 use Rattle.std.specs.declared.ops.ControlFlow.TheVariants.{Continue, Break}

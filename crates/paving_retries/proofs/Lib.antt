@@ -2,3 +2,4 @@ pub mod Untried
 pub mod VainLaws
 pub mod Attempts
 pub mod Lasting
+pub mod VainBase

@@ -12,7 +12,7 @@ use Rattle.paving.specs.Attempt.{try_edge}
 use Rattle.paving_attempts.specs.Seen.{seen_of}
 use Rattle.paving_attempts.proofs.SeenLaws.{try_seen}
 use Rattle.paving_retries.specs.Vain.{is_vain, noted, Remembers}
-use Rattle.paving_retries.proofs.VainLaws.{there_is, noted_again}
+use Rattle.paving_retries.proofs.VainBase.{there_is, noted_again}
 use Rattle.paving_retries.proofs.VainLaws.{remembers_same, vain_fails, failed_now, noted_remembers}
 use Rattle.paving_retries.specs.Untried.{seen_mesh, Untried}
 

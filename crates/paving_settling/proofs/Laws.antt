@@ -28,7 +28,7 @@ use Rattle.books.proofs.Answered.{choice}
 use Rattle.paving_attempts.specs.Seen.{seen_of}
 use Rattle.paving_attempts.proofs.SeenLaws.{try_seen}
 use Rattle.paving_retries.specs.Vain.{Remembers}
-use Rattle.paving_retries.proofs.VainLaws.{there_is}
+use Rattle.paving_retries.proofs.VainBase.{there_is}
 use Rattle.paving_retries.specs.Untried.{seen_mesh, Untried}
 use Rattle.paving_ends.specs.Answers.{snapshot_edge, settled, quad_settled}
 use Rattle.paving_settling.specs.Paveable.{Paveable, Held, ready}

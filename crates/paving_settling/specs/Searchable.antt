@@ -27,7 +27,7 @@ use Rattle.paving_attempts.specs.Seen.{seen_edges}
 use Rattle.paving_retries.specs.Vain.{forgotten, Remembers}
 use Rattle.paving_snapshots.specs.Stretches.{OffBoth, Stretches, FewerTries}
 use Rattle.paving_snapshots.proofs.OffLaws.{off_stays}
-use Rattle.paving_retries.proofs.VainLaws.{Forgets, forgets}
+use Rattle.paving_retries.proofs.VainBase.{Forgets, forgets}
 use Rattle.paving_retries.proofs.VainLaws.{forgotten_remembers, remembers_later, remembers_same, remembers_fewer}
 use Rattle.paving_retries.specs.Untried.{seen_mesh}
 use Rattle.paving_settling.specs.Paveable.{Paveable, held, later_placed}

@@ -2,3 +2,4 @@ pub mod Taking
 pub mod Examples
 pub mod OffLaws
 pub mod StretchLaws
+pub mod TakingBase

@@ -1,38 +1,15 @@
--- The loop that takes the snapshot: node by node, but for those in a stretch, whose links are copied already. Assumes nothing.
-use Rattle.std.specs.Prelude.{List, ◌≡◌, ℕ, zero, suc, ◌+◌, ◌-◌, ◌≤◌, ◌<◌, length, Bool, true, false, refl, ◌≢◌, ltb, eqb, get_or, set}
-use Rattle.std.proofs.Common.{subst, arith, ◌∙◌, ap, length-set, get_or-set_same, get_or-set_other, ltb-true, ltb-false, lt-ltb, le-ltb, eqb-true, eq-eqb, ne_eqb}
-use Rattle.laws.specs.Loop.{Loop, loop_next, for_up, loop_start_lem, loop_end, for_up_stays}
-use Rattle.paving.specs.Advance.{copy_turn, copied}
-use Rattle.paving_snapshots.specs.Stretches.{joining, joining_turn, OffBoth, Stretches, FewerTries, stretched, node_after, Joining, join_node, stretches_joined}
+-- What holds of the definitions of proofs/TakingBase.antt.
+use Rattle.std.specs.Prelude.{Bool, true, false, List, ◌≡◌, refl, ◌≢◌, ℕ, suc, ◌+◌, ◌-◌, ◌≤◌, ◌<◌, ltb, eqb, length, get_or, set}
 use Rattle.std.proofs.Math.Path.{sym}
+use Rattle.std.proofs.Common.{◌∙◌, ap, subst, arith, length-set, get_or-set_same, get_or-set_other, ltb-true, ltb-false, lt-ltb, le-ltb, eqb-true, eq-eqb, ne_eqb}
 use Rattle.std.proofs.lemmas.List.{set-get_or}
 use Rattle.std.proofs.lemmas.Bool.{eqb-false}
+use Rattle.laws.specs.Loop.{Loop, loop_start_lem, loop_next, loop_end, for_up, for_up_stays}
 use Rattle.topology.specs.Links.{off, link_in_lem, link_read}
+use Rattle.paving.specs.Advance.{copy_turn, copied}
+use Rattle.paving_snapshots.specs.Stretches.{stretched, node_after, Joining, joining, join_node, joining_turn, stretches_joined, OffBoth, Stretches}
 use Rattle.paving_snapshots.proofs.StretchLaws.{fewer_same, fewer_stretched, stretches_stretched, stretches_copied, after_more, after_few, after_off}
-
--- turns that change nothing are taken without doing them
-pub loop_over : {A : Type 0} (turn : ℕ → A → A) (a : A) {n i : ℕ} {s : A} (m : ℕ) → Loop turn a n i s → i ≤ m → m ≤ n
-    → ((j : ℕ) → i ≤ j → j < m → turn j s ≡ s) → Loop turn a n m s
-loop_over {A} turn a {n} {i} {s} m L low high same =
-    subst (λ (k : ℕ). Loop turn a n k s) (omega arith) (by (m - i) (omega arith))
-  where
-    by : (k : ℕ) → i + k ≤ m → Loop turn a n (i + k) s
-    by zero h = subst (λ (j : ℕ). Loop turn a n j s) (omega arith) L
-    by (suc k) h =
-        subst (λ (t : A). Loop turn a n (i + suc k) t) (same (i + k) (omega arith) (omega arith))
-        (subst (λ (j : ℕ). Loop turn a n j (turn (i + k) s)) (omega arith) (loop_next turn a (by k (omega arith)) (omega arith)))
-
--- the links of the nodes before i are copied; those from `from` on are off the front
-pub record Taking (next snapshot₀ tried₀ : List ℕ) (n from i : ℕ) (snapshot tried : List ℕ) : Type 0 where
-  pub loop : Loop (copy_turn next) snapshot₀ n i snapshot
-  pub long : length snapshot ≡ length snapshot₀
-  pub gone : (j : ℕ) → from ≤ j → j < i → OffBoth n next snapshot j
-  pub stretches : Stretches tried n next snapshot
-  pub fewer : FewerTries tried₀ tried
-  -- how many turns that took, no more than nodes
-  pub turns : ℕ
-  pub few : turns ≤ i
-  pub joined : joining from i tried ≡ for_up turns (joining_turn next n) (joining 0 0 tried₀)
+use Rattle.paving_snapshots.proofs.TakingBase.{loop_over, Taking}
 
 module _ (next snapshot₀ tried₀ : List ℕ) (n : ℕ) (few : n ≤ length next) where
   pub taking_starts : Stretches tried₀ n next snapshot₀ → Taking next snapshot₀ tried₀ n 0 0 snapshot₀ tried₀

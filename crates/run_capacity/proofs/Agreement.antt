@@ -12,10 +12,10 @@ use Rattle.front.specs.Sampling.{sampled_count, front_refusal, from_boundary}
 use Rattle.front.proofs.FrameLaws.{frame_node}
 use Rattle.paving.specs.Advance.{EndedPaving}
 use Rattle.run_whole.specs.Run.{run_refusal, run_of}
-use Rattle.books.proofs.BookLaws.{frame_quad}
+use Rattle.books.proofs.BookBase.{frame_quad}
 use Rattle.front_sampled.proofs.Outlines.{outline_three}
-use Rattle.front_sampled.proofs.Begun.{refusal_places}
-use Rattle.books_hold.proofs.Stages.{standing}
+use Rattle.front_sampled.proofs.BegunBase.{refusal_places}
+use Rattle.books_hold.proofs.StagesBase.{standing}
 use Rattle.run_capacity.proofs.Alike.{next_alike}
 use Rattle.run_capacity.specs.Twins.{NoFewer}
 use Rattle.run_capacity.proofs.Twins.{Twins}

@@ -17,7 +17,7 @@ use Rattle.front.proofs.Pushed.{IsNode, with_corners}
 use Rattle.paving.proofs.AttemptLaws.{quad_chosen}
 use Rattle.paving.specs.Reach.{Placement}
 use Rattle.books.specs.Book.{quad_at}
-use Rattle.books.proofs.BookLaws.{frame_quad}
+use Rattle.books.proofs.BookBase.{frame_quad}
 use Rattle.books.proofs.Step.{Stepped, answered_step}
 use Rattle.run_capacity.proofs.Alike.{EdgesAlike, Alike, add_alike}
 use Rattle.run_capacity.proofs.Attempts.{ReadsAlike, reads_alike, in_c, in_d, point_alike, id_c_lem, id_d_lem}

@@ -18,10 +18,10 @@ use Rattle.front.proofs.FrameLaws.{frame_node_places, frame_quad_places, frame_e
 use Rattle.front_sampled.specs.Nodes.{nodes_of, nodes_at}
 use Rattle.front_sampled.proofs.Cuts.{loop_cuts, cuts_length, cuts_least}
 use Rattle.front_sampled.proofs.Rings.{ring_longest, after_in, ring_in_lem, ids_length}
-use Rattle.front_sampled.proofs.Turn.{split_points, turn_points}
+use Rattle.front_sampled.proofs.TurnBase.{split_points, turn_points}
 use Rattle.front_sampled.proofs.Turn.{turn_sampled, turn_length}
 use Rattle.front_sampled.proofs.Outlines.{Threes}
-use Rattle.front_sampled.proofs.Begun.{Begun, Places, refusal_places, state_at, TurnReady}
+use Rattle.front_sampled.proofs.BegunBase.{Begun, Places, refusal_places, state_at, TurnReady}
 use Rattle.front_sampled.proofs.Begun.{turn_ready, turn_fits, turn_at, begun_in}
 use Rattle.front_sampled.proofs.Same.{turn_same, same_at, same_start}
 use Rattle.run_capacity.proofs.Alike.{EdgesAlike, Alike, add_alike}

@@ -19,7 +19,7 @@ use Rattle.paving.specs.Reach.{Placement}
 use Rattle.books.specs.Book.{quad_at}
 use Rattle.books.proofs.Step.{answered_step}
 use Rattle.books.proofs.Snapshot.{snapshot_frame, snapshot_sound}
-use Rattle.books_hold.proofs.EndLaws.{copied_at}
+use Rattle.books_hold.proofs.EndBase.{copied_at}
 use Rattle.run_capacity.proofs.Alike.{Alike, next_alike, edges_has}
 use Rattle.run_capacity.proofs.Attempts.{reads_alike, id_c_lem, id_d_lem, try_alike}
 use Rattle.run_capacity.proofs.Placings.{place_alike}

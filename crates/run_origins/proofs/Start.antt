@@ -20,16 +20,16 @@ use Rattle.front.specs.State.{State}
 use Rattle.front.specs.Sampling.{loop_count, loop_nodes, sampled_count, front_refusal, from_boundary, boundary_loops, loop_ids}
 use Rattle.front.specs.Sampling.{ring_in, ring_at, ring_of, sample_loop}
 use Rattle.books.specs.Book.{room_for, edges_to, loop_edges, start_book}
-use Rattle.books.proofs.BookLaws.{matches_nodes}
+use Rattle.books.proofs.BookBase.{matches_nodes}
 use Rattle.front_sampled.proofs.Lists.{all_append, all_tabulate}
 use Rattle.front_sampled.proofs.Rings.{ring_longest, ring_in_lem, ids_all}
 use Rattle.front_sampled.proofs.Cuts.{loop_cuts, cuts_length}
-use Rattle.front_sampled.proofs.Turn.{split_count}
+use Rattle.front_sampled.proofs.TurnBase.{split_count}
 use Rattle.front_sampled.proofs.Turn.{sampled_count_lem, cuts_three}
 use Rattle.front_sampled.proofs.Outlines.{Threes}
-use Rattle.front_sampled.proofs.Begun.{Places, state_at, refusal_places}
+use Rattle.front_sampled.proofs.BegunBase.{Places, state_at, refusal_places}
 use Rattle.front_sampled.proofs.Begun.{turn_fits, turn_ready, begun}
-use Rattle.front_sampled.proofs.Starts.{room_for_lem}
+use Rattle.front_sampled.proofs.StartsBase.{room_for_lem}
 use Rattle.front_sampled.proofs.Starts.{starts}
 use Rattle.run_origins.specs.Origins.{origin_of, loop_origins, sampled_origins, SameAlong}
 use Rattle.run_origins.proofs.Steps.{Numbered}

@@ -19,7 +19,7 @@ use Rattle.front_lent_mesh.specs.Mesh.{quad_in}
 use Rattle.front_lent_mesh.proofs.Answered.{ids_of}
 use Rattle.books.specs.Book.{Edge, edge, Book, book, Quad, quad_at, is_edge, has, without, and_then, comes_off, goes_on, new_node, side, book_quad}
 use Rattle.books.specs.Book.{book_after, start_book}
-use Rattle.books.proofs.BookLaws.{is_edge_lem, Gives, gives_then}
+use Rattle.books.proofs.BookBase.{is_edge_lem, Gives, gives_then}
 use Rattle.front_sampled.proofs.Lists.{all_append, all_at}
 use Rattle.run_origins.specs.Origins.{origin_of, push_origin, quad_origins, origins_after, sampled_origins, SameOrigin, SameAlong, SameInQuad}
 

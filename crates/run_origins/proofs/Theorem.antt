@@ -17,7 +17,7 @@ use Rattle.run_whole.specs.Run.{run_refusal, run_of}
 use Rattle.books.specs.Book.{Edge, edge, Book, is_edge, edges_to, loop_edges, book_after}
 use Rattle.books.specs.Net.{count_edge}
 use Rattle.books.specs.Holds.{BooksHold}
-use Rattle.books.proofs.BookLaws.{count_sum, has_edge_lem, Gives}
+use Rattle.books.proofs.BookBase.{count_sum, has_edge_lem, Gives}
 use Rattle.front_sampled.proofs.Outlines.{outline_three}
 use Rattle.books_hold.specs.Runs.{accepted_run_lem}
 use Rattle.books_hold.proofs.Theorem.{books_hold}

@@ -13,7 +13,7 @@ use Rattle.front.specs.State.{State, node_places}
 use Rattle.front.specs.Sampling.{front_refusal, from_boundary}
 use Rattle.paving.specs.Advance.{EndedPaving, advance}
 use Rattle.books.specs.Holds.{BooksHold}
-use Rattle.front_sampled.proofs.Begun.{refusal_places}
+use Rattle.front_sampled.proofs.BegunBase.{refusal_places}
 use Rattle.books_hold.specs.Runs.{AcceptedRun}
 use Rattle.books_hold.proofs.Runs.{advance_holds, advance_facts}
 use Rattle.run_origins.specs.Origins.{origins_after, OriginsAnswered}

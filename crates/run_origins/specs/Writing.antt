@@ -11,7 +11,7 @@ use Rattle.std.proofs.Math.Seq.{sets}
 use Rattle.laws.specs.Loop.{for_up, sum_up}
 use Rattle.laws.specs.Overlay.{overlay, overlay_more}
 use Rattle.outline.specs.Outline.{Outline, loop_at, hole_at, hole_start, hole_length, loop_start, outline_refusal}
-use Rattle.outline.proofs.OutlineLaws.{start_next, shaped}
+use Rattle.outline.proofs.OutlineBase.{start_next, shaped}
 use Rattle.front.specs.Sampling.{loop_count, loop_parts, loop_nodes, sampled_count}
 use Rattle.front_lent_mesh.specs.declared.QuadIds.{QuadIds}
 use Rattle.front_lent_mesh.specs.Mesh.{quad_in}

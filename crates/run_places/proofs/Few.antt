@@ -21,7 +21,7 @@ use Rattle.exact.proofs.SineBounds.{le_of_sq, rel, rel_and}
 use Rattle.exact.specs.Corner.{norm}
 use Rattle.outline.specs.declared.Point.{Point}
 use Rattle.outline.specs.Outline.{Outline, hole_length, hole_start, hole_at, loop_at, points, point_at, point_after, most_points, outline_refusal}
-use Rattle.outline.proofs.OutlineLaws.{start_first, start_next, start_over, shaped}
+use Rattle.outline.proofs.OutlineBase.{start_first, start_next, start_over, shaped}
 use Rattle.outline.specs.Accepted.{OutlineFits, PointWithin, Accepted, loop_within, after_within}
 use Rattle.outline.proofs.Accepted.{accepted}
 use Rattle.geometry.specs.Plane.{distance}

@@ -15,9 +15,9 @@ use Rattle.front_loop_list.specs.Listed.{Listable}
 use Rattle.front_loop_list.specs.ListedLaws.{sound_listable}
 use Rattle.paving_settling.specs.Paveable.{Paveable}
 use Rattle.front_sampled.proofs.Outlines.{outline_three}
-use Rattle.front_sampled.proofs.Begun.{Begun}
+use Rattle.front_sampled.proofs.BegunBase.{Begun}
 use Rattle.front_sampled.proofs.Begun.{begun}
-use Rattle.books_hold.proofs.Stages.{Standing, standing}
+use Rattle.books_hold.proofs.StagesBase.{Standing, standing}
 use Rattle.run_origins.specs.Writing.{Numberable}
 use Rattle.run_origins.proofs.Writing.{advance_numberable}
 use Rattle.run_sampled_advance.specs.Asked.{CanPave}

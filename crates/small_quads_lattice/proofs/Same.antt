@@ -9,9 +9,9 @@ use Rattle.std.specs.Int.Count.{count_trailing_zeros}
 use Rattle.std.specs.Float.Ieee.{le, of_int, round, units, odd, size, span, climb}
 use Rattle.std.specs.Float.Ieee.Fits.{and_l, and_r}
 use Rattle.laws.specs.Loop.{for_up_same}
-use Rattle.laws.proofs.Ring.{var, num, neg, ◌+ᵉ◌, ◌*ᵉ◌, ◌-ᵉ◌}
+use Rattle.laws.proofs.RingBase.{var, num, neg, ◌+ᵉ◌, ◌*ᵉ◌, ◌-ᵉ◌}
 use Rattle.laws.proofs.Ring.{ring}
-use Rattle.laws.proofs.Certificate.{Nonneg, to_le, sub_pos, zero_of, hyp, nat, eqn, ◌⊞◌}
+use Rattle.laws.proofs.CertificateBase.{Nonneg, to_le, sub_pos, zero_of, hyp, nat, eqn, ◌⊞◌}
 use Rattle.laws.proofs.Certificate.{of-<ℤ, prove}
 use Rattle.numbers.specs.Float.{◌⊕◌, ◌⊖◌, ◌⊗◌, to_float, zero_f, tolerance}
 use Rattle.exact.specs.Units.{W, Val, Within, units_val}

@@ -3,9 +3,9 @@ use Rattle.std.specs.Prelude.{◌≡◌, [], ◌∷◌, ℕ, T, ℤ, pos, ◌+�
 use Rattle.std.proofs.Common.{subst, ⊎_elim}
 use Rattle.std.specs.Int.Signed.{lt_z, lt_z_yes}
 use Rattle.std.specs.Float.Ieee.Fits.{and_i, and_l, and_r}
-use Rattle.laws.proofs.Ring.{var, num, neg, ◌+ᵉ◌, ◌*ᵉ◌, ◌-ᵉ◌}
+use Rattle.laws.proofs.RingBase.{var, num, neg, ◌+ᵉ◌, ◌*ᵉ◌, ◌-ᵉ◌}
 use Rattle.laws.proofs.Ring.{ring}
-use Rattle.laws.proofs.Certificate.{Nonneg, nonneg, nonneg-*, not_nonneg, of-≤ℤ, <ℤ_or-≤ℤ, hyp, ◌⊞◌, ◌⊠◌}
+use Rattle.laws.proofs.CertificateBase.{Nonneg, nonneg, nonneg-*, not_nonneg, of-≤ℤ, <ℤ_or-≤ℤ, hyp, ◌⊞◌, ◌⊠◌}
 use Rattle.laws.proofs.Certificate.{of-<ℤ, prove}
 use Rattle.exact.specs.Corner.{Vector, cross, squared_length, sine_above_third}
 

@@ -6,7 +6,7 @@ use Rattle.std.proofs.Common.{◌∙◌, ap, arith}
 use Rattle.std.proofs.Math.IntN.{+ℤ_idl, +ℤ_idr, +ℤ_invr}
 use Rattle.topology.specs.Sums.{total, path_sum, loop_sum, front_sum}
 use Rattle.topology.proofs.Changes.{removed_sum, added_sum, Changed}
-use Rattle.topology.proofs.Placing.{Kind, reused, fresh, placing}
+use Rattle.topology.proofs.PlacingBase.{Kind, reused, fresh, placing}
 use Rattle.topology.specs.Balance.{path_sumℤ, loop_sumℤ, front_sumℤ, quad_sumℤ, Antisymmetric, difference, difference_add, difference_zero, above, gain, flip}
 
 -- ---- differences of natural numbers

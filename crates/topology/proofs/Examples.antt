@@ -5,7 +5,7 @@ use Rattle.laws.specs.Loop.{for_up}
 use Rattle.topology.specs.Links.{off, link_of}
 use Rattle.topology.proofs.Changes.{stored, reversed}
 use Rattle.topology.proofs.Laying.{joins}
-use Rattle.topology.proofs.Placing.{reused, fresh, placing}
+use Rattle.topology.proofs.PlacingBase.{reused, fresh, placing}
 use Rattle.topology.specs.Walk.{walk_by, prepend, FromSmallest}
 use Rattle.topology.specs.Listing.{add_loop, long_loops, walks}
 use Rattle.topology.specs.LongLoops.{LongLoops}

@@ -9,3 +9,5 @@ pub mod Walk
 pub mod Changes
 pub mod Examples
 pub mod Laying
+pub mod FollowBase
+pub mod PlacingBase

@@ -1,7 +1,7 @@
 -- `bowl_nearest_step::size_in_steps` meets its contract: `no_step` below 1/128, then `step_shift`.
 use mathlib.Core.Path.{◌∙◌}
 use native.Mathlib.Omega.{arith}
-use Rattle.bowl_nearest_step.proofs.StepLaws.{no_step, step_shift}
+use Rattle.bowl_nearest_step.proofs.StepBase.{no_step, step_shift}
 use Rattle.bowl_nearest_step.proofs.size_in_steps.Goals as goal
 
 pub returns-then-exponent-lt1015 : goal.returns-then-exponent-lt1015

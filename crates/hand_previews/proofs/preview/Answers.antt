@@ -10,7 +10,7 @@ use Rattle.outline.proofs.Refused.{refusal_some}
 use Rattle.field_direction.specs.Record.{FieldRecord, field_lent}
 use Rattle.front.specs.State.{State}
 use Rattle.hand_mesh_check.specs.Check.{lent_in}
-use Rattle.hand_steps.proofs.UseLaws.{on_front_lem, front_room}
+use Rattle.hand_steps.proofs.UseBase.{on_front_lem, front_room}
 use Rattle.hand_previews.proofs.PreviewSteps.{preview_passes, shown, shown_known, shown_fits, preview_refused, preview_shown}
 use Rattle.hand_previews.proofs.preview.Goals as goal
 use Rattle.hand_previews.proofs.preview.Goals.{Start}

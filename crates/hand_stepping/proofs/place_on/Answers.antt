@@ -12,7 +12,7 @@ use Rattle.hand_steps.specs.declared.StepOutcome.{StepOutcome}
 use Rattle.hand_steps.specs.declared.StepOutcome.TheVariants.{Placed}
 use Rattle.hand_steps.specs.Hand.{handled, quad_on}
 use Rattle.hand_steps.specs.Lent.{OnFront}
-use Rattle.hand_steps.proofs.UseLaws.{quad_fits_lem}
+use Rattle.hand_steps.proofs.UseBase.{quad_fits_lem}
 use Rattle.hand_steps.proofs.Quads.{placed_on, quad_placed, quad_tested}
 use Rattle.hand_stepping.proofs.Lent.{lent_same}
 use Rattle.hand_stepping.proofs.place_on.Goals as goal

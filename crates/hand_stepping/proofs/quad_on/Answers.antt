@@ -5,7 +5,7 @@ use Rattle.std.proofs.lemmas.Bool.{leb-true, leb-false}
 use Rattle.outline.specs.Outline.{Outline, outline_of}
 use Rattle.front.specs.State.{State}
 use Rattle.hand_mesh_check.specs.Check.{lent_in}
-use Rattle.hand_steps.proofs.UseLaws.{front_room, lent_to_try}
+use Rattle.hand_steps.proofs.UseBase.{front_room, lent_to_try}
 use Rattle.hand_steps.proofs.Quads.{fitting_full, fitting_quad, quad_cap, quad_tried}
 use Rattle.hand_stepping.proofs.quad_on.Goals as goal
 use Rattle.hand_stepping.proofs.quad_on.Goals.{Start}

@@ -12,7 +12,7 @@ use Rattle.front.specs.State.{State, node_places}
 use Rattle.hand_mesh_check.specs.Check.{lent_in, lent_paving}
 use Rattle.hand_mesh_check.specs.CheckLaws.{length_off}
 use Rattle.hand_steps.specs.Hand.{Handled, hand_refusal}
-use Rattle.hand_steps.proofs.UseLaws.{on_front_lem, front_room}
+use Rattle.hand_steps.proofs.UseBase.{on_front_lem, front_room}
 use Rattle.hand_steps.proofs.UseLaws.{place_grown}
 use Rattle.hand_steps.proofs.StepLaws.{step_refused, step_done}
 use Rattle.hand_stepping.proofs.Lent.{lent_same}

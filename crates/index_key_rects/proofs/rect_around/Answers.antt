@@ -3,7 +3,7 @@ use mathlib.Core.Path.{◌≡◌}
 use native.Mathlib.Omega.{arith}
 use Rattle.geometry.proofs.KeyLaws.{back_of}
 use Rattle.index_key_rects.specs.Rects.{shifted, rect_around}
-use Rattle.index_key_rects.proofs.KeyLaws.{shifted_range}
+use Rattle.index_key_rects.proofs.KeyBase.{shifted_range}
 use Rattle.index_key_rects.proofs.rect_around.Goals as goal
 use Rattle.index_key_rects.proofs.rect_around.Goals.{After-shifted-j}
 

@@ -6,7 +6,7 @@ use mir.Syntax.{w64}
 use mir.ValLaws.{to_z_pos}
 use Rattle.geometry.proofs.KeyLaws.{back, back_of}
 use Rattle.index_key_rects.specs.Rects.{shifted}
-use Rattle.index_key_rects.proofs.KeyLaws.{shifted_range}
+use Rattle.index_key_rects.proofs.KeyBase.{shifted_range}
 use Rattle.index_key_rects.proofs.KeyLaws.{shifted_clamped}
 use Rattle.index_key_rects.proofs.shifted.Goals as goal
 use Rattle.index_key_rects.proofs.shifted.Goals.{After-clamp}

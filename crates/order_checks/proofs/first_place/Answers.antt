@@ -8,7 +8,7 @@ use Rattle.std.proofs.lemmas.Iterator.Search.{position_from_yields_List}
 use Rattle.std.proofs.lemmas.List.Recursion.{is_position_or_len}
 use borrow.Author.Tests.{ltb-false}
 use Rattle.order.specs.Order.{first_place}
-use Rattle.order.proofs.PlaceLaws.{place_le}
+use Rattle.order.proofs.PlaceBase.{place_le}
 use Rattle.order_checks.proofs.first_place.Goals as goal
 
 position_place : (l : List ℕ) (i : ℕ) → first_place l i ≡ position_or_len (λ x. eqb x i) l

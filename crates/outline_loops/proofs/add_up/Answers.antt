@@ -1,5 +1,5 @@
 -- `add_up` meets its contract: each answer is a law of the loop's invariant.
-use Rattle.outline.proofs.OutlineLaws.{lengths_start, lengths_next, lengths_short}
+use Rattle.outline.proofs.OutlineBase.{lengths_start, lengths_next, lengths_short}
 use Rattle.outline_loops.proofs.add_up.Goals as goal
 
 pub loop-n-init : goal.loop-n-init

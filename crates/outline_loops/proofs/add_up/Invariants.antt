@@ -1,5 +1,5 @@
 -- `add_up` meets its contract: the loop's invariant is `LengthsLeft`.
-use Rattle.outline.proofs.OutlineLaws.{LengthsLeft}
+use Rattle.outline.proofs.OutlineBase.{LengthsLeft}
 use Rattle.outline_loops.proofs.add_up.Given as goal
 
 abbrev pub invariant-loop-n : goal.invariant-loop-n

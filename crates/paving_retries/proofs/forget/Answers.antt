@@ -1,5 +1,5 @@
 -- `paving_retries::forget` meets its contract: the loop is the definition's.
-use Rattle.paving_retries.proofs.VainLaws.{forgetting_starts, forgetting_goes, forgetting_ends}
+use Rattle.paving_retries.proofs.VainBase.{forgetting_starts, forgetting_goes, forgetting_ends}
 use Rattle.paving_retries.proofs.forget.Goals as goal
 
 pub loop-a-init : goal.loop-a-init

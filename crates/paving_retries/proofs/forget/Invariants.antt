@@ -1,5 +1,5 @@
 -- `paving_retries::forget` meets its contract: the loop is the definition's.
-use Rattle.paving_retries.proofs.VainLaws.{Forgetting}
+use Rattle.paving_retries.proofs.VainBase.{Forgetting}
 use Rattle.paving_retries.proofs.forget.Given as goal
 
 abbrev pub invariant-loop-a : goal.invariant-loop-a

@@ -12,7 +12,7 @@ use Rattle.front.specs.Stores.{known_across}
 use Rattle.paving_retries.specs.Vain.{Remembers, forgotten}
 use Rattle.paving_indexed.specs.Rects.{NodesFiled, EdgesFiled}
 use Rattle.paving_retries.specs.Untried.{Untried}
-use Rattle.paving_retries.proofs.VainLaws.{stretches_tried}
+use Rattle.paving_retries.proofs.VainBase.{stretches_tried}
 use Rattle.paving_ends.specs.Answers.{snapshot_edge}
 use Rattle.paving_settling.specs.Searchable.{SearchableIn, placed_adds, full_helped, done_helped}
 use Rattle.paving_settling.specs.Paveable.{held, state_try_lent}

@@ -1,6 +1,6 @@
 -- `paving_snapshots::copy_links` meets its contract: the loop copies node by node, but for the stretches. Assumes nothing.
 use Prim.Native.Nat.{◌-◌}
-use Rattle.paving_snapshots.proofs.Taking.{Taking}
+use Rattle.paving_snapshots.proofs.TakingBase.{Taking}
 use Rattle.paving_snapshots.proofs.copy_links.Given as goal
 
 abbrev pub invariant-loop-i : goal.invariant-loop-i

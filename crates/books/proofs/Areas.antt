@@ -1,6 +1,6 @@
 -- From the figures of the edges to every balance of areas: where the book went through, and the figures of its start are those of the quads and of the front left,
 -- its areas balance in whatever whole numbers coordinates are measured (`areas_balance`).
-use Rattle.std.specs.Prelude.{[], ℕ, ◌<◌, length, Bool, cond, List, ◌∷◌, ◌++◌, ◌≡◌, refl, zero, suc, ◌≤◌, eqb, ℤ, pos, neg_ℤ, ◌+ℤ◌, take, Float}
+use Rattle.std.specs.Prelude.{ℕ, ◌<◌, length, Bool, cond, List, [], ◌∷◌, ◌++◌, ◌≡◌, refl, zero, suc, ◌≤◌, eqb, ℤ, pos, neg_ℤ, ◌+ℤ◌, take, Float}
 use Rattle.topology.specs.Links.{at, at_self}
 use Rattle.books.specs.Book.{Book, Edge, book, Quad, quad_at, start_book, has, without, and_then, comes_off, goes_on, new_node, side, book_quad, book_after, place_of, edges_sumℤ, front_area, quad_edges, quads_area}
 use Rattle.books.proofs.Matches.{edges_sum}
@@ -89,7 +89,7 @@ after_keeps o size s (suc k) =
 
 -- ---- areas
 
-weights_same : (w x : ℕ → ℕ → ℤ) (es : List Edge) → ((u v : ℕ) → 0 < edges_sum (at u v) es → w u v ≡ x u v) → edges_sumℤ w es ≡ edges_sumℤ x es
+pub weights_same : (w x : ℕ → ℕ → ℤ) (es : List Edge) → ((u v : ℕ) → 0 < edges_sum (at u v) es → w u v ≡ x u v) → edges_sumℤ w es ≡ edges_sumℤ x es
 unfolding edges_sumℤ edges_sum
 weights_same w x [] same = refl
 weights_same w x (e ∷ es) same =
@@ -99,7 +99,7 @@ weights_same w x (e ∷ es) same =
 abbrev pub quads_sum : (ℕ → ℕ → ℤ) → State → ℕ → ℤ
 quads_sum w s k = for_up k (λ i sum. sum +ℤ edges_sumℤ w (quad_edges (quad_at s i))) (pos 0)
 
-quads_sum_lem : (w : ℕ → ℕ → ℤ) (s : State) (k : ℕ) → edges_sumℤ w (quads_edges s k) ≡ quads_sum w s k
+pub quads_sum_lem : (w : ℕ → ℕ → ℤ) (s : State) (k : ℕ) → edges_sumℤ w (quads_edges s k) ≡ quads_sum w s k
 unfolding quads_edges edges_sumℤ for_up
 quads_sum_lem w s zero = refl
 quads_sum_lem w s (suc k) =

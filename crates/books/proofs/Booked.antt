@@ -1,9 +1,9 @@
 -- The book's step for one placing goes through, and the book then matches the state after it. The book reads quads and coordinates
 -- from a later state of the run, as they are answered at its end. The theorem, `booked`, stands at the end.
-use Rattle.std.specs.Prelude.{ℕ, List, [], ◌≡◌, ◌+◌, ◌<◌, ◌≤◌, ◌∷◌, ◌++◌, refl, true, length, get_or, Float}
+use Rattle.std.specs.Prelude.{ℕ, List, ◌≡◌, ◌+◌, ◌<◌, ◌≤◌, [], ◌∷◌, ◌++◌, refl, true, length, get_or, Float}
 use Rattle.std.proofs.Math.Option.{some}
 use Rattle.front.specs.State.{State, node_places}
-use Rattle.books.specs.Book.{Book, book, Quad, book_quad, edge, has, without, comes_off, new_node, side, quad_at}
+use Rattle.books.specs.Book.{Book, Quad, book_quad, edge, book, has, without, comes_off, new_node, side, quad_at}
 use Rattle.books.proofs.Matches.{Matches, edges_sum}
 use Rattle.std.proofs.Math.Path.{sym}
 use Rattle.std.proofs.Common.{◌∙◌, ap, add-zero, add-one, take-suc, length-take-le, eq-eqb}

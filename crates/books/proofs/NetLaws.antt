@@ -1,6 +1,6 @@
 -- The figures of the edges: each is the sum of a weight that changes its sign with the direction (`net_sum`), and lists of edges with the same figures have
 -- the same sum of every such weight (`same_net`).
-use Rattle.std.specs.Prelude.{◌≡◌, ℕ, ◌+◌, ℤ, pos, ◌+ℤ◌, Bool, true, false, zero, suc, ◌<◌, ◌≤◌, eqb, neg_ℤ, nat_abs, ◌-ℤ◌, length}
+use Rattle.std.specs.Prelude.{◌≡◌, ℕ, ℤ, pos, ◌+ℤ◌, Bool, true, false, zero, suc, ◌+◌, ◌<◌, ◌≤◌, eqb, neg_ℤ, nat_abs, ◌-ℤ◌, length}
 use mathlib.Core.List.{List, [], ◌∷◌, ◌++◌}
 use Rattle.std.proofs.Math.Path.{sym, refl}
 use Rattle.std.proofs.Common.{◌∙◌, ap, ap₂, arith, eqb-true}

@@ -1,5 +1,5 @@
 /*
- * Sitjorbe: verified geometry for a paved visual field, from outline to quads. Version 0.3.0, shape 3.
+ * Sitjorbe: verified geometry for a paved visual field, from outline to quads. Version 0.3.0, shape 4.
  *
  * Written by tools/bindings from the Rattle source. docs/INTEGRATION.md says how to call; "SCOPE" in a comment is what
  * docs/SCOPE.md and docs/FORMATS.md set out. For x86-64 Linux, C11 or C++17, and later.
@@ -23,7 +23,7 @@
 #endif
 
 #define SITJORBE_VERSION "0.3.0"
-#define SITJORBE_ABI 3
+#define SITJORBE_ABI 4
 
 #ifdef __cplusplus
 #define SITJORBE_ASSERT(fact) static_assert(fact, "another layout than the library's: " #fact)
@@ -164,7 +164,18 @@ enum sitjorbe_refusal {
     /** A quad that doesn't turn left at all four corners in steps of the bowl. */
     SITJORBE_REFUSED_NOT_SHOWN = 25,
     /** The lent list is too short for every small quad. */
-    SITJORBE_REFUSED_FOURS_NEED_SPACE = 26
+    SITJORBE_REFUSED_FOURS_NEED_SPACE = 26,
+    /** A quad that doesn't turn left by more than 20 degrees at all four corners. */
+    SITJORBE_REFUSED_FOLDED_QUAD = 27,
+    /**
+     * A quad with a side that another has in the same direction, or that is neither the sampled outline's nor another's
+     * run back, or both.
+     */
+    SITJORBE_REFUSED_WRONG_SIDE = 28,
+    /** An edge of the sampled outline that is no quad's side. */
+    SITJORBE_REFUSED_UNLAID_EDGE = 29,
+    /** A node that isn't the sampled outline's. */
+    SITJORBE_REFUSED_MOVED_NODE = 30
 };
 
 enum sitjorbe_end {
@@ -266,6 +277,18 @@ static inline const char *sitjorbe_refusal_words(uint32_t refusal) {
                "show it: set a larger size, or draw the outline so that no part of it is narrower than a step";
     case 26:
         return "refused (26): the list is too short for every small quad: lend four places for each, 14,944 in all";
+    case 27:
+        return "refused (27): a quad doesn't turn left by more than 20 degrees at all four corners: give its nodes in "
+               "the order that runs round it to the left, and no corner that is flat or folded in";
+    case 28:
+        return "refused (28): a side of a quad stands twice, or isn't just one of these, the sampled outline's or "
+               "another quad's run back: look for a quad left out, given twice, or laid over others";
+    case 29:
+        return "refused (29): an edge of the sampled outline is no quad's side: look for quads left out along the "
+               "outline";
+    case 30:
+        return "refused (30): a node isn't the sampled outline's, bit for bit: begin the mesh with the sampled "
+               "outline's nodes, in their order and unmoved";
     default:
         return "this refusal isn't known";
     }
@@ -407,6 +430,20 @@ SITJORBE_ASSERT(offsetof(sitjorbe_pave_answer, ids) == 96);
 SITJORBE_ASSERT(sizeof(sitjorbe_pave_answer) == 104);
 
 /**
+ * The answer of `sitjorbe_covers`. `refusal` is 0 where nothing is refused; `place` is the quad, edge or node that 27
+ * to 30 name. Stays a number beside a place: the C interface answers this struct.
+ */
+typedef struct sitjorbe_covers_answer {
+    uint32_t refusal; /**< the refusal's number, 0 where nothing is refused */
+    size_t place; /**< the lowest quad on refusals 27 and 28, the first node of the lowest edge on 29, the first node on 30 */
+    bool sound; /**< whether the outline as drawn is sound, where nothing is refused */
+} sitjorbe_covers_answer;
+SITJORBE_ASSERT(offsetof(sitjorbe_covers_answer, refusal) == 0);
+SITJORBE_ASSERT(offsetof(sitjorbe_covers_answer, place) == 8);
+SITJORBE_ASSERT(offsetof(sitjorbe_covers_answer, sound) == 16);
+SITJORBE_ASSERT(sizeof(sitjorbe_covers_answer) == 24);
+
+/**
  * The answer of `sitjorbe_step`. What became of the edge (0 placed, 1 none, 2 full, 3 cap), and how many nodes, quads,
  * distinct edges and front edges there are after it. All is 0 on a refusal.
  */
@@ -533,67 +570,73 @@ SITJORBE_ASSERT(sizeof(sitjorbe_small_quads_answer) == 16);
  *
  * The names of their parameters mean the same everywhere; a name's length is the same name with _len.
  *
- * outer         the outer loop's points, x then y
- * holes         the points of all holes, one hole after the other
- * hole_lengths  the number of points of each hole
- * x             the point asked about
- * y             the point asked about
- * xmin          the field record: the grid's left column
- * ymin          the field record: the grid's lowest row
- * h             the field record: the distance of two neighbours of the grid
- * nx            the field record: nodes in a row
- * ny            the field record: nodes in a column
- * values        the field's values, two floats a field node
- * marks         the field's marks, a byte a field node: 1 where the outline fixes its value, else 0
- * points        the points asked about, x then y
- * targets       a target for each point, x then y, any floats
- * answers       three floats a point: 0 and the direction, or the refusal's number and two zeros
- * size          the length wanted of a quad's side, 0.01 to 100
- * sweeps        the most sweeps of the field, at most 1,000
- * blocks        scratch of any length, which saves time: two numbers a point of the outline are enough
- * tx            the target, any two floats
- * ty            the target, any two floats
- * passes        the passes of the paving; more than 600 count as 600
- * xs            the nodes' first coordinates
- * ys            the nodes' second coordinates
- * next          for each node the one that follows it on the front, or SITJORBE_OFF
- * prev          for each node the one before it on the front, or SITJORBE_OFF
- * snapshot      a place a node, for the run's own use
- * origins       for each node the number of the outline's loop that it came from: 0 for the outer one, k + 1 for hole k
- * quads         four node numbers a quad, in the order a, b, d, c, which runs round it
- * edges         two node numbers a distinct edge, the smaller first
- * loops         the node numbers of the listed loops, one loop after the other; a place a node
- * loop_lengths  the lengths of the listed loops; a place a loop of the outline
- * node_pool     scratch of any length, which saves time: four numbers a node place are enough
- * edge_pool     scratch of any length, which saves time: sixteen numbers an edge place are enough
- * tried         scratch of any length, which saves time: three numbers a node place are enough
- * node_count    how many nodes the mesh has
- * quad_count    how many quads the mesh has
- * edge_count    how many distinct edges the mesh has
- * front_count   how many edges the front has
- * a             the first node of the front edge that is stepped on
- * b             the node after it on the front
- * list          gets the front edges that the step would leave, two node numbers an edge, by their first node; two numbers a front edge are wanted, and four more
- * role          who asks: 1 the desk, 2 a reader, 3 a masked reader
- * operation     what is asked: 1 begin, 2 enter, 3 withdraw; 4 to 6 read a node, a quad, a loop; 7 to 9 read a threshold, the figures, an estimate
- * item          the number of the node, quad or loop, from 0
- * value         the threshold to enter, in tenths of a decibel, 0 to 500
- * u             the weight from a towards b, 0 to 256
- * v             the weight from a towards c, 0 to 256
- * nodes         how many nodes the mesh has
- * thresholds    a threshold a node, in tenths of a decibel; anything above SITJORBE_MOST_THRESHOLD means none
- * count         how many quads have all four thresholds
- * sum           the sum of those quads' thresholds, a node counted once for each such quad
- * reply         gets the node numbers of the loop that is read; a place a node is enough
- * order         quads' numbers in the order in which they are to be tested
- * places        scratch of any length, which saves time: a number a quad is enough
- * pool          scratch of any length, which saves time: eight numbers a quad, and two more, are enough
- * steps         gets two whole numbers a node, x then y, in steps of 1/64
- * fours         four numbers a small quad; 14,944 places are enough
+ * outer          the outer loop's points, x then y
+ * holes          the points of all holes, one hole after the other
+ * hole_lengths   the number of points of each hole
+ * x              the point asked about
+ * y              the point asked about
+ * xmin           the field record: the grid's left column
+ * ymin           the field record: the grid's lowest row
+ * h              the field record: the distance of two neighbours of the grid
+ * nx             the field record: nodes in a row
+ * ny             the field record: nodes in a column
+ * values         the field's values, two floats a field node
+ * marks          the field's marks, a byte a field node: 1 where the outline fixes its value, else 0
+ * points         the points asked about, x then y
+ * targets        a target for each point, x then y, any floats
+ * answers        three floats a point: 0 and the direction, or the refusal's number and two zeros
+ * size           the length wanted of a quad's side, 0.01 to 100
+ * sweeps         the most sweeps of the field, at most 1,000
+ * blocks         scratch of any length, which saves time: two numbers a point of the outline are enough
+ * tx             the target, any two floats
+ * ty             the target, any two floats
+ * passes         the passes of the paving; more than 600 count as 600
+ * xs             the nodes' first coordinates
+ * ys             the nodes' second coordinates
+ * next           for each node the one that follows it on the front, or SITJORBE_OFF
+ * prev           for each node the one before it on the front, or SITJORBE_OFF
+ * snapshot       a place a node, for the run's own use
+ * origins        for each node the number of the outline's loop that it came from: 0 for the outer one, k + 1 for hole k
+ * quads          four node numbers a quad, in the order a, b, d, c, which runs round it
+ * edges          two node numbers a distinct edge, the smaller first
+ * loops          the node numbers of the listed loops, one loop after the other; a place a node
+ * loop_lengths   the lengths of the listed loops; a place a loop of the outline
+ * node_pool      scratch of any length, which saves time: four numbers a node place are enough
+ * edge_pool      scratch of any length, which saves time: sixteen numbers an edge place are enough
+ * tried          scratch of any length, which saves time: three numbers a node place are enough
+ * node_count     how many nodes the mesh has
+ * quad_count     how many quads the mesh has
+ * sampled_xs     scratch for the sampled outline: a place for each of its nodes, which sitjorbe_places counts
+ * sampled_ys     scratch, as long
+ * sampled_next   scratch, as long
+ * sampled_prev   scratch, as long
+ * sampled_edges  scratch for its edges: two places for each of its nodes
+ * keys           scratch for the sides of the quads: four places a quad
+ * edge_count     how many distinct edges the mesh has
+ * front_count    how many edges the front has
+ * a              the first node of the front edge that is stepped on
+ * b              the node after it on the front
+ * list           gets the front edges that the step would leave, two node numbers an edge, by their first node; two numbers a front edge are wanted, and four more
+ * role           who asks: 1 the desk, 2 a reader, 3 a masked reader
+ * operation      what is asked: 1 begin, 2 enter, 3 withdraw; 4 to 6 read a node, a quad, a loop; 7 to 9 read a threshold, the figures, an estimate
+ * item           the number of the node, quad or loop, from 0
+ * value          the threshold to enter, in tenths of a decibel, 0 to 500
+ * u              the weight from a towards b, 0 to 256
+ * v              the weight from a towards c, 0 to 256
+ * nodes          how many nodes the mesh has
+ * thresholds     a threshold a node, in tenths of a decibel; anything above SITJORBE_MOST_THRESHOLD means none
+ * count          how many quads have all four thresholds
+ * sum            the sum of those quads' thresholds, a node counted once for each such quad
+ * reply          gets the node numbers of the loop that is read; a place a node is enough
+ * order          quads' numbers in the order in which they are to be tested
+ * places         scratch of any length, which saves time: a number a quad is enough
+ * pool           scratch of any length, which saves time: eight numbers a quad, and two more, are enough
+ * steps          gets two whole numbers a node, x then y, in steps of 1/64
+ * fours          four numbers a small quad; 14,944 places are enough
  */
 
 /** The number of the library's shape, which its name has too. */
-SITJORBE_MUST_USE uint32_t sitjorbe_abi_3(void);
+SITJORBE_MUST_USE uint32_t sitjorbe_abi_4(void);
 
 /** Whether the point is inside the outer loop and outside every hole. */
 SITJORBE_MUST_USE sitjorbe_contains_answer sitjorbe_contains(
@@ -712,6 +755,28 @@ SITJORBE_MUST_USE sitjorbe_pave_answer sitjorbe_pave(
     uint32_t *edge_pool, size_t edge_pool_len,
     uint32_t *blocks, size_t blocks_len,
     uint32_t *tried, size_t tried_len);
+
+/**
+ * Whether the quads of a mesh, whatever made it, cover each point of the outline as a run samples it once. Its first
+ * nodes have to be the sampled outline's. The lists that begin with `sampled_`, and `keys`, are scratch, which may be
+ * written. `sound` says whether the outline as drawn is sound. Stays a row of numbers and slices: C calls it.
+ */
+SITJORBE_MUST_USE sitjorbe_covers_answer sitjorbe_covers(
+    const double *outer, size_t outer_len,
+    const double *holes, size_t holes_len,
+    const size_t *hole_lengths, size_t hole_lengths_len,
+    double size,
+    const double *xs, size_t xs_len,
+    const double *ys, size_t ys_len,
+    const uint32_t *quads, size_t quads_len,
+    uint32_t node_count,
+    size_t quad_count,
+    double *sampled_xs, size_t sampled_xs_len,
+    double *sampled_ys, size_t sampled_ys_len,
+    uint32_t *sampled_next, size_t sampled_next_len,
+    uint32_t *sampled_prev, size_t sampled_prev_len,
+    uint32_t *sampled_edges, size_t sampled_edges_len,
+    uint64_t *keys, size_t keys_len);
 
 /**
  * A step on the front edge a to b, in the mesh lent: one quad placed or none. Refusals are 1 to 7, 11, 23 and 24, in
@@ -1036,6 +1101,20 @@ SITJORBE_MUST_USE static inline sitjorbe_pave_answer sitjorbe_pave_with(
         scratch->blocks, scratch->blocks_len, scratch->tried, scratch->tried_len);
 }
 
+/** Calls sitjorbe_covers. */
+SITJORBE_MUST_USE static inline sitjorbe_covers_answer sitjorbe_covers_with(
+    const sitjorbe_outline *outline, const sitjorbe_settings *settings, const sitjorbe_mesh_lists *mesh,
+    const sitjorbe_mesh_counts *counts, double *sampled_xs, size_t sampled_xs_len, double *sampled_ys,
+    size_t sampled_ys_len, uint32_t *sampled_next, size_t sampled_next_len, uint32_t *sampled_prev,
+    size_t sampled_prev_len, uint32_t *sampled_edges, size_t sampled_edges_len, uint64_t *keys, size_t keys_len) {
+    return sitjorbe_covers(
+        outline->outer, outline->outer_len, outline->holes, outline->holes_len, outline->hole_lengths,
+        outline->hole_lengths_len, settings->size, mesh->xs, mesh->xs_len, mesh->ys, mesh->ys_len, mesh->quads,
+        mesh->quads_len, counts->nodes, counts->quads, sampled_xs, sampled_xs_len, sampled_ys, sampled_ys_len,
+        sampled_next, sampled_next_len, sampled_prev, sampled_prev_len, sampled_edges, sampled_edges_len, keys,
+        keys_len);
+}
+
 /** Calls sitjorbe_step. */
 SITJORBE_MUST_USE static inline sitjorbe_step_answer sitjorbe_step_with(
     const sitjorbe_outline *outline, const sitjorbe_settings *settings, const sitjorbe_record *record,
@@ -1270,7 +1349,7 @@ static inline void sitjorbe_cut_lists(void *memory, const sitjorbe_list_lengths 
 __attribute__((retain))
 #endif
 #endif
-__attribute__((used)) static uint32_t (*const sitjorbe_abi)(void) = sitjorbe_abi_3;
+__attribute__((used)) static uint32_t (*const sitjorbe_abi)(void) = sitjorbe_abi_4;
 #endif
 
 #ifdef __cplusplus

@@ -61,6 +61,12 @@ PARAMETERS = {
     "order": "quads' numbers in the order in which they are to be tested",
     "places": "scratch of any length, which saves time: a number a quad is enough",
     "pool": "scratch of any length, which saves time: eight numbers a quad, and two more, are enough",
+    "sampled_xs": "scratch for the sampled outline: a place for each of its nodes, which sitjorbe_places counts",
+    "sampled_ys": "scratch, as long",
+    "sampled_next": "scratch, as long",
+    "sampled_prev": "scratch, as long",
+    "sampled_edges": "scratch for its edges: two places for each of its nodes",
+    "keys": "scratch for the sides of the quads: four places a quad",
     "fours": "four numbers a small quad; 14,944 places are enough",
 }
 
@@ -112,5 +118,7 @@ FIELDS = {
     "sampled_nodes": "how many nodes the sampled outline has, and as many edges; with fewer places for either refusal 10",
     "estimate": "in tenths of a decibel",
     "place": "where in the order a quad stands too early, on refusal 22",
+    "CoversAnswer.place": "the lowest quad on refusals 27 and 28, the first node of the lowest edge on 29, the first node on 30",
+    "CoversAnswer.sound": "whether the outline as drawn is sound, where nothing is refused",
     "count": "how many small quads are listed",
 }

@@ -38,6 +38,12 @@ WORDS = {
     25: ("a quad doesn't turn left at all four corners in steps of 1/64 degree, so the bowl can't show it",
          "set a larger size, or draw the outline so that no part of it is narrower than a step"),
     26: ("the list is too short for every small quad", "lend four places for each, 14,944 in all"),
+    27: ("a quad doesn't turn left by more than 20 degrees at all four corners",
+         "give its nodes in the order that runs round it to the left, and no corner that is flat or folded in"),
+    28: ("a side of a quad stands twice, or isn't just one of these, the sampled outline's or another quad's run back",
+         "look for a quad left out, given twice, or laid over others"),
+    29: ("an edge of the sampled outline is no quad's side", "look for quads left out along the outline"),
+    30: ("a node isn't the sampled outline's, bit for bit", "begin the mesh with the sampled outline's nodes, in their order and unmoved"),
 }
 
 

@@ -8,7 +8,7 @@
 use core::mem::{offset_of, size_of};
 
 /// The number of the shape that these declarations have: the library links only if its number is the same.
-pub const ABI: u32 = 3;
+pub const ABI: u32 = 4;
 
 /// The answer of `sitjorbe_contains`. `refusal` is the refusal's number, 0 where nothing is refused. The values of a
 /// refused query are false, 0.0 or 0.
@@ -149,6 +149,20 @@ pub struct PaveAnswer {
     pub loops: usize,
     /// How many node numbers the listed loops have in all.
     pub ids: usize,
+}
+
+/// The answer of `sitjorbe_covers`. `refusal` is 0 where nothing is refused; `place` is the quad, edge or node that 27
+/// to 30 name. Stays a number beside a place: the C interface answers this struct.
+#[repr(C)]
+#[derive(Clone, Copy, Debug, PartialEq)]
+#[must_use = "an answer may be a refusal"]
+pub struct CoversAnswer {
+    /// The refusal's number, 0 where nothing is refused.
+    pub refusal: u32,
+    /// The lowest quad on refusals 27 and 28, the first node of the lowest edge on 29, the first node on 30.
+    pub place: usize,
+    /// Whether the outline as drawn is sound, where nothing is refused.
+    pub sound: bool,
 }
 
 /// The answer of `sitjorbe_step`. What became of the edge (0 placed, 1 none, 2 full, 3 cap), and how many nodes, quads,
@@ -325,6 +339,10 @@ const _: () = {
     assert!(offset_of!(PaveAnswer, loops) == 88);
     assert!(offset_of!(PaveAnswer, ids) == 96);
     assert!(size_of::<PaveAnswer>() == 104);
+    assert!(offset_of!(CoversAnswer, refusal) == 0);
+    assert!(offset_of!(CoversAnswer, place) == 8);
+    assert!(offset_of!(CoversAnswer, sound) == 16);
+    assert!(size_of::<CoversAnswer>() == 24);
     assert!(offset_of!(StepAnswer, refusal) == 0);
     assert!(offset_of!(StepAnswer, outcome) == 4);
     assert!(offset_of!(StepAnswer, nodes) == 8);
@@ -374,17 +392,17 @@ const _: () = {
 #[must_use]
 pub fn abi() -> u32 {
     // SAFETY: it takes nothing, and answers a number.
-    unsafe { sitjorbe_abi_3() }
+    unsafe { sitjorbe_abi_4() }
 }
 
 /// Keeps the name of the shape's entry in every program, also in one that calls entries without the wrappers.
 #[used]
-static SHAPE: unsafe extern "C" fn() -> u32 = sitjorbe_abi_3;
+static SHAPE: unsafe extern "C" fn() -> u32 = sitjorbe_abi_4;
 
 #[link(name = "sitjorbe", kind = "static")]
 extern "C" {
     /// The number of the library's shape, which its name has too.
-    pub fn sitjorbe_abi_3() -> u32;
+    pub fn sitjorbe_abi_4() -> u32;
 
     /// Whether the point is inside the outer loop and outside every hole.
     pub fn sitjorbe_contains(
@@ -550,6 +568,40 @@ extern "C" {
         tried: *mut u32,
         tried_len: usize,
     ) -> PaveAnswer;
+
+    /// Whether the quads of a mesh, whatever made it, cover each point of the outline as a run samples it once. Its
+    /// first nodes have to be the sampled outline's. The lists that begin with `sampled_`, and `keys`, are scratch,
+    /// which may be written. `sound` says whether the outline as drawn is sound. Stays a row of numbers and slices: C
+    /// calls it.
+    pub fn sitjorbe_covers(
+        outer: *const f64,
+        outer_len: usize,
+        holes: *const f64,
+        holes_len: usize,
+        hole_lengths: *const usize,
+        hole_lengths_len: usize,
+        size: f64,
+        xs: *const f64,
+        xs_len: usize,
+        ys: *const f64,
+        ys_len: usize,
+        quads: *const u32,
+        quads_len: usize,
+        node_count: u32,
+        quad_count: usize,
+        sampled_xs: *mut f64,
+        sampled_xs_len: usize,
+        sampled_ys: *mut f64,
+        sampled_ys_len: usize,
+        sampled_next: *mut u32,
+        sampled_next_len: usize,
+        sampled_prev: *mut u32,
+        sampled_prev_len: usize,
+        sampled_edges: *mut u32,
+        sampled_edges_len: usize,
+        keys: *mut u64,
+        keys_len: usize,
+    ) -> CoversAnswer;
 
     /// A step on the front edge a to b, in the mesh lent: one quad placed or none. Refusals are 1 to 7, 11, 23 and 24,
     /// in that order. New nodes take what stands in `origins` at node a.

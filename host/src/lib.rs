@@ -40,6 +40,7 @@
 extern crate alloc;
 
 pub mod closing;
+mod covers;
 mod cross_field;
 mod directions;
 mod ends;
@@ -70,6 +71,7 @@ mod step;
 mod stepper;
 mod steps;
 
+pub use covers::{Covered, NotCovered};
 pub use cross_field::Field;
 pub use ends::End;
 pub use exam::Exam;

@@ -65,6 +65,7 @@
 //! # Ok::<(), Box<dyn std::error::Error>>(())
 //! ```
 
+pub use crate::covers::{covers, covers_numbers};
 pub use crate::directions::{directions, directions_in};
 pub use crate::exam_call::{exam_numbers, read_numbers, Asked, LentMesh, Results, SharedResults};
 pub use crate::field::{direction, field};

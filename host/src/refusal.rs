@@ -71,11 +71,19 @@ pub enum Refusal {
     NotShown = 25,
     /// The lent list is too short for every small quad.
     FoursNeedSpace = 26,
+    /// A quad that doesn't turn left by more than 20 degrees at all four corners.
+    FoldedQuad = 27,
+    /// A quad with a side that another has in the same direction, or that is neither the sampled outline's nor another's run back, or both.
+    WrongSide = 28,
+    /// An edge of the sampled outline that is no quad's side.
+    UnlaidEdge = 29,
+    /// A node that isn't the sampled outline's.
+    MovedNode = 30,
 }
 
 impl Refusal {
     /// Every refusal, in the order of the numbers.
-    pub const ALL: [Refusal; 26] = [
+    pub const ALL: [Refusal; 30] = [
         Refusal::Lists,
         Refusal::ShortLoop,
         Refusal::NotFinite,
@@ -102,6 +110,10 @@ impl Refusal {
         Refusal::NotOnFront,
         Refusal::NotShown,
         Refusal::FoursNeedSpace,
+        Refusal::FoldedQuad,
+        Refusal::WrongSide,
+        Refusal::UnlaidEdge,
+        Refusal::MovedNode,
     ];
 
     /// Its number: 1 to 13 are a run's and a file's, those above the other entries'.
@@ -207,6 +219,20 @@ impl Refusal {
             Refusal::FoursNeedSpace => {
                 "the list is too short for every small quad: lend four places for each, 14,944 in all"
             }
+            Refusal::FoldedQuad => {
+                "a quad doesn't turn left by more than 20 degrees at all four corners: give its nodes in the order that runs round it to the \
+                 left, and no corner that is flat or folded in"
+            }
+            Refusal::WrongSide => {
+                "a side of a quad stands twice, or isn't just one of these, the sampled outline's or another quad's run back: look for a \
+                 quad left out, given twice, or laid over others"
+            }
+            Refusal::UnlaidEdge => {
+                "an edge of the sampled outline is no quad's side: look for quads left out along the outline"
+            }
+            Refusal::MovedNode => {
+                "a node isn't the sampled outline's, bit for bit: begin the mesh with the sampled outline's nodes, in their order and unmoved"
+            }
         }
     }
 }
@@ -234,7 +260,7 @@ mod tests {
             assert_eq!(Refusal::check(refusal.number()), Err(refusal));
         }
         assert_eq!(Refusal::check(0), Ok(()));
-        assert_eq!([0, 27, u32::MAX].map(Refusal::of_number), [None; 3]);
+        assert_eq!([0, 31, u32::MAX].map(Refusal::of_number), [None; 3]);
     }
 
     #[test]
@@ -250,8 +276,8 @@ mod tests {
     }
 
     #[test]
-    #[should_panic(expected = "a bug: the library answered refusal 27")]
+    #[should_panic(expected = "a bug: the library answered refusal 31")]
     fn an_unknown_number_is_a_bug() {
-        let _ = Refusal::check(27);
+        let _ = Refusal::check(31);
     }
 }

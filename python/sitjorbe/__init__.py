@@ -15,6 +15,8 @@
     304
     >>> mesh.order([3])  # it uses up front edges that the others laid
     [0, 1, 2, 3]
+    >>> mesh.check_cover()  # each point of the outline is in just one quad
+    True
 
 Points are x and y in degrees, x to the right and y up from fixation, as pairs or as an array of shape (n, 2). Where numpy is there lists come back as arrays of the
 shapes that are named; otherwise as lists of tuples and of numbers. Nodes, quads and loops count from 0. What is refused raises Refused, with the refusal's number and
@@ -37,7 +39,7 @@ except ImportError:
     numpy = None
 
 __version__ = _entries.VERSION
-__all__ = ["Exam", "Mesh", "Outline", "Refused", "pave", "MOST_POINTS", "MOST_THRESHOLD", "MOST_WEIGHT", "STEPS_PER_DEGREE"]
+__all__ = ["Exam", "Mesh", "Outline", "Refused", "check_cover", "pave", "MOST_POINTS", "MOST_THRESHOLD", "MOST_WEIGHT", "STEPS_PER_DEGREE"]
 
 _PLACE = os.environ.get("SITJORBE_LIBRARY") or pathlib.Path(__file__).with_name("libsitjorbe.so")
 _library = _entries.declare(ctypes.CDLL(str(_PLACE)))
@@ -221,12 +223,34 @@ class Mesh:
         self.check_order(order)
         return order
 
+    def check_cover(self):
+        """See `check_cover`: of an open mesh the lowest quad or edge that is wrong is refused."""
+        return check_cover(self.outline, self.size, self.nodes, self.quads)
+
     def bowl_steps(self):
         """The nodes in whole steps of the motor bowl, 1/64 degree each, shape (n, 2). Raises Refused with 25 where a quad can't be shown."""
         answer, lists = self._answer, self._lists
         steps = (ctypes.c_int32 * (2 * answer.nodes))()
         _asked("sitjorbe_bowl_steps", node_count=answer.nodes, quad_count=answer.quads, edge_count=answer.edges, front_count=answer.front, steps=steps, **lists)
         return _given(steps, answer.nodes, 2)
+
+
+def check_cover(outline, size, nodes, quads):
+    """Whether the quads of a mesh, whatever made it, cover each point of an outline, as a run of this size samples it, once; answers whether the outline is sound.
+
+    `nodes` begin with the sampled outline's, in their order; a quad's nodes run round it to the left. Raises Refused with 1 to 7, with 10 where the mesh has fewer
+    nodes than the sampled outline, with 23 where it isn't sound, and with 27 to 30 for the lowest quad, edge or node that is wrong.
+    """
+    outline, flat = outline if isinstance(outline, Outline) else Outline(outline), _floats(nodes)
+    ids, count = _numbers(ctypes.c_uint32, (node for quad in quads for node in quad)), len(flat) // 2
+    places = min(_asked("sitjorbe_places", **outline._lists, size=size).sampled_nodes, count)
+    answer = _call("sitjorbe_covers", **outline._lists, size=size, xs=(ctypes.c_double * count)(*flat[0::2]), ys=(ctypes.c_double * count)(*flat[1::2]), quads=ids,
+                   node_count=count, quad_count=len(ids) // 4, sampled_xs=(ctypes.c_double * places)(), sampled_ys=(ctypes.c_double * places)(),
+                   sampled_next=(ctypes.c_uint32 * places)(), sampled_prev=(ctypes.c_uint32 * places)(), sampled_edges=(ctypes.c_uint32 * (2 * places))(),
+                   keys=(ctypes.c_uint64 * len(ids))())
+    if answer.refusal:
+        raise Refused(answer.refusal, f" ({answer.place})" if answer.refusal in (27, 28, 29, 30) else "")
+    return answer.sound
 
 
 def _lists_for(outline, size, growth):

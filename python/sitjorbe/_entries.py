@@ -3,7 +3,7 @@
 from ctypes import POINTER, Structure, c_bool, c_double, c_int32, c_size_t, c_uint8, c_uint16, c_uint32  # noqa: F401
 
 VERSION = "0.3.0"
-ABI = 3
+ABI = 4
 
 # ---- numbers
 
@@ -67,6 +67,10 @@ REFUSALS = {
     24: "refused (24): the edge isn't on the front: name a node of the front and the node after it, in that order",
     25: "refused (25): a quad doesn't turn left at all four corners in steps of 1/64 degree, so the bowl can't show it: set a larger size, or draw the outline so that no part of it is narrower than a step",
     26: "refused (26): the list is too short for every small quad: lend four places for each, 14,944 in all",
+    27: "refused (27): a quad doesn't turn left by more than 20 degrees at all four corners: give its nodes in the order that runs round it to the left, and no corner that is flat or folded in",
+    28: "refused (28): a side of a quad stands twice, or isn't just one of these, the sampled outline's or another quad's run back: look for a quad left out, given twice, or laid over others",
+    29: "refused (29): an edge of the sampled outline is no quad's side: look for quads left out along the outline",
+    30: "refused (30): a node isn't the sampled outline's, bit for bit: begin the mesh with the sampled outline's nodes, in their order and unmoved",
 }
 
 
@@ -169,6 +173,16 @@ class PaveAnswer(Structure):
     ]
 
 
+class CoversAnswer(Structure):
+    """The answer of `sitjorbe_covers`. `refusal` is 0 where nothing is refused; `place` is the quad, edge or node that 27 to 30 name. Stays a number beside a place: the C interface answers this struct."""
+
+    _fields_ = [
+        ("refusal", c_uint32),  # the refusal's number, 0 where nothing is refused
+        ("place", c_size_t),  # the lowest quad on refusals 27 and 28, the first node of the lowest edge on 29, the first node on 30
+        ("sound", c_bool),  # whether the outline as drawn is sound, where nothing is refused
+    ]
+
+
 class StepAnswer(Structure):
     """The answer of `sitjorbe_step`. What became of the edge (0 placed, 1 none, 2 full, 3 cap), and how many nodes, quads, distinct edges and front edges there are after it. All is 0 on a refusal."""
 
@@ -251,7 +265,7 @@ class SmallQuadsAnswer(Structure):
 # ---- entries
 
 ENTRIES = {
-    "sitjorbe_abi_3": (c_uint32, [
+    "sitjorbe_abi_4": (c_uint32, [
     ]),
     "sitjorbe_contains": (ContainsAnswer, [
         ("outer", POINTER(c_double)),
@@ -390,6 +404,35 @@ ENTRIES = {
         ("blocks_len", c_size_t),
         ("tried", POINTER(c_uint32)),
         ("tried_len", c_size_t),
+    ]),
+    "sitjorbe_covers": (CoversAnswer, [
+        ("outer", POINTER(c_double)),
+        ("outer_len", c_size_t),
+        ("holes", POINTER(c_double)),
+        ("holes_len", c_size_t),
+        ("hole_lengths", POINTER(c_size_t)),
+        ("hole_lengths_len", c_size_t),
+        ("size", c_double),
+        ("xs", POINTER(c_double)),
+        ("xs_len", c_size_t),
+        ("ys", POINTER(c_double)),
+        ("ys_len", c_size_t),
+        ("quads", POINTER(c_uint32)),
+        ("quads_len", c_size_t),
+        ("node_count", c_uint32),
+        ("quad_count", c_size_t),
+        ("sampled_xs", POINTER(c_double)),
+        ("sampled_xs_len", c_size_t),
+        ("sampled_ys", POINTER(c_double)),
+        ("sampled_ys_len", c_size_t),
+        ("sampled_next", POINTER(c_uint32)),
+        ("sampled_next_len", c_size_t),
+        ("sampled_prev", POINTER(c_uint32)),
+        ("sampled_prev_len", c_size_t),
+        ("sampled_edges", POINTER(c_uint32)),
+        ("sampled_edges_len", c_size_t),
+        ("keys", POINTER(c_uint64)),
+        ("keys_len", c_size_t),
     ]),
     "sitjorbe_step": (StepAnswer, [
         ("outer", POINTER(c_double)),

@@ -1,5 +1,8 @@
 -- What holds of the definitions of proofs/AreasBase.antt.
 use Rattle.std.specs.Prelude.{Bool, cond, List, [], ◌∷◌, ◌++◌, ◌≡◌, refl, ℕ, zero, suc, ◌<◌, ◌≤◌, eqb, ℤ, pos, neg_ℤ, ◌+ℤ◌, length, take, Float}
+use Rattle.topology.specs.Links.{at, at_self}
+use Rattle.books.specs.Book.{Book, Edge, book, Quad, quad_at, start_book, has, without, and_then, comes_off, goes_on, new_node, side, book_quad, book_after, place_of, edges_sumℤ, front_area, quad_edges, quads_area}
+use Rattle.books.proofs.Matches.{edges_sum}
 use Rattle.std.proofs.Math.Bool.{true, false}
 use Rattle.std.proofs.Math.Option.{none, some}
 use Rattle.std.proofs.Common.{sym, ◌∙◌, ap, ap₂, subst, arith, length-take, get_or-take}
@@ -10,12 +13,8 @@ use Rattle.std.specs.Float.Ieee.{nan}
 use Rattle.laws.specs.Loop.{for_up}
 use Rattle.exact.specs.Corner.{Vector, cross}
 use Rattle.outline.specs.Outline.{Outline}
-use Rattle.topology.specs.Links.{at, at_self}
 use Rattle.front.specs.State.{State}
-use Rattle.books.specs.Book.{Edge, Book, book, Quad, quad_at, start_book, has, without, and_then, comes_off, goes_on, new_node, side, book_quad, book_after}
-use Rattle.books.specs.Book.{place_of, edges_sumℤ, front_area, quad_edges, quads_area}
 use Rattle.books.specs.Net.{net, quads_edges}
-use Rattle.books.proofs.Matches.{edges_sum}
 use Rattle.books.proofs.BookBase.{Gives, gives_then, cross_anti}
 use Rattle.books.proofs.NetBase.{sum_joined}
 use Rattle.books.proofs.NetLaws.{net_joined, same_net}
@@ -81,7 +80,7 @@ after_keeps o size s (suc k) =
 
 -- ---- areas
 
-weights_same : (w x : ℕ → ℕ → ℤ) (es : List Edge) → ((u v : ℕ) → 0 < edges_sum (at u v) es → w u v ≡ x u v) → edges_sumℤ w es ≡ edges_sumℤ x es
+pub weights_same : (w x : ℕ → ℕ → ℤ) (es : List Edge) → ((u v : ℕ) → 0 < edges_sum (at u v) es → w u v ≡ x u v) → edges_sumℤ w es ≡ edges_sumℤ x es
 unfolding edges_sumℤ edges_sum
 weights_same w x [] same = refl
 weights_same w x (e ∷ es) same =
@@ -91,7 +90,7 @@ weights_same w x (e ∷ es) same =
 abbrev pub quads_sum : (ℕ → ℕ → ℤ) → State → ℕ → ℤ
 quads_sum w s k = for_up k (λ i sum. sum +ℤ edges_sumℤ w (quad_edges (quad_at s i))) (pos 0)
 
-quads_sum_lem : (w : ℕ → ℕ → ℤ) (s : State) (k : ℕ) → edges_sumℤ w (quads_edges s k) ≡ quads_sum w s k
+pub quads_sum_lem : (w : ℕ → ℕ → ℤ) (s : State) (k : ℕ) → edges_sumℤ w (quads_edges s k) ≡ quads_sum w s k
 unfolding quads_edges edges_sumℤ for_up
 quads_sum_lem w s zero = refl
 quads_sum_lem w s (suc k) =

@@ -1,6 +1,6 @@
 -- The square of side 2 in four unit quads, worked out: each point of it is in exactly one, also on an inner edge, at the node in the middle and on the outline, where the
 -- half-open rule has some points and not others. The check computes these. Assumes nothing.
-use Rattle.std.specs.Prelude.{◌≡◌, refl, List, [], ◌∷◌, ℕ, ◌*◌, ◌^◌, ℤ, pos, negsuc}
+use Rattle.std.specs.Prelude.{◌≡◌, refl, List, [], ◌∷◌, ◌++◌, ℕ, ◌+◌, ◌*◌, ◌^◌, ℤ, pos, negsuc}
 use Rattle.std.specs.Float.Ieee.{of_bits}
 use Rattle.laws.specs.Loop.{for_up, sum_up}
 use Rattle.numbers.specs.Float.{zero_f, one_f, two_f}
@@ -32,8 +32,8 @@ at x y = record { x = pos (x * 2 ^ 1072); y = pos (y * 2 ^ 1072) }
 -- how often the four quads, one by one, go round p; how many do; and how often the outline does
 abbrev seen : Vector → List ℤ
 seen p =
-    winding p grid (quad_edges (quad_at paved 0)) ∷ winding p grid (quad_edges (quad_at paved 1)) ∷ winding p grid (quad_edges (quad_at paved 2))
-    ∷ winding p grid (quad_edges (quad_at paved 3)) ∷ pos (quads_round p grid paved 4) ∷ winding p grid outline ∷ []
+    winding 1 p grid (quad_edges (quad_at paved 0)) ∷ winding 1 p grid (quad_edges (quad_at paved 1)) ∷ winding 1 p grid (quad_edges (quad_at paved 2))
+    ∷ winding 1 p grid (quad_edges (quad_at paved 3)) ∷ pos (quads_round 1 p grid paved 4) ∷ winding 1 p grid outline ∷ []
 
 abbrev none : List ℤ
 none = pos 0 ∷ pos 0 ∷ pos 0 ∷ pos 0 ∷ pos 0 ∷ pos 0 ∷ []
@@ -53,7 +53,11 @@ pub record Examples : Type 0 where
   -- outside
   pub outer : seen (at 9 6) ≡ none
   -- the outline run the other way
-  pub reversed : winding (at 2 2) grid (edge 0 6 ∷ edge 6 8 ∷ edge 8 2 ∷ edge 2 0 ∷ []) ≡ negsuc 0
+  pub reversed : winding 1 (at 2 2) grid (edge 0 6 ∷ edge 6 8 ∷ edge 8 2 ∷ edge 2 0 ∷ []) ≡ negsuc 0
+  -- and run twice
+  pub twice : winding 1 (at 2 2) grid (outline ++ outline) ≡ pos 2
+  -- half a unit right of the edge between the first quad and the second, and half a unit above the outline: a point that no double is
+  pub between : winding 2 (record { x = pos (2 ^ 1075 + 1); y = pos 1 }) grid (quad_edges (quad_at paved 1)) ≡ pos 1
 
 pub examples : Examples
 unfolding of_bits W size_of for_up sum_up cross orient quad_at edges_sumℤ quad_edges turn quads_round
@@ -69,4 +73,6 @@ examples =
       right_side = refl;
       outer = refl;
       reversed = refl;
+      twice = refl;
+      between = refl;
     }

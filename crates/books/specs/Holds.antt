@@ -51,10 +51,12 @@ pub record HoldsAfter (o : Outline) (size : Float) (s : State) (k : ℕ) : Type 
   -- the start's area is the sum of the quads' and of the front left
   pub areas : front_area units (start_book o size) ≡ quads_area units book s k +ℤ front_area units book
   pub quads : (i : ℕ) → i < k → QuadHolds book (quad_at s i)
-  -- each quad has a point of the plane once or not at all: once if it is left of all four sides, and if once, it is right of none
-  pub covers : (i : ℕ) → i < k → (p : Vector) → Covers (LeftOfAll p book (quad_at s i)) (RightOfNone p book (quad_at s i)) (winding p book (quad_edges (quad_at s i)))
+  -- each quad has a point of the plane, in n-ths of a unit, once or not at all: once if it is left of all four sides, and if once, it is right of none
+  pub covers : (i : ℕ) → i < k → (n : ℕ) → 0 < n → (p : Vector)
+      → Covers (LeftOfAll n p book (quad_at s i)) (RightOfNone n p book (quad_at s i)) (winding n p book (quad_edges (quad_at s i)))
   -- the start's front goes round a point as often as there are quads that have it, and as the front left goes round it
-  pub points : (p : Vector) → winding p (start_book o size) (start_book o size).front ≡ pos (quads_round p book s k) +ℤ winding p book book.front
+  pub points : (n : ℕ) → 0 < n → (p : Vector)
+      → winding n p (start_book o size) (start_book o size).front ≡ pos (quads_round n p book s k) +ℤ winding n p book book.front
   pub loops : LoopsHold o book
   -- front edges plus twice the quads plus the points sampled make twice the nodes
   pub counts : length book.front + 2 * k + sampled_count o size ≡ 2 * length book.xs

@@ -28,7 +28,7 @@ module _ (o : Outline) (size : Float) (s : State) (ls : List (List ℕ)) (S : St
         edges = E;
         areas = areas_balance o size final k Y.book Y.steps (start_joins o size s ls S) units E;
         quads = Q;
-        covers = λ i h p. quad_holds_covers Y.book (quad_at final i) (Q i h) p;
+        covers = λ i h. quad_holds_covers Y.book (quad_at final i) (Q i h);
         points = points_balance o size final k Y.book Y.steps (start_joins o size s ls S) E Q;
         loops = loops_hold (sampled_count o size) t Y.loops Y.book Y.sound Y.matches o (Y.number ∙ number);
         counts = rw Y.quads at (counts_hold (sampled_count o size) t Y.loops Y.book Y.sound Y.matches);

@@ -32,7 +32,7 @@ unfolding of_bits W
 farthest_val = (refl, refl)
 
 -- a coordinate that passes is within 1,001
-coordinate_within : (x : Float) → T (fits binary64 x) → coordinate_unsound x ≡ false → Within 1001 x
+pub coordinate_within : (x : Float) → T (fits binary64 x) → coordinate_unsound x ≡ false → Within 1001 x
 unfolding coordinate_unsound direction.within
 coordinate_within x t e =
     let passes = both (is_finite x) (le (abs_f x) farthest_node) (not-false _ e) in

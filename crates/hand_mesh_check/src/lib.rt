@@ -24,7 +24,7 @@ pub const FARTHEST_NODE: f64 = 1001.0;
 // ---- ids out of range
 
 // Whether one of the first m ids is that of no node, where there are n.
-fn any_beyond(ids: &[u32], m: usize, n: u32) -> bool
+pub fn any_beyond(ids: &[u32], m: usize, n: u32) -> bool
     requires { m ≤ length ids.now }
     ensures { result ≡ any_up m (beyond_nodes n ids.now) }
 {
@@ -97,7 +97,7 @@ fn any_unsound(coordinates: &[f64], n: usize) -> bool
     coordinates[..n].iter().any(|&x| coordinate_unsound(x))
 }
 
-fn any_node_unsound(mesh: &Mesh<'_>) -> bool
+pub fn any_node_unsound(mesh: &Mesh<'_>) -> bool
     requires { (mesh.now.counts.nodes ≤ length mesh.now.xs.now) × (mesh.now.counts.nodes ≤ length mesh.now.ys.now) }
     ensures { result ≡ any_up mesh.now.counts.nodes (node_unsound mesh.now.xs.now mesh.now.ys.now) }
 {

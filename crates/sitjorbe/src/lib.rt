@@ -11,6 +11,7 @@ pub mod hand_step;
 pub mod lent_places;
 pub mod many_directions;
 pub mod paving_run;
+pub mod point_cover;
 pub mod point_queries;
 pub mod shape;
 pub mod sound;

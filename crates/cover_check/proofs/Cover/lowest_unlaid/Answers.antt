@@ -1,0 +1,19 @@
+-- `Cover::lowest_unlaid` meets its contract: `found_lowest`.
+use Rattle.std.proofs.Common.{rules, tests, Bool, ◌≡◌, true, false, ℕ, ap, ◌∙◌, length}
+use Rattle.std.proofs.lemmas.Iterator.{first_from_Range}
+use Rattle.outline.specs.Outline.{outline_of}
+use Rattle.front.specs.Lent.{mesh_state}
+use Rattle.books.specs.Book.{start_book}
+use Rattle.cover_check.specs.Check.{is_unlaid}
+use Rattle.cover_check.specs.Lowest.{lowest}
+use Rattle.cover_check.proofs.Lowest.{found_lowest}
+use Rattle.cover_check.proofs.Cover.lowest_unlaid.Goals as goal
+
+pub returns : goal.returns
+returns c =
+    let test = is_unlaid (start_book (outline_of c.args.self.now.start.domain) c.args.self.now.start.size) (mesh_state c.args.self.now.sides.mesh.now) in
+    let Is : Bool → ℕ → Type 0 = λ b k. test k ≡ b in
+    c.unwrap_or.ensures
+    ∙ found_lowest test (length c.args.self.now.start.next.now) _
+    (first_from_Range _ _ _ _ (Is true) (Is false) c.find.ensures.ran (λ x q k. search (rules, tests)) (λ x q k. search (rules, tests)))
+    ∙ ap (λ (n : ℕ). lowest n test) (c.args.self.now.start.sampled.each.0 ∙ ap length c.args.self.now.start.sampled.first)

@@ -1,2 +1,2 @@
+pub mod Wave
 pub mod Worst
-pub mod TwoRows

@@ -36,6 +36,10 @@ RowIn g row values = Row g.nx g.ny row.j row.first (length values)
 abbrev pub row_node : GridRow → ℕ → GridNode
 row_node row i = record { i = i; j = row.j; id = row.first + i }
 
+-- the row k above it, in rows of nx nodes
+abbrev pub row_above : GridRow → ℕ → ℕ → GridRow
+row_above row nx k = record { j = row.j + k; first = row.first + k * nx }
+
 -- a mark for node id, and counts that a float holds
 pub record NodeMark (w n id bytes : ℕ) : Type 0 where
   pub mark : id < bytes

@@ -3,7 +3,7 @@
 
 ghost use Rattle.std.specs.Prelude.{◌≡◌, true, ◌+◌, ◌*◌, ◌<◌, ◌^◌, length};
 ghost use Rattle.outline.specs.Outline.{point_at};
-ghost use Rattle.field_averages.specs.Places.{NodeIn, row_node};
+ghost use Rattle.field_averages.specs.Places.{NodeIn, row_node, row_above};
 ghost use Rattle.field_averages.specs.Average.{plus_if, neighbour_sum, neighbour_count, normalised, divided, average};
 
 use field_direction::{CrossField, Grid};
@@ -34,6 +34,17 @@ impl GridRow {
             i,
             j: self.j,
             id: self.first + i,
+        }
+    }
+
+    // The row k above it, in a grid of rows of nx nodes.
+    pub fn above(self, nx: usize, k: usize) -> GridRow
+        requires { (self.j + k < 2 ^ 64) × (self.first + k * nx < 2 ^ 64) }
+        ensures { result ≡ row_above self nx k }
+    {
+        GridRow {
+            j: self.j + k,
+            first: self.first + k * nx,
         }
     }
 }

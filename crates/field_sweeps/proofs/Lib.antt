@@ -1,3 +1,3 @@
+pub mod Wave
 pub mod Worst
-pub mod TwoRows
 pub mod WorstBase

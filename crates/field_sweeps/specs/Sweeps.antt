@@ -1,5 +1,5 @@
 -- Sweeps: the nodes that are not fixed take their neighbours' average, in the same list. Definitions only.
-use Rattle.std.specs.Prelude.{Bool, true, not, ◌&&◌, cond, List, ℕ, ◌+◌, ◌*◌, eqb, get_or, set, Float}
+use Rattle.std.specs.Prelude.{Bool, true, not, ◌&&◌, cond, List, ℕ, ◌+◌, ◌-◌, ◌*◌, eqb, get_or, set, Float}
 use Rattle.std.specs.Float.Ieee.{le}
 use Rattle.laws.specs.Loop.{for_up, Turn, go, out, run}
 use Rattle.numbers.specs.Float.{◌⊕◌, ◌⊖◌, bits, abs_f}
@@ -41,6 +41,14 @@ sweep_node g marks j i s = cond (eqb (get_or marks (node_at g i j) 0) 0) (relaxe
 
 unfoldable pub sweep_row : Grid → List ℕ → ℕ → SweptField → SweptField
 sweep_row g marks j s = for_up g.nx (sweep_node g marks j) s
+
+-- the nodes of a row from column `from` on, before column `to`
+unfoldable pub sweep_part : Grid → List ℕ → ℕ → ℕ → ℕ → SweptField → SweptField
+sweep_part g marks j from to s = for_up (to - from) (λ i. sweep_node g marks j (from + i)) s
+
+-- row j and the three above it, one after the other
+abbrev pub four_rows : Grid → List ℕ → ℕ → SweptField → SweptField
+four_rows g marks j s = sweep_row g marks (j + 3) (sweep_row g marks (j + 2) (sweep_row g marks (j + 1) (sweep_row g marks j s)))
 
 -- one sweep: rows from the bottom, left to right
 unfoldable pub sweep : Grid → List ℕ → List Float → SweptField

@@ -38,6 +38,7 @@ WORDS = {
     25: ("a quad doesn't turn left at all four corners in steps of 1/64 degree, so the bowl can't show it",
          "set a larger size, or draw the outline so that no part of it is narrower than a step"),
     26: ("the list is too short for every small quad", "lend four places for each, 14,944 in all"),
+    31: ("a line of the points file can't be read", "write x and y there with a comma or a semicolon between, or put # before it"),
 }
 
 

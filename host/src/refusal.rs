@@ -71,11 +71,13 @@ pub enum Refusal {
     NotShown = 25,
     /// The lent list is too short for every small quad.
     FoursNeedSpace = 26,
+    /// A points file that says something else than points, at a line and a column.
+    FaultyText = 31,
 }
 
 impl Refusal {
     /// Every refusal, in the order of the numbers.
-    pub const ALL: [Refusal; 26] = [
+    pub const ALL: [Refusal; 27] = [
         Refusal::Lists,
         Refusal::ShortLoop,
         Refusal::NotFinite,
@@ -102,6 +104,7 @@ impl Refusal {
         Refusal::NotOnFront,
         Refusal::NotShown,
         Refusal::FoursNeedSpace,
+        Refusal::FaultyText,
     ];
 
     /// Its number: 1 to 13 are a run's and a file's, those above the other entries'.
@@ -206,6 +209,9 @@ impl Refusal {
             }
             Refusal::FoursNeedSpace => {
                 "the list is too short for every small quad: lend four places for each, 14,944 in all"
+            }
+            Refusal::FaultyText => {
+                "a line of the points file can't be read: write x and y there with a comma or a semicolon between, or put # before it"
             }
         }
     }

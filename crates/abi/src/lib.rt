@@ -4,12 +4,12 @@
 
 ghost use Rattle.std.specs.Prelude.{◌≡◌};
 
-const ABI: u32 = 3;
+const ABI: u32 = 4;
 
 // The number of the library's shape, which its name has too.
 #[unsafe(no_mangle)]
-pub extern "C" fn sitjorbe_abi_3() -> u32
-    ensures { result ≡ 3 }
+pub extern "C" fn sitjorbe_abi_4() -> u32
+    ensures { result ≡ 4 }
 {
     ABI
 }

@@ -12,6 +12,7 @@ pub mod lent_places;
 pub mod many_directions;
 pub mod paving_run;
 pub mod point_queries;
+pub mod points_file;
 pub mod shape;
 pub mod sound;
 pub mod test_order;

@@ -1,5 +1,5 @@
 /*
- * Sitjorbe: verified geometry for a paved visual field, from outline to quads. Version 0.3.0, shape 4.
+ * Sitjorbe: verified geometry for a paved visual field, from outline to quads. Version 0.3.0, shape 5.
  *
  * Written by tools/bindings from the Rattle source. docs/INTEGRATION.md says how to call; "SCOPE" in a comment is what
  * docs/SCOPE.md and docs/FORMATS.md set out. For x86-64 Linux, C11 or C++17, and later.
@@ -23,7 +23,7 @@
 #endif
 
 #define SITJORBE_VERSION "0.3.0"
-#define SITJORBE_ABI 4
+#define SITJORBE_ABI 5
 
 #ifdef __cplusplus
 #define SITJORBE_ASSERT(fact) static_assert(fact, "another layout than the library's: " #fact)
@@ -175,7 +175,9 @@ enum sitjorbe_refusal {
     /** An edge of the sampled outline that is no quad's side. */
     SITJORBE_REFUSED_UNLAID_EDGE = 29,
     /** A node that isn't the sampled outline's. */
-    SITJORBE_REFUSED_MOVED_NODE = 30
+    SITJORBE_REFUSED_MOVED_NODE = 30,
+    /** A points file that says something else than points, at a line and a column. */
+    SITJORBE_REFUSED_FAULTY_TEXT = 31
 };
 
 enum sitjorbe_end {
@@ -289,6 +291,9 @@ static inline const char *sitjorbe_refusal_words(uint32_t refusal) {
     case 30:
         return "refused (30): a node isn't the sampled outline's, bit for bit: begin the mesh with the sampled "
                "outline's nodes, in their order and unmoved";
+    case 31:
+        return "refused (31): a line of the points file can't be read: write x and y there with a comma or a semicolon"
+               " between, or put # before it";
     default:
         return "this refusal isn't known";
     }
@@ -566,6 +571,36 @@ SITJORBE_ASSERT(offsetof(sitjorbe_small_quads_answer, refusal) == 0);
 SITJORBE_ASSERT(offsetof(sitjorbe_small_quads_answer, count) == 8);
 SITJORBE_ASSERT(sizeof(sitjorbe_small_quads_answer) == 16);
 
+/**
+ * The answer of `sitjorbe_read_points`. What is answered of a text. `refusal` is 31 for a fault of the text, 14 where a
+ * list is too short, or 0. Of the faults, of which there are `faults`, the one asked for has its kind, line and column,
+ * and `leads` says that no row stands before it. `separator` is the byte between x and y, and `heading` the line of the
+ * heading, or 0. `points` and `loops` say how many there are, where nothing is wrong with the text.
+ */
+typedef struct sitjorbe_points_answer {
+    uint32_t refusal; /**< the refusal's number, 0 where nothing is refused */
+    uint32_t fault; /**< on refusal 31 what is wrong: 1 not two values, 2 x is missing, 3 y is missing, 4 x isn't a number, 5 y isn't a number, 6 a comment between two points of a loop, 7 more than 268,435,456 bytes */
+    size_t line; /**< the fault's line, from 1 */
+    size_t column; /**< the fault's column in bytes, from 1 */
+    bool leads; /**< whether no row stands before the fault's */
+    size_t faults; /**< how many faults the text has */
+    uint32_t separator; /**< the byte between x and y: 44 for a comma, 59 for a semicolon, 9 for a tab */
+    size_t heading; /**< the line of the heading, 0 where there is none */
+    size_t points; /**< how many points there are */
+    size_t loops; /**< how many loops there are */
+} sitjorbe_points_answer;
+SITJORBE_ASSERT(offsetof(sitjorbe_points_answer, refusal) == 0);
+SITJORBE_ASSERT(offsetof(sitjorbe_points_answer, fault) == 4);
+SITJORBE_ASSERT(offsetof(sitjorbe_points_answer, line) == 8);
+SITJORBE_ASSERT(offsetof(sitjorbe_points_answer, column) == 16);
+SITJORBE_ASSERT(offsetof(sitjorbe_points_answer, leads) == 24);
+SITJORBE_ASSERT(offsetof(sitjorbe_points_answer, faults) == 32);
+SITJORBE_ASSERT(offsetof(sitjorbe_points_answer, separator) == 40);
+SITJORBE_ASSERT(offsetof(sitjorbe_points_answer, heading) == 48);
+SITJORBE_ASSERT(offsetof(sitjorbe_points_answer, points) == 56);
+SITJORBE_ASSERT(offsetof(sitjorbe_points_answer, loops) == 64);
+SITJORBE_ASSERT(sizeof(sitjorbe_points_answer) == 72);
+
 /* ---- entries
  *
  * The names of their parameters mean the same everywhere; a name's length is the same name with _len.
@@ -633,10 +668,16 @@ SITJORBE_ASSERT(sizeof(sitjorbe_small_quads_answer) == 16);
  * pool           scratch of any length, which saves time: eight numbers a quad, and two more, are enough
  * steps          gets two whole numbers a node, x then y, in steps of 1/64
  * fours          four numbers a small quad; 14,944 places are enough
+ * text           the bytes of a points file, as they are
+ * which          the number of the fault that is told, from 0
+ * coordinates    gets x and y of each point
+ * lines          gets each point's line, from 1
+ * point_counts   gets how many points each loop has, the outline first
+ * loop_marks     gets three numbers a loop: where the comment that names it begins and ends, in bytes behind a byte order mark, equal where there is none; and the line of its last point where that repeats the first and is left out, else 0
  */
 
 /** The number of the library's shape, which its name has too. */
-SITJORBE_MUST_USE uint32_t sitjorbe_abi_4(void);
+SITJORBE_MUST_USE uint32_t sitjorbe_abi_5(void);
 
 /** Whether the point is inside the outer loop and outside every hole. */
 SITJORBE_MUST_USE sitjorbe_contains_answer sitjorbe_contains(
@@ -916,6 +957,21 @@ SITJORBE_MUST_USE sitjorbe_bowl_steps_answer sitjorbe_bowl_steps(
 
 /** Every small quad, on the first places of the lent list: four numbers a four, in dictionary order. */
 SITJORBE_MUST_USE sitjorbe_small_quads_answer sitjorbe_small_quads(uint32_t *fours, size_t fours_len);
+
+/**
+ * Reads an operator's points file, bytes as they are, onto the first places of the lists: `coordinates` has x and y of
+ * each point, `lines` its line from 1, `point_counts` how many points each loop has, the outline first, and
+ * `loop_marks` three numbers a loop: where the comment that names it begins and ends, counted in bytes behind a byte
+ * order mark, and the line of its last point where that repeats the first and is left out, or 0. `which` of the faults
+ * is told, from 0. Refused, nothing is written.
+ */
+SITJORBE_MUST_USE sitjorbe_points_answer sitjorbe_read_points(
+    const uint8_t *text, size_t text_len,
+    size_t which,
+    double *coordinates, size_t coordinates_len,
+    size_t *lines, size_t lines_len,
+    size_t *point_counts, size_t point_counts_len,
+    size_t *loop_marks, size_t loop_marks_len);
 
 /* ---- the same with structs
  *
@@ -1349,7 +1405,7 @@ static inline void sitjorbe_cut_lists(void *memory, const sitjorbe_list_lengths 
 __attribute__((retain))
 #endif
 #endif
-__attribute__((used)) static uint32_t (*const sitjorbe_abi)(void) = sitjorbe_abi_4;
+__attribute__((used)) static uint32_t (*const sitjorbe_abi)(void) = sitjorbe_abi_5;
 #endif
 
 #ifdef __cplusplus

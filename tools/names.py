@@ -67,6 +67,13 @@ PARAMETERS = {
     "sampled_prev": "scratch, as long",
     "sampled_edges": "scratch for its edges: two places for each of its nodes",
     "keys": "scratch for the sides of the quads: four places a quad",
+    "text": "the bytes of a points file, as they are",
+    "which": "the number of the fault that is told, from 0",
+    "coordinates": "gets x and y of each point",
+    "lines": "gets each point's line, from 1",
+    "point_counts": "gets how many points each loop has, the outline first",
+    "loop_marks": "gets three numbers a loop: where the comment that names it begins and ends, in bytes behind a byte order mark, equal where there is none; and the "
+                  "line of its last point where that repeats the first and is left out, else 0",
     "fours": "four numbers a small quad; 14,944 places are enough",
 }
 
@@ -121,4 +128,14 @@ FIELDS = {
     "CoversAnswer.place": "the lowest quad on refusals 27 and 28, the first node of the lowest edge on 29, the first node on 30",
     "CoversAnswer.sound": "whether the outline as drawn is sound, where nothing is refused",
     "count": "how many small quads are listed",
+    "fault": "on refusal 31 what is wrong: 1 not two values, 2 x is missing, 3 y is missing, 4 x isn't a number, 5 y isn't a number, 6 a comment between two points of "
+             "a loop, 7 more than 268,435,456 bytes",
+    "line": "the fault's line, from 1",
+    "column": "the fault's column in bytes, from 1",
+    "leads": "whether no row stands before the fault's",
+    "faults": "how many faults the text has",
+    "separator": "the byte between x and y: 44 for a comma, 59 for a semicolon, 9 for a tab",
+    "heading": "the line of the heading, 0 where there is none",
+    "PointsAnswer.points": "how many points there are",
+    "PointsAnswer.loops": "how many loops there are",
 }

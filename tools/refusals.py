@@ -44,6 +44,7 @@ WORDS = {
          "look for a quad left out, given twice, or laid over others"),
     29: ("an edge of the sampled outline is no quad's side", "look for quads left out along the outline"),
     30: ("a node isn't the sampled outline's, bit for bit", "begin the mesh with the sampled outline's nodes, in their order and unmoved"),
+    31: ("a line of the points file can't be read", "write x and y there with a comma or a semicolon between, or put # before it"),
 }
 
 

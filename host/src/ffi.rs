@@ -8,7 +8,7 @@
 use core::mem::{offset_of, size_of};
 
 /// The number of the shape that these declarations have: the library links only if its number is the same.
-pub const ABI: u32 = 4;
+pub const ABI: u32 = 5;
 
 /// The answer of `sitjorbe_contains`. `refusal` is the refusal's number, 0 where nothing is refused. The values of a
 /// refused query are false, 0.0 or 0.
@@ -288,6 +288,37 @@ pub struct SmallQuadsAnswer {
     pub count: usize,
 }
 
+/// The answer of `sitjorbe_read_points`. What is answered of a text. `refusal` is 31 for a fault of the text, 14 where
+/// a list is too short, or 0. Of the faults, of which there are `faults`, the one asked for has its kind, line and
+/// column, and `leads` says that no row stands before it. `separator` is the byte between x and y, and `heading` the
+/// line of the heading, or 0. `points` and `loops` say how many there are, where nothing is wrong with the text.
+#[repr(C)]
+#[derive(Clone, Copy, Debug, PartialEq)]
+#[must_use = "an answer may be a refusal"]
+pub struct PointsAnswer {
+    /// The refusal's number, 0 where nothing is refused.
+    pub refusal: u32,
+    /// On refusal 31 what is wrong: 1 not two values, 2 x is missing, 3 y is missing, 4 x isn't a number, 5 y isn't a
+    /// number, 6 a comment between two points of a loop, 7 more than 268,435,456 bytes.
+    pub fault: u32,
+    /// The fault's line, from 1.
+    pub line: usize,
+    /// The fault's column in bytes, from 1.
+    pub column: usize,
+    /// Whether no row stands before the fault's.
+    pub leads: bool,
+    /// How many faults the text has.
+    pub faults: usize,
+    /// The byte between x and y: 44 for a comma, 59 for a semicolon, 9 for a tab.
+    pub separator: u32,
+    /// The line of the heading, 0 where there is none.
+    pub heading: usize,
+    /// How many points there are.
+    pub points: usize,
+    /// How many loops there are.
+    pub loops: usize,
+}
+
 /// As C lays the answers out on x86-64.
 #[cfg(target_pointer_width = "64")]
 const _: () = {
@@ -386,23 +417,34 @@ const _: () = {
     assert!(offset_of!(SmallQuadsAnswer, refusal) == 0);
     assert!(offset_of!(SmallQuadsAnswer, count) == 8);
     assert!(size_of::<SmallQuadsAnswer>() == 16);
+    assert!(offset_of!(PointsAnswer, refusal) == 0);
+    assert!(offset_of!(PointsAnswer, fault) == 4);
+    assert!(offset_of!(PointsAnswer, line) == 8);
+    assert!(offset_of!(PointsAnswer, column) == 16);
+    assert!(offset_of!(PointsAnswer, leads) == 24);
+    assert!(offset_of!(PointsAnswer, faults) == 32);
+    assert!(offset_of!(PointsAnswer, separator) == 40);
+    assert!(offset_of!(PointsAnswer, heading) == 48);
+    assert!(offset_of!(PointsAnswer, points) == 56);
+    assert!(offset_of!(PointsAnswer, loops) == 64);
+    assert!(size_of::<PointsAnswer>() == 72);
 };
 
 /// The number of the shape that the library has. It is [`ABI`], since a library of another shape doesn't link.
 #[must_use]
 pub fn abi() -> u32 {
     // SAFETY: it takes nothing, and answers a number.
-    unsafe { sitjorbe_abi_4() }
+    unsafe { sitjorbe_abi_5() }
 }
 
 /// Keeps the name of the shape's entry in every program, also in one that calls entries without the wrappers.
 #[used]
-static SHAPE: unsafe extern "C" fn() -> u32 = sitjorbe_abi_4;
+static SHAPE: unsafe extern "C" fn() -> u32 = sitjorbe_abi_5;
 
 #[link(name = "sitjorbe", kind = "static")]
 extern "C" {
     /// The number of the library's shape, which its name has too.
-    pub fn sitjorbe_abi_4() -> u32;
+    pub fn sitjorbe_abi_5() -> u32;
 
     /// Whether the point is inside the outer loop and outside every hole.
     pub fn sitjorbe_contains(
@@ -791,4 +833,23 @@ extern "C" {
 
     /// Every small quad, on the first places of the lent list: four numbers a four, in dictionary order.
     pub fn sitjorbe_small_quads(fours: *mut u32, fours_len: usize) -> SmallQuadsAnswer;
+
+    /// Reads an operator's points file, bytes as they are, onto the first places of the lists: `coordinates` has x and
+    /// y of each point, `lines` its line from 1, `point_counts` how many points each loop has, the outline first, and
+    /// `loop_marks` three numbers a loop: where the comment that names it begins and ends, counted in bytes behind a
+    /// byte order mark, and the line of its last point where that repeats the first and is left out, or 0. `which` of
+    /// the faults is told, from 0. Refused, nothing is written.
+    pub fn sitjorbe_read_points(
+        text: *const u8,
+        text_len: usize,
+        which: usize,
+        coordinates: *mut f64,
+        coordinates_len: usize,
+        lines: *mut usize,
+        lines_len: usize,
+        point_counts: *mut usize,
+        point_counts_len: usize,
+        loop_marks: *mut usize,
+        loop_marks_len: usize,
+    ) -> PointsAnswer;
 }

@@ -79,11 +79,13 @@ pub enum Refusal {
     UnlaidEdge = 29,
     /// A node that isn't the sampled outline's.
     MovedNode = 30,
+    /// A points file that says something else than points, at a line and a column.
+    FaultyText = 31,
 }
 
 impl Refusal {
     /// Every refusal, in the order of the numbers.
-    pub const ALL: [Refusal; 30] = [
+    pub const ALL: [Refusal; 31] = [
         Refusal::Lists,
         Refusal::ShortLoop,
         Refusal::NotFinite,
@@ -114,6 +116,7 @@ impl Refusal {
         Refusal::WrongSide,
         Refusal::UnlaidEdge,
         Refusal::MovedNode,
+        Refusal::FaultyText,
     ];
 
     /// Its number: 1 to 13 are a run's and a file's, those above the other entries'.
@@ -232,6 +235,9 @@ impl Refusal {
             }
             Refusal::MovedNode => {
                 "a node isn't the sampled outline's, bit for bit: begin the mesh with the sampled outline's nodes, in their order and unmoved"
+            }
+            Refusal::FaultyText => {
+                "a line of the points file can't be read: write x and y there with a comma or a semicolon between, or put # before it"
             }
         }
     }

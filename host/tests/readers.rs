@@ -1,78 +1,67 @@
-//! The two readers of a field's points, the command's in Rust and the tools' in Python, held equal: on texts as people have them, on spoilt ones and on made-up
-//! ones. What they read, what they name, what they note and what they refuse is compared word by word.
+//! The library's reader of points held against the one that the command had before: on texts as people have them, on damaged ones and made-up ones, and on every short
+//! text. What is read, named, noted and refused is compared word by word; a column, which the former reader doesn't say, is left out.
 
 #[path = "../src/bin/sitjorbe/csv.rs"]
 #[allow(dead_code)]
 mod csv;
+#[path = "former/reader.rs"]
+#[allow(dead_code)]
+mod former;
 
 mod common;
 
-use std::io::Write;
 use std::path::Path;
-use std::process::{Command, Stdio};
 
 use common::rng::Rng;
 
 /// What a text is read as, in a form that both readers are put into: coordinates by their bits.
-fn told(text: &str) -> String {
-    match csv::parse(text) {
-        Err(lines) => format!("wrong\n{}\n", lines.join("\n")),
-        Ok(field) => {
-            let mut lines = vec!["field".to_string()];
-            for (name, points) in field.names.iter().zip(&field.loops) {
-                lines.push(format!("loop {name}"));
-                let bits = |x: f64| if x.is_nan() { "nan".to_string() } else { format!("{:016x}", x.to_bits()) };
-                lines.extend(points.iter().map(|p| format!("{} {} {}", p.line, bits(p.x), bits(p.y))));
+macro_rules! told {
+    ($read:expr) => {
+        match $read {
+            Err(lines) => format!("wrong\n{}\n", lines.iter().map(|line| without_column(line)).collect::<Vec<_>>().join("\n")),
+            Ok(field) => {
+                let mut lines = vec!["field".to_string()];
+                for (name, points) in field.names.iter().zip(&field.loops) {
+                    lines.push(format!("loop {name}"));
+                    let bits = |x: f64| if x.is_nan() { "nan".to_string() } else { format!("{:016x}", x.to_bits()) };
+                    lines.extend(points.iter().map(|p| format!("{} {} {}", p.line, bits(p.x), bits(p.y))));
+                }
+                lines.extend(field.notes.iter().map(|note| format!("note {note}")));
+                lines.join("\n") + "\n"
             }
-            lines.extend(field.notes.iter().map(|note| format!("note {note}")));
-            lines.join("\n") + "\n"
         }
+    };
+}
+
+/// A line with the words `, column N` taken out.
+fn without_column(line: &str) -> String {
+    match line.split_once(", column ") {
+        Some((before, after)) if before.starts_with("line ") => {
+            before.to_string() + after.trim_start_matches(|c: char| c.is_ascii_digit())
+        }
+        _ => line.to_string(),
     }
 }
 
-/// The same by the tools' reader, for many texts at once.
-const TOOLS: &str = r#"
-import struct, sys
-sys.path.insert(0, sys.argv[1])
-from outlines import Unusable, read_field
-def bits(x):
-    return "nan" if x != x else struct.pack(">d", x).hex()
-def told(text):
-    try:
-        field = read_field(text)
-    except Unusable as error:
-        return f"wrong\n{error}\n"
-    lines = ["field"]
-    for name, points in zip(field.names, field.loops):
-        lines.append(f"loop {name}")
-        lines += [f"{p.line} {bits(p.x)} {bits(p.y)}" for p in points]
-    return "\n".join(lines + [f"note {note}" for note in field.notes]) + "\n"
-texts = sys.stdin.buffer.read().decode().split("\0")
-sys.stdout.buffer.write("\0".join(map(told, texts)).encode())
-"#;
+fn told(text: &str) -> String {
+    told!(csv::parse(text))
+}
 
-fn told_by_the_tools(texts: &[String]) -> Vec<String> {
-    let tools = Path::new(env!("CARGO_MANIFEST_DIR")).join("../tools");
-    let mut python = Command::new("python3")
-        .args(["-c", TOOLS])
-        .arg(tools)
-        .stdin(Stdio::piped())
-        .stdout(Stdio::piped())
-        .spawn()
-        .expect("the tools need python3");
-    let (mut stdin, all) = (python.stdin.take().expect("it is piped"), texts.join("\0"));
-    let writer = std::thread::spawn(move || stdin.write_all(all.as_bytes()).expect("it reads"));
-    let output = python.wait_with_output().expect("it ends");
-    writer.join().expect("it wrote");
-    assert!(output.status.success());
-    String::from_utf8(output.stdout).expect("it is text").split('\0').map(str::to_string).collect()
+/// The same by the former reader, which was given lines with a line feed each, and no byte order mark. The library says 20 faults.
+fn told_before(text: &str) -> String {
+    let fed = text.strip_prefix('\u{feff}').unwrap_or(text).replace("\r\n", "\n").replace('\r', "\n");
+    let mut read = former::parse(&fed);
+    if let Err(lines) = &mut read {
+        let more = lines.len().saturating_sub(20);
+        lines.truncate(20);
+        lines.extend((more > 0).then(|| format!("{more} more lines can't be read")));
+    }
+    told!(read)
 }
 
 fn hold_equal(texts: &[String]) {
-    let tools = told_by_the_tools(texts);
-    assert_eq!(tools.len(), texts.len());
-    for (text, tools) in texts.iter().zip(tools) {
-        assert_eq!(told(text), tools, "of {text:?}");
+    for text in texts {
+        assert_eq!(told(text), told_before(text), "of {text:?}");
     }
 }
 
@@ -121,7 +110,26 @@ fn the_examples_are_read_alike() {
     let folder = Path::new(env!("CARGO_MANIFEST_DIR")).join("../examples");
     let names = ["right-eye", "left-eye", "24-2", "30-2", "hemianopia", "hand-drawn"];
     let read = |name: &str| std::fs::read_to_string(folder.join(name).with_extension("csv")).expect("an example");
-    hold_equal(&names.map(read));
+    let texts = names.map(read);
+    hold_equal(&texts);
+    hold_equal(&texts.map(|text| "\u{feff}".to_string() + &text.replace('\n', "\r\n")));
+}
+
+#[test]
+fn the_column_is_the_words() {
+    let said = |text: &str| csv::parse(text).unwrap_err().join("|");
+    assert_eq!(said("0,0\n1, O\n"), "line 2, column 4: y isn't a number: O");
+    assert_eq!(said("0,0\n\t\u{e9}t\u{e9} , 1\n"), "line 2, column 2: x isn't a number: \u{e9}t\u{e9}");
+    assert_eq!(said("0,0\n\u{e9},\"?\"\n"), "line 2, column 1: x isn't a number: \u{e9}");
+    assert_eq!(said("0,0\n1,2\n  # spot\n3,4\n").split(": ").next(), Some("line 3, column 3"));
+    assert!(said(&"?\n".repeat(25)).ends_with("|5 more lines can't be read"));
+}
+
+#[test]
+fn longer_words_are_no_numbers() {
+    let most = format!("0.{}1,0\n", "0".repeat(1_097));
+    assert_eq!(told(&most), told_before(&most));
+    assert!(told(&most.replacen("0.", "0.0", 1)).starts_with("wrong\nline 1: x isn't a number: 0.0"));
 }
 
 /// Pieces that lines are put together from.
@@ -168,24 +176,72 @@ const PIECES: [&str; 40] = [
     "0.1000000000000000055511151231257827",
 ];
 
+/// Made up from the pieces.
+fn made_up(rng: &mut Rng) -> String {
+    let mut text = String::new();
+    for _ in 0..rng.below(9) {
+        if rng.below(3) == 0 {
+            let words: Vec<&str> = (0..rng.below(6)).map(|_| PIECES[rng.below(PIECES.len())]).collect();
+            text += &words.concat();
+        } else {
+            let separator = if rng.below(6) == 0 { ";" } else { "," };
+            text += &[PIECES[rng.below(8)], separator, PIECES[rng.below(8)]].concat();
+        }
+        text += ["\n\n", "\r\n", "\r", "\n", "\n", "\n"][rng.below(6)];
+    }
+    text
+}
+
+/// A text as people have it, with a few characters dropped, doubled or put in the place of others.
+fn damaged(rng: &mut Rng) -> String {
+    let mut chars: Vec<char> = KEPT[rng.below(KEPT.len())].0.chars().collect();
+    for _ in 0..=rng.below(3) {
+        let at = rng.below(chars.len() + 1);
+        match (rng.below(3), chars.get(at).copied()) {
+            (0, Some(_)) => drop(chars.remove(at)),
+            (1, Some(c)) => chars.insert(at, c),
+            _ => chars.insert(at, [',', ';', '#', '\n', '\r', '.', '-', '"', '\t', '7', '\u{2212}', '\u{feff}'][rng.below(12)]),
+        }
+    }
+    chars.into_iter().collect()
+}
+
 #[test]
 fn made_up_texts_are_read_alike() {
     let mut rng = Rng(30);
-    let text = |rng: &mut Rng| {
-        let mut text = String::new();
-        for _ in 0..rng.below(9) {
-            if rng.below(3) == 0 {
-                let words: Vec<&str> = (0..rng.below(6)).map(|_| PIECES[rng.below(PIECES.len())]).collect();
-                text += &words.concat();
-            } else {
-                let separator = if rng.below(6) == 0 { ";" } else { "," };
-                text += &[PIECES[rng.below(8)], separator, PIECES[rng.below(8)]].concat();
-            }
-            text += if rng.below(5) == 0 { "\n\n" } else { "\n" };
-        }
-        text
-    };
-    let texts: Vec<String> = (0..20_000).map(|_| text(&mut rng)).collect();
-    assert!(texts.iter().filter(|text| told(text).starts_with("field\nloop")).count() > 2_000);
+    let texts: Vec<String> = (0..60_000).map(|_| made_up(&mut rng)).collect();
+    assert!(texts.iter().filter(|text| told(text).starts_with("field\nloop")).count() > 6_000);
     hold_equal(&texts);
+}
+
+#[test]
+fn damaged_texts_are_read_alike() {
+    let mut rng = Rng(31);
+    let texts: Vec<String> = (0..40_000).map(|_| damaged(&mut rng)).collect();
+    assert!(texts.iter().filter(|text| told(text).starts_with("wrong")).count() > 4_000);
+    hold_equal(&texts);
+}
+
+const ALPHABET: [char; 12] = ['0', '7', '.', ',', ';', '\t', '-', '#', '\n', '\r', 'e', 'x'];
+
+/// The text with this number, of so many characters.
+fn numbered(mut number: usize, length: usize) -> String {
+    let mut next = || {
+        let c = ALPHABET[number % 12];
+        number /= 12;
+        c
+    };
+    (0..length).map(|_| next()).collect()
+}
+
+/// Every text of up to 5 characters of the alphabet; of up to 6 where SITJORBE_ALL_TEXTS is set.
+#[test]
+fn every_short_text_is_read_alike() {
+    let longest = if std::env::var_os("SITJORBE_ALL_TEXTS").is_some() { 6 } else { 5 };
+    for length in 0..=longest {
+        for number in 0..12usize.pow(length) {
+            let text = numbered(number, length as usize);
+            assert_eq!(told(&text), told_before(&text), "of {text:?}");
+        }
+    }
 }

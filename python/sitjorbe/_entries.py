@@ -3,7 +3,7 @@
 from ctypes import POINTER, Structure, c_bool, c_double, c_int32, c_size_t, c_uint8, c_uint16, c_uint32  # noqa: F401
 
 VERSION = "0.3.0"
-ABI = 4
+ABI = 5
 
 # ---- numbers
 
@@ -71,6 +71,7 @@ REFUSALS = {
     28: "refused (28): a side of a quad stands twice, or isn't just one of these, the sampled outline's or another quad's run back: look for a quad left out, given twice, or laid over others",
     29: "refused (29): an edge of the sampled outline is no quad's side: look for quads left out along the outline",
     30: "refused (30): a node isn't the sampled outline's, bit for bit: begin the mesh with the sampled outline's nodes, in their order and unmoved",
+    31: "refused (31): a line of the points file can't be read: write x and y there with a comma or a semicolon between, or put # before it",
 }
 
 
@@ -262,10 +263,27 @@ class SmallQuadsAnswer(Structure):
     ]
 
 
+class PointsAnswer(Structure):
+    """The answer of `sitjorbe_read_points`. What is answered of a text. `refusal` is 31 for a fault of the text, 14 where a list is too short, or 0. Of the faults, of which there are `faults`, the one asked for has its kind, line and column, and `leads` says that no row stands before it. `separator` is the byte between x and y, and `heading` the line of the heading, or 0. `points` and `loops` say how many there are, where nothing is wrong with the text."""
+
+    _fields_ = [
+        ("refusal", c_uint32),  # the refusal's number, 0 where nothing is refused
+        ("fault", c_uint32),  # on refusal 31 what is wrong: 1 not two values, 2 x is missing, 3 y is missing, 4 x isn't a number, 5 y isn't a number, 6 a comment between two points of a loop, 7 more than 268,435,456 bytes
+        ("line", c_size_t),  # the fault's line, from 1
+        ("column", c_size_t),  # the fault's column in bytes, from 1
+        ("leads", c_bool),  # whether no row stands before the fault's
+        ("faults", c_size_t),  # how many faults the text has
+        ("separator", c_uint32),  # the byte between x and y: 44 for a comma, 59 for a semicolon, 9 for a tab
+        ("heading", c_size_t),  # the line of the heading, 0 where there is none
+        ("points", c_size_t),  # how many points there are
+        ("loops", c_size_t),  # how many loops there are
+    ]
+
+
 # ---- entries
 
 ENTRIES = {
-    "sitjorbe_abi_4": (c_uint32, [
+    "sitjorbe_abi_5": (c_uint32, [
     ]),
     "sitjorbe_contains": (ContainsAnswer, [
         ("outer", POINTER(c_double)),
@@ -603,6 +621,19 @@ ENTRIES = {
     "sitjorbe_small_quads": (SmallQuadsAnswer, [
         ("fours", POINTER(c_uint32)),
         ("fours_len", c_size_t),
+    ]),
+    "sitjorbe_read_points": (PointsAnswer, [
+        ("text", POINTER(c_uint8)),
+        ("text_len", c_size_t),
+        ("which", c_size_t),
+        ("coordinates", POINTER(c_double)),
+        ("coordinates_len", c_size_t),
+        ("lines", POINTER(c_size_t)),
+        ("lines_len", c_size_t),
+        ("point_counts", POINTER(c_size_t)),
+        ("point_counts_len", c_size_t),
+        ("loop_marks", POINTER(c_size_t)),
+        ("loop_marks_len", c_size_t),
     ]),
 }
 

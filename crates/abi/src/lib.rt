@@ -4,12 +4,12 @@
 
 ghost use Rattle.std.specs.Prelude.{◌≡◌};
 
-const ABI: u32 = 4;
+const ABI: u32 = 5;
 
 // The number of the library's shape, which its name has too.
 #[unsafe(no_mangle)]
-pub extern "C" fn sitjorbe_abi_4() -> u32
-    ensures { result ≡ 4 }
+pub extern "C" fn sitjorbe_abi_5() -> u32
+    ensures { result ≡ 5 }
 {
     ABI
 }

@@ -1,4 +1,4 @@
-// The whole: a text read onto lists.
+// The entry: what a host calls, on bytes and lists.
 ghost use Rattle.std.specs.Prelude.{◌≡◌, ◌==◌, cond, ◌≤◌, length};
 ghost use Rattle.points_reader.specs.Answers.{faulty_answer, read_answer, reader_answer, long_answer, has_room, text_walked, points_answer, written};
 
@@ -8,6 +8,7 @@ use crate::walking::{separator_of, unmarked, walk};
 /// What is answered of a text. `refusal` is 31 for a fault of the text, 14 where a list is too short, or 0. Of the faults, of which there are `faults`, the one asked for has its
 /// kind, line and column, and `leads` says that no row stands before it. `separator` is the byte between x and y, and `heading` the line of the heading, or 0. `points` and `loops` say
 /// how many there are, where nothing is wrong with the text.
+#[repr(C)]
 #[derive(Clone, Copy)]
 pub struct PointsAnswer {
     pub refusal: u32,
@@ -139,21 +140,22 @@ fn points_answer(
     reader_answer(&reader, separator, room)
 }
 
-/// Reads an operator's points file, bytes as they are, onto the first places of the lists: `coordinates` has x and y of each point, `lines` its line from 1, `loop_lengths` how many points each
+/// Reads an operator's points file, bytes as they are, onto the first places of the lists: `coordinates` has x and y of each point, `lines` its line from 1, `point_counts` how many points each
 /// loop has, the outline first, and `loop_marks` three numbers a loop: where the comment that names it begins and ends, counted in bytes behind a byte order mark, and the line of its last
 /// point where that repeats the first and is left out, or 0. `which` of the faults is told, from 0. Refused, nothing is written.
-pub fn read_points(
+#[unsafe(no_mangle)]
+pub extern "C" fn sitjorbe_read_points(
     text: &[u8],
     which: usize,
     coordinates: &mut [f64],
     lines: &mut [usize],
-    loop_lengths: &mut [usize],
+    point_counts: &mut [usize],
     loop_marks: &mut [usize],
 ) -> PointsAnswer
-    ensures answer { result ≡ points_answer text.now which (length coordinates.old) (length lines.old) (length loop_lengths.old) (length loop_marks.old) }
+    ensures answer { result ≡ points_answer text.now which (length coordinates.old) (length lines.old) (length point_counts.old) (length loop_marks.old) }
     ensures coordinates { coordinates.new ≡ written result.refusal (text_walked text.now which).out.points coordinates.old }
     ensures lines { lines.new ≡ written result.refusal (text_walked text.now which).out.lines lines.old }
-    ensures loop_lengths { loop_lengths.new ≡ written result.refusal (text_walked text.now which).out.lengths loop_lengths.old }
+    ensures point_counts { point_counts.new ≡ written result.refusal (text_walked text.now which).out.lengths point_counts.old }
     ensures loop_marks { loop_marks.new ≡ written result.refusal (text_walked text.now which).out.marks loop_marks.old }
 {
     let answer = points_answer(
@@ -161,7 +163,7 @@ pub fn read_points(
         which,
         coordinates.len(),
         lines.len(),
-        loop_lengths.len(),
+        point_counts.len(),
         loop_marks.len(),
     );
     if answer.refusal != 0 {
@@ -175,7 +177,7 @@ pub fn read_points(
         &mut reader,
         coordinates,
         lines,
-        loop_lengths,
+        point_counts,
         loop_marks,
     );
     answer

@@ -5,6 +5,6 @@ mod entry;
 mod reading;
 mod walking;
 
-pub use entry::{PointsAnswer, read_points};
+pub use entry::{PointsAnswer, sitjorbe_read_points};
 pub use reading::{Ended, Fault, Given, Reader, Remark, Spot};
 pub use walking::{separator_of, unmarked};

@@ -13,6 +13,7 @@ pub mod many_directions;
 pub mod paving_run;
 pub mod point_cover;
 pub mod point_queries;
+pub mod points_file;
 pub mod shape;
 pub mod sound;
 pub mod test_order;

@@ -1,9 +1,8 @@
-//! The points of a field as people have them, one reader for all commands. tools/outlines.py has the same in Python, and tests/readers.rs holds the two equal.
-//!
-//! One point a line: x and y with a comma between, or a semicolon or a tab, and then the decimals may have commas. A blank line ends a loop. `#` begins a comment, and the
-//! one right before a loop names it. The first row may be a heading. A last point that repeats its loop's first is left out, since a loop closes by itself.
+//! The points of a field as people have them. What is read is the proved library's; here are the words for it, and the writer.
 
 use std::collections::HashMap;
+
+use sitjorbe::{read_points, text_fault, FaultKind, ReadPoints, TextFault};
 
 /// A point of a loop, and the line that it was read from.
 #[derive(Clone, Copy, Debug, PartialEq)]
@@ -25,28 +24,20 @@ pub struct Field {
 const LONGEST_NAME: usize = 40;
 /// As much of a line is shown where it can't be read.
 const LONGEST_SHOWN: usize = 60;
+/// So many faults are said.
+const MOST_SAID: usize = 20;
 
-/// The field that a text says, or every line that can't be read, in words.
+/// The field that a text says, or the first lines that can't be read, in words.
 pub fn parse(text: &str) -> Result<Field, Vec<String>> {
-    let rows: Vec<(&str, Option<&str>)> = text.split('\n').map(halves).collect();
-    let any = |is: &dyn Fn(&str) -> bool| rows.iter().any(|(told, _)| is(told));
-    let separator = if any(&|told| told.contains(';')) {
-        ';'
-    } else if any(&is_tabbed) {
-        '\t'
-    } else {
-        ','
-    };
-    let mut reader = Reader { between: true, ..Reader::default() };
-    for (line, (told, comment)) in (1..).zip(&rows) {
-        let words = words_of(told, separator);
-        match comment {
-            _ if words.iter().any(|word| !word.is_empty()) => reader.row(line, &words, separator),
-            Some(comment) => reader.comment(line, comment),
-            None => reader.blank(),
+    // What is told of it counts behind a byte order mark.
+    let told = text.strip_prefix('\u{feff}').unwrap_or(text);
+    match read_points(text.as_bytes()) {
+        Ok(read) => Ok(Field { loops: loops(&read), names: names(named(told, &read)), notes: notes(told, &read) }),
+        Err(first) => {
+            let faults = (0..first.faults.min(MOST_SAID)).filter_map(|which| text_fault(text.as_bytes(), which));
+            Err(said(told, first.faults, faults))
         }
     }
-    reader.closed()
 }
 
 /// A field as a text that is read back bit by bit. Names are comments before their loops; a loop without points isn't written.
@@ -66,156 +57,94 @@ pub fn write(field: &Field) -> String {
     loops.join("\n")
 }
 
-/// Whether a line has words with a tab between, and no comma beside it.
-fn is_tabbed(told: &str) -> bool {
-    let words: Vec<&str> = trimmed(told).split('\t').map(trimmed).collect();
-    words.len() > 1 && !words.iter().any(|word| word.starts_with(',') || word.ends_with(','))
+// ---- what was read
+
+fn loops(read: &ReadPoints) -> Vec<Vec<Point>> {
+    let places = read.coordinates.chunks_exact(2).zip(&read.lines);
+    let mut points = places.map(|(place, &line)| Point { x: place[0], y: place[1], line });
+    read.loop_lengths.iter().map(|&length| points.by_ref().take(length).collect()).collect()
 }
 
-/// What a line tells, and the comment after it.
-fn halves(line: &str) -> (&str, Option<&str>) {
-    line.split_once('#').map_or((line, None), |(told, comment)| (told, Some(comment)))
+fn named(text: &str, read: &ReadPoints) -> Vec<Option<String>> {
+    read.comments.iter().map(|comment| text.get(comment.clone()).and_then(name_in)).collect()
 }
 
-fn trimmed(word: &str) -> &str {
-    word.trim_matches([' ', '\t', '"'])
+fn notes(text: &str, read: &ReadPoints) -> Vec<String> {
+    let separator = char::from(read.separator);
+    let heading = |line| format!("line {line}: taken for a heading: {}", shown(&row(text, line, separator), separator));
+    let mut notes: Vec<String> = read.heading.into_iter().map(heading).collect();
+    let mut point = 0;
+    for (&length, left_out) in read.loop_lengths.iter().zip(&read.left_out) {
+        if let Some(last) = left_out {
+            let first = read.lines[point];
+            notes.push(format!("line {last}: it repeats the point of line {first}, so it is left out: a loop closes by itself"));
+        }
+        point += length;
+    }
+    notes
 }
 
-/// A row's words; empty ones after the second are columns that a table has and a point hasn't.
-fn words_of(told: &str, separator: char) -> Vec<&str> {
-    let mut words: Vec<&str> = told.split(separator).map(trimmed).collect();
-    while words.len() > 2 && words.last().is_some_and(|word| word.is_empty()) {
-        words.pop();
-    }
-    words
-}
+// ---- what is wrong
 
-#[derive(Default)]
-struct Reader {
-    loops: Vec<Vec<Point>>,
-    named: Vec<Option<String>>,
-    notes: Vec<String>,
-    wrong: Vec<String>,
-    /// Whether the next point begins a loop.
-    between: bool,
-    /// The first of the comments right before this line.
-    pending: Option<(usize, Option<String>)>,
-    heading: bool,
-}
-
-impl Reader {
-    fn blank(&mut self) {
-        self.between = true;
-        self.pending = None;
+fn said(text: &str, faults: usize, first: impl Iterator<Item = TextFault>) -> Vec<String> {
+    let mut said: Vec<String> = first.map(|fault| in_words(text, &fault)).collect();
+    if faults > MOST_SAID {
+        said.push(format!("{} more lines can't be read", faults - MOST_SAID));
     }
-
-    fn comment(&mut self, line: usize, comment: &str) {
-        if self.pending.is_none() {
-            self.pending = Some((line, name_in(comment)));
-        }
-    }
-
-    fn row(&mut self, line: usize, words: &[&str], separator: char) {
-        let first = self.loops.is_empty() && self.wrong.is_empty() && !self.heading;
-        if first && is_heading(words, separator) {
-            self.heading = true;
-            self.notes.push(format!("line {line}: taken for a heading: {}", shown(words, separator)));
-            return;
-        }
-        let [x, y] = match point_of(words, separator) {
-            Ok(point) => point,
-            Err(what) => {
-                let hint = if first { "; if it is a heading, put # before it" } else { "" };
-                self.wrong.push(format!("line {line}: {what}{hint}"));
-                return;
-            }
-        };
-        let named = self.pending.take();
-        if self.between {
-            self.loops.push(vec![]);
-            self.named.push(named.and_then(|(_, name)| name));
-            self.between = false;
-        } else if let Some((comment, _)) = named {
-            self.wrong.push(format!("line {comment}: a comment between two points: {IN_A_LOOP}"));
-        }
-        self.loops.last_mut().expect("a loop was begun").push(Point { x, y, line });
-    }
-
-    fn closed(mut self) -> Result<Field, Vec<String>> {
-        if !self.wrong.is_empty() {
-            return Err(self.wrong);
-        }
-        for points in &mut self.loops {
-            if let [first, .., last] = points[..] {
-                if (first.x, first.y) == (last.x, last.y) {
-                    points.pop();
-                    self.notes
-                        .push(format!("line {}: it repeats the point of line {}, {CLOSES}", last.line, first.line));
-                }
-            }
-        }
-        Ok(Field { loops: self.loops, names: names(self.named), notes: self.notes })
-    }
+    said
 }
 
 const IN_A_LOOP: &str =
     "put a blank line before it if a new loop begins there, or take the comment out if the loop goes on";
-const CLOSES: &str = "so it is left out: a loop closes by itself";
 
-/// Whether a first row is a heading: two words that begin with a letter and aren't numbers.
-fn is_heading(words: &[&str], separator: char) -> bool {
-    let letter = |word: &&str| word.starts_with(|c: char| c.is_ascii_alphabetic() || !c.is_ascii());
-    words.len() == 2 && words.iter().all(|word| letter(word) && number(word, separator).is_none())
-}
-
-/// The point of a row, or what is wrong with it.
-fn point_of(words: &[&str], separator: char) -> Result<[f64; 2], String> {
-    let [x, y] = words else {
-        let count = if words.len() == 1 { "one value".to_string() } else { format!("{} values", words.len()) };
-        let between = match separator {
-            ';' => "semicolon",
-            '\t' => "tab",
-            _ => "comma",
-        };
-        let hint = if words.len() == 4 && separator == ',' {
-            "; if the decimals have commas, put ; between x and y"
-        } else {
-            ""
-        };
-        return Err(format!(
-            "{count}, where x and y are wanted with a {between} between: {}{hint}",
-            shown(words, separator)
-        ));
-    };
-    let read = |name: &str, word: &str| match number(word, separator) {
-        Some(value) => Ok(value),
-        None if word.is_empty() => Err(format!("{name} is missing")),
-        None => Err(format!("{name} isn't a number: {}", shown(&[word], separator))),
-    };
-    Ok([read("x", x)?, read("y", y)?])
-}
-
-/// The float that a word says; with semicolons or tabs between x and y it may have a decimal comma.
-fn number(word: &str, separator: char) -> Option<f64> {
-    let mut word = word.replace('\u{2212}', "-");
-    if separator != ',' && word.matches(',').count() == 1 && !word.contains('.') {
-        word = word.replace(',', ".");
+fn in_words(text: &str, fault: &TextFault) -> String {
+    if fault.kind == FaultKind::TooLong {
+        return "it is larger than 256 MiB, which no field is".to_string();
     }
-    let bare = word.strip_prefix(['-', '+']).unwrap_or(&word);
-    let wordy = ["inf", "infinity", "nan"].iter().any(|other| bare.eq_ignore_ascii_case(other));
-    (wordy || is_decimal(bare)).then(|| word.parse().ok()).flatten()
+    let separator = char::from(fault.separator);
+    let words = row(text, fault.line, separator);
+    let word = |place: usize| words.get(place..place + 1).map_or(String::new(), |word| shown(word, separator));
+    let what = match fault.kind {
+        FaultKind::NoX => "x is missing".to_string(),
+        FaultKind::NoY => "y is missing".to_string(),
+        FaultKind::BadX => format!("x isn't a number: {}", word(0)),
+        FaultKind::BadY => format!("y isn't a number: {}", word(1)),
+        FaultKind::Comment => format!("a comment between two points: {IN_A_LOOP}"),
+        _ => not_two(&words, separator),
+    };
+    let column = line_of(text, fault.line).get(..fault.column - 1).map_or(fault.column, |before| before.chars().count() + 1);
+    let hint = if fault.leads { "; if it is a heading, put # before it" } else { "" };
+    format!("line {}, column {column}: {what}{hint}", fault.line)
 }
 
-/// Whether this is digits with a point among them or none, then perhaps an exponent.
-fn is_decimal(bare: &str) -> bool {
-    let all_digits = |word: &str| word.bytes().all(|byte| byte.is_ascii_digit());
-    let (told, exponent) = bare.split_once(['e', 'E']).map_or((bare, None), |(told, exponent)| (told, Some(exponent)));
-    let (whole, part) = told.split_once('.').unwrap_or((told, ""));
-    let right = exponent.is_none_or(|word| {
-        let digits = word.strip_prefix(['-', '+']).unwrap_or(word);
-        !digits.is_empty() && all_digits(digits)
-    });
-    right && all_digits(whole) && all_digits(part) && !(whole.is_empty() && part.is_empty())
+fn not_two(words: &[&str], separator: char) -> String {
+    let count = if words.len() == 1 { "one value".to_string() } else { format!("{} values", words.len()) };
+    let between = match separator {
+        ';' => "semicolon",
+        '\t' => "tab",
+        _ => "comma",
+    };
+    let decimals = words.len() == 4 && separator == ',';
+    let hint = if decimals { "; if the decimals have commas, put ; between x and y" } else { "" };
+    format!("{count}, where x and y are wanted with a {between} between: {}{hint}", shown(words, separator))
+}
+
+// ---- lines as they are shown
+
+/// The line with this number, from 1.
+fn line_of(text: &str, line: usize) -> &str {
+    let lines = text.split('\n').flat_map(|fed| fed.strip_suffix('\r').unwrap_or(fed).split('\r'));
+    { lines }.nth(line - 1).unwrap_or("")
+}
+
+/// The words of a row; empty ones after the second are columns that a table has and a point hasn't.
+fn row(text: &str, line: usize, separator: char) -> Vec<&str> {
+    let told = line_of(text, line).split('#').next().unwrap_or("");
+    let mut words: Vec<&str> = told.split(separator).map(|word| word.trim_matches([' ', '\t', '"'])).collect();
+    while words.len() > 2 && words.last().is_some_and(|word| word.is_empty()) {
+        words.pop();
+    }
+    words
 }
 
 /// A row as it is shown on a terminal: no more than fits, and nothing that a terminal would obey.
@@ -227,6 +156,8 @@ fn shown(words: &[&str], separator: char) -> String {
     }
     plain
 }
+
+// ---- names
 
 /// The name in a comment: its first clause without an article, where that is short.
 fn name_in(comment: &str) -> Option<String> {

@@ -1,8 +1,5 @@
 -- What holds of the definitions of proofs/AreasBase.antt.
 use Rattle.std.specs.Prelude.{Bool, cond, List, [], ◌∷◌, ◌++◌, ◌≡◌, refl, ℕ, zero, suc, ◌<◌, ◌≤◌, eqb, ℤ, pos, neg_ℤ, ◌+ℤ◌, length, take, Float}
-use Rattle.topology.specs.Links.{at, at_self}
-use Rattle.books.specs.Book.{Book, Edge, book, Quad, quad_at, start_book, has, without, and_then, comes_off, goes_on, new_node, side, book_quad, book_after, place_of, edges_sumℤ, front_area, quad_edges, quads_area}
-use Rattle.books.proofs.Matches.{edges_sum}
 use Rattle.std.proofs.Math.Bool.{true, false}
 use Rattle.std.proofs.Math.Option.{none, some}
 use Rattle.std.proofs.Common.{sym, ◌∙◌, ap, ap₂, subst, arith, length-take, get_or-take}
@@ -13,8 +10,12 @@ use Rattle.std.specs.Float.Ieee.{nan}
 use Rattle.laws.specs.Loop.{for_up}
 use Rattle.exact.specs.Corner.{Vector, cross}
 use Rattle.outline.specs.Outline.{Outline}
+use Rattle.topology.specs.Links.{at, at_self}
 use Rattle.front.specs.State.{State}
+use Rattle.books.specs.Book.{Edge, Book, book, Quad, quad_at, start_book, has, without, and_then, comes_off, goes_on, new_node, side, book_quad, book_after}
+use Rattle.books.specs.Book.{place_of, edges_sumℤ, front_area, quad_edges, quads_area}
 use Rattle.books.specs.Net.{net, quads_edges}
+use Rattle.books.proofs.Matches.{edges_sum}
 use Rattle.books.proofs.BookBase.{Gives, gives_then, cross_anti}
 use Rattle.books.proofs.NetBase.{sum_joined}
 use Rattle.books.proofs.NetLaws.{net_joined, same_net}

@@ -1,11 +1,8 @@
 -- What holds of the definitions of proofs/BookedBase.antt.
 use Rattle.std.specs.Prelude.{ℕ, ◌+◌, ◌<◌, ◌≤◌, List, [], ◌∷◌, ◌++◌, ◌≡◌, refl, true, length, get_or, Float}
-use Rattle.std.proofs.Math.Option.{some}
-use Rattle.front.specs.State.{State, node_places}
-use Rattle.books.specs.Book.{Book, Quad, book_quad, edge, book, has, without, comes_off, new_node, side, quad_at}
-use Rattle.books.proofs.Matches.{Matches, edges_sum}
 use Rattle.std.proofs.Math.Path.{sym}
 use Rattle.std.proofs.Common.{◌∙◌, ap, add-zero, add-one, take-suc, length-take-le, eq-eqb}
+use Rattle.std.proofs.Math.Option.{some}
 use native.Mathlib.Omega.{arith}
 use Rattle.std.proofs.Math.ListN.{take}
 use Rattle.std.specs.Float.{nan}
@@ -16,10 +13,13 @@ use Rattle.topology.proofs.Changes.{removed_sum, added_sum}
 use Rattle.topology.proofs.PlacingBase.{Kind, reused, fresh, off_if, on_if, placing, new_nodes, ByKind}
 use Rattle.front.specs.declared.Corner.{Corner}
 use Rattle.front.specs.declared.Corner.TheVariants.{Reused, Fresh}
+use Rattle.front.specs.State.{State, node_places}
 use Rattle.front.specs.Place.{id_c, id_d}
 use Rattle.front.specs.Sound.{Sound, Frame}
 use Rattle.front.proofs.FrameLaws.{frame_trans}
 use Rattle.paving.specs.Reach.{Placement}
+use Rattle.books.specs.Book.{edge, Book, book, has, without, comes_off, new_node, side, Quad, quad_at, book_quad}
+use Rattle.books.proofs.Matches.{edges_sum, Matches}
 use Rattle.books.proofs.BookBase.{frame_quad, has_edge_lem, has_none, without_sum}
 use Rattle.front.proofs.Moved.{kind_of}
 use Rattle.front.proofs.Sides.{new_added, Sides, sides}

@@ -6,11 +6,10 @@ use Rattle.std.proofs.Math.Option.{some}
 use Rattle.std.proofs.Math.IntN.{pos-+ℤ-pos}
 use Rattle.std.specs.Int.Signed.{lt_z, lt_z_yes}
 use Rattle.laws.specs.Loop.{for_up, sum_up}
-use Rattle.laws.proofs.RingBase.{var, ◌*ᵉ◌, ◌-ᵉ◌, num}
-use Rattle.laws.proofs.Ring.{ring}
 use Rattle.laws.proofs.Sums.{sum_zero, sum_suc}
-use Rattle.laws.proofs.Certificate.{of-<ℤ, to-<ℤ, prove}
+use Rattle.laws.proofs.RingBase.{var, num, ◌*ᵉ◌, ◌-ᵉ◌}
 use Rattle.laws.proofs.CertificateBase.{hyp, nat, ◌⊞◌, ◌⊠◌}
+use Rattle.laws.proofs.Certificate.{of-<ℤ, to-<ℤ, prove}
 use Rattle.exact.specs.Units.{units}
 use Rattle.exact.specs.Corner.{Vector, cross, sine_above_third, step_units}
 use Rattle.outline.specs.Outline.{Outline}
@@ -22,9 +21,9 @@ use Rattle.books.specs.Book.{Book, Quad, quad_at, start_book, book_after, place_
 use Rattle.books.specs.Net.{net, quads_edges}
 use Rattle.books.proofs.NetBase.{quad_sum_lem}
 use Rattle.books.proofs.AreasBase.{FrontJoins}
-use Rattle.books.specs.Points.{turn_of, winding, quads_round, LeftOfAll, RightOfNone, nths, is_round, InOne}
-use Rattle.books.proofs.Areas.{quads_sum, weights_balance}
+use Rattle.books.specs.Points.{nths, turn_of, winding, is_round, quads_round, LeftOfAll, RightOfNone, InOne}
 use Rattle.books.specs.Holds.{step_of, CornerHolds, QuadHolds}
+use Rattle.books.proofs.Areas.{quads_sum, weights_balance}
 
 -- ---- one quad
 

@@ -15,8 +15,8 @@ use Rattle.books.specs.Net.{net}
 use Rattle.books.proofs.NetLaws.{same_net}
 use Rattle.books.specs.Points.{nths, turn_of, winding, quads_round}
 use Rattle.books.specs.Holds.{LoopsHold, HoldsAfter}
-use Rattle.cover.specs.Cover.{PavedOnce}
 use Rattle.books.proofs.Points.{in_one}
+use Rattle.cover.specs.Cover.{PavedOnce}
 
 -- ---- loops of two
 

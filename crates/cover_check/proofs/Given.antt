@@ -31,7 +31,8 @@ use Rattle.cover_check.specs.declared.CoversAnswer.{CoversAnswer}
 use Rattle.cover_check.specs.declared.Room.{Room}
 use Rattle.cover_check.specs.Lowest.{lowest}
 use Rattle.cover_check.proofs.Lowest.{lowest_none}
-use Rattle.cover_check.specs.Check.{book_of, unfit, fit_refusal, room_refusal, is_folded, side_wrong, quad_wrong, is_wrong, is_unlaid, same_bits, is_same, is_moved, covers_answered, or_at, mesh_answer, lent_refusal, covers_answer}
+use Rattle.cover_check.specs.Check.{book_of, unfit, fit_refusal, room_refusal, is_folded, side_wrong, quad_wrong, is_wrong, is_unlaid, same_bits, is_same, is_moved}
+use Rattle.cover_check.specs.Check.{covers_answered, or_at, mesh_answer, lent_refusal, covers_answer}
 use Rattle.cover_check.specs.Covered.{Covered, CoversGiven}
 use Rattle.cover_check.proofs.Fits.{Named, named}
 use Rattle.cover_check.proofs.Covering.{FrontFollows, nets, covered}

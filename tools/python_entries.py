@@ -10,7 +10,7 @@ C_TYPES = {"bool": "c_bool", "usize": "c_size_t", "f64": "c_double", **{f"{sign}
 TEXT = '''\
 """The entries of the library as ctypes calls them. Written by tools/bindings from the Rattle source; the package calls them, and gives lists and words."""
 
-from ctypes import POINTER, Structure, c_bool, c_double, c_int32, c_size_t, c_uint8, c_uint16, c_uint32  # noqa: F401
+from ctypes import POINTER, Structure, c_bool, c_double, c_int32, c_size_t, c_uint8, c_uint16, c_uint32, c_uint64  # noqa: F401
 
 VERSION = "{version}"
 ABI = {number}

@@ -35,6 +35,15 @@ static void ask_of_the_outline(void) {
     EXPECT(places.refusal == 0 && places.sampled_nodes == 8 && places.field_nodes <= FIELD_NODES);
 }
 
+static void read_a_file(void) {
+    static const char text[] = "x,y\n0,0\n2,0\n2,2\n0,2\n";
+    double coordinates[8];
+    size_t lines[4], counts[1], marks[3];
+    const sitjorbe_points_answer read =
+        sitjorbe_read_points((const uint8_t *)text, sizeof text - 1, 0, coordinates, 8, lines, 4, counts, 1, marks, 3);
+    EXPECT(read.refusal == 0 && read.points == 4 && read.loops == 1 && counts[0] == 4 && lines[0] == 2 && coordinates[2] == 2);
+}
+
 static void ask_of_the_field(void) {
     const sitjorbe_field_record_answer f =
         sitjorbe_field(outer, 8, NULL, 0, NULL, 0, 1, 400, values, 2 * FIELD_NODES, marks, FIELD_NODES, blocks, PLACES);
@@ -84,13 +93,24 @@ static void examine(const sitjorbe_pave_answer *p) {
     EXPECT(shown.refusal == 0 && steps[16] == SITJORBE_STEPS_PER_DEGREE && steps[17] == SITJORBE_STEPS_PER_DEGREE);
 }
 
+static void look_for_every_point(const sitjorbe_pave_answer *p) {
+    double at_x[NODES], at_y[NODES];
+    uint32_t after[NODES], before[NODES], sides[2 * NODES];
+    uint64_t keys[4 * QUADS];
+    const sitjorbe_covers_answer covers = sitjorbe_covers(outer, 8, NULL, 0, NULL, 0, 1, xs, NODES, ys, NODES, quads, 4 * QUADS, p->nodes, p->quads, at_x,
+        NODES, at_y, NODES, after, NODES, before, NODES, sides, 2 * NODES, keys, 4 * QUADS);
+    EXPECT(covers.refusal == 0 && covers.sound);
+}
+
 int main(void) {
     EXPECT(sitjorbe_abi() == SITJORBE_ABI);
+    read_a_file();
     ask_of_the_outline();
     ask_of_the_field();
     step_by_hand();
     const sitjorbe_pave_answer paved = pave(600);
     EXPECT(paved.refusal == 0 && paved.end == SITJORBE_END_STILL && paved.whole && paved.nodes == 9 && paved.quads == 4);
+    look_for_every_point(&paved);
     examine(&paved);
     const sitjorbe_small_quads_answer small = sitjorbe_small_quads(fours, FOURS);
     EXPECT(small.refusal == 0 && small.count == 3736 && fours[3] == 4);

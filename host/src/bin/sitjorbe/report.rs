@@ -32,10 +32,10 @@ table{border-collapse:collapse;width:100%}td{padding:.35mm 0;vertical-align:top;
 
 /// What is proved of a report, and what isn't.
 const PROVED: &str = "Proved: the mesh, the counts and sum of thresholds, every estimate, and that the order is accepted are the library's, which equals its definitions on every \
-input. Tested, not proved: reading files, shares, drawing. What is red or dotted was not measured.";
+input. Tested, not proved: shares, drawing. What is red or dotted was not measured.";
 /// The same of a closed mesh.
 const PROVED_OF_CLOSED: &str = "Proved: the paving, the counts and sum of thresholds, every estimate, and that the order is accepted are the library's, which equals its definitions on every \
-input. The closing isn't proved: its mesh was judged, quad by quad and side by side, before it was taken. Tested, not proved: reading files, shares, drawing. What is dotted was not measured.";
+input. The closing is plain code, but its mesh passed the library's proved check that each point of the field is in one quad. Tested, not proved: shares, drawing. What is dotted was not measured.";
 /// No more loops have a row of their own.
 const MOST_PATCHES: usize = 4;
 /// Of an order no more numbers are written.

@@ -257,7 +257,7 @@ mod tests {
     use super::Refusal;
 
     #[test]
-    fn numbers_are_document_01s_and_the_papers() {
+    fn each_number_has_its_refusal() {
         let numbers: Vec<u32> = Refusal::ALL.into_iter().map(Refusal::number).collect();
         assert_eq!(numbers[..13], (1..=13).collect::<Vec<u32>>());
         assert!(numbers.windows(2).all(|pair| pair[0] < pair[1]), "{numbers:?}");
@@ -266,7 +266,7 @@ mod tests {
             assert_eq!(Refusal::check(refusal.number()), Err(refusal));
         }
         assert_eq!(Refusal::check(0), Ok(()));
-        assert_eq!([0, 31, u32::MAX].map(Refusal::of_number), [None; 3]);
+        assert_eq!([0, 32, u32::MAX].map(Refusal::of_number), [None; 3]);
     }
 
     #[test]
@@ -282,8 +282,8 @@ mod tests {
     }
 
     #[test]
-    #[should_panic(expected = "a bug: the library answered refusal 31")]
+    #[should_panic(expected = "a bug: the library answered refusal 32")]
     fn an_unknown_number_is_a_bug() {
-        let _ = Refusal::check(31);
+        let _ = Refusal::check(32);
     }
 }

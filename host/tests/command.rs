@@ -542,8 +542,8 @@ fn unsound_and_refused_fields_by_line() {
         ("0,0\n1,0\n1,-1000.5\n", 1, "(line 3: 1.0,-1000.5)"),
         ("0,0\n1,0\n2,0\n", 1, "refused (7)"),
         ("", 2, "there are no points"),
-        ("0,0\n1;2\n", 2, "line 1: one value"),
-        ("0,0\n9,0\n9,9\n# blind spot\n2,2\n", 2, "line 4: a comment between two points"),
+        ("0,0\n1;2\n", 2, "line 1, column 1: one value"),
+        ("0,0\n9,0\n9,9\n# blind spot\n2,2\n", 2, "line 4, column 1: a comment between two points"),
         (
             "0,0\n1,0\n1,1\n0,0\n",
             0,

@@ -18,7 +18,9 @@ use common::rng::Rng;
 macro_rules! told {
     ($read:expr) => {
         match $read {
-            Err(lines) => format!("wrong\n{}\n", lines.iter().map(|line| without_column(line)).collect::<Vec<_>>().join("\n")),
+            Err(lines) => {
+                format!("wrong\n{}\n", lines.iter().map(|line| without_column(line)).collect::<Vec<_>>().join("\n"))
+            }
             Ok(field) => {
                 let mut lines = vec!["field".to_string()];
                 for (name, points) in field.names.iter().zip(&field.loops) {
@@ -200,7 +202,10 @@ fn damaged(rng: &mut Rng) -> String {
         match (rng.below(3), chars.get(at).copied()) {
             (0, Some(_)) => drop(chars.remove(at)),
             (1, Some(c)) => chars.insert(at, c),
-            _ => chars.insert(at, [',', ';', '#', '\n', '\r', '.', '-', '"', '\t', '7', '\u{2212}', '\u{feff}'][rng.below(12)]),
+            _ => chars.insert(
+                at,
+                [',', ';', '#', '\n', '\r', '.', '-', '"', '\t', '7', '\u{2212}', '\u{feff}'][rng.below(12)],
+            ),
         }
     }
     chars.into_iter().collect()

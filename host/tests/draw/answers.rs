@@ -218,7 +218,10 @@ fn texts_that_are_read() {
     assert_eq!(value.get("wrong"), None);
     let value = read("0,0\n1\nx,y\n");
     let wrong: Vec<&str> = list(&value, "wrong").iter().map(|line| line.as_text().expect("words")).collect();
-    assert!(wrong.len() == 2 && wrong[0].starts_with("line 2: ") && wrong[1].starts_with("line 3: "), "{wrong:?}");
+    assert!(
+        wrong.len() == 2 && wrong[0].starts_with("line 2, column 1: ") && wrong[1].starts_with("line 3, column 1: "),
+        "{wrong:?}"
+    );
     assert_eq!(value.get("loops"), None);
     let nothing = read("");
     assert_eq!((list(&nothing, "loops"), list(&nothing, "notes")), (&[][..], &[][..]));

@@ -77,7 +77,9 @@ fn notes(text: &str, read: &ReadPoints) -> Vec<String> {
     for (&length, left_out) in read.loop_lengths.iter().zip(&read.left_out) {
         if let Some(last) = left_out {
             let first = read.lines[point];
-            notes.push(format!("line {last}: it repeats the point of line {first}, so it is left out: a loop closes by itself"));
+            notes.push(format!(
+                "line {last}: it repeats the point of line {first}, so it is left out: a loop closes by itself"
+            ));
         }
         point += length;
     }
@@ -112,7 +114,8 @@ fn in_words(text: &str, fault: &TextFault) -> String {
         FaultKind::Comment => format!("a comment between two points: {IN_A_LOOP}"),
         _ => not_two(&words, separator),
     };
-    let column = line_of(text, fault.line).get(..fault.column - 1).map_or(fault.column, |before| before.chars().count() + 1);
+    let column =
+        line_of(text, fault.line).get(..fault.column - 1).map_or(fault.column, |before| before.chars().count() + 1);
     let hint = if fault.leads { "; if it is a heading, put # before it" } else { "" };
     format!("line {}, column {column}: {what}{hint}", fault.line)
 }

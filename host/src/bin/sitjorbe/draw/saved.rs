@@ -113,7 +113,7 @@ mod tests {
             ("{", "line 1: "),
             ("{\"format\":\"x\"}", "it isn't a field that was saved"),
             ("{\"format\":\"sitjorbe-field-1\"}", "it has no loops"),
-            ("1,2\n3,four\n", "line 2: y isn't a number"),
+            ("1,2\n3,four\n", "line 2, column 3: y isn't a number"),
         ] {
             let wrong = read(text).unwrap_err().join("\n");
             assert!(wrong.starts_with(words), "{wrong}");

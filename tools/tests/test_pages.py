@@ -48,7 +48,7 @@ class Formats(unittest.TestCase):
     @unittest.skipUnless(os.access(PROGRAM, os.X_OK), "the program isn't built")
     def test_the_listings(self):
         cases = [(SQUARE, "1"), ("0,0\n2,0\n1,2\n", "3"), (SQUARE, "0.001")]
-        self.assertEqual([run(PROGRAM, data=outline_file(*case))[1].decode() for case in cases], BLOCKS[2:])
+        self.assertEqual([run(PROGRAM, data=outline_file(*case))[1].decode() for case in cases], BLOCKS[2:2 + len(cases)])
 
 
 class Refusals(unittest.TestCase):

@@ -50,7 +50,7 @@ class Settings(NamedTuple):
 
 # ---- points as text
 #
-# The command's reader, host/src/bin/sitjorbe/csv.rs, is the same in Rust: host/tests/readers.rs holds the two equal.
+# The command reads the same format by the library's proved entry, sitjorbe_read_points.
 
 NUMBER = re.compile(r"[-+]?(\d+\.?\d*|\.\d+)(e[-+]?\d+)?|[-+]?(inf|infinity|nan)", re.ASCII | re.IGNORECASE)
 CONTROL = re.compile("[\x00-\x1f\x7f-\x9f]")

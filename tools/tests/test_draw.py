@@ -498,7 +498,7 @@ class Page(PageCase):
         file = pathlib.Path(self.browser.folder.name, "wrong.csv")
         file.write_text("1,2\n3,four\n")
         self.browser.type("#open", str(file))
-        self.assertIn("Line 2: y isn't a number: four", self.waits_for_words("#files-said", "can't be read"))
+        self.assertIn("Line 2, column 3: y isn't a number: four", self.waits_for_words("#files-said", "can't be read"))
         self.assertEqual(self.loops(), [])
 
     # ---- looks

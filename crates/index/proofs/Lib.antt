@@ -1,5 +1,5 @@
 mod Scan
-mod Cursors
+pub mod CursorLaws
 mod Walked
 pub mod AcrossLaws
 pub mod WalkLaws

@@ -7,6 +7,9 @@ ghost use Rattle.index_pools.specs.Pool.{cells, capacity, own_at, link_at, head_
 ghost use Rattle.index.specs.Walk.{columns, visited, Decides, AreMet};
 ghost use Rattle.laws.specs.Loop.{any_up};
 
+mod cursors;
+
+pub use cursors::{Cursor, after, first, is_over, own_at};
 use index_pools::Rect;
 
 // The owner at a place, and the link from there.

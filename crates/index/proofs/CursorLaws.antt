@@ -1,6 +1,6 @@
--- A walk by a cursor: what it has still to visit, and that it visits what `visited` has.
-use Rattle.std.specs.Prelude.{Bool, true, false, cond, ◌||◌, ◌≡◌, ℕ, ◌+◌, ◌-◌, ◌%◌, ◌<◌, ◌≤◌, eqb}
-use Rattle.std.specs.Option.{IfSome, MatchOption}
+-- Laws of a walk by a cursor: it visits what `visited` has.
+use Rattle.std.specs.Prelude.{Bool, true, false, ◌||◌, ◌≡◌, ℕ, ◌+◌, ◌-◌, ◌%◌, ◌<◌, ◌≤◌}
+use Rattle.std.specs.Option.{IfSome, MatchOption, unwrap_or}
 use Rattle.std.proofs.Common.{Option, Some, None, true≢false, ◌∙◌, arith}
 use mathlib.Core.List.{List, [], ◌∷◌, ◌++◌}
 use Rattle.std.proofs.Math.Path.{refl, sym, ap, ap₂}
@@ -11,57 +11,13 @@ use Rattle.index_pools.specs.declared.Rect.{Rect}
 use Rattle.index_pools.specs.Pool.{none, cells, capacity, own_at, link_at, head_at, falling, chain, any_of, cell_of, chain_at, filed}
 use Rattle.index_pools.specs.Pool.{Indexed}
 use Rattle.index_key_rects.specs.Rects.{Meets}
+use Rattle.index.specs.declared.cursors.Cursor.{Cursor}
 use Rattle.index.specs.Walk.{columns, rows, visited}
+use Rattle.index.specs.Cursors.{over, cursor_of, row_ahead, ahead, At, InRow, Stands, NextCursor}
 use Rattle.index_pools.specs.ChainLaws.{any_left, falling_high, falling_step, falling_on, falling_last}
 use Rattle.index.proofs.AcrossLaws.{across_more}
 use Rattle.index_pools.specs.FileLaws.{place_small, next_column}
 use Rattle.index.proofs.WalkLaws.{visited_filed}
-
--- a place `t` in the chain of the cell of the key (i, j)
-pub record Cursor : Type 0 where
-  pub i : ℕ
-  pub j : ℕ
-  pub cell : ℕ
-  pub t : ℕ
-
--- the cursor is at no place
-unfoldable pub over : Cursor → Bool
-over c = eqb c.t none
-
--- the cursor that an answer gives: of none, one at no place
-abbrev pub cursor_of : Option Cursor → Cursor
-cursor_of None = record { i = 0; j = 0; cell = 0; t = none }
-cursor_of (Some c) = c
-
--- what is left of its row, from its place on
-unfoldable pub row_ahead : List ℕ → ℕ → Cursor → List ℕ
-row_ahead pool right c = cond (over c) [] (chain (length pool) pool c.t ++ columns pool c.j (right - c.i) (c.i + 1))
-
--- what is left of the walk
-unfoldable pub ahead : List ℕ → Rect → Cursor → List ℕ
-ahead pool r c = cond (over c) [] (row_ahead pool r.right c ++ rows pool r (r.high - c.j) (c.j + 1))
-
--- the cursor is at a place of the pool, in the chain of its cell
-pub record At (pool : List ℕ) (c : Cursor) : Type 0 where
-  pub some : 4 ≤ length pool
-  pub cell : c.cell ≡ cell_of (cells (length pool)) c.i c.j
-  pub place : c.t < capacity (length pool)
-
--- the cursor stands in row j, and from it on `rest` is left of the row
-pub record InRow (pool : List ℕ) (right j : ℕ) (rest : List ℕ) (c : Cursor) : Type 0 where
-  pub at : over c ≡ false → At pool c
-  pub row : over c ≡ false → c.j ≡ j
-  pub all : row_ahead pool right c ≡ rest
-
--- from the cursor on `rest` is left of the walk
-pub record Stands (pool : List ℕ) (r : Rect) (rest : List ℕ) (c : Cursor) : Type 0 where
-  pub at : over c ≡ false → At pool c
-  pub all : ahead pool r c ≡ rest
-
--- d is the cursor after c: its owner has been visited, and the rest is left
-pub record NextCursor (pool : List ℕ) (r : Rect) (c d : Cursor) : Type 0 where
-  pub at : over d ≡ false → At pool d
-  pub rest : ahead pool r c ≡ own_at (length pool) pool c.t ∷ ahead pool r d
 
 -- ---- the invariant of a search: what is left of the walk answers
 
@@ -112,6 +68,11 @@ walk_less a = omega (arith, ap length a.rest)
 pub none_over : over (cursor_of None) ≡ true
 unfolding over
 none_over = refl
+
+-- the cursor of an answer, or else the one at no place
+pub or_nowhere : (found : Option Cursor) → unwrap_or found (record { i = 0; j = 0; cell = 0; t = none }) ≡ cursor_of found
+or_nowhere None = refl
+or_nowhere (Some c) = refl
 
 -- a place of the pool isn't none
 pub on_place : (n : ℕ) (c : Cursor) → c.t < capacity n → over c ≡ false

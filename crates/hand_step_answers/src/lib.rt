@@ -42,15 +42,39 @@ pub struct PreviewAnswer {
     pub front: usize,
 }
 
+// What a step answers, refused by whatever number, with the counts after it.
+pub fn step_numbers(step: Result<StepOutcome, u32>, counts: Counts) -> StepAnswer
+    ensures { result ≡ step_numbers step counts }
+{
+    match step {
+        Err(refusal) => StepAnswer {
+            refusal,
+            ..StepAnswer::default()
+        },
+        Ok(outcome) => StepAnswer {
+            refusal: 0,
+            outcome: u32::from(outcome),
+            nodes: counts.nodes,
+            quads: counts.quads,
+            edges: counts.edges,
+            front: counts.front,
+        },
+    }
+}
+
+// A step refused by whatever number.
+pub fn refused_step(number: u32) -> StepAnswer
+    ensures { result ≡ refused_step number }
+{
+    step_numbers(Err(number), Counts::default())
+}
+
 // A refused step.
 impl From<Refusal> for StepAnswer {
     ghost from_gives = { λ refusal answer. answer ≡ refused_step (refusal_number refusal) };
 
     fn from(refusal: Refusal) -> StepAnswer {
-        StepAnswer {
-            refusal: u32::from(refusal),
-            ..StepAnswer::default()
-        }
+        refused_step(u32::from(refusal))
     }
 }
 
@@ -61,15 +85,18 @@ impl StepAnswer {
     {
         match step {
             Err(refusal) => StepAnswer::from(refusal),
-            Ok(outcome) => StepAnswer {
-                refusal: 0,
-                outcome: u32::from(outcome),
-                nodes: counts.nodes,
-                quads: counts.quads,
-                edges: counts.edges,
-                front: counts.front,
-            },
+            Ok(outcome) => step_numbers(Ok(outcome), counts),
         }
+    }
+}
+
+// A preview refused by whatever number.
+pub fn refused_preview(number: u32) -> PreviewAnswer
+    ensures { result ≡ refused_preview number }
+{
+    PreviewAnswer {
+        refusal: number,
+        ..PreviewAnswer::default()
     }
 }
 
@@ -78,11 +105,7 @@ impl From<Refusal> for PreviewAnswer {
     ghost from_gives = { λ refusal answer. answer ≡ refused_preview (refusal_number refusal) };
 
     fn from(refusal: Refusal) -> PreviewAnswer {
-        let refusal = u32::from(refusal);
-        PreviewAnswer {
-            refusal,
-            ..PreviewAnswer::default()
-        }
+        refused_preview(u32::from(refusal))
     }
 }
 

@@ -239,7 +239,11 @@ module _ (o : Outline) (set : Settings) (l : Lent) where
             (booked_answered o set.size part _ A.outline A.front B l.origins);
       }
 
-  -- a run that is made refuses nothing
+  -- a run that is made refuses nothing, in whatever lists
+  pub accepted_number : (r : Result Paved ℕ) (after : Lent) → ran r after ≡ accepted_in o set l → IsOk r
+  unfolding accepted_in
+  accepted_number r after e = subst⁻¹ (λ (w : Ran). IsOk w.answer) e refl
+
   pub accepted_answers : (r : Result Paved ℕ) (after : Lent) → ran r after ≡ accepted_run o set l → IsOk r
   unfolding accepted_run accepted_in
   accepted_answers r after e = subst⁻¹ (λ (w : Ran). IsOk w.answer) e refl

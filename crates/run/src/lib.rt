@@ -54,10 +54,7 @@ impl<'a> RunLists<'a> {
     fn snapshot_places(&self) -> usize
         ensures { result ≡ snapshot_places (lent_in self.now) }
     {
-        self.snapshot
-            .len()
-            .min(self.loops.len())
-            .min(self.origins.len())
+        run_refusal::snapshot_places(self.snapshot.len(), self.loops.len(), self.origins.len())
     }
 
     // Of a run in these lists, 1 to 10.

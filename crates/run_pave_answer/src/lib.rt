@@ -30,32 +30,42 @@ pub struct PaveAnswer {
     pub ids: usize,
 }
 
+// What a run answers, refused by whatever number.
+#[tactic(auto, unfolding(crate::specs::Numbers::pave_numbers))]
+pub fn pave_numbers(run: Result<Paved, u32>) -> PaveAnswer
+    ensures { result ≡ pave_numbers run }
+{
+    match run {
+        Err(refusal) => PaveAnswer {
+            refusal,
+            ..PaveAnswer::default()
+        },
+        Ok(paved) => PaveAnswer {
+            refusal: 0,
+            end: u32::from(paved.end),
+            whole: paved.whole,
+            xmin: paved.grid.xmin,
+            ymin: paved.grid.ymin,
+            h: paved.grid.h,
+            nx: paved.grid.nx,
+            ny: paved.grid.ny,
+            nodes: paved.counts.nodes,
+            quads: paved.counts.quads,
+            edges: paved.counts.edges,
+            front: paved.counts.front,
+            loops: paved.listed.count,
+            ids: paved.listed.ids,
+        },
+    }
+}
+
 impl From<Result<Paved, Refusal>> for PaveAnswer {
     ghost from_gives = { λ run answer. answer ≡ pave_numbers (numbered run) };
 
-    #[tactic(auto, unfolding(crate::specs::Numbers::pave_numbers))]
     fn from(run: Result<Paved, Refusal>) -> PaveAnswer {
         match run {
-            Err(refusal) => PaveAnswer {
-                refusal: u32::from(refusal),
-                ..PaveAnswer::default()
-            },
-            Ok(paved) => PaveAnswer {
-                refusal: 0,
-                end: u32::from(paved.end),
-                whole: paved.whole,
-                xmin: paved.grid.xmin,
-                ymin: paved.grid.ymin,
-                h: paved.grid.h,
-                nx: paved.grid.nx,
-                ny: paved.grid.ny,
-                nodes: paved.counts.nodes,
-                quads: paved.counts.quads,
-                edges: paved.counts.edges,
-                front: paved.counts.front,
-                loops: paved.listed.count,
-                ids: paved.listed.ids,
-            },
+            Err(refusal) => pave_numbers(Err(u32::from(refusal))),
+            Ok(paved) => pave_numbers(Ok(paved)),
         }
     }
 }

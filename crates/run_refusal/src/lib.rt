@@ -5,7 +5,7 @@ ghost use Rattle.std.specs.Prelude.{◌≡◌, min};
 ghost use Rattle.outline.specs.Outline.{outline_of, first_of};
 ghost use Rattle.outline.specs.Refusals.{refused};
 ghost use Rattle.field_cross.specs.Field.{refusal_for};
-ghost use Rattle.front.specs.State.{most_nodes};
+ghost use Rattle.front.specs.State.{fewest, most_nodes};
 ghost use Rattle.front.specs.Sampling.{sampled_refusal};
 ghost use Rattle.run_refusal.specs.Lengths.{lengths_refusal};
 
@@ -18,6 +18,20 @@ pub struct RunPlaces {
     pub nodes: usize,
     pub edges: usize,
     pub lengths: usize,
+}
+
+// So many places of the snapshot count.
+pub fn snapshot_places(snapshot: usize, loops: usize, origins: usize) -> usize
+    ensures { result ≡ min (min snapshot loops) origins }
+{
+    snapshot.min(loops).min(origins)
+}
+
+// The places of the shortest of the lists of nodes, as many as they are: `front::node_places` counts no more than ids can number.
+pub fn node_places(xs: usize, ys: usize, next: usize, prev: usize, snapshot: usize) -> usize
+    ensures { result ≡ fewest xs ys next prev snapshot }
+{
+    xs.min(ys).min(next.min(prev)).min(snapshot)
 }
 
 // Where so many places are lent.

@@ -12,7 +12,7 @@ ghost use Rattle.paving_retries.specs.Vain.{is_vain, noted, tried_after, forgott
 ghost use Rattle.paving_retries.specs.Untried.{Untried};
 
 use front::{FarCorners, Mesh};
-use paving::{Scratch, Surroundings};
+use paving::Surroundings;
 use paving_indexed::Pools;
 
 // ---- the list
@@ -54,34 +54,29 @@ pub fn note(tried: &mut [u32], a: u32, b: u32, p: u32, q: u32)
 pub fn try_untried(
     around: &Surroundings<'_>,
     mesh: &Mesh<'_>,
-    scratch: &mut Scratch<'_>,
+    pools: Pools<'_>,
+    tried: &mut [u32],
     a: u32,
     b: u32,
 ) -> Option<FarCorners>
     requires lent { TryLent around.now.field.grid around.now.field.values.now around.now.size mesh.now.xs.now
-        mesh.now.ys.now mesh.now.next.now mesh.now.prev.now mesh.now.edges.now scratch.old.node_pool.now scratch.old.edge_pool.now mesh.now.counts }
-    requires untried { Untried (outline_in around.now) around.now.size (field_in around.now) (seen_of (mesh_state mesh.now)) scratch.old.tried.now a b }
-    ensures pools { (scratch.new.node_pool ≡ scratch.old.node_pool) × (scratch.new.edge_pool ≡ scratch.old.edge_pool) }
-    ensures same { scratch.new.tried.ghost_name ≡ scratch.old.tried.ghost_name }
+        mesh.now.ys.now mesh.now.next.now mesh.now.prev.now mesh.now.edges.now pools.nodes.now pools.edges.now mesh.now.counts }
+    requires untried { Untried (outline_in around.now) around.now.size (field_in around.now) (seen_of (mesh_state mesh.now)) tried.old a b }
     ensures answer { result ≡ try_edge (outline_in around.now) around.now.size (field_in around.now) (seen_of (mesh_state mesh.now)) a b }
-    ensures remembers { Remembers (outline_in around.now) around.now.size (field_in around.now) scratch.new.tried.now
+    ensures remembers { Remembers (outline_in around.now) around.now.size (field_in around.now) tried.new
         (seen_edges mesh.now.xs.now mesh.now.ys.now mesh.now.edges.now mesh.now.counts) }
-    ensures tried { scratch.new.tried.now ≡ tried_after result scratch.old.tried.now a b (link_of mesh.now.counts.nodes mesh.now.prev.now a)
+    ensures tried { tried.new ≡ tried_after result tried.old a b (link_of mesh.now.counts.nodes mesh.now.prev.now a)
         (link_of mesh.now.counts.nodes mesh.now.next.now b) }
 {
     let nodes = mesh.counts.nodes;
     let p = front::link_of(mesh.prev, nodes, a);
     let q = front::link_of(mesh.next, nodes, b);
-    if is_vain(scratch.tried(), a, b, p, q) {
+    if is_vain(tried, a, b, p, q) {
         return None;
     }
-    let pools = Pools {
-        nodes: scratch.node_pool(),
-        edges: scratch.edge_pool(),
-    };
     let attempt = paving_attempts::try_edge(around, mesh, pools, a, b);
     if attempt.is_none() {
-        note(scratch.tried, a, b, p, q);
+        note(tried, a, b, p, q);
     }
     attempt
 }

@@ -2,15 +2,19 @@
 #![tactic(auto)]
 
 ghost use Rattle.std.specs.Prelude.{◌≡◌, ◌*◌, ◌≤◌, ◌<◌, length};
+ghost use Rattle.topology.specs.Links.{link_of};
 ghost use Rattle.front.specs.Lent.{paving_state, mesh_state, SameLists};
 ghost use Rattle.paving_indexed.specs.Rects.{NodesFiled, EdgesFiled};
-ghost use Rattle.paving_retries.specs.Vain.{forgotten};
+ghost use Rattle.paving_attempts.specs.Seen.{seen_of, seen_edges, TryLent};
+ghost use Rattle.paving_retries.specs.Vain.{tried_after, forgotten, Remembers};
+ghost use Rattle.paving_retries.specs.Untried.{Untried};
+ghost use Rattle.paving.specs.Attempt.{try_edge};
 ghost use Rattle.paving.specs.Lent.{outline_in, field_in, SameScratch};
 ghost use Rattle.paving_ends.specs.Answers.{Settles};
 ghost use Rattle.paving_settling.specs.Paveable.{PaveableIn};
 ghost use Rattle.paving_settling.specs.Searchable.{SearchableIn, HelpedIn};
 
-use front::{Counts, Full, Mesh, Paving};
+use front::{Counts, FarCorners, Full, Mesh, Paving};
 use paving::{End, Scratch, Surroundings};
 use paving_indexed::Pools;
 use std::ops::ControlFlow;
@@ -26,6 +30,33 @@ fn file_added(size: f64, mesh: &Mesh<'_>, scratch: &mut Scratch<'_>, k: Counts)
     paving_indexed::file_nodes(scratch.node_pool, size, mesh, k.nodes);
     paving_indexed::file_edges(scratch.edge_pool, size, mesh, k.edges);
     paving_retries::forget(scratch.tried, k.nodes, mesh.counts.nodes);
+}
+
+// `paving_retries::try_untried` with the lists of a scratch, of which it only reads the pools.
+fn try_in_scratch(
+    around: &Surroundings<'_>,
+    mesh: &Mesh<'_>,
+    node_pool: &mut [u32],
+    edge_pool: &mut [u32],
+    tried: &mut [u32],
+    a: u32,
+    b: u32,
+) -> Option<FarCorners>
+    requires lent { TryLent around.now.field.grid around.now.field.values.now around.now.size mesh.now.xs.now
+        mesh.now.ys.now mesh.now.next.now mesh.now.prev.now mesh.now.edges.now node_pool.old edge_pool.old mesh.now.counts }
+    requires untried { Untried (outline_in around.now) around.now.size (field_in around.now) (seen_of (mesh_state mesh.now)) tried.old a b }
+    ensures pools { (node_pool.new ≡ node_pool.old) × (edge_pool.new ≡ edge_pool.old) }
+    ensures answer { result ≡ try_edge (outline_in around.now) around.now.size (field_in around.now) (seen_of (mesh_state mesh.now)) a b }
+    ensures remembers { Remembers (outline_in around.now) around.now.size (field_in around.now) tried.new
+        (seen_edges mesh.now.xs.now mesh.now.ys.now mesh.now.edges.now mesh.now.counts) }
+    ensures tried { tried.new ≡ tried_after result tried.old a b (link_of mesh.now.counts.nodes mesh.now.prev.now a)
+        (link_of mesh.now.counts.nodes mesh.now.next.now b) }
+{
+    let pools = Pools {
+        nodes: node_pool,
+        edges: edge_pool,
+    };
+    paving_retries::try_untried(around, mesh, pools, tried, a, b)
 }
 
 // Tries the snapshot's edge from node a, and places and files the quad that is answered: whether there is one, or how the paving ends.
@@ -49,7 +80,15 @@ pub fn settle_edge(
     let Some(b) = paving_ends::snapshot_edge(paving.next(), snapshot, a) else {
         return ControlFlow::Continue(false);
     };
-    let attempt = paving_retries::try_untried(around, &paving.mesh(), scratch, a, b);
+    let attempt = try_in_scratch(
+        around,
+        &paving.mesh(),
+        scratch.node_pool,
+        scratch.edge_pool,
+        scratch.tried,
+        a,
+        b,
+    );
     let Some(far) = attempt else {
         return ControlFlow::Continue(false);
     };

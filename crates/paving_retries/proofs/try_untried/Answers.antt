@@ -1,7 +1,6 @@
 -- `paving_retries::try_untried` meets its contract: the list has the edge, or it is tried, and noted where that is in vain. Assumes nothing.
-use Rattle.std.specs.Prelude.{not, List, ℕ}
+use Rattle.std.specs.Prelude.{not}
 use Rattle.std.proofs.Common.{◌∙◌, ap}
-use Rattle.paving_retries.specs.Vain.{is_vain}
 use Rattle.paving_retries.proofs.Untried.{none_is, untried_vain, untried_kept, untried_noted}
 use Rattle.front.specs.State.{State}
 use Rattle.front.specs.Lent.{mesh_state}
@@ -22,13 +21,13 @@ pub returns-then-is_vain-clause-answer : goal.returns-then-is_vain-clause-answer
 returns-then-is_vain-clause-answer c =
     let s = (goal.at.returns-then-is_vain-clause-answer c).Start in
     untried_vain (around s) c.args.around.now.size c.args.around.now.field.grid c.args.around.now.field.values.now (lent s) _ _ _ c.requires.untried c.link_of-p.ensures
-    c.link_of-q.ensures (c.is_vain.ensures ∙ ap (λ (l : List ℕ). is_vain l c.args.a c.args.b c.link_of-p.result c.link_of-q.result) c.tried.ensures) c.if-is_vain.true
+    c.link_of-q.ensures c.is_vain.ensures c.if-is_vain.true
 
 pub returns-then-is_vain-clause-tried : goal.returns-then-is_vain-clause-tried
 returns-then-is_vain-clause-tried c =
     let s = (goal.at.returns-then-is_vain-clause-tried c).Start in
     untried_kept (around s) c.args.around.now.size c.args.around.now.field.grid c.args.around.now.field.values.now (lent s) _ _ _ c.requires.untried c.link_of-p.ensures
-    c.link_of-q.ensures (c.is_vain.ensures ∙ ap (λ (l : List ℕ). is_vain l c.args.a c.args.b c.link_of-p.result c.link_of-q.result) c.tried.ensures) c.if-is_vain.true
+    c.link_of-q.ensures c.is_vain.ensures c.if-is_vain.true
 
 pub returns-then-is_none-clause-remembers : goal.returns-then-is_none-clause-remembers
 returns-then-is_none-clause-remembers c =

@@ -47,8 +47,8 @@ returns-in_default-clause-settles c =
     settle_gone (around s) a.size a.field.grid a.field.values.now (lent s) c.args.a c.requires.node (held _ _ _ c.requires.paveable)
     (edge_of _ _ c.snapshot_edge.ensures c.next.ensures) c.in_default.is
 
-pub try_untried-attempt-requires-clause-lent : goal.try_untried-attempt-requires-clause-lent
-try_untried-attempt-requires-clause-lent c =
+pub try_in_scratch-attempt-requires-clause-lent : goal.try_in_scratch-attempt-requires-clause-lent
+try_in_scratch-attempt-requires-clause-lent c =
     let a = c.args.around.now in
     let t = c.args.scratch.now in
     subst
@@ -57,9 +57,9 @@ try_untried-attempt-requires-clause-lent c =
     (sym c.mesh.ensures)
     (state_try_lent _ _ _ c.requires.paveable _ c.requires.helped.search.nodes_filed c.requires.helped.search.edges_filed)
 
-pub try_untried-attempt-requires-clause-untried : goal.try_untried-attempt-requires-clause-untried
-try_untried-attempt-requires-clause-untried c =
-    let s = (goal.at.try_untried-attempt-requires-clause-untried c).Start in
+pub try_in_scratch-attempt-requires-clause-untried : goal.try_in_scratch-attempt-requires-clause-untried
+try_in_scratch-attempt-requires-clause-untried c =
+    let s = (goal.at.try_in_scratch-attempt-requires-clause-untried c).Start in
     let a = c.args.around.now in
     subst (λ (m : State). Untried (outline_in a) a.size (field_in a) (seen_of m) c.args.scratch.now.tried.now c.args.a c.in-Some.b) (sym c.mesh.ensures)
     (settle_untried (around s) a.size a.field.grid a.field.values.now (lent s) c.args.a c.requires.node (held _ _ _ c.requires.paveable)
@@ -71,18 +71,18 @@ returns-in_default-attempt-clause-settles c =
     let a = c.args.around.now in
     settle_same (around s) a.size a.field.grid a.field.values.now (lent s) c.args.a c.requires.node (held _ _ _ c.requires.paveable)
     (edge_of _ _ c.snapshot_edge.ensures c.next.ensures) c.in-Some.is _
-    (c.try_untried-attempt.ensures.answer ∙ ap (λ (m : State). try_edge (outline_in a) a.size (field_in a) (seen_of m) c.args.a c.in-Some.b) c.mesh.ensures)
+    (c.try_in_scratch-attempt.ensures.answer ∙ ap (λ (m : State). try_edge (outline_in a) a.size (field_in a) (seen_of m) c.args.a c.in-Some.b) c.mesh.ensures)
     c.in_default-attempt.is
 
 pub returns-in_default-attempt-clause-helped : goal.returns-in_default-attempt-clause-helped
 returns-in_default-attempt-clause-helped c =
     let s = (goal.at.returns-in_default-attempt-clause-helped c).Start in
     let a = c.args.around.now in
-    let r = c.try_untried-attempt in
+    let r = c.try_in_scratch-attempt in
     record {
       search = rw (r.ensures.pools.0, r.ensures.pools.1) c.requires.helped.search;
       remembers = subst
-          (λ (m : State). Remembers (outline_in a) a.size (field_in a) r.new.scratch.tried.now (seen_edges m.xs m.ys m.edges m.counts)) c.mesh.ensures
+          (λ (m : State). Remembers (outline_in a) a.size (field_in a) r.new.tried (seen_edges m.xs m.ys m.edges m.counts)) c.mesh.ensures
           r.ensures.remembers;
       stretches = stretches_tried r.result c.args.scratch.now.tried.now c.args.a _ _ _ c.args.paving.now.counts.nodes c.args.paving.now.next.now
           c.args.snapshot.now
@@ -102,7 +102,7 @@ place-requires c =
     let a = c.args.around.now in (
       settle_ready (around s) a.size a.field.grid a.field.values.now (lent s) c.args.a c.requires.node (held _ _ _ c.requires.paveable)
           (edge_of _ _ c.snapshot_edge.ensures c.next.ensures) c.in-Some.is _
-          (c.try_untried-attempt.ensures.answer
+          (c.try_in_scratch-attempt.ensures.answer
           ∙ ap (λ (m : State). try_edge (outline_in a) a.size (field_in a) (seen_of m) c.args.a c.in-Some.b) c.mesh.ensures) _ _ c.in-Some-attempt.is
           c.requires.paveable,
       c.is_known_across-across.ensures ∙ ap (λ (m : State). known_across m.edges m.counts.edges c.in-Some-attempt.far.c c.in-Some-attempt.far.d) c.mesh-2.ensures,
@@ -114,19 +114,19 @@ returns-in-Err-clause-settles c =
     let a = c.args.around.now in
     settle_full (around s) a.size a.field.grid a.field.values.now (lent s) c.args.a c.requires.node (held _ _ _ c.requires.paveable)
     (edge_of _ _ c.snapshot_edge.ensures c.next.ensures) c.in-Some.is _
-    (c.try_untried-attempt.ensures.answer ∙ ap (λ (m : State). try_edge (outline_in a) a.size (field_in a) (seen_of m) c.args.a c.in-Some.b) c.mesh.ensures)
+    (c.try_in_scratch-attempt.ensures.answer ∙ ap (λ (m : State). try_edge (outline_in a) a.size (field_in a) (seen_of m) c.args.a c.in-Some.b) c.mesh.ensures)
     _ _ c.in-Some-attempt.is _ _ (rw (← c.in-Err.is) c.place.ensures.placed)
 
 pub returns-in-Err-clause-helped : goal.returns-in-Err-clause-helped
 returns-in-Err-clause-helped c =
     let s = (goal.at.returns-in-Err-clause-helped c).Start in
     let a = c.args.around.now in
-    let r = c.try_untried-attempt in
+    let r = c.try_in_scratch-attempt in
     let ready = settle_ready (around s) a.size a.field.grid a.field.values.now (lent s) c.args.a c.requires.node (held _ _ _ c.requires.paveable)
     (edge_of _ _ c.snapshot_edge.ensures c.next.ensures) c.in-Some.is _
-    (c.try_untried-attempt.ensures.answer
+    (c.try_in_scratch-attempt.ensures.answer
     ∙ ap (λ (m : State). try_edge (outline_in a) a.size (field_in a) (seen_of m) c.args.a c.in-Some.b) c.mesh.ensures) _ _ c.in-Some-attempt.is c.requires.paveable in
-    let M = subst (λ (m : State). Remembers (outline_in a) a.size (field_in a) r.new.scratch.tried.now (seen_edges m.xs m.ys m.edges m.counts)) c.mesh.ensures
+    let M = subst (λ (m : State). Remembers (outline_in a) a.size (field_in a) r.new.tried (seen_edges m.xs m.ys m.edges m.counts)) c.mesh.ensures
     r.ensures.remembers in
     let T = stretches_tried r.result c.args.scratch.now.tried.now c.args.a _ _ _ c.args.paving.now.counts.nodes c.args.paving.now.next.now c.args.snapshot.now
     (settle_node (around s) a.size a.field.grid a.field.values.now (lent s) c.args.a c.requires.node (held _ _ _ c.requires.paveable)
@@ -142,11 +142,11 @@ file_added-requires-clause-nodes c =
     let a = c.args.around.now in
     let ready = settle_ready (around s) a.size a.field.grid a.field.values.now (lent s) c.args.a c.requires.node (held _ _ _ c.requires.paveable)
     (edge_of _ _ c.snapshot_edge.ensures c.next.ensures) c.in-Some.is _
-    (c.try_untried-attempt.ensures.answer
+    (c.try_in_scratch-attempt.ensures.answer
     ∙ ap (λ (m : State). try_edge (outline_in a) a.size (field_in a) (seen_of m) c.args.a c.in-Some.b) c.mesh.ensures) _ _ c.in-Some-attempt.is c.requires.paveable in
     let adds = placed_adds (around s) _ _ a.size (lent s) c.requires.paveable c.args.a _ _ _ ready c.requires.helped.search
     (paving_state c.place.new.self c.args.snapshot.now) (rw (← c.in_default-place.is) c.place.ensures.placed) in
-    rw c.try_untried-attempt.ensures.pools.0
+    rw c.try_in_scratch-attempt.ensures.pools.0
     (subst (λ (m : State). NodesFiled c.args.scratch.now.node_pool.now a.size m.xs m.ys c.args.paving.now.counts.nodes m.counts.nodes) (sym c.mesh-3.ensures)
     adds.nodes)
 
@@ -156,11 +156,11 @@ file_added-requires-clause-edges c =
     let a = c.args.around.now in
     let ready = settle_ready (around s) a.size a.field.grid a.field.values.now (lent s) c.args.a c.requires.node (held _ _ _ c.requires.paveable)
     (edge_of _ _ c.snapshot_edge.ensures c.next.ensures) c.in-Some.is _
-    (c.try_untried-attempt.ensures.answer
+    (c.try_in_scratch-attempt.ensures.answer
     ∙ ap (λ (m : State). try_edge (outline_in a) a.size (field_in a) (seen_of m) c.args.a c.in-Some.b) c.mesh.ensures) _ _ c.in-Some-attempt.is c.requires.paveable in
     let adds = placed_adds (around s) _ _ a.size (lent s) c.requires.paveable c.args.a _ _ _ ready c.requires.helped.search
     (paving_state c.place.new.self c.args.snapshot.now) (rw (← c.in_default-place.is) c.place.ensures.placed) in
-    rw c.try_untried-attempt.ensures.pools.1
+    rw c.try_in_scratch-attempt.ensures.pools.1
     (subst
     (λ (m : State). EdgesFiled c.args.scratch.now.edge_pool.now a.size m.xs m.ys m.edges c.args.paving.now.counts.edges m.counts.edges)
     (sym c.mesh-3.ensures) adds.edges)
@@ -171,19 +171,19 @@ returns-clause-settles c =
     let a = c.args.around.now in
     settle_done (around s) a.size a.field.grid a.field.values.now (lent s) c.args.a c.requires.node (held _ _ _ c.requires.paveable)
     (edge_of _ _ c.snapshot_edge.ensures c.next.ensures) c.in-Some.is _
-    (c.try_untried-attempt.ensures.answer
+    (c.try_in_scratch-attempt.ensures.answer
     ∙ ap (λ (m : State). try_edge (outline_in a) a.size (field_in a) (seen_of m) c.args.a c.in-Some.b) c.mesh.ensures) _ _ c.in-Some-attempt.is _ (paving_state c.place.new.self c.args.snapshot.now) (rw (← c.in_default-place.is) c.place.ensures.placed) c.quad_settled.ensures
 
 pub returns-clause-helped : goal.returns-clause-helped
 returns-clause-helped c =
     let s = (goal.at.returns-clause-helped c).Start in
     let a = c.args.around.now in
-    let r = c.try_untried-attempt in
+    let r = c.try_in_scratch-attempt in
     let ready = settle_ready (around s) a.size a.field.grid a.field.values.now (lent s) c.args.a c.requires.node (held _ _ _ c.requires.paveable)
     (edge_of _ _ c.snapshot_edge.ensures c.next.ensures) c.in-Some.is _
-    (c.try_untried-attempt.ensures.answer
+    (c.try_in_scratch-attempt.ensures.answer
     ∙ ap (λ (m : State). try_edge (outline_in a) a.size (field_in a) (seen_of m) c.args.a c.in-Some.b) c.mesh.ensures) _ _ c.in-Some-attempt.is c.requires.paveable in
-    let M = subst (λ (m : State). Remembers (outline_in a) a.size (field_in a) r.new.scratch.tried.now (seen_edges m.xs m.ys m.edges m.counts)) c.mesh.ensures
+    let M = subst (λ (m : State). Remembers (outline_in a) a.size (field_in a) r.new.tried (seen_edges m.xs m.ys m.edges m.counts)) c.mesh.ensures
     r.ensures.remembers in
     let T = stretches_tried r.result c.args.scratch.now.tried.now c.args.a _ _ _ c.args.paving.now.counts.nodes c.args.paving.now.next.now c.args.snapshot.now
     (settle_node (around s) a.size a.field.grid a.field.values.now (lent s) c.args.a c.requires.node (held _ _ _ c.requires.paveable)
@@ -194,4 +194,4 @@ returns-clause-helped c =
     (subst (λ (m : State). SearchableIn a.size m c.file_added.new.scratch.node_pool.now c.file_added.new.scratch.edge_pool.now) c.mesh-3.ensures
     c.file_added.ensures.filed)
     (c.file_added.ensures.tried
-    ∙ ap (λ (m : State). forgotten c.args.paving.now.counts.nodes m.counts.nodes r.new.scratch.tried.now) c.mesh-3.ensures)
+    ∙ ap (λ (m : State). forgotten c.args.paving.now.counts.nodes m.counts.nodes r.new.tried) c.mesh-3.ensures)

@@ -2,7 +2,7 @@
 // differs, and last how many there are.
 #![tactic(auto)]
 
-ghost use Rattle.std.specs.Prelude.{◌≡◌, ◌+◌, ◌≤◌, ◌==◌, not, length, take, drop};
+ghost use Rattle.std.specs.Prelude.{◌≡◌, ◌+◌, ◌≤◌, ◌==◌, not, length, take, drop, IfOk, IfSome};
 ghost use Rattle.std.specs.List.{position, zip};
 ghost use Rattle.file_listing.specs.Program.{program_listing};
 ghost use Rattle.replay.specs.Compare.{compared, line_length};
@@ -68,7 +68,9 @@ fn check(file: &[u8], stored: &[u8]) -> Option<usize>
 // ---- files
 
 // Puts a file at the start of `bytes`, as far as they go.
-fn read_bytes<'a>(files: &impl Files, path: &[u8], bytes: &'a mut [u8]) -> io::Result<&'a [u8]> {
+fn read_bytes<'a>(files: &impl Files, path: &[u8], bytes: &'a mut [u8]) -> io::Result<&'a [u8]>
+    ensures { IfOk result (λ read. length read.now ≤ length bytes.old) }
+{
     let Ok(name) = str::from_utf8(path) else {
         return Err(io::Error::from(io::ErrorKind::InvalidFilename));
     };
@@ -78,11 +80,9 @@ fn read_bytes<'a>(files: &impl Files, path: &[u8], bytes: &'a mut [u8]) -> io::R
 }
 
 // The same, where a file that can't be read is none, and a line says so.
-fn read_or_say<'a>(
-    rt: &(impl Files + Eprint),
-    path: &[u8],
-    bytes: &'a mut [u8],
-) -> Option<&'a [u8]> {
+fn read_or_say<'a>(rt: &(impl Files + Eprint), path: &[u8], bytes: &'a mut [u8]) -> Option<&'a [u8]>
+    ensures { IfSome result (λ read. length read.now ≤ length bytes.old) }
+{
     match read_bytes(rt, path, bytes) {
         Ok(read) => Some(read),
         Err(error) => {

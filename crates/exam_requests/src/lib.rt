@@ -1,4 +1,4 @@
-// What each request to an exam does. The mesh is only read, and what reads it is handed no results.
+// Who may ask what of an exam, by any number, and what each request does. The mesh is only read, and what reads it is handed no results.
 #![tactic(auto)]
 
 ghost use Rattle.std.specs.Prelude.{◌≡◌};
@@ -6,11 +6,11 @@ ghost use Rattle.outline.specs.Refusals.{refused, numbered};
 ghost use Rattle.front_lent_mesh.specs.Mesh.{mesh_lent};
 ghost use Rattle.exam_thresholds.specs.Figures.{outcome};
 ghost use Rattle.exam_results.specs.Lent.{results_lent, results_seen, SameBorrows};
-ghost use Rattle.exam.specs.Exam.{request_numbered, nodes_in, mesh_in};
-ghost use Rattle.exam.specs.Exam.{node_reply, quad_reply, loop_seen, seen, mesh_seen, change_answer, threshold_reply, estimate_reply, result_reply};
+ghost use Rattle.exam.specs.Exam.{may, request_numbered, nodes_in, mesh_in};
+ghost use Rattle.exam.specs.Exam.{node_reply, quad_reply, loop_seen, seen, mesh_seen, reply_or, change_answer, threshold_reply, estimate_reply, result_reply, exam_numbers};
 ghost use Rattle.exam_requests.specs.Lent.{exam_mesh_lent};
 
-use exam::{ExamReply, ExamRequest, MeshRead, ResultChange, ResultRead};
+use exam::{ExamAnswer, ExamReply, ExamRequest, MeshRead, ResultChange, ResultRead, Role};
 use exam_loop_reads::LentLinks;
 use exam_results::{LentResults, SeenResults, Thresholds, Weights};
 use front_lent_mesh::LentMesh;
@@ -30,7 +30,17 @@ pub struct LentExamMesh<'a> {
     pub origins: &'a [u16],
 }
 
-// ---- requests
+// ---- roles and requests
+
+// Whether the role with this number has the operation; a number that no role has has none.
+pub fn may(role: u32, request: ExamRequest) -> bool
+    ensures { result ≡ may role request }
+{
+    match Role::try_from(role) {
+        Ok(role) => role.may(request),
+        Err(_) => false,
+    }
+}
 
 // The request that an operation's number and the numbers beside it make.
 #[tactic(auto, unfolding(exam::specs::Exam::request_numbered))]
@@ -48,6 +58,31 @@ pub fn request_numbered(operation: u32, item: u32, value: u32, u: u32, v: u32) -
         8 => ExamRequest::ReadsResults(ResultRead::ReadFigures),
         9 => ExamRequest::ReadsResults(ResultRead::ReadEstimate(item, u, v)),
         _ => ExamRequest::Unknown,
+    }
+}
+
+// The reply, unless it is refused: by any number but 0.
+#[tactic(auto, unfolding(exam::specs::Exam::reply_or))]
+pub fn reply_or(refusal: u32, reply: ExamReply) -> Result<ExamReply, u32>
+    ensures { result ≡ reply_or refusal reply }
+{
+    if refusal != 0 {
+        return Err(refusal);
+    }
+    Ok(reply)
+}
+
+// The reply as it crosses, refused by any number.
+#[tactic(auto, unfolding(exam::specs::Exam::exam_numbers))]
+pub fn exam_numbers(reply: Result<ExamReply, u32>) -> ExamAnswer
+    ensures { result ≡ exam_numbers reply }
+{
+    match reply {
+        Ok(reply) => ExamAnswer::from(Ok(reply)),
+        Err(refusal) => ExamAnswer {
+            refusal,
+            ..ExamAnswer::default()
+        },
     }
 }
 
@@ -119,6 +154,7 @@ impl LentExamMesh<'_> {
         Ok(ExamReply::Loop(self.links().read_loop(k, reply)?))
     }
 
+    #[inline(always)]
     #[tactic(auto, unfolding(exam::specs::Exam::mesh_seen))]
     pub fn read(self, read: MeshRead, reply: &mut [u32]) -> Result<ExamReply, Refusal>
         ensures { seen (numbered result) reply.new ≡ mesh_seen (exam_mesh_lent self.entry) read reply.old }
@@ -174,6 +210,8 @@ fn estimate_reply(
     Ok(ExamReply::Estimate(thresholds.estimate_at(k as usize, weights)?))
 }
 
+// Inlined at both entries, and so is `LentExamMesh::read`: a read is a few reads of lists, and as a call it takes a third more time.
+#[inline(always)]
 #[tactic(auto, unfolding(exam::specs::Exam::result_reply))]
 pub fn read_results(
     read: ResultRead,

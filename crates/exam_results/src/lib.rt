@@ -204,6 +204,29 @@ impl Thresholds<'_> {
     }
 }
 
+// The same by its number, 0 for neither: `number` may be any, where `check` takes a refusal.
+#[tactic(auto, unfolding(exam_thresholds::specs::Figures::refusal_at))]
+pub fn refusal_at(nodes: u32, thresholds: &[u16], id: u32, v: u32, number: u32) -> u32
+    ensures { result ≡ refusal_at nodes thresholds.now id v number }
+{
+    let mesh = LentMesh {
+        nodes,
+        quad_count: 0,
+        quads: &[],
+    };
+    let lent = Thresholds {
+        mesh,
+        list: thresholds,
+    };
+    if lent.is_missing(id) {
+        return u32::from(Refusal::NoNode);
+    }
+    if MOST_THRESHOLD < v {
+        return number;
+    }
+    0
+}
+
 // ---- the three calls
 
 impl LentResults<'_> {

@@ -107,14 +107,14 @@ fn too_many_nodes(width: f64, height: f64, h: f64) -> bool
 fn spacing(width: f64, height: f64, h: f64) -> f64
     ensures { result ≡ spacing width height h }
 {
-    (0..Settings::MOST_GROWTHS).fold(
-        h,
-        |grown, _| if too_many_nodes(width, height, grown) {
-            grown * Settings::GROWTH
-        } else {
-            grown
-        },
-    )
+    let mut grown = h;
+    for _ in 0..Settings::MOST_GROWTHS {
+        if !too_many_nodes(width, height, grown) {
+            return grown;
+        }
+        grown *= Settings::GROWTH;
+    }
+    grown
 }
 
 #[tactic(auto, using(crate::proofs::Counts::few_columns, crate::proofs::Counts::few_rows), unfolding(crate::specs::Grid::grid_of))]

@@ -121,12 +121,14 @@ impl LentRequest<'_> {
     fn can_file(self) -> bool
         ensures { result ≡ fileable (request_lent self.entry) }
     {
+        // Only then are the lengths added: there may be any number of them.
+        if self.lens.len() < 1 || MOST_LOOPS < self.lens.len() {
+            return false;
+        }
         let Some(n) = few_points(self.lens) else {
             return false;
         };
-        1 <= self.lens.len()
-            && self.lens.len() <= MOST_LOOPS
-            && self.points.len() == 2 * n
+        self.points.len() == 2 * n
             && self.settings.sweeps <= MOST_COUNT
             && self.settings.passes <= MOST_COUNT
     }

@@ -1,8 +1,8 @@
 -- The library's `floor` and `ceil`, cast to an integer, are `floor_int` and `ceil_count`. Assumes nothing.
-use Rattle.std.proofs.Common.{◌≡◌, ℕ, zero, suc, ◌+◌, ◌-◌, ◌*◌, ◌/◌, ◌%◌, ◌^◌, ◌<◌, ◌≤◌, Bool, true, false, cond, ◌&&◌, T, zero-mul, lt_of_le_of_lt, min, pos, negsuc, neg_ℤ, refl, sym, ap, ◌∙◌, le_trans, le_of_suc-le-suc, lt_of_lt_of_le, mul-one, mul_assoc, mul-div_cancel, mul-lt-mul_of_pos_right, mod-lt, div-add-mod', div-le_self, div-one, div-lt_iff_lt-mul, le_of_eq, arith, pow_pos, pow-add, ltb→lt, leb, w64}
+use Rattle.std.proofs.Common.{◌≡◌, ℕ, zero, suc, ◌+◌, ◌-◌, ◌*◌, ◌/◌, ◌%◌, ◌^◌, ◌<◌, ◌≤◌, Bool, true, false, cond, ◌&&◌, T, zero-mul, lt_of_le_of_lt, min, pos, negsuc, neg_ℤ, refl, sym, ap, ◌∙◌, subst, true≢false, le_trans, le_of_suc-le-suc, lt_of_lt_of_le, mul-one, mul_assoc, mul-div_cancel, mul-lt-mul_of_pos_right, mod-lt, div-add-mod', div-le_self, div-one, div-lt_iff_lt-mul, le_of_eq, arith, pow_pos, pow-add, ltb→lt, ltb-false, pow_mono, leb, w64}
 use lib.IntN.{ℤ}
 use lib.Dec.{ltb, eqb}
-use lib.Ieee.{Float, nan, inf, fin, binary64, up, down, round, to_signed, to_unsigned, fits}
+use lib.Ieee.{Float, nan, inf, fin, binary64, up, down, round, to_signed, to_unsigned, fits, of_bits, neg, lt}
 use lib.Ieee.Back.{round_whole}
 use lib.Ieee.Exact.{HasValue, round_exact}
 use lib.Ieee.Fits.{down_pos, and_l, and_r}
@@ -115,3 +115,55 @@ ceil_library (fin false m e) f =
     as_unsigned _ false (ratio_ceil (m * up e) (down e)) (raised false m e f)
     ∙ ap (λ (y : ℕ). min y (2 ^ 64 - 1)) (up_is (m * up e) (down e) (down_pos e))
 ceil_library (fin true m e) f = as_unsigned _ true (m * up e / down e) (floored true m e f)
+
+-- ---- where the cast alone serves: it cuts the fraction off, which above zero is rounding down, and a size of 2^52 or more has none
+
+no_fraction : (s : Bool) (m : ℕ) (e : ℤ) → T (fits binary64 (fin s m e)) → 2 ^ 52 * down e ≤ m * up e → m * up e / down e ≡ ceil_div (m * up e) (down e)
+no_fraction s m (pos k) f h = down_one (m * 2 ^ k) 1 refl ∙ sym (up_one (m * 2 ^ k) 1 refl) ∙ up_is (m * 2 ^ k) 1 (down_pos (pos k))
+no_fraction s m (negsuc k) f h = absurd (none (2 ^ suc k) (pow_mono one) h)
+  where
+    one : 1 ≤ suc k
+    one = omega arith
+
+    below : m < 2 ^ 53
+    below = small s m (negsuc k) f
+
+    none : (d : ℕ) → 2 ^ 1 ≤ d → 2 ^ 52 * d ≤ m * 1 → ⊥
+    none d l h = omega (arith, below)
+
+pub floor_above_zero : (x : Float) → lt (of_bits binary64 0) x ≡ true → float_to_signed w64 x ≡ floor_int x
+unfolding lt of_bits floor_int to_signed
+floor_above_zero nan h = absurd (true≢false (sym h))
+floor_above_zero (inf true) h = absurd (true≢false (sym h))
+floor_above_zero (inf false) h = refl
+floor_above_zero (fin true m e) h = absurd (true≢false (sym h))
+floor_above_zero (fin false m e) h = refl
+
+pub floor_far_below : (x : Float) → T (fits binary64 x) → lt x (neg (of_bits binary64 0x4330_0000_0000_0000)) ≡ true → float_to_signed w64 x ≡ floor_int x
+unfolding lt neg of_bits floor_int to_signed
+floor_far_below nan f h = absurd (true≢false (sym h))
+floor_far_below (inf true) f h = refl
+floor_far_below (inf false) f h = absurd (true≢false (sym h))
+floor_far_below (fin false m e) f h = absurd (true≢false (sym h))
+floor_far_below (fin true m e) f h =
+    ap (λ (y : ℕ). neg_ℤ (pos (min y (2 ^ 63)))) (no_fraction true m e f (omega (arith, ltb→lt (1 * 2 ^ 52 * down e) (m * up e * 1) (subst T (sym h) tt))))
+
+pub ceil_far_above : (x : Float) → T (fits binary64 x) → lt (of_bits binary64 0x4330_0000_0000_0000) x ≡ true → float_to_unsigned w64 x ≡ ceil_count x
+unfolding lt of_bits ceil_count to_unsigned
+ceil_far_above nan f h = absurd (true≢false (sym h))
+ceil_far_above (inf true) f h = absurd (true≢false (sym h))
+ceil_far_above (inf false) f h = refl
+ceil_far_above (fin true m e) f h = absurd (true≢false (sym h))
+ceil_far_above (fin false m e) f h =
+    ap (λ (y : ℕ). min y (2 ^ 64 - 1)) (no_fraction false m e f (omega (arith, ltb→lt (1 * 2 ^ 52 * down e) (m * up e * 1) (subst T (sym h) tt))))
+
+pub ceil_up_to_zero : (x : Float) → lt (of_bits binary64 0) x ≡ false → 0 ≡ ceil_count x
+unfolding lt of_bits ceil_count
+ceil_up_to_zero nan h = refl
+ceil_up_to_zero (inf true) h = refl
+ceil_up_to_zero (inf false) h = absurd (true≢false h)
+ceil_up_to_zero (fin true m e) h = refl
+ceil_up_to_zero (fin false m e) h = omega (arith, none)
+  where
+    none : ceil_div (m * up e) (down e) < 1
+    none = (div-lt_iff_lt-mul (down_pos e)).1 (omega (arith, down_pos e, ltb-false (0 * down e) (m * up e * 1) h))

@@ -1,6 +1,6 @@
 -- The floor of a number of size below 2^50, of the value ±a / d: its sum with 3 * 2^51 is rounded to a whole number c, which the sum's bits end with.
 -- What is said of A / d, the exact sum, holds for either sign. Assumes nothing.
-use Rattle.std.proofs.Common.{◌≡◌, ℕ, zero, suc, ◌+◌, ◌-◌, ◌*◌, ◌/◌, ◌%◌, ◌^◌, ◌<◌, ◌≤◌, Bool, true, false, cond, not, T, ℤ, pos, negsuc, neg_ℤ, ◌-ℤ◌, min, nat_lt, ltb, ◌⊎◌, refl, sym, ap, ◌∙◌, subst, inl, inr, true≢false, le_of_eq, le_trans, lt_of_lt_of_le, lt_of_not-le, not-le_of_lt, mod-lt, div-add-mod', mul-pos, mul-one, zero-mul, mul-le-mul_right, mul-lt-mul_of_pos_right, le-div_iff_mul-le, div-lt_iff_lt-mul, arith, lit≤, lit<, pow_pos, pow_mono, pow-add, ltb→lt, lt-ltb, le-ltb, ltb-true, ltb-false, eq-zero-or-pos, w64}
+use Rattle.std.proofs.Common.{◌≡◌, ℕ, zero, suc, ◌+◌, ◌-◌, ◌*◌, ◌/◌, ◌%◌, ◌^◌, ◌<◌, ◌≤◌, Bool, true, false, cond, not, T, ℤ, pos, negsuc, neg_ℤ, ◌-ℤ◌, min, nat_lt, ltb, ◌⊎◌, refl, sym, ap, ◌∙◌, subst, inl, inr, true≢false, le_of_eq, le_trans, lt_of_lt_of_le, lt_of_not-le, not-le_of_lt, mod-lt, div-add-mod', mul-pos, mul-one, zero-mul, mul-le-mul_right, mul-lt-mul_of_pos_right, le-div_iff_mul-le, div-lt_iff_lt-mul, arith, lit≤, lit<, pow_pos, pow_mono, pow-add, ltb→lt, lt→ltb, lt-ltb, le-ltb, ltb-true, ltb-false, eq-zero-or-pos, w64}
 use Prim.Native.Nat.{compare}
 use Rattle.std.proofs.Math.Nat.{eq_of_mul-eq-mul_right, div-eq_of_lt-le}
 use lib.Ieee.{Float, nan, inf, fin, binary64, size, up, down, round, units, sum, add, sub, neg, lt, is_nan, to_bits, of_bits, fits}
@@ -13,8 +13,8 @@ use lib.Ieee.Fits.{down_pos, round_is, core, nearest-le}
 use lib.Ieee.Nearest.{closest, closest_same, closest_mono, nearest-ge}
 use Rattle.std.specs.Float.Order.{lt_at}
 use mir.Val.{SFits}
-use Rattle.std.specs.Float.{floor}
-use Rattle.numbers.specs.Whole.{ceil_div, floor_int}
+use Rattle.std.specs.Float.{floor, two_to, minus_two_to, ◌<ᶠ◌}
+use Rattle.numbers.specs.Whole.{ceil_div, floor_int, ceil_count}
 use lib.Ieee.Positive.{first_pos}
 use lib.Ieee.Scale.{round_same}
 use Rattle.numbers.proofs.LibraryWhole.{floor_library}
@@ -369,3 +369,27 @@ small_floor (fin true m e) g l =
 
 pub floor_fits : (x : Float) → T (fits binary64 x) → SFits w64 (floor_int x)
 floor_fits x f = subst (SFits w64) (floor_library x f) (record { sfits = to_signed_in 63 (floor binary64 x) })
+
+-- ---- the ceiling of a number above zero, by the floor of its negative
+
+pub record SmallCeil (x : Float) : Type 0 where
+  pub above : minus_two_to 50 <ᶠ neg x
+  pub below : neg x <ᶠ two_to 50
+  pub is : floor_int (neg x) ≡ neg_ℤ (pos (ceil_count x))
+  pub room : ceil_count x < 2 ^ 63
+
+pub small_ceil : (x : Float) → lt (of_bits binary64 0) x ≡ true → lt x (of_bits binary64 0x4310_0000_0000_0000) ≡ true → SmallCeil x
+unfolding lt of_bits neg floor_int ceil_count
+small_ceil nan g l = absurd (true≢false (sym g))
+small_ceil (inf true) g l = absurd (true≢false (sym g))
+small_ceil (inf false) g l = absurd (true≢false (sym l))
+small_ceil (fin true m e) g l = absurd (true≢false (sym g))
+small_ceil (fin false m e) g l = record {
+  above = subst T (sym l) tt;
+  below = lt→ltb 0 (m * up e * 1 + 1 * 2 ^ 50 * down e) (omega (arith, down_pos e));
+  is = ap (λ (n : ℕ). neg_ℤ (pos n)) (omega (arith, few));
+  room = omega (arith, few);
+}
+  where
+    few : ceil_div (m * up e) (down e) < limit + 1
+    few = (div-lt_iff_lt-mul (down_pos e)).1 (omega (arith, down_pos e, ltb→lt (m * up e * 1) (1 * 2 ^ 50 * down e) (subst T (sym l) tt)))

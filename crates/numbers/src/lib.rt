@@ -172,7 +172,7 @@ fn floor_of_small(q: f64) -> i64
     bits as i64 - 0x4338_0000_0000_0000
 }
 
-// `(x / b).floor() as i64`
+// `(x / b).floor() as i64`. Of a quotient above 0 the cast alone cuts the fraction off, and from a size of 2^52 on there is none.
 #[unsafe(no_mangle)]
 pub extern "C" fn floor_quotient(x: f64, b: f64) -> i64
     ensures { result ≡ floor_quotient x b }
@@ -181,16 +181,27 @@ pub extern "C" fn floor_quotient(x: f64, b: f64) -> i64
     if -1125899906842624.0 < q && q < 1125899906842624.0 {
         return floor_of_small(q);
     }
+    if 0.0 < q || q < -4503599627370496.0 {
+        return num::saturating_f64_to_i64(q);
+    }
     num::saturating_f64_to_i64(q.floor())
 }
 
-// `x.ceil() as usize`
-#[tactic(auto, using(crate::proofs::LibraryWhole::ceil_library))]
+// `x.ceil() as usize`. Of a size below 2^50 it is minus the floor of -x, and from 2^52 on each number is whole.
 #[unsafe(no_mangle)]
 pub extern "C" fn ceil_count(x: f64) -> u64
     ensures { result ≡ ceil_count x }
 {
-    num::saturating_f64_to_u64(x.ceil())
+    if 0.0 < x {
+        if x < 1125899906842624.0 {
+            return (-floor_of_small(-x)) as u64;
+        }
+        if 4503599627370496.0 < x {
+            return num::saturating_f64_to_u64(x);
+        }
+        return num::saturating_f64_to_u64(x.ceil());
+    }
+    0
 }
 
 // A finite f64: its sign, and its size as significand * 2^exponent times the smallest f64 above 0.

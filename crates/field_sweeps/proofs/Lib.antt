@@ -1,3 +1,4 @@
+pub mod TwoRows
 pub mod Wave
 pub mod Worst
 pub mod WorstBase

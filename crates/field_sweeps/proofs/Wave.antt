@@ -111,14 +111,14 @@ module _ (g : Grid) (marks : List ℕ) (j r a b : ℕ) where
       pick false false = refl
 
 -- visits of a lower and of a higher row commute where the higher one is more than a column behind
-abbrev Near : ℕ → (ℕ → SweptField → SweptField) → (ℕ → SweptField → SweptField) → Type 0
+abbrev pub Near : ℕ → (ℕ → SweptField → SweptField) → (ℕ → SweptField → SweptField) → Type 0
 Near n lower upper = (a b : ℕ) → a + 1 < b → b < n → (s : SweptField) → lower b (upper a s) ≡ upper a (lower b s)
 
 -- and wherever the higher row is two or more above
 abbrev Far : ℕ → (ℕ → SweptField → SweptField) → (ℕ → SweptField → SweptField) → Type 0
 Far n lower upper = (a b : ℕ) → b < n → (s : SweptField) → lower b (upper a s) ≡ upper a (lower b s)
 
-near_rows : (g : Grid) (marks : List ℕ) (j : ℕ) → Near g.nx (sweep_node g marks j) (sweep_node g marks (j + 1))
+pub near_rows : (g : Grid) (marks : List ℕ) (j : ℕ) → Near g.nx (sweep_node g marks j) (sweep_node g marks (j + 1))
 near_rows g marks j a b behind column =
     nodes_commute g marks j (j + 1) a b (λ e. omega arith)
     (record { left = λ t e. omega arith; right = λ t e. omega arith; under = λ t e. omega arith; over = λ t e. omega arith })
@@ -134,7 +134,7 @@ far_rows g marks j r far a b column =
 -- ---- four loops as one wavefront
 
 -- a visit goes past the first m turns of a loop with which it commutes
-past : (visit : SweptField → SweptField) (upper : ℕ → SweptField → SweptField) (m : ℕ) (t : SweptField)
+pub past : (visit : SweptField → SweptField) (upper : ℕ → SweptField → SweptField) (m : ℕ) (t : SweptField)
     → ((k : ℕ) → k < m → (u : SweptField) → visit (upper k u) ≡ upper k (visit u)) → visit (for_up m upper t) ≡ for_up m upper (visit t)
 unfolding for_up
 past visit upper zero t commute = refl

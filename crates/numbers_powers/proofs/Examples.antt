@@ -2,7 +2,7 @@
 use Rattle.std.specs.Prelude.{◌≡◌, refl}
 use Rattle.std.specs.Float.Ieee.{mul, round, of_bits}
 use Rattle.numbers.specs.Float.{◌⊗◌, bits, half_f}
-use Rattle.numbers_powers.proofs.PowersBase.{quarter_f}
+use Rattle.numbers_powers.proofs.Powers.{quarter_f}
 
 -- a quarter of 3 units is 1 unit; of 2 units it is 0, and of 6 units 2 units: of two as near, the even one
 pub three_units : bits 3 ⊗ quarter_f ≡ bits 1

@@ -1,3 +1,3 @@
+pub mod PowersBase
 pub mod Powers
 pub mod Examples
-pub mod PowersBase

@@ -3,12 +3,8 @@
 use Rattle.std.specs.Prelude.{false, ◌≡◌, refl, ℕ, suc, ◌*◌, ◌^◌, pos, negsuc, Float}
 use Rattle.std.proofs.Common.{sym, ap, ◌∙◌, mul_comm, one-mul}
 use Rattle.std.specs.Float.{nan, inf, fin, binary64}
-use Rattle.std.specs.Float.Ieee.{up, down, unlike, round, mul, div, of_bits}
-use Rattle.numbers.specs.Float.{◌⊗◌, ◌⊘◌, bits, four_f}
-
--- 0.25
-abbrev pub quarter_f : Float
-quarter_f = bits 0x3fd0_0000_0000_0000
+use Rattle.std.specs.Float.Ieee.{up, down, unlike, round, mul, div}
+use Rattle.numbers.specs.Float.{◌⊗◌, ◌⊘◌}
 
 -- 2 ^ -(k + 1), and 2 ^ (k + 1)
 abbrev pub power_below : ℕ → Float
@@ -24,7 +20,3 @@ power_same k (inf s) = refl
 power_same k (fin s m e) =
     ap (λ (d : ℕ). round binary64 (unlike s false) (m * up e * 1) d)
     (mul_comm (down e) (2 ^ suc k) ∙ ap (λ (z : ℕ). z * down e) (sym (one-mul (2 ^ suc k))))
-
-pub quarter_same : (x : Float) → x ⊗ quarter_f ≡ x ⊘ four_f
-unfolding of_bits
-quarter_same x = power_same 1 x

@@ -2,8 +2,7 @@
 use mathlib.Core.Path.{◌≡◌, refl, ap₂}
 use lib.Ieee.{of_bits, of_int}
 use Rattle.numbers.specs.Float.{four_f, two_f, to_float}
-use Rattle.numbers_powers.proofs.PowersBase.{quarter_same}
-use Rattle.numbers_powers.proofs.Powers.{half_same}
+use Rattle.numbers_powers.proofs.Powers.{half_same, quarter_same}
 use Rattle.outline.specs.Outline.{point}
 use Rattle.field_averages.proofs.divided.Goals as goal
 

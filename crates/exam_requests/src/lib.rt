@@ -210,7 +210,7 @@ fn estimate_reply(
     Ok(ExamReply::Estimate(thresholds.estimate_at(k as usize, weights)?))
 }
 
-// Inlined at both entries, and so is `LentExamMesh::read`: a read is a few reads of lists, and as a call it takes a third more time.
+// Inlined at both entries, and so is `LentExamMesh::read`: as a call a read takes up to two fifths more instructions.
 #[inline(always)]
 #[tactic(auto, unfolding(exam::specs::Exam::result_reply))]
 pub fn read_results(

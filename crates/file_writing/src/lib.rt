@@ -121,7 +121,7 @@ impl LentRequest<'_> {
     fn can_file(self) -> bool
         ensures { result ≡ fileable (request_lent self.entry) }
     {
-        // Only then are the lengths added: there may be any number of them.
+        // The lengths are added only where they are few: there may be any number of them.
         if self.lens.len() < 1 || MOST_LOOPS < self.lens.len() {
             return false;
         }

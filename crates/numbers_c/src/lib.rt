@@ -7,7 +7,7 @@ ghost use Rattle.numbers.specs.Root.{root};
 ghost use Rattle.numbers.specs.Float.{is_finite, abs_f, min_f, max_f, clamp_f};
 ghost use Rattle.numbers.specs.Whole.{floor_quotient, ceil_count};
 
-// `x.sqrt()`, as IEEE 754 has it. A NaN comes back with its bits, and below zero the answer's are those of 0.0 / 0.0, on every processor.
+// `x.sqrt()`, as IEEE 754 has it. A NaN comes back with its bits, and below zero the answer's are those of 0.0 / 0.0.
 #[unsafe(no_mangle)]
 pub extern "C" fn sqrt_f64(x: f64) -> f64
     ensures { result ≡ root x }
